@@ -1,0 +1,63 @@
+ghost use Rattle.std.specs.Prelude.{◌≡◌};
+ghost use Rattle.due_key.specs.Range.{nearest, IsBetween};
+ghost use Rattle.due_key.specs.declared.class.TheConstants.{LOWEST_CLASS, HIGHEST_CLASS};
+
+use std::fmt;
+use std::marker::Model;
+
+/// The lowest class: it is served first.
+pub const LOWEST_CLASS: i64 = -2047;
+
+/// The highest class.
+pub const HIGHEST_CLASS: i64 = 2047;
+
+/// A priority class, from -2047 to 2047: what HAProxy's `http-request set-priority-class` sets.
+/// Of the requests in a queue those of the lowest class are served first.
+#[derive(Clone, Copy, Debug, PartialEq, Eq, PartialOrd, Ord)]
+pub struct Class {
+    number: i64,
+}
+
+impl Model for Class {
+    ghost use Rattle.std.specs.Prelude.{ℤ};
+    ghost use Rattle.due_key.specs.Range.{IsBetween};
+    ghost use Rattle.due_key.specs.declared.class.TheConstants.{LOWEST_CLASS, HIGHEST_CLASS};
+
+    ghost Value = { ℤ };
+
+    ghost view = { λ class. class.number };
+
+    ghost invariant = { λ class. IsBetween LOWEST_CLASS HIGHEST_CLASS class.number };
+
+    ghost inverse = { λ number. record { number = number } };
+}
+
+impl Class {
+    /// The class of this number; outside of the range it is the nearer end.
+    pub fn clamp(number: i64) -> Class
+        ensures { result ≡ nearest LOWEST_CLASS HIGHEST_CLASS number }
+    {
+        Class {
+            number: number.clamp(LOWEST_CLASS, HIGHEST_CLASS),
+        }
+    }
+
+    pub fn get(self) -> i64
+        ensures value { result ≡ self }
+        ensures range { IsBetween LOWEST_CLASS HIGHEST_CLASS result }
+    {
+        self.number
+    }
+}
+
+impl fmt::Display for Class {
+    ghost use Rattle.std.specs.Prelude.{Some};
+    ghost use Rattle.std.specs.Fmt.{signed_decimal};
+
+    ghost output = { λ class. Some (signed_decimal class) };
+
+    fn fmt<W: fmt::Write>(&self, f: &mut fmt::Formatter<W>) -> fmt::Result {
+        let number = self.number;
+        write!(f, "{number}")
+    }
+}

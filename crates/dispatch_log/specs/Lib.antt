@@ -1,0 +1,6 @@
+pub mod Setups
+pub mod Rows
+pub mod States
+pub mod Words
+pub mod Refusals
+pub mod Judgement

@@ -1,0 +1,59 @@
+-- The refusals: the first that applies is the answer.
+use Rattle.std.specs.Prelude.{ℕ, ◌+◌, ◌-◌, ◌*◌, ◌^◌, nat_lt, nat_le, Bool, true, false, List, [], ◌∷◌, Option, None, Some, count_by, is_some, is_none, if◌then◌else◌}
+use Rattle.std.specs.Option.{option_map_or}
+use Rattle.dispatch_log.specs.declared.entry.Call.{Call}
+use Rattle.dispatch_log.specs.declared.entry.Call.TheVariants.{Arrive, Done}
+use Rattle.dispatch_log.specs.declared.refusal.Refusal.{Refusal}
+use Rattle.dispatch_log.specs.declared.refusal.Refusal.TheVariants.{NoMemory, PlacesFull, LogFull, NoSuchTicket, WrongPhase, TicketsSpent}
+use Rattle.dispatch_log.specs.declared.row.Phase.{Phase}
+use Rattle.dispatch_log.specs.declared.row.Phase.TheVariants.{Loose, Waiting, Serving}
+use Rattle.dispatch_log.specs.declared.setup.Setup.{Setup}
+use Rattle.dispatch_log.specs.Rows.{Rows, row_of}
+use Rattle.dispatch_log.specs.States.{State}
+
+-- the number of a refusal, as traces print it
+abbrev pub number_of : Refusal → ℕ
+number_of NoMemory = 1
+number_of PlacesFull = 2
+number_of LogFull = 3
+number_of NoSuchTicket = 4
+number_of WrongPhase = 5
+number_of TicketsSpent = 14
+
+-- the first refusal whose test holds
+abbrev pub first_of : List (Bool × Refusal) → Option Refusal
+first_of [] = None
+first_of (refusal ∷ refusals) = if refusal.0 then Some refusal.1 else first_of refusals
+
+-- fewer entries of the log are free than the longest event may need
+abbrev pub lacks_room : Setup → ℕ → Bool
+lacks_room setup used = nat_lt (setup.log - used) (2 * setup.places + 8)
+
+-- there are as many live requests as places
+abbrev pub is_full : Setup → Rows → Bool
+is_full setup rows = nat_le setup.places (count_by is_some rows)
+
+-- the next ticket would be 2 ^ 40
+abbrev pub tickets_are_spent : ℕ → Bool
+tickets_are_spent last = nat_le (2 ^ 40) (last + 1)
+
+abbrev pub is_waiting : Phase → Bool
+is_waiting (Waiting queue since) = true
+is_waiting Loose = false
+is_waiting (Serving server) = false
+
+-- what refuses an arrival, in a state that so many entries left
+abbrev pub arrival_refusal : Setup → State → ℕ → Option Refusal
+arrival_refusal setup state used =
+    first_of ((lacks_room setup used, LogFull) ∷ (tickets_are_spent state.ticket, TicketsSpent) ∷ (is_full setup state.rows, PlacesFull) ∷ [])
+
+-- what refuses the return of a ticket's slot: no such row, or it still waits
+abbrev pub done_refusal : Setup → State → ℕ → ℕ → Option Refusal
+done_refusal setup state used ticket =
+    let row = row_of ticket state.rows in
+    first_of ((lacks_room setup used, LogFull) ∷ (is_none row, NoSuchTicket) ∷ (option_map_or (λ it. is_waiting it.phase) row false, WrongPhase) ∷ [])
+
+-- what refuses a call
+abbrev pub refusal : Setup → State → ℕ → Call → Option Refusal
+refusal setup state used (Arrive arrival) = arrival_refusal setup state used
+refusal setup state used (Done ticket) = done_refusal setup state used ticket

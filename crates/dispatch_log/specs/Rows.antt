@@ -1,0 +1,87 @@
+-- The live requests: a list of places, each empty or with a row.
+use Rattle.std.specs.Prelude.{◌≡◌, ℕ, ◌==◌, Bool, false, true, List, [], ◌∷◌, Option, None, Some, map, count_by, slice_get, if◌then◌else◌}
+use Rattle.dispatch_log.specs.declared.queue.Queue.{Queue}
+use Rattle.dispatch_log.specs.declared.queue.Queue.TheVariants.{Backend, Server}
+use Rattle.dispatch_log.specs.declared.row.Phase.{Phase}
+use Rattle.dispatch_log.specs.declared.row.Phase.TheVariants.{Loose, Waiting, Serving}
+use Rattle.dispatch_log.specs.declared.row.Row.{Row}
+
+-- the places in order
+abbrev pub Rows : Type 0
+Rows = List (Option Row)
+
+-- a row stands at a place
+abbrev pub StandsAt : Rows → ℕ → Row → Type 0
+StandsAt rows place row = slice_get rows place ≡ Some (Some row)
+
+-- a place is there and empty
+abbrev pub IsVacant : Rows → ℕ → Type 0
+IsVacant rows place = slice_get rows place ≡ Some None
+
+-- a row is one of the rows
+abbrev pub IsRow : Rows → Row → Type 0
+IsRow rows row = (place : ℕ) × StandsAt rows place row
+
+-- whether a place has the row of a ticket
+abbrev pub has_ticket : ℕ → Option Row → Bool
+has_ticket ticket None = false
+has_ticket ticket (Some row) = row.key.ticket == ticket
+
+-- the row of a ticket
+abbrev pub row_of : ℕ → Rows → Option Row
+row_of ticket [] = None
+row_of ticket (place ∷ rows) = if has_ticket ticket place then place else row_of ticket rows
+
+-- whether two queues are one
+abbrev pub same_queue : Queue → Queue → Bool
+same_queue Backend Backend = true
+same_queue (Server a) (Server b) = a == b
+same_queue a b = false
+
+abbrev pub phase_waits_in : Queue → Phase → Bool
+phase_waits_in queue (Waiting other since) = same_queue queue other
+phase_waits_in queue Loose = false
+phase_waits_in queue (Serving server) = false
+
+abbrev pub phase_is_served_by : ℕ → Phase → Bool
+phase_is_served_by server (Serving other) = other == server
+phase_is_served_by server Loose = false
+phase_is_served_by server (Waiting queue since) = false
+
+-- whether a place's row waits in a queue
+abbrev pub waits_in : Queue → Option Row → Bool
+waits_in queue None = false
+waits_in queue (Some row) = phase_waits_in queue row.phase
+
+-- whether a place's row has a slot of a server
+abbrev pub is_served_by : ℕ → Option Row → Bool
+is_served_by server None = false
+is_served_by server (Some row) = phase_is_served_by server row.phase
+
+-- how many requests a server serves
+abbrev pub served : ℕ → Rows → ℕ
+served server rows = count_by (is_served_by server) rows
+
+-- how many requests wait in a queue
+abbrev pub queued : Queue → Rows → ℕ
+queued queue rows = count_by (waits_in queue) rows
+
+-- how many rows a ticket has
+abbrev pub rows_of : ℕ → Rows → ℕ
+rows_of ticket rows = count_by (has_ticket ticket) rows
+
+-- each place with the row of a ticket changed
+abbrev pub with_change : ℕ → (Row → Option Row) → Option Row → Option Row
+with_change ticket change None = None
+with_change ticket change (Some row) = if row.key.ticket == ticket then change row else Some row
+
+abbrev pub changed : ℕ → (Row → Option Row) → Rows → Rows
+changed ticket change rows = map (with_change ticket change) rows
+
+-- a row in another phase
+abbrev pub in_phase : Phase → Row → Option Row
+in_phase phase row = Some (record row { phase = phase })
+
+-- no row any more
+abbrev pub gone : Row → Option Row
+gone row = None

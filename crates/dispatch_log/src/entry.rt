@@ -1,0 +1,42 @@
+use crate::queue::Queue;
+use due_key::{Class, Due, Moment};
+
+/// An accepted arrival.
+#[derive(Clone, Copy, Debug, PartialEq, Eq)]
+pub struct Arrival {
+    /// Accepted arrivals are counted from 1.
+    pub ticket: u64,
+    pub class: Class,
+    pub due: Due,
+    /// The server that the request is bound to.
+    pub pin: Option<usize>,
+    /// Where its row is kept until it ends. No line of a trace shows it.
+    pub place: usize,
+}
+
+/// What was asked of the dispatcher, and accepted.
+#[derive(Clone, Copy, Debug, PartialEq, Eq)]
+pub enum Call {
+    /// A request came.
+    Arrive(Arrival),
+    /// The request with this ticket is over, and its slot comes back.
+    Done(u64),
+}
+
+/// One decision of the dispatcher. Tickets name requests; servers are numbered from 0 in file
+/// order.
+#[derive(Clone, Copy, Debug, PartialEq, Eq)]
+pub enum Entry {
+    /// An event begins, at its effective moment. The entries up to the next one belong to it.
+    Event(Moment, Call),
+    /// The ticket takes a slot of the server as it arrives.
+    Direct(u64, usize),
+    /// The ticket begins to wait in the queue.
+    Joined(u64, Queue),
+    /// The ticket leaves the queue for a slot of the server.
+    Granted(u64, Queue, usize),
+    /// The ticket's slot at the server is given back.
+    Freed(u64, usize),
+    /// The ticket's row is gone, and its place is free.
+    Ended(u64),
+}

@@ -1,0 +1,15 @@
+//! The log of a dispatcher, and what makes a log legal: the words that the core, the certificate
+//! and the replay share. `specs/` judges a log entry by entry and produces none.
+#![tactic(auto)]
+
+mod entry;
+mod queue;
+mod refusal;
+mod row;
+mod setup;
+
+pub use entry::{Arrival, Call, Entry};
+pub use queue::Queue;
+pub use refusal::Refusal;
+pub use row::{Phase, Row};
+pub use setup::{ServerSet, Servers, Setup};

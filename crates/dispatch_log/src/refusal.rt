@@ -1,0 +1,43 @@
+ghost use Rattle.std.specs.Prelude.{◌≡◌};
+ghost use Rattle.dispatch_log.specs.Refusals.{number_of};
+
+use thiserror::Error;
+
+/// Why a call was refused. A refused call changes nothing.
+#[derive(Clone, Copy, Debug, PartialEq, Eq, Error)]
+pub enum Refusal {
+    /// A growth found no memory.
+    #[error("no memory")]
+    NoMemory,
+    /// There are as many live requests as places.
+    #[error("all places are taken")]
+    PlacesFull,
+    /// Fewer than `2 * places + 8` entries of the log are free.
+    #[error("the log is full")]
+    LogFull,
+    /// No live request has the ticket.
+    #[error("no live request has this ticket")]
+    NoSuchTicket,
+    /// The request isn't where the call needs it.
+    #[error("the request is not in the phase that this call needs")]
+    WrongPhase,
+    /// The next ticket would be 2^40.
+    #[error("the tickets are spent")]
+    TicketsSpent,
+}
+
+impl Refusal {
+    /// Its number in a trace's `refused` line.
+    pub fn number(self) -> u8
+        ensures { result ≡ number_of self }
+    {
+        match self {
+            Refusal::NoMemory => 1,
+            Refusal::PlacesFull => 2,
+            Refusal::LogFull => 3,
+            Refusal::NoSuchTicket => 4,
+            Refusal::WrongPhase => 5,
+            Refusal::TicketsSpent => 14,
+        }
+    }
+}

@@ -1,0 +1,25 @@
+use crate::queue::Queue;
+use due_key::{Key, Moment};
+
+/// Where a live request stands.
+#[derive(Clone, Copy, Debug, PartialEq, Eq)]
+pub enum Phase {
+    /// In no place yet, or no more: only inside an event.
+    Loose,
+    /// In a queue since this moment.
+    Waiting(Queue, Moment),
+    /// A slot of this server is its own.
+    Serving(usize),
+}
+
+/// A live request.
+#[derive(Clone, Copy, Debug, PartialEq, Eq)]
+pub struct Row {
+    /// Its class, due date and ticket, fixed for its life.
+    pub key: Key,
+    /// The server that it is bound to (`use-server`).
+    pub pin: Option<usize>,
+    /// How many connections failed for it.
+    pub failures: u32,
+    pub phase: Phase,
+}

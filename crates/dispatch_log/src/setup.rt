@@ -1,0 +1,106 @@
+ghost use Rattle.std.specs.Prelude.{◌≡◌, ◌↔◌, IsTrue, length};
+ghost use Rattle.dispatch_log.specs.Setups.{IsSound};
+
+use std::marker::Model;
+
+/// What a server may take.
+#[derive(Clone, Copy, Debug, PartialEq, Eq)]
+pub struct ServerSet {
+    /// `maxconn`: the greatest number of requests that it serves at once; 0: no limit.
+    pub limit: u32,
+    /// `maxqueue`: the greatest number of requests in its own queue; 0: no limit.
+    pub maxqueue: u32,
+    /// `weight`, 0 to 256.
+    pub weight: u32,
+    /// `rise` and `fall`, where the server is checked.
+    pub rise_fall: Option<(u32, u32)>,
+}
+
+/// The servers in file order.
+#[derive(Debug, Drop)]
+pub struct Servers {
+    list: Vec<ServerSet>,
+}
+
+impl Model for Servers {
+    ghost use Rattle.std.specs.Prelude.{List};
+    ghost use Rattle.dispatch_log.specs.declared.setup.ServerSet.{ServerSet};
+
+    ghost Value = { List ServerSet };
+
+    ghost view = { λ servers. servers.list.items };
+}
+
+impl Servers {
+    pub fn new(list: Vec<ServerSet>) -> Servers
+        ensures { result ≡ list.items }
+    {
+        Servers { list }
+    }
+
+    pub fn as_slice(&self) -> &[ServerSet]
+        ensures { result.now ≡ self.now }
+    {
+        self.list.as_slice()
+    }
+
+    pub fn len(&self) -> usize
+        ensures { result ≡ length self.now }
+    {
+        self.list.len()
+    }
+
+    pub fn is_empty(&self) -> bool
+        ensures { IsTrue result ↔ (length self.now ≡ 0) }
+    {
+        self.list.is_empty()
+    }
+}
+
+/// What a dispatcher is made for.
+#[derive(Debug, Drop)]
+pub struct Setup {
+    pub servers: Servers,
+    /// The greatest number of live requests, 1 to 4096.
+    pub places: usize,
+    /// The greatest number of log entries, 1 to 262144.
+    pub log: usize,
+    /// `retries`: how many further tries a request has whose connection fails.
+    pub retries: u32,
+    /// `option redispatch`: the last retry goes to another server.
+    pub redispatch: bool,
+    /// `timeout queue` in milliseconds, below 2^62; 0: requests wait without an end.
+    pub queue_timeout: u64,
+}
+
+impl Setup {
+    ghost use Rattle.dispatch_log.specs.Setups.{IsSound};
+
+    /// Whether a dispatcher can be made for it: for now exactly one server, which takes one
+    /// request at a time, and the limits above.
+    pub fn sound(&self) -> bool
+        ensures { IsTrue result ↔ IsSound self.now }
+    {
+        self.servers.len() == 1
+            && self
+                .servers
+                .as_slice()
+                .iter()
+                .all(|server| server.is_plain())
+            && 0 < self.places
+            && self.places <= 4096
+            && 0 < self.log
+            && self.log <= 262_144
+            && self.queue_timeout < 1 << 62
+    }
+}
+
+impl ServerSet {
+    ghost use Rattle.dispatch_log.specs.Setups.{is_plain};
+
+    fn is_plain(&self) -> bool
+        ensures { result ≡ is_plain self.now }
+    {
+        self.limit == 1 && self.maxqueue == 0 && self.weight == 1 && self.rise_fall.is_none()
+    }
+}

@@ -1,19 +1,18 @@
 -- Legal logs, judged entry by entry.
-use Rattle.std.specs.Prelude.{◌≡◌, ◌≢◌, ℕ, ◌+◌, ◌≤◌, ℤ, pos, ◌+ℤ◌, IsTrue, List, [], ◌∷◌, None}
+use Rattle.std.specs.Prelude.{◌≡◌, ◌≢◌, ℕ, ◌+◌, ◌≤◌, ℤ, pos, ◌+ℤ◌, IsTrue, List, [], ◌∷◌, Option, None}
 use Rattle.std.specs.declared.cmp.Ordering.TheVariants.{Greater}
 use Rattle.due_key.specs.Order.{key_cmp}
 use Rattle.due_key.specs.Range.{IsBetween}
 use Rattle.due_key.specs.declared.offset.TheConstants.{LOWEST_OFFSET, HIGHEST_OFFSET}
 use Rattle.dispatch_log.specs.declared.entry.Arrival.{Arrival}
-use Rattle.dispatch_log.specs.declared.entry.Call.{Call}
-use Rattle.dispatch_log.specs.declared.entry.Call.TheVariants.{Arrive, Done}
 use Rattle.dispatch_log.specs.declared.entry.Entry.{Entry}
-use Rattle.dispatch_log.specs.declared.entry.Entry.TheVariants.{Event, Direct, Joined, Granted, Freed, Ended}
+use Rattle.dispatch_log.specs.declared.entry.Entry.TheVariants.{Arrive, Done, Direct, Joined, Granted, Freed, Ended}
 use Rattle.dispatch_log.specs.declared.queue.Queue.{Queue}
 use Rattle.dispatch_log.specs.declared.queue.Queue.TheVariants.{Backend, Server}
 use Rattle.dispatch_log.specs.declared.row.Row.{Row}
 use Rattle.dispatch_log.specs.declared.setup.Setup.{Setup}
-use Rattle.dispatch_log.specs.Refusals.{refusal}
+use Rattle.dispatch_log.specs.declared.refusal.Refusal.{Refusal}
+use Rattle.dispatch_log.specs.Refusals.{arrival_refusal, done_refusal}
 use Rattle.dispatch_log.specs.Rows.{Rows, IsRow, IsVacant, phase_waits_in, phase_is_served_by}
 use Rattle.dispatch_log.specs.States.{State, after, after_all}
 use Rattle.dispatch_log.specs.Words.{is_free, has_room, may_take, may_go_to}
@@ -60,16 +59,11 @@ pub record IsNewcomer (state : State) (moment : ℕ) (arrival : Arrival) : Type 
   pub due : IsDueFrom moment arrival.due
   pub unpinned : arrival.pin ≡ None
 
-abbrev pub IsWellMade : State → ℕ → Call → Type 0
-IsWellMade state moment (Arrive arrival) = IsNewcomer state moment arrival
-IsWellMade state moment (Done ticket) = Unit {0}
-
 -- an event may begin: all is settled, nothing refuses the call, and moments never fall
-pub record MayBegin (setup : Setup) (state : State) (used moment : ℕ) (call : Call) : Type 0 where
+pub record MayBegin (setup : Setup) (state : State) (moment : ℕ) (refused : Option Refusal) : Type 0 where
   pub settled : IsSettled setup state.rows
-  pub accepted : refusal setup state used call ≡ None
+  pub accepted : refused ≡ None
   pub later : state.moment ≤ moment
-  pub made : IsWellMade state moment call
 
 -- what comes next in an event: a newcomer's placement; what the return of a ticket's slot opens
 -- with; its end; or grants, as long as one is lawful, and then another event
@@ -81,7 +75,8 @@ pub data Stage : Type 0 where
 
 -- an entry may come at a stage, in a state that so many entries left
 abbrev pub MayCome : Setup → State → ℕ → Stage → Entry → Type 0
-MayCome setup state used granting (Event moment call) = MayBegin setup state used moment call
+MayCome setup state used granting (Arrive moment arrival) = MayBegin setup state moment (arrival_refusal setup state used) × IsNewcomer state moment arrival
+MayCome setup state used granting (Done moment ticket) = MayBegin setup state moment (done_refusal setup state used ticket)
 MayCome setup state used granting (Granted ticket queue server) = IsLawfulGrant setup state.rows ticket queue server
 MayCome setup state used (placing newcomer) (Direct ticket server) = (ticket ≡ newcomer) × IsDirect setup state.rows server
 MayCome setup state used (placing newcomer) (Joined ticket queue) = (ticket ≡ newcomer) × IsJoining setup state.rows queue
@@ -91,8 +86,8 @@ MayCome setup state used stage entry = ⊥
 
 -- the stage after an entry
 abbrev pub next_stage : Stage → Entry → Stage
-next_stage stage (Event moment (Arrive arrival)) = placing arrival.ticket
-next_stage stage (Event moment (Done ticket)) = returning ticket
+next_stage stage (Arrive moment arrival) = placing arrival.ticket
+next_stage stage (Done moment ticket) = returning ticket
 next_stage stage (Freed ticket server) = ending ticket
 next_stage stage (Direct ticket server) = granting
 next_stage stage (Joined ticket queue) = granting

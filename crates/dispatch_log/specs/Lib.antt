@@ -4,3 +4,5 @@ pub mod States
 pub mod Words
 pub mod Refusals
 pub mod Judgement
+pub mod Logs
+pub mod Histories

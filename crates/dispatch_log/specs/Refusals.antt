@@ -1,8 +1,6 @@
 -- The refusals: the first that applies is the answer.
 use Rattle.std.specs.Prelude.{ℕ, ◌+◌, ◌-◌, ◌*◌, ◌^◌, nat_lt, nat_le, Bool, true, false, List, [], ◌∷◌, Option, None, Some, count_by, is_some, is_none, if◌then◌else◌}
 use Rattle.std.specs.Option.{option_map_or}
-use Rattle.dispatch_log.specs.declared.entry.Call.{Call}
-use Rattle.dispatch_log.specs.declared.entry.Call.TheVariants.{Arrive, Done}
 use Rattle.dispatch_log.specs.declared.refusal.Refusal.{Refusal}
 use Rattle.dispatch_log.specs.declared.refusal.Refusal.TheVariants.{NoMemory, PlacesFull, LogFull, NoSuchTicket, WrongPhase, TicketsSpent}
 use Rattle.dispatch_log.specs.declared.row.Phase.{Phase}
@@ -52,8 +50,3 @@ abbrev pub done_refusal : Setup → State → ℕ → ℕ → Option Refusal
 done_refusal setup state used ticket =
     let row = row_of ticket state.rows in
     first_of ((lacks_room setup used, LogFull) ∷ (is_none row, NoSuchTicket) ∷ (option_map_or (λ it. is_waiting it.phase) row false, WrongPhase) ∷ [])
-
--- what refuses a call
-abbrev pub refusal : Setup → State → ℕ → Call → Option Refusal
-refusal setup state used (Arrive arrival) = arrival_refusal setup state used
-refusal setup state used (Done ticket) = done_refusal setup state used ticket

@@ -2,10 +2,8 @@
 use Rattle.std.specs.Prelude.{ℕ, List, [], ◌∷◌, None, Some, replicate, slice_set}
 use Rattle.due_key.specs.declared.key.Key.{Key}
 use Rattle.dispatch_log.specs.declared.entry.Arrival.{Arrival}
-use Rattle.dispatch_log.specs.declared.entry.Call.{Call}
-use Rattle.dispatch_log.specs.declared.entry.Call.TheVariants.{Arrive, Done}
 use Rattle.dispatch_log.specs.declared.entry.Entry.{Entry}
-use Rattle.dispatch_log.specs.declared.entry.Entry.TheVariants.{Event, Direct, Joined, Granted, Freed, Ended}
+use Rattle.dispatch_log.specs.declared.entry.Entry.TheVariants.{Arrive, Done, Direct, Joined, Granted, Freed, Ended}
 use Rattle.dispatch_log.specs.declared.row.Phase.TheVariants.{Loose, Waiting, Serving}
 use Rattle.dispatch_log.specs.declared.row.Row.{Row}
 use Rattle.dispatch_log.specs.declared.setup.Setup.{Setup}
@@ -29,18 +27,14 @@ key_of arrival = record { class = arrival.class; due = arrival.due; ticket = arr
 abbrev pub arrived : Arrival → Row
 arrived arrival = record { key = key_of arrival; pin = arrival.pin; failures = 0; phase = Loose }
 
--- what an accepted call leaves: an arrival's row stands at its place, under the next ticket
-abbrev pub begun : State → ℕ → Call → State
-begun state moment (Arrive arrival) = record {
+-- what an entry leaves: an arrival's row stands at its place, under the next ticket
+abbrev pub after : State → Entry → State
+after state (Arrive moment arrival) = record {
   rows = slice_set state.rows arrival.place (Some (arrived arrival));
   moment = moment;
   ticket = arrival.ticket;
 }
-begun state moment (Done ticket) = record state { moment = moment }
-
--- what an entry leaves
-abbrev pub after : State → Entry → State
-after state (Event moment call) = begun state moment call
+after state (Done moment ticket) = record state { moment = moment }
 after state (Direct ticket server) = record state { rows = changed ticket (in_phase (Serving server)) state.rows }
 after state (Joined ticket queue) = record state { rows = changed ticket (in_phase (Waiting queue state.moment)) state.rows }
 after state (Granted ticket queue server) = record state { rows = changed ticket (in_phase (Serving server)) state.rows }

@@ -14,21 +14,14 @@ pub struct Arrival {
     pub place: usize,
 }
 
-/// What was asked of the dispatcher, and accepted.
-#[derive(Clone, Copy, Debug, PartialEq, Eq)]
-pub enum Call {
-    /// A request came.
-    Arrive(Arrival),
-    /// The request with this ticket is over, and its slot comes back.
-    Done(u64),
-}
-
-/// One decision of the dispatcher. Tickets name requests; servers are numbered from 0 in file
-/// order.
+/// One entry of a log: an event begins, at its effective moment, or a decision of the dispatcher
+/// in it. Tickets name requests; servers are numbered from 0 in file order.
 #[derive(Clone, Copy, Debug, PartialEq, Eq)]
 pub enum Entry {
-    /// An event begins, at its effective moment. The entries up to the next one belong to it.
-    Event(Moment, Call),
+    /// Event: a request comes.
+    Arrive(Moment, Arrival),
+    /// Event: the request with this ticket is over, and its slot comes back.
+    Done(Moment, u64),
     /// The ticket takes a slot of the server as it arrives.
     Direct(u64, usize),
     /// The ticket begins to wait in the queue.

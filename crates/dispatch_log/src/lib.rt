@@ -3,12 +3,14 @@
 #![tactic(auto)]
 
 mod entry;
+mod log;
 mod queue;
 mod refusal;
 mod row;
 mod setup;
 
-pub use entry::{Arrival, Call, Entry};
+pub use entry::{Arrival, Entry};
+pub use log::Log;
 pub use queue::Queue;
 pub use refusal::Refusal;
 pub use row::{Phase, Row};

@@ -1,0 +1,55 @@
+-- Dispatchers, as contracts see them: what one was made for, and its log.
+use Rattle.std.specs.Prelude.{◌≡◌, ◌⊎◌, ℕ, max, Bool, true, false, List, ◌∷◌, ◌++◌, Option, None, Some, All, length}
+use Rattle.dispatch_log.specs.declared.entry.Entry.{Entry}
+use Rattle.dispatch_log.specs.declared.entry.Entry.TheVariants.{Arrive, Done, Direct, Joined, Granted, Freed, Ended}
+use Rattle.dispatch_log.specs.declared.refusal.Refusal.{Refusal}
+use Rattle.dispatch_log.specs.declared.refusal.Refusal.TheVariants.{NoMemory}
+use Rattle.dispatch_log.specs.declared.setup.Setup.{Setup}
+use Rattle.dispatch_log.specs.Judgement.{IsLegalFrom}
+use Rattle.dispatch_log.specs.Refusals.{arrival_refusal, done_refusal}
+use Rattle.dispatch_log.specs.States.{State, opening_state, after_all}
+
+-- a dispatcher's setup and its log
+pub record History : Type 0 where
+  pub setup : Setup
+  pub log : List Entry
+
+-- the state that the log leaves of the opening state
+abbrev pub state_of : History → State
+state_of history = after_all (opening_state history.setup) history.log
+
+-- the log is legal
+abbrev pub IsLegal : History → Type 0
+IsLegal history = IsLegalFrom history.setup (opening_state history.setup) history.log
+
+-- an event's effective moment: the later of the one handed in and the last event's
+abbrev pub effective : History → ℕ → ℕ
+effective history moment = max (state_of history).moment moment
+
+-- what refuses an arrival, or the return of a ticket's slot, now
+abbrev pub refuses_arrival : History → Option Refusal
+refuses_arrival history = arrival_refusal history.setup (state_of history) (length history.log)
+
+abbrev pub refuses_done : History → ℕ → Option Refusal
+refuses_done history ticket = done_refusal history.setup (state_of history) (length history.log) ticket
+
+abbrev pub begins_event : Entry → Bool
+begins_event (Arrive moment arrival) = true
+begins_event (Done moment ticket) = true
+begins_event (Direct ticket server) = false
+begins_event (Joined ticket queue) = false
+begins_event (Granted ticket queue server) = false
+begins_event (Freed ticket server) = false
+begins_event (Ended ticket) = false
+
+-- the log goes on with one event, and stays legal
+pub record AddsEvent (old new : History) (event : Entry) : Type 0 where
+  pub brought : List Entry
+  pub log : new.log ≡ old.log ++ event ∷ brought
+  pub one_event : All (λ entry. begins_event entry ≡ false) brought
+  pub setup : new.setup ≡ old.setup
+  pub legal : IsLegal new
+
+-- why a call that takes memory failed: it is refused, or nothing refuses it and there was no memory
+abbrev pub RefusedOrNoMemory : Option Refusal → Refusal → Type 0
+RefusedOrNoMemory refused answer = (refused ≡ Some answer) ⊎ ((refused ≡ None) × (answer ≡ NoMemory))

@@ -1,0 +1,5 @@
+pub mod Places
+pub mod RowLemmas
+pub mod Consistency
+pub mod Judged
+pub mod Dispatched

@@ -6,3 +6,4 @@ pub mod Refusals
 pub mod Judgement
 pub mod Logs
 pub mod Histories
+pub mod Dispatch

@@ -3,6 +3,7 @@
 #![tactic(auto)]
 
 mod entry;
+mod laws;
 mod log;
 mod queue;
 mod refusal;
@@ -10,6 +11,7 @@ mod row;
 mod setup;
 
 pub use entry::{Arrival, Entry};
+pub use laws::legal_logs_are_dispatched;
 pub use log::Log;
 pub use queue::Queue;
 pub use refusal::Refusal;

@@ -1,0 +1,72 @@
+-- Logs that are judged entry by entry: what one entry more is, and what each state on the way has.
+use Rattle.std.proofs.Common.{◌≡◌, ℕ, ◌+◌, List, [], ◌∷◌, ◌++◌, length, refl, sym, ◌∙◌, subst, arith}
+use Rattle.dispatch_log.specs.declared.entry.Entry.{Entry}
+use Rattle.dispatch_log.specs.declared.entry.Entry.TheVariants.{Arrive, Done, Direct, Joined, Granted, Freed, Ended}
+use Rattle.dispatch_log.specs.declared.row.Phase.TheVariants.{Loose, Waiting, Serving}
+use Rattle.dispatch_log.specs.declared.row.Row.{Row}
+use Rattle.dispatch_log.specs.declared.setup.Setup.{Setup}
+use Rattle.dispatch_log.specs.Judgement.{Stage, placing, returning, ending, granting, MayCome, next_stage, stage_after, AllMayCome}
+use Rattle.dispatch_log.specs.Rows.{Rows, StandsAt, changed, in_phase, gone}
+use Rattle.dispatch_log.specs.States.{State, after, after_all, arrived}
+use Rattle.dispatch_log.proofs.Consistency.{IsConsistent, IsLoose, placed, moved, loosened, removed, admitted}
+use Rattle.dispatch_log.proofs.RowLemmas.{changed_at}
+
+-- what one entry more leaves
+pub after_all-push : (s : State) (es : List Entry) (e : Entry) → after_all s (es ++ e ∷ []) ≡ after (after_all s es) e
+after_all-push s [] e = refl
+after_all-push s (x ∷ es) e = after_all-push (after s x) es e
+
+pub stage_after-push : (t : Stage) (es : List Entry) (e : Entry) → stage_after t (es ++ e ∷ []) ≡ next_stage (stage_after t es) e
+stage_after-push t [] e = refl
+stage_after-push t (x ∷ es) e = stage_after-push (next_stage t x) es e
+
+-- an entry that may come at the end
+pub judged_push : (setup : Setup) (s : State) (n : ℕ) (t : Stage) (es : List Entry) (e : Entry) → AllMayCome setup s n t es → MayCome setup (after_all s es) (n + length es) (stage_after t es) e → AllMayCome setup s n t (es ++ e ∷ [])
+judged_push setup s n t [] e all may = (subst (λ k. MayCome setup s k t e) (omega arith) may, tt)
+judged_push setup s n t (x ∷ es) e all may = (
+  all.0,
+  judged_push setup (after s x) (n + 1) (next_stage t x) es e all.1
+      (let longer : n + length (x ∷ es) ≡ (n + 1) + length es = omega arith in
+      subst (λ k. MayCome setup (after_all s (x ∷ es)) k (stage_after t (x ∷ es)) e) longer may),
+)
+
+-- the row that an entry names, and what it becomes
+pub record Names (rows : Rows) (ticket : ℕ) : Type 0 where
+  pub row : Row
+  pub place : ℕ
+  pub stands : StandsAt rows place row
+  pub named : row.key.ticket ≡ ticket
+
+-- the row that is in no place, as an entry names it
+named_loose : (rows : Rows) (t u : ℕ) → IsLoose rows t → u ≡ t → Names rows u
+named_loose rows t u is same = record { row = is.row; place = is.place; stands = is.stands; named = is.named ∙ sym same }
+
+-- a judged entry keeps states consistent
+pub consistent_after : (setup : Setup) (s : State) (n : ℕ) (t : Stage) (e : Entry) → IsConsistent s.rows s.ticket t → MayCome setup s n t e → IsConsistent (after s e).rows (after s e).ticket (next_stage t e)
+consistent_after setup s n granting (Arrive m a) is may = admitted s.rows s.ticket a.place (arrived a) is may.1.vacant may.1.numbered refl
+consistent_after setup s n granting (Done m u) is may = record { tickets = is.tickets; below = is.below; loose = is.loose; owed = is.owed }
+consistent_after setup s n granting (Granted u q v) is may =
+    subst (λ rows. IsConsistent rows s.ticket granting) (sym (changed_at s.rows u may.live.0 may.row (in_phase (Serving v)) is.tickets may.live.1 may.named))
+    (moved s.rows s.ticket may.live.0 may.row (record may.row { phase = Serving v }) is may.live.1 refl (λ e. cc))
+consistent_after setup s n (placing t) (Direct u v) is may =
+    let it = named_loose s.rows t u (is.owed t refl) may.0 in
+    subst (λ rows. IsConsistent rows s.ticket granting) (sym (changed_at s.rows u it.place it.row (in_phase (Serving v)) is.tickets it.stands it.named))
+    (placed s.rows s.ticket t it.place it.row (record it.row { phase = Serving v }) is it.stands (it.named ∙ may.0) refl (λ e. cc))
+consistent_after setup s n (placing t) (Joined u q) is may =
+    let it = named_loose s.rows t u (is.owed t refl) may.0 in
+    subst (λ rows. IsConsistent rows s.ticket granting) (sym (changed_at s.rows u it.place it.row (in_phase (Waiting q s.moment)) is.tickets it.stands it.named))
+    (placed s.rows s.ticket t it.place it.row (record it.row { phase = Waiting q s.moment }) is it.stands (it.named ∙ may.0) refl (λ e. cc))
+consistent_after setup s n (returning t) (Freed u v) is may =
+    let slot = may.1 in
+    subst (λ k. IsConsistent (changed u (in_phase Loose) s.rows) s.ticket (ending k)) (sym may.0)
+    (subst (λ rows. IsConsistent rows s.ticket (ending t)) (sym (changed_at s.rows u slot.live.0 slot.row (in_phase Loose) is.tickets slot.live.1 slot.named))
+    (loosened s.rows s.ticket t slot.live.0 slot.row (record slot.row { phase = Loose }) is slot.live.1 (slot.named ∙ may.0) refl refl))
+consistent_after setup s n (ending t) (Ended u) is may =
+    let it = named_loose s.rows t u (is.owed t refl) may in
+    subst (λ rows. IsConsistent rows s.ticket granting) (sym (changed_at s.rows u it.place it.row gone is.tickets it.stands it.named))
+    (removed s.rows s.ticket t it.place it.row is it.stands (it.named ∙ may))
+consistent_after setup s n t e is may = absurd may
+
+pub consistent_all : (setup : Setup) (s : State) (n : ℕ) (t : Stage) (es : List Entry) → IsConsistent s.rows s.ticket t → AllMayCome setup s n t es → IsConsistent (after_all s es).rows (after_all s es).ticket (stage_after t es)
+consistent_all setup s n t [] is all = is
+consistent_all setup s n t (e ∷ es) is all = consistent_all setup (after s e) (n + 1) (next_stage t e) es (consistent_after setup s n t e is all.0) all.1

@@ -1,0 +1,44 @@
+-- One place of a list written.
+use Rattle.std.proofs.Common.{◌≡◌, ◌≢◌, ℕ, zero, suc, ◌+◌, Bool, cond, List, [], ◌∷◌, None, Some, slice_get, count_by, refl, ap, subst, arith, ◌⊎◌, inl, inr}
+use Rattle.std.proofs.Math.ListN.{set}
+use Rattle.std.proofs.lemmas.Option.{same_Some, slice_get_within, get_or_from_slice_get}
+use Rattle.std.proofs.lemmas.List.Sums.{sum_by-set}
+
+-- 1 where a test holds
+abbrev pub tally : Bool → ℕ
+tally b = cond b 1 0
+
+module _ {X : Type 0} where
+  pub get-set_same : (xs : List X) (i : ℕ) (x y : X) → slice_get xs i ≡ Some x → slice_get (set xs i y) i ≡ Some y
+  get-set_same [] i x y h = cc
+  get-set_same (w ∷ ws) zero x y h = refl
+  get-set_same (w ∷ ws) (suc i) x y h = get-set_same ws i x y h
+
+  pub get-set_other : (xs : List X) (i j : ℕ) (y : X) → j ≢ i → slice_get (set xs i y) j ≡ slice_get xs j
+  get-set_other [] i j y h = refl
+  get-set_other (w ∷ ws) zero zero y h = absurd (h refl)
+  get-set_other (w ∷ ws) zero (suc j) y h = refl
+  get-set_other (w ∷ ws) (suc i) zero y h = refl
+  get-set_other (w ∷ ws) (suc i) (suc j) y h = get-set_other ws i j y (λ e. h (ap suc e))
+
+  -- lists with the same at each place are one
+  pub same_places : (xs ys : List X) → ((k : ℕ) → slice_get xs k ≡ slice_get ys k) → xs ≡ ys
+  same_places [] [] h = refl
+  same_places [] (y ∷ ys) h = let e : None ≡ Some y = h 0 in cc
+  same_places (x ∷ xs) [] h = let e : Some x ≡ None = h 0 in cc
+  same_places (x ∷ xs) (y ∷ ys) h = let e : x ≡ y = same_Some x y (h 0) in let es : xs ≡ ys = same_places xs ys (λ k. h (suc k)) in cc
+
+  -- a count after a write
+  pub count-set : (p : X → Bool) (xs : List X) (i : ℕ) (x y : X) → slice_get xs i ≡ Some x → count_by p (set xs i y) + tally (p x) ≡ count_by p xs + tally (p y)
+  count-set p xs i x y h =
+      let e = sum_by-set (λ z. tally (p z)) xs i y x (slice_get_within xs i x h) in
+      subst (λ (z : X). count_by p (set xs i y) + tally (p z) ≡ count_by p xs + tally (p y)) (get_or_from_slice_get xs i x x h) e
+
+  -- what stands at a place after a write
+  pub get-set_cases : (xs : List X) (i j : ℕ) (x y z : X) → slice_get xs i ≡ Some x → slice_get (set xs i y) j ≡ Some z → ((j ≡ i) × (y ≡ z)) ⊎ ((j ≢ i) × (slice_get xs j ≡ Some z))
+  get-set_cases [] i j x y z h g = cc
+  get-set_cases (w ∷ ws) zero zero x y z h g = inl (refl, same_Some y z g)
+  get-set_cases (w ∷ ws) zero (suc j) x y z h g = inr ((λ e. cc), g)
+  get-set_cases (w ∷ ws) (suc i) zero x y z h g = inr ((λ e. cc), g)
+  get-set_cases (w ∷ ws) (suc i) (suc j) x y z h g =
+      elim (get-set_cases ws i j x y z h g) [ inl e ↦ inl (ap suc e.0, e.1) | inr e ↦ inr ((λ s. e.0 (omega arith)), e.1) ]

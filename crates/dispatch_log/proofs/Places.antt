@@ -1,7 +1,8 @@
 -- One place of a list written.
-use Rattle.std.proofs.Common.{◌≡◌, ◌≢◌, ℕ, zero, suc, ◌+◌, Bool, cond, List, [], ◌∷◌, None, Some, slice_get, count_by, refl, ap, subst, arith, ◌⊎◌, inl, inr}
+use Rattle.std.proofs.Common.{◌≡◌, ◌≢◌, ℕ, zero, suc, ◌+◌, ◌==◌, Bool, true, false, cond, List, [], ◌∷◌, None, Some, slice_get, count_by, refl, ap, subst, arith, ◌⊎◌, inl, inr}
 use Rattle.std.proofs.Math.ListN.{set}
 use Rattle.std.proofs.lemmas.Option.{same_Some, slice_get_within, get_or_from_slice_get}
+use Rattle.std.proofs.lemmas.Bool.Decides.{Decides-eqb}
 use Rattle.std.proofs.lemmas.List.Sums.{sum_by-set}
 
 -- 1 where a test holds
@@ -42,3 +43,11 @@ module _ {X : Type 0} where
   get-set_cases (w ∷ ws) (suc i) zero x y z h g = inr ((λ e. cc), g)
   get-set_cases (w ∷ ws) (suc i) (suc j) x y z h g =
       elim (get-set_cases ws i j x y z h g) [ inl e ↦ inl (ap suc e.0, e.1) | inr e ↦ inr ((λ s. e.0 (omega arith)), e.1) ]
+
+-- two places are one, or not
+pub same_or_other : (i j : ℕ) → (i ≡ j) ⊎ (i ≢ j)
+same_or_other i j = by_test (i == j) refl
+  where
+    by_test : (b : Bool) → (i == j) ≡ b → (i ≡ j) ⊎ (i ≢ j)
+    by_test true e = inl ((Decides-eqb i j).0 e)
+    by_test false e = inr (λ same. let t : (i == j) ≡ true = (Decides-eqb i j).1 same in cc)

@@ -1,0 +1,7 @@
+pub mod Orders
+pub mod Members
+pub mod Ascending
+pub mod Inserted
+pub mod Without
+pub mod Merged
+mod Falling

@@ -1,0 +1,100 @@
+ghost use Rattle.std.specs.Prelude.{◌≡◌, ◌^◌, ◌<◌, ◌≤◌, ◌<ℤ◌, pos, neg_ℤ, length, IsTrue, IfSome};
+ghost use Rattle.std.specs.List.{list_all};
+ghost use Rattle.proxy_words.specs.Numerals.{is_digit, is_numeral, numeral, signed_numeral, value_of};
+
+/// The number that a word of one to nine digits is.
+pub fn number(word: &[u8]) -> Option<u32>
+    ensures value { result ≡ numeral 9 word.now }
+    ensures small { IfSome result (λ n. n < 10 ^ 9) }
+{
+    if is_number(word, 9) {
+        Some(value(word) as u32)
+    } else {
+        None
+    }
+}
+
+/// The number that a word of one to eighteen digits is.
+pub fn long_number(word: &[u8]) -> Option<u64>
+    ensures value { result ≡ numeral 18 word.now }
+    ensures small { IfSome result (λ n. n < 10 ^ 18) }
+{
+    if is_number(word, 18) {
+        Some(value(word))
+    } else {
+        None
+    }
+}
+
+/// The number that a word of one to eighteen digits is, with a `-` before them or none. `-0` is 0.
+pub fn signed_long_number(word: &[u8]) -> Option<i64>
+    ensures { result ≡ signed_numeral 18 word.now }
+{
+    match word {
+        [b'-', digits @ ..] => long_number(digits).map(|n| -(n as i64)),
+        _ => long_number(word).map(|n| n as i64),
+    }
+}
+
+fn is_number(word: &[u8], most: usize) -> bool
+    ensures value { result ≡ is_numeral most word.now }
+    ensures short { IsTrue result → length word.now ≤ most }
+{
+    !word.is_empty() && word.len() <= most && all_digits(word)
+}
+
+fn all_digits(word: &[u8]) -> bool
+    ensures { result ≡ list_all is_digit word.now }
+{
+    word.iter().all(|byte| b'0' <= *byte && *byte <= b'9')
+}
+
+fn value(digits: &[u8]) -> u64
+    requires digits { IsTrue (list_all is_digit digits.now) }
+    requires short { length digits.now ≤ 18 }
+    ensures value { result ≡ value_of digits.now }
+    ensures small { result < 10 ^ length digits.now }
+{
+    let mut n = 0;
+    for digit in digits {
+        n = n * 10 + u64::from(*digit - b'0');
+    }
+    n
+}
+
+#[cfg(test)]
+mod tests {
+    use super::*;
+
+    #[test]
+    fn a_number_has_nine_digits_at_most(rt: HostRuntime) {
+        assert_eq!(rt; number(b"999999999"), Some(999_999_999));
+        assert_eq!(rt; number(b"000000080"), Some(80));
+        assert_eq!(rt; number(b"1000000000"), None);
+        assert_eq!(rt; number(b""), None);
+        assert_eq!(rt; number(b"1x"), None);
+    }
+
+    #[test]
+    fn a_long_number_has_eighteen(rt: HostRuntime) {
+        assert_eq!(rt;
+            long_number(b"999999999999999999"),
+            Some(999_999_999_999_999_999)
+        );
+        assert_eq!(rt; long_number(b"0000000000000000000"), None);
+    }
+
+    #[test]
+    fn a_signed_number_has_one_sign(rt: HostRuntime) {
+        assert_eq!(rt; signed_long_number(b"-524287"), Some(-524_287));
+        assert_eq!(rt; signed_long_number(b"-0"), Some(0));
+        assert_eq!(rt; signed_long_number(b"12"), Some(12));
+        assert_eq!(rt;
+            signed_long_number(b"-999999999999999999"),
+            Some(-999_999_999_999_999_999)
+        );
+        assert_eq!(rt; signed_long_number(b"--1"), None);
+        assert_eq!(rt; signed_long_number(b"+1"), None);
+        assert_eq!(rt; signed_long_number(b"-"), None);
+    }
+}

@@ -1,0 +1,70 @@
+ghost use Rattle.std.specs.Prelude.{◌≡◌, ◌^◌, ◌<◌, ◌≤◌, length, IfSome};
+ghost use Rattle.proxy_words.specs.Times.{digits_len as digits_len_of, in_milliseconds as milliseconds_of, time};
+
+use crate::numerals::number;
+
+/// The time that a word is, in milliseconds: a number of one to nine digits and, without a blank between,
+/// a unit or none.
+///
+/// The units are `us`, rounded up to whole milliseconds, `ms`, `s`, `m`, `h` and `d`. Without one the
+/// number is milliseconds.
+pub fn milliseconds(word: &[u8]) -> Option<u64>
+    ensures value { result ≡ time word.now }
+    ensures small { IfSome result (λ t. t < 2 ^ 57) }
+{
+    let (digits, unit) = word.split_at(digits_len(word));
+    let n = number(digits)?;
+    in_milliseconds(unit, n.into())
+}
+
+fn digits_len(word: &[u8]) -> usize
+    ensures count { result ≡ digits_len_of word.now }
+    ensures within { result ≤ length word.now }
+{
+    word.iter()
+        .take_while(|byte| b'0' <= **byte && **byte <= b'9')
+        .count()
+}
+
+fn in_milliseconds(unit: &[u8], n: u64) -> Option<u64>
+    requires { n < 10 ^ 9 }
+    ensures value { result ≡ milliseconds_of unit.now n }
+    ensures small { IfSome result (λ t. t < 2 ^ 57) }
+{
+    match unit {
+        b"us" => Some(n.div_ceil(1000)),
+        b"" | b"ms" => Some(n),
+        b"s" => Some(n * 1000),
+        b"m" => Some(n * 60_000),
+        b"h" => Some(n * 3_600_000),
+        b"d" => Some(n * 86_400_000),
+        _ => None,
+    }
+}
+
+#[cfg(test)]
+mod tests {
+    use super::*;
+
+    #[test]
+    fn units(rt: HostRuntime) {
+        assert_eq!(rt; milliseconds(b"1500us"), Some(2));
+        assert_eq!(rt; milliseconds(b"2000us"), Some(2));
+        assert_eq!(rt; milliseconds(b"0us"), Some(0));
+        assert_eq!(rt; milliseconds(b"7"), Some(7));
+        assert_eq!(rt; milliseconds(b"7ms"), Some(7));
+        assert_eq!(rt; milliseconds(b"7s"), Some(7_000));
+        assert_eq!(rt; milliseconds(b"7m"), Some(420_000));
+        assert_eq!(rt; milliseconds(b"7h"), Some(25_200_000));
+        assert_eq!(rt; milliseconds(b"999999999d"), Some(86_399_999_913_600_000));
+    }
+
+    #[test]
+    fn what_is_no_time(rt: HostRuntime) {
+        assert_eq!(rt; milliseconds(b"1x"), None);
+        assert_eq!(rt; milliseconds(b"ms"), None);
+        assert_eq!(rt; milliseconds(b"1 s"), None);
+        assert_eq!(rt; milliseconds(b"1000000000us"), None);
+        assert_eq!(rt; milliseconds(b"-1"), None);
+    }
+}

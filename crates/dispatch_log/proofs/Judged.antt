@@ -1,12 +1,15 @@
 -- Logs that are judged entry by entry: what one entry more is, and what each state on the way has.
-use Rattle.std.proofs.Common.{◌≡◌, ℕ, ◌+◌, List, [], ◌∷◌, ◌++◌, length, refl, sym, ◌∙◌, subst, arith}
+use Rattle.std.proofs.Common.{◌≡◌, ℕ, ◌+◌, List, [], ◌∷◌, ◌++◌, Some, length, refl, sym, ◌∙◌, subst, arith}
+use Rattle.std.proofs.Math.ListN.{length-set}
+use Rattle.std.proofs.lemmas.List.{length-map}
 use Rattle.dispatch_log.specs.declared.entry.Entry.{Entry}
 use Rattle.dispatch_log.specs.declared.entry.Entry.TheVariants.{Arrive, Done, Direct, Joined, Granted, Freed, Ended}
 use Rattle.dispatch_log.specs.declared.row.Phase.TheVariants.{Loose, Waiting, Serving}
 use Rattle.dispatch_log.specs.declared.row.Row.{Row}
 use Rattle.dispatch_log.specs.declared.setup.Setup.{Setup}
-use Rattle.dispatch_log.specs.Judgement.{Stage, placing, returning, ending, granting, MayCome, next_stage, stage_after, AllMayCome}
-use Rattle.dispatch_log.specs.Rows.{Rows, StandsAt, changed, in_phase, gone}
+use Rattle.dispatch_log.specs.declared.queue.Queue.{Queue}
+use Rattle.dispatch_log.specs.Judgement.{HasSlot, Stage, placing, returning, ending, granting, MayCome, next_stage, stage_after, AllMayCome}
+use Rattle.dispatch_log.specs.Rows.{Rows, StandsAt, with_change, changed, in_phase, gone}
 use Rattle.dispatch_log.specs.States.{State, after, after_all, arrived}
 use Rattle.dispatch_log.proofs.Consistency.{IsConsistent, IsLoose, placed, moved, loosened, removed, admitted}
 use Rattle.dispatch_log.proofs.RowLemmas.{changed_at}
@@ -70,3 +73,38 @@ consistent_after setup s n t e is may = absurd may
 pub consistent_all : (setup : Setup) (s : State) (n : ℕ) (t : Stage) (es : List Entry) → IsConsistent s.rows s.ticket t → AllMayCome setup s n t es → IsConsistent (after_all s es).rows (after_all s es).ticket (stage_after t es)
 consistent_all setup s n t [] is all = is
 consistent_all setup s n t (e ∷ es) is all = consistent_all setup (after s e) (n + 1) (next_stage t e) es (consistent_after setup s n t e is all.0) all.1
+
+-- the same row under an equal ticket
+renamed : (rows : Rows) (t u : ℕ) → IsLoose rows t → u ≡ t → IsLoose rows u
+renamed rows t u is same = record { row = is.row; place = is.place; stands = is.stands; named = is.named ∙ sym same; loose = is.loose }
+
+-- no entry changes how many places there are
+pub places_after : (s : State) (e : Entry) → length (after s e).rows ≡ length s.rows
+places_after s (Arrive m a) = length-set s.rows a.place (Some (arrived a))
+places_after s (Done m u) = refl
+places_after s (Direct u v) = length-map s.rows (with_change u (in_phase (Serving v)))
+places_after s (Joined u q) = length-map s.rows (with_change u (in_phase (Waiting q s.moment)))
+places_after s (Granted u q v) = length-map s.rows (with_change u (in_phase (Serving v)))
+places_after s (Freed u v) = length-map s.rows (with_change u (in_phase Loose))
+places_after s (Ended u) = length-map s.rows (with_change u gone)
+
+pub places_all : (s : State) (es : List Entry) → length (after_all s es).rows ≡ length s.rows
+places_all s [] = refl
+places_all s (e ∷ es) = places_all (after s e) es ∙ places_after s e
+
+-- the row that an arrival's placement names is in no place yet, and so is the row that ends
+pub direct_row : (setup : Setup) (s : State) (n : ℕ) (t : Stage) (u v : ℕ) → IsConsistent s.rows s.ticket t → MayCome setup s n t (Direct u v) → IsLoose s.rows u
+direct_row setup s n (placing t) u v is may = renamed s.rows t u (is.owed t refl) may.0
+direct_row setup s n t u v is may = absurd may
+
+pub joined_row : (setup : Setup) (s : State) (n : ℕ) (t : Stage) (u : ℕ) (q : Queue) → IsConsistent s.rows s.ticket t → MayCome setup s n t (Joined u q) → IsLoose s.rows u
+joined_row setup s n (placing t) u q is may = renamed s.rows t u (is.owed t refl) may.0
+joined_row setup s n t u q is may = absurd may
+
+pub ended_row : (setup : Setup) (s : State) (n : ℕ) (t : Stage) (u : ℕ) → IsConsistent s.rows s.ticket t → MayCome setup s n t (Ended u) → IsLoose s.rows u
+ended_row setup s n (ending t) u is may = renamed s.rows t u (is.owed t refl) may
+ended_row setup s n t u is may = absurd may
+
+pub freed_slot : (setup : Setup) (s : State) (n : ℕ) (t : Stage) (u v : ℕ) → MayCome setup s n t (Freed u v) → HasSlot s.rows u v
+freed_slot setup s n (returning t) u v may = may.1
+freed_slot setup s n t u v may = absurd may

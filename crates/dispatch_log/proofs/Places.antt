@@ -1,9 +1,9 @@
 -- One place of a list written.
-use Rattle.std.proofs.Common.{◌≡◌, ◌≢◌, ℕ, zero, suc, ◌+◌, ◌==◌, Bool, true, false, cond, List, [], ◌∷◌, None, Some, slice_get, count_by, refl, ap, subst, arith, ◌⊎◌, inl, inr}
+use Rattle.std.proofs.Common.{◌≡◌, ◌≢◌, ℕ, zero, suc, ◌+◌, ◌==◌, Bool, true, false, cond, List, [], ◌∷◌, None, Some, slice_get, count_by, refl, ap, subst, arith, ◌∙◌, ◌⊎◌, inl, inr}
 use Rattle.std.proofs.Math.ListN.{set}
 use Rattle.std.proofs.lemmas.Option.{same_Some, slice_get_within, get_or_from_slice_get}
 use Rattle.std.proofs.lemmas.Bool.Decides.{Decides-eqb}
-use Rattle.std.proofs.lemmas.List.Sums.{sum_by-set}
+use Rattle.std.proofs.lemmas.List.Sums.{sum_by-set, sum_by-cons}
 
 -- 1 where a test holds
 abbrev pub tally : Bool → ℕ
@@ -51,3 +51,11 @@ same_or_other i j = by_test (i == j) refl
     by_test : (b : Bool) → (i == j) ≡ b → (i ≡ j) ⊎ (i ≢ j)
     by_test true e = inl ((Decides-eqb i j).0 e)
     by_test false e = inr (λ same. let t : (i == j) ≡ true = (Decides-eqb i j).1 same in cc)
+
+-- a count of what fails the test everywhere
+pub count_none : {X : Type 0} (p : X → Bool) (xs : List X) → ((k : ℕ) (x : X) → slice_get xs k ≡ Some x → p x ≡ false) → count_by p xs ≡ 0
+count_none p [] fails = refl
+count_none p (x ∷ xs) fails =
+    let first : tally (p x) ≡ 0 = ap tally (fails 0 x refl) in
+    let rest : count_by p xs ≡ 0 = count_none p xs (λ k y at. fails (suc k) y at) in
+    sum_by-cons (λ z. tally (p z)) x xs ∙ omega arith

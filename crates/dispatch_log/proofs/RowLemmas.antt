@@ -1,10 +1,10 @@
 -- Rows of which one is changed.
-use Rattle.std.proofs.Common.{◌≡◌, ◌≢◌, ℕ, ◌==◌, Bool, true, false, Option, None, Some, slice_get, option_map, refl, ap, sym, ◌∙◌, subst}
+use Rattle.std.proofs.Common.{◌≡◌, ◌≢◌, ℕ, zero, suc, ◌==◌, Bool, true, false, [], ◌∷◌, arith, Option, None, Some, slice_get, option_map, refl, ap, sym, ◌∙◌, subst}
 use Rattle.std.proofs.Math.ListN.{set}
-use Rattle.std.proofs.lemmas.Option.{slice_get-map}
+use Rattle.std.proofs.lemmas.Option.{same_Some, slice_get-map}
 use Rattle.std.proofs.lemmas.Bool.Decides.{Decides-eqb}
 use Rattle.dispatch_log.specs.declared.row.Row.{Row}
-use Rattle.dispatch_log.specs.Rows.{Rows, StandsAt, with_change, changed}
+use Rattle.dispatch_log.specs.Rows.{Rows, StandsAt, with_change, changed, row_of}
 use Rattle.dispatch_log.proofs.Places.{get-set_same, get-set_other, same_places}
 
 -- no ticket has two rows
@@ -39,3 +39,31 @@ changed_at rows t p r f own stands named = same_places _ _ (λ k. slice_get-map 
     by_test k false e =
         let differs : k ≢ p = λ same. let t : (k == p) ≡ true = (Decides-eqb k p).1 same in cc in
         elsewhere k (slice_get rows k) refl differs ∙ sym (get-set_other rows p k (f r) differs)
+
+same_suc : (k l : ℕ) → suc k ≡ suc l → k ≡ l
+same_suc k l e = omega arith
+
+-- the row of a ticket that stands somewhere
+pub row_of_at : (rows : Rows) (t p : ℕ) (r : Row) → HaveOwnTickets rows → StandsAt rows p r → r.key.ticket ≡ t → row_of t rows ≡ Some r
+row_of_at [] t p r own stands named = cc
+row_of_at (None ∷ rows) t zero r own stands named = cc
+row_of_at (None ∷ rows) t (suc p) r own stands named = row_of_at rows t p r (record { own = λ k l u v a b e. same_suc k l (own.own (suc k) (suc l) u v a b e) }) stands named
+row_of_at (Some u ∷ rows) t zero r own stands named =
+    let it : u ≡ r = same_Some u r (same_Some (Some u) (Some r) stands) in
+    let test : (u.key.ticket == t) ≡ true = (Decides-eqb (u.key.ticket) t).1 (ap (λ (x : Row). x.key.ticket) it ∙ named) in
+    rw test (ap Some it)
+row_of_at (Some u ∷ rows) t (suc p) r own stands named = by_test (u.key.ticket == t) refl (row_of_at rows t p r (record { own = λ k l v w a b e. same_suc k l (own.own (suc k) (suc l) v w a b e) }) stands named)
+  where
+    by_test : (b : Bool) → (u.key.ticket == t) ≡ b → row_of t rows ≡ Some r → row_of t (Some u ∷ rows) ≡ Some r
+    by_test true e rest = let at : 0 ≡ suc p = own.own 0 (suc p) u r refl stands ((Decides-eqb (u.key.ticket) t).0 e ∙ sym named) in absurd (omega arith)
+    by_test false e rest = rw e rest
+
+-- no row has the ticket
+pub row_of_none : (rows : Rows) (t : ℕ) → ((p : ℕ) (r : Row) → StandsAt rows p r → r.key.ticket ≢ t) → row_of t rows ≡ None
+row_of_none [] t none = refl
+row_of_none (None ∷ rows) t none = row_of_none rows t (λ p r stands. none (suc p) r stands)
+row_of_none (Some u ∷ rows) t none = by_test (u.key.ticket == t) refl (row_of_none rows t (λ p r stands. none (suc p) r stands))
+  where
+    by_test : (b : Bool) → (u.key.ticket == t) ≡ b → row_of t rows ≡ None → row_of t (Some u ∷ rows) ≡ None
+    by_test true e rest = absurd (none 0 u refl ((Decides-eqb (u.key.ticket) t).0 e))
+    by_test false e rest = rw e rest

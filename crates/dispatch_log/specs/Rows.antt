@@ -85,3 +85,9 @@ in_phase phase row = Some (record row { phase = phase })
 -- no row any more
 abbrev pub gone : Row → Option Row
 gone row = None
+
+-- the server whose slot a phase is
+abbrev pub server_in : Phase → Option ℕ
+server_in (Serving server) = Some server
+server_in Loose = None
+server_in (Waiting queue since) = None

@@ -23,3 +23,18 @@ pub struct Row {
     pub failures: u32,
     pub phase: Phase,
 }
+
+impl Phase {
+    ghost use Rattle.std.specs.Prelude.{◌≡◌};
+    ghost use Rattle.dispatch_log.specs.Rows.{server_in};
+
+    /// The server whose slot it is.
+    pub fn server(self) -> Option<usize>
+        ensures { result ≡ server_in self }
+    {
+        match self {
+            Phase::Serving(server) => Some(server),
+            Phase::Loose | Phase::Waiting(_, _) => None,
+        }
+    }
+}

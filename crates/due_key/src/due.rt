@@ -1,5 +1,6 @@
 ghost use Rattle.std.specs.Prelude.{◌≡◌, pos, ◌+ℤ◌, ◌-ℤ◌};
-ghost use Rattle.due_key.specs.Range.{IsDue};
+ghost use Rattle.due_key.specs.Range.{IsDue, IsBetween};
+ghost use Rattle.due_key.specs.declared.offset.TheConstants.{LOWEST_OFFSET, HIGHEST_OFFSET};
 
 use crate::moment::Moment;
 use crate::offset::Offset;
@@ -30,7 +31,8 @@ impl Model for Due {
 impl Due {
     /// The due date of what arrives at this moment with this offset.
     pub fn of(arrival: Moment, offset: Offset) -> Due
-        ensures { result ≡ (pos arrival +ℤ offset) }
+        ensures sum { result ≡ (pos arrival +ℤ offset) }
+        ensures range { IsBetween LOWEST_OFFSET HIGHEST_OFFSET offset }
     {
         Due {
             number: arrival.get() as i64 + offset.get(),

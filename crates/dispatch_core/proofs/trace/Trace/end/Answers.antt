@@ -1,0 +1,19 @@
+use Rattle.std.proofs.Common.{refl, sym, subst}
+use Rattle.std.proofs.lemmas.Option.{MatchOption-at_none}
+use Rattle.dispatch_log.specs.declared.entry.Entry.TheVariants.{Ended}
+use Rattle.dispatch_log.specs.Histories.{History}
+use Rattle.dispatch_core.specs.Steps.{MayComeNext}
+use Rattle.dispatch_core.proofs.Entries.{end_found, end_kept}
+use Rattle.dispatch_core.proofs.Holding.{closed}
+use Rattle.dispatch_core.proofs.trace.Trace.end.Goals as goal
+
+pub unreachable-requires : goal.unreachable-requires
+unreachable-requires g c =
+    let may = subst (λ (h : History). MayComeNext h (Ended c.args.ticket)) (sym c.self.view_is) c.requires.lawful in
+    end_found g.Q.PendQueue.pair_of _ _ _ _ _ _ _ _ c.args.ticket c.self.invariant may (MatchOption-at_none _ _ c.in_default.is c.find.ensures)
+
+pub invariant_of-self : goal.invariant_of-self
+invariant_of-self g c =
+    let may = subst (λ (h : History). MayComeNext h (Ended c.args.ticket)) (sym c.self.view_is) c.requires.lawful in
+    closed g.Q.PendQueue.pair_of c.self.inside.setup c.self.inside.log.entries (Ended c.args.ticket) _ _ _ _ _ _ _ _ _ _ _ c.note.ensures c.end.ensures refl refl
+    (end_kept g.Q.PendQueue.pair_of _ _ _ _ _ _ _ _ c.args.ticket c.in-Some.place c.self.invariant may c.in-Some.ensures)

@@ -1,0 +1,11 @@
+//! The dispatcher: it puts arrivals on a server or in a queue and grants freed slots by due date,
+//! and notes every decision in its log, which stays legal. No handle; memory is taken when it is
+//! made and at arrivals alone.
+#![tactic(auto)]
+
+mod core;
+mod trace;
+
+pub use crate::core::Core;
+pub use crate::trace::Ticketed;
+pub use dispatch_log::{Log, Phase, Queue, Refusal, ServerSet, Servers, Setup};

@@ -1,0 +1,209 @@
+-- A ledger's places stay kept when one of them is written.
+use Rattle.std.proofs.Common.{◌≡◌, ◌≢◌, ℕ, zero, suc, ◌+◌, ◌<◌, List, [], ◌∷◌, ◌++◌, Option, None, Some, is_some, length, count_by, slice_get, Contains, refl, ap, sym, ◌∙◌, subst, arith, ◌⊎◌, inl, inr, length-append}
+use Rattle.std.proofs.Math.ListN.{set, length-set}
+use Rattle.std.proofs.lemmas.Option.{same_Some, slice_get_within}
+use Rattle.std.specs.declared.cmp.Reverse.{Reverse}
+use Rattle.dispatch_log.proofs.Places.{get-set_same, get-set_other, get-set_cases, count-set, same_or_other}
+use Rattle.pend_queue.specs.Held.{Held}
+use Rattle.slot_ledger.specs.declared.ledger.Slot.{Slot}
+use Rattle.slot_ledger.specs.Places.{IsKept, reversed}
+use Rattle.slot_ledger.specs.Slots.{StandsIn, HasTicketAt, AreBelow}
+
+module _ {X : Type 0} where
+  -- what stands in a list with one more at its end
+  get-push_cases : (xs : List X) (x : X) (k : ℕ) (y : X) → slice_get (xs ++ x ∷ []) k ≡ Some y → (slice_get xs k ≡ Some y) ⊎ ((k ≡ length xs) × (x ≡ y))
+  get-push_cases [] x zero y e = inr (refl, same_Some x y e)
+  get-push_cases [] x (suc k) y e = cc
+  get-push_cases (w ∷ ws) x zero y e = inl e
+  get-push_cases (w ∷ ws) x (suc k) y e = elim (get-push_cases ws x k y e) [ inl h ↦ inl h | inr h ↦ inr (omega (arith, h.0), h.1) ]
+
+  pub get-push_old : (xs : List X) (x : X) (k : ℕ) (y : X) → slice_get xs k ≡ Some y → slice_get (xs ++ x ∷ []) k ≡ Some y
+  get-push_old [] x k y e = cc
+  get-push_old (w ∷ ws) x zero y e = e
+  get-push_old (w ∷ ws) x (suc k) y e = get-push_old ws x k y e
+
+  pub get-push_new : (xs : List X) (x : X) → slice_get (xs ++ x ∷ []) (length xs) ≡ Some x
+  get-push_new [] x = refl
+  get-push_new (w ∷ ws) x = let e : length (w ∷ ws) ≡ suc (length ws) = omega arith in subst (λ k. slice_get (w ∷ (ws ++ x ∷ [])) k ≡ Some x) (sym e) (get-push_new ws x)
+
+none_some : {A : Type 0} {x : A} {P : Type 0} → None ≡ Some x → P
+none_some e = cc
+
+module _ {H : Type 0} where
+  free_not_taken : {P : Type 0} (slots : List (Option (Slot H))) (p : ℕ) (s : Slot H) → slice_get slots p ≡ Some None → StandsIn slots p s → P
+  free_not_taken slots p s free stands = let e : Some None ≡ Some (Some s) = sym free ∙ stands in none_some (same_Some None (Some s) e)
+
+  -- another row under the same ticket
+  pub kept_change : (slots : List (Option (Slot H))) (vacant : List ℕ) (capacity : ℕ) (index : Held (Reverse ℕ) ℕ) (p : ℕ) (s t : Slot H)
+      → IsKept slots vacant capacity index → StandsIn slots p s → t.row.key.ticket ≡ s.row.key.ticket → IsKept (set slots p (Some t)) vacant capacity index
+  kept_change slots vacant capacity index p s t is stands same = record {
+    free = λ at q e. elsewhere q (is.free at q e);
+    once = is.once;
+    all =
+        let count : count_by is_some (set slots p (Some t)) + 1 ≡ count_by is_some slots + 1 = count-set is_some slots p (Some s) (Some t) stands in
+        let len = length-set slots p (Some t) in
+        let all = is.all in
+        omega arith;
+    room = let len = length-set slots p (Some t) in let room = is.room in omega arith;
+    indexed = λ ticket q among. moved ticket q (is.indexed ticket q among);
+    complete = λ q u there.
+        elim (get-set_cases slots p q (Some s) (Some t) (Some u) stands there) [
+          | inl e ↦ let tu : t ≡ u = same_Some t u e.1 in
+              subst (λ n. Contains index.pairs (reversed n, q)) (sym same ∙ ap (λ (x : Slot H). x.row.key.ticket) tu) (subst (λ n. Contains index.pairs (reversed s.row.key.ticket, n)) (sym e.0) (is.complete p s stands))
+          | inr e ↦ is.complete q u e.1
+        ];
+    own = λ q r u v a b e.
+        let x = before q u a in
+        let y = before r v b in
+        is.own q r x.0 y.0 x.1 y.1 (x.2 ∙ e ∙ sym y.2);
+    counted =
+        let count : count_by is_some (set slots p (Some t)) + 1 ≡ count_by is_some slots + 1 = count-set is_some slots p (Some s) (Some t) stands in
+        let counted = is.counted in
+        omega arith;
+    index_room = let len = length-set slots p (Some t) in let room = is.index_room in omega arith;
+  }
+    where
+      elsewhere : (q : ℕ) → slice_get slots q ≡ Some None → slice_get (set slots p (Some t)) q ≡ Some None
+      elsewhere q free = get-set_other slots p q (Some t) (λ e. free_not_taken slots p s (subst (λ n. slice_get slots n ≡ Some None) e free) stands) ∙ free
+
+      before : (q : ℕ) (u : Slot H) → StandsIn (set slots p (Some t)) q u → (w : Slot H) × StandsIn slots q w × (w.row.key.ticket ≡ u.row.key.ticket)
+      before q u there =
+          elim (get-set_cases slots p q (Some s) (Some t) (Some u) stands there) [
+            | inl e ↦ (s, subst (λ n. StandsIn slots n s) (sym e.0) stands, sym same ∙ ap (λ (x : Slot H). x.row.key.ticket) (same_Some t u e.1))
+            | inr e ↦ (u, e.1, refl)
+          ]
+
+      moved : (ticket q : ℕ) → HasTicketAt ticket slots q → HasTicketAt ticket (set slots p (Some t)) q
+      moved ticket q has =
+          elim (same_or_other q p) [
+            | inl e ↦
+                let own : has.0 ≡ s = same_Some has.0 s (same_Some (Some has.0) (Some s) (sym (subst (λ n. StandsIn slots n has.0) e has.1) ∙ stands)) in
+                (t, subst (λ n. StandsIn (set slots p (Some t)) n t) (sym e) (get-set_same slots p (Some s) (Some t) stands), same ∙ ap (λ (x : Slot H). x.row.key.ticket) (sym own) ∙ has.2)
+            | inr e ↦ (has.0, get-set_other slots p q (Some t) e ∙ has.1, has.2)
+          ]
+
+  -- a new row, under the highest ticket, at the free place that was the last of the list
+  pub kept_admit : (slots : List (Option (Slot H))) (vacant rest : List ℕ) (capacity now : ℕ) (index new : Held (Reverse ℕ) ℕ) (p : ℕ) (t : Slot H)
+      → IsKept slots vacant capacity index → vacant ≡ rest ++ p ∷ [] → now ≡ capacity → AreBelow t.row.key.ticket slots
+      → ((x : Reverse ℕ × ℕ) → Contains new.pairs x → ((reversed t.row.key.ticket, p) ≡ x) ⊎ Contains index.pairs x)
+      → Contains new.pairs (reversed t.row.key.ticket, p)
+      → ((x : Reverse ℕ × ℕ) → Contains index.pairs x → Contains new.pairs x)
+      → length new.pairs ≡ length index.pairs + 1 → new.room ≡ index.room
+      → IsKept (set slots p (Some t)) rest now new
+  kept_admit slots vacant rest capacity now index new p t is parts kept below only mine others longer room = record {
+    free = λ at q e. get-set_other slots p q (Some t) (not_mine at q e) ∙ is.free at q (old at q e);
+    once = λ at other q a b. is.once at other q (old at q a) (old other q b);
+    all =
+        let count : count_by is_some (set slots p (Some t)) + 0 ≡ count_by is_some slots + 1 = count-set is_some slots p None (Some t) free in
+        let len = length-set slots p (Some t) in
+        let all = is.all in
+        let more : length vacant ≡ length rest + 1 = ap length parts ∙ length-append rest (p ∷ []) in
+        omega arith;
+    room = let len = length-set slots p (Some t) in let r = is.room in omega arith;
+    indexed = λ ticket q among.
+        elim (only (reversed ticket, q) among) [
+          | inl e ↦
+              let at : p ≡ q = ap (λ (x : Reverse ℕ × ℕ). x.1) e in
+              let own : t.row.key.ticket ≡ ticket = ap (λ (x : Reverse ℕ × ℕ). x.0.0) e in
+              (t, subst (λ n. StandsIn (set slots p (Some t)) n t) at (get-set_same slots p None (Some t) free), own)
+          | inr e ↦
+              let has = is.indexed ticket q e in
+              (has.0, get-set_other slots p q (Some t) (λ same. free_not_taken slots q has.0 (subst (λ n. slice_get slots n ≡ Some None) (sym same) free) has.1) ∙ has.1, has.2)
+        ];
+    complete = λ q u there.
+        elim (get-set_cases slots p q None (Some t) (Some u) free there) [
+          | inl e ↦ subst (λ (x : Slot H). Contains new.pairs (reversed x.row.key.ticket, q)) (same_Some t u e.1) (subst (λ n. Contains new.pairs (reversed t.row.key.ticket, n)) (sym e.0) mine)
+          | inr e ↦ others (reversed u.row.key.ticket, q) (is.complete q u e.1)
+        ];
+    own = λ q r u v a b e.
+        elim (get-set_cases slots p q None (Some t) (Some u) free a) [
+          | inl x ↦ elim (get-set_cases slots p r None (Some t) (Some v) free b) [
+            | inl y ↦ x.0 ∙ sym y.0
+            | inr y ↦ absurd (older r v y.1 (ap (λ (w : Slot H). w.row.key.ticket) (same_Some t u x.1) ∙ e))
+          ]
+          | inr x ↦ elim (get-set_cases slots p r None (Some t) (Some v) free b) [
+            | inl y ↦ absurd (older q u x.1 (ap (λ (w : Slot H). w.row.key.ticket) (same_Some t v y.1) ∙ sym e))
+            | inr y ↦ is.own q r u v x.1 y.1 e
+          ]
+        ];
+    counted =
+        let count : count_by is_some (set slots p (Some t)) + 0 ≡ count_by is_some slots + 1 = count-set is_some slots p None (Some t) free in
+        let counted = is.counted in
+        omega arith;
+    index_room = let len = length-set slots p (Some t) in let r = is.index_room in omega arith;
+  }
+    where
+      old : (at q : ℕ) → slice_get rest at ≡ Some q → slice_get vacant at ≡ Some q
+      old at q e = ap (λ (l : List ℕ). slice_get l at) parts ∙ get-push_old rest p at q e
+
+      last : slice_get vacant (length rest) ≡ Some p
+      last = ap (λ (l : List ℕ). slice_get l (length rest)) parts ∙ get-push_new rest p
+
+      free : slice_get slots p ≡ Some None
+      free = is.free (length rest) p last
+
+      not_mine : (at q : ℕ) → slice_get rest at ≡ Some q → q ≢ p
+      not_mine at q e same =
+          let within : at < length rest = slice_get_within rest at q e in
+          let at_end : at ≡ length rest = is.once at (length rest) p (subst (λ n. slice_get vacant at ≡ Some n) same (old at q e)) last in
+          absurd (omega arith)
+
+      older : (k : ℕ) (u : Slot H) → StandsIn slots k u → t.row.key.ticket ≢ u.row.key.ticket
+      older k u there e = let h : u.row.key.ticket < t.row.key.ticket = below k u there in absurd (omega arith)
+
+  -- a row goes, and its place is free again
+  pub kept_end : (slots : List (Option (Slot H))) (vacant more : List ℕ) (capacity now : ℕ) (index new : Held (Reverse ℕ) ℕ) (p : ℕ) (s : Slot H)
+      → IsKept slots vacant capacity index → StandsIn slots p s → more ≡ vacant ++ p ∷ [] → now ≡ capacity
+      → ((x : Reverse ℕ × ℕ) → Contains new.pairs x → Contains index.pairs x × (x.0.0 ≢ s.row.key.ticket))
+      → ((x : Reverse ℕ × ℕ) → Contains index.pairs x → x.0.0 ≢ s.row.key.ticket → Contains new.pairs x)
+      → length new.pairs + 1 ≡ length index.pairs → new.room ≡ index.room
+      → IsKept (set slots p None) more now new
+  kept_end slots vacant more capacity now index new p s is stands parts kept only others shorter room = record {
+    free = λ at q e.
+        elim (cases at q e) [
+          | inl a ↦ get-set_other slots p q None (λ same. free_not_taken slots p s (subst (λ n. slice_get slots n ≡ Some None) same (is.free at q a)) stands) ∙ is.free at q a
+          | inr a ↦ subst (λ n. slice_get (set slots p None) n ≡ Some None) a.1 (get-set_same slots p (Some s) None stands)
+        ];
+    once = λ at other q a b.
+        elim (cases at q a) [
+          | inl x ↦ elim (cases other q b) [
+            | inl y ↦ is.once at other q x y
+            | inr y ↦ absurd (taken at q x y.1)
+          ]
+          | inr x ↦ elim (cases other q b) [
+            | inl y ↦ absurd (taken other q y x.1)
+            | inr y ↦ x.0 ∙ sym y.0
+          ]
+        ];
+    all =
+        let count : count_by is_some (set slots p None) + 1 ≡ count_by is_some slots + 0 = count-set is_some slots p (Some s) None stands in
+        let len = length-set slots p None in
+        let all = is.all in
+        let longer : length more ≡ length vacant + 1 = ap length parts ∙ length-append vacant (p ∷ []) in
+        omega arith;
+    room = let len = length-set slots p None in let r = is.room in omega arith;
+    indexed = λ ticket q among.
+        let old = only (reversed ticket, q) among in
+        let has = is.indexed ticket q old.0 in
+        (has.0, get-set_other slots p q None (λ same. old.1 (sym has.2 ∙ ap (λ (x : Slot H). x.row.key.ticket) (same_Some has.0 s (same_Some (Some has.0) (Some s) (sym (subst (λ n. StandsIn slots n has.0) same has.1) ∙ stands))))) ∙ has.1, has.2);
+    complete = λ q u there.
+        elim (get-set_cases slots p q (Some s) None (Some u) stands there) [
+          | inl e ↦ none_some e.1
+          | inr e ↦ others (reversed u.row.key.ticket, q) (is.complete q u e.1) (λ same. e.0 (is.own q p u s e.1 stands same))
+        ];
+    own = λ q r u v a b e. is.own q r u v (there q u a) (there r v b) e;
+    counted =
+        let count : count_by is_some (set slots p None) + 1 ≡ count_by is_some slots + 0 = count-set is_some slots p (Some s) None stands in
+        let counted = is.counted in
+        omega arith;
+    index_room = let len = length-set slots p None in let r = is.index_room in omega arith;
+  }
+    where
+      cases : (at q : ℕ) → slice_get more at ≡ Some q → (slice_get vacant at ≡ Some q) ⊎ ((at ≡ length vacant) × (p ≡ q))
+      cases at q e = get-push_cases vacant p at q (ap (λ (l : List ℕ). slice_get l at) (sym parts) ∙ e)
+
+      taken : (at q : ℕ) → slice_get vacant at ≡ Some q → p ≡ q → ⊥
+      taken at q e same = free_not_taken slots p s (subst (λ n. slice_get slots n ≡ Some None) (sym same) (is.free at q e)) stands
+
+      there : (q : ℕ) (u : Slot H) → StandsIn (set slots p None) q u → StandsIn slots q u
+      there q u a = elim (get-set_cases slots p q (Some s) None (Some u) stands a) [ inl e ↦ none_some e.1 | inr e ↦ e.1 ]

@@ -1,0 +1,12 @@
+use Rattle.std.proofs.Common.{◌≡◌, ◌<◌, ◌-◌, ℕ, None, Some, length, replicate, slice_get, vec_capacity}
+use Rattle.slot_ledger.proofs.ledger.Ledger.new.Given as goal
+
+-- so many free places so far, the lowest last
+abbrev pub invariant-loop-place : goal.invariant-loop-place
+invariant-loop-place g l = record {
+  slots : l.slots.items ≡ replicate l.place None;
+  room : vec_capacity l.slots ≡ l.places;
+  vacant : length l.vacant.items ≡ l.place;
+  each : (at : ℕ) → at < l.place → slice_get l.vacant.items at ≡ Some (l.places - 1 - at);
+  vacant_room : vec_capacity l.vacant ≡ l.places;
+}

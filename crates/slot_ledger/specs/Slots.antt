@@ -1,0 +1,47 @@
+-- Places with live requests.
+use Rattle.std.specs.Prelude.{◌≡◌, ◌≢◌, ℕ, ◌<◌, List, Option, None, Some, option_map, slice_get, slice_set, slice_index_or}
+use Rattle.dispatch_log.specs.declared.queue.Queue.{Queue}
+use Rattle.dispatch_log.specs.declared.row.Phase.{Phase}
+use Rattle.dispatch_log.specs.declared.row.Phase.TheVariants.{Loose, Waiting}
+use Rattle.slot_ledger.specs.declared.ledger.Slot.{Slot}
+
+module _ {H : Type 0} where
+  -- a live request stands at a place
+  abbrev pub StandsIn : List (Option (Slot H)) → ℕ → Slot H → Type 0
+  StandsIn slots place slot = slice_get slots place ≡ Some (Some slot)
+
+  -- some request stands at a place
+  abbrev pub HasRow : List (Option (Slot H)) → ℕ → Type 0
+  HasRow slots place = (slot : Slot H) × StandsIn slots place slot
+
+  -- some request with a node stands at a place
+  abbrev pub HasNode : List (Option (Slot H)) → ℕ → Type 0
+  HasNode slots place = (slot : Slot H) × (node : H) × StandsIn slots place slot × (slot.node ≡ Some node)
+
+  -- the request of a ticket stands at a place
+  abbrev pub HasTicketAt : ℕ → List (Option (Slot H)) → ℕ → Type 0
+  HasTicketAt ticket slots place = (slot : Slot H) × StandsIn slots place slot × (slot.row.key.ticket ≡ ticket)
+
+  -- no request has the ticket
+  abbrev pub HasNoTicket : ℕ → List (Option (Slot H)) → Type 0
+  HasNoTicket ticket slots = (place : ℕ) (slot : Slot H) → StandsIn slots place slot → slot.row.key.ticket ≢ ticket
+
+  -- every ticket is below this one
+  abbrev pub AreBelow : ℕ → List (Option (Slot H)) → Type 0
+  AreBelow ticket slots = (place : ℕ) (slot : Slot H) → StandsIn slots place slot → slot.row.key.ticket < ticket
+
+  -- the slots with the request at a place changed
+  abbrev pub with_slot : (Slot H → Slot H) → List (Option (Slot H)) → ℕ → List (Option (Slot H))
+  with_slot change slots place = slice_set slots place (option_map change (slice_index_or slots place None))
+
+  -- the request at a place is in this phase
+  abbrev pub with_phase : Phase → List (Option (Slot H)) → ℕ → List (Option (Slot H))
+  with_phase phase = with_slot (λ slot. record { row = record slot.row { phase = phase }; node = slot.node })
+
+  -- the request at a place waits, and its node is out
+  abbrev pub waiting : Queue → ℕ → List (Option (Slot H)) → ℕ → List (Option (Slot H))
+  waiting queue since = with_slot (λ slot. record { row = record slot.row { phase = Waiting queue since }; node = None })
+
+  -- the request at a place is in no place, and has its node
+  abbrev pub loosened : H → List (Option (Slot H)) → ℕ → List (Option (Slot H))
+  loosened node = with_slot (λ slot. record { row = record slot.row { phase = Loose }; node = Some node })

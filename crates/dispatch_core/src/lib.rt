@@ -9,3 +9,6 @@ mod trace;
 pub use crate::core::Core;
 pub use crate::trace::Ticketed;
 pub use dispatch_log::{Log, Phase, Queue, Refusal, ServerSet, Servers, Setup};
+
+#[cfg(test)]
+mod tests;

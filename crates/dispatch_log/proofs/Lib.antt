@@ -3,3 +3,4 @@ pub mod RowLemmas
 pub mod Consistency
 pub mod Judged
 pub mod Dispatched
+pub mod WrongLogs

@@ -7,3 +7,4 @@ pub mod Judgement
 pub mod Logs
 pub mod Histories
 pub mod Dispatch
+pub mod Worked

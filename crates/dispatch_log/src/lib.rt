@@ -11,7 +11,7 @@ mod row;
 mod setup;
 
 pub use entry::{Arrival, Entry};
-pub use laws::legal_logs_are_dispatched;
+pub use laws::{legal_logs_are_dispatched, wrong_logs_are_not_legal};
 pub use log::Log;
 pub use queue::Queue;
 pub use refusal::Refusal;

@@ -1,0 +1,170 @@
+use crate::{Core, Phase, Queue, Refusal, ServerSet, Servers, Setup};
+use dispatch_log::{Arrival, Entry};
+use due_key::{Class, Due, Key, Moment, Offset};
+use pend_queue::ListQueue;
+use std::alloc::{AllocError, Global};
+use std::test::Fail;
+
+/// One server that takes one request at a time.
+fn setup(alloc: Global, places: usize, log: usize) -> Result<Setup, AllocError> {
+    let server = ServerSet {
+        limit: 1,
+        maxqueue: 0,
+        weight: 1,
+        rise_fall: None,
+    };
+    Ok(Setup {
+        servers: Servers::new(vec![in alloc; server]?),
+        places,
+        log,
+        retries: 3,
+        redispatch: false,
+        queue_timeout: 0,
+    })
+}
+
+fn core(alloc: Global, places: usize, log: usize) -> Result<Core<ListQueue<Key, ()>>, Fail> {
+    let setup = setup(alloc, places, log)?;
+    if !setup.sound() {
+        return Err(Fail::from("not a sound setup"));
+    }
+    Ok(Core::new(alloc, setup)?)
+}
+
+fn moment(number: u64) -> Result<Moment, Fail> {
+    Ok(Moment::new(number).ok_or("a moment out of range")?)
+}
+
+fn arrival(ticket: u64, class: i64, at: Moment, offset: i64, place: usize) -> Arrival {
+    Arrival {
+        ticket,
+        class: Class::clamp(class),
+        due: Due::of(at, Offset::clamp(offset)),
+        pin: None,
+        place,
+    }
+}
+
+#[test]
+fn overtaking_by_offset(rt: HostRuntime) -> Result<(), Fail> {
+    let alloc = rt.alloc();
+    let mut core = core(alloc, 4, 64)?;
+    let (at, next, last) = (moment(0)?, moment(1)?, moment(2)?);
+    let (class, none) = (Class::clamp(0), Offset::clamp(0));
+    core.arrive(alloc, at, class, none, None)?;
+    core.arrive(alloc, next, class, none, None)?;
+    core.arrive(alloc, last, class, Offset::clamp(-5), None)?;
+    core.done(moment(10)?, 1)?;
+    let expected = [
+        Entry::Arrive(at, arrival(1, 0, at, 0, 0)),
+        Entry::Direct(1, 0),
+        Entry::Arrive(next, arrival(2, 0, next, 0, 1)),
+        Entry::Joined(2, Queue::Backend),
+        Entry::Arrive(last, arrival(3, 0, last, -5, 2)),
+        Entry::Joined(3, Queue::Backend),
+        Entry::Done(moment(10)?, 1),
+        Entry::Freed(1, 0),
+        Entry::Ended(1),
+        Entry::Granted(3, Queue::Backend, 0),
+    ];
+    assert_eq!(rt; core.log().entries(), expected.as_slice());
+    Ok(())
+}
+
+#[test]
+fn ties_go_by_ticket(rt: HostRuntime) -> Result<(), Fail> {
+    let alloc = rt.alloc();
+    let mut core = core(alloc, 4, 64)?;
+    let class = Class::clamp(0);
+    core.arrive(alloc, moment(0)?, class, Offset::clamp(0), None)?;
+    core.arrive(alloc, moment(1)?, class, Offset::clamp(4), None)?;
+    core.arrive(alloc, moment(5)?, class, Offset::clamp(0), None)?;
+    core.done(moment(6)?, 1)?;
+    assert_eq!(rt;
+        core.log().entries().last(),
+        Some(&Entry::Granted(2, Queue::Backend, 0))
+    );
+    Ok(())
+}
+
+#[test]
+fn a_class_goes_before_a_due_date(rt: HostRuntime) -> Result<(), Fail> {
+    let alloc = rt.alloc();
+    let mut core = core(alloc, 4, 64)?;
+    core.arrive(alloc, moment(0)?, Class::clamp(0), Offset::clamp(0), None)?;
+    core.arrive(alloc, moment(1)?, Class::clamp(0), Offset::clamp(-1), None)?;
+    core.arrive(alloc, moment(2)?, Class::clamp(-1), Offset::clamp(9), None)?;
+    core.done(moment(3)?, 1)?;
+    assert_eq!(rt;
+        core.log().entries().last(),
+        Some(&Entry::Granted(3, Queue::Backend, 0))
+    );
+    Ok(())
+}
+
+#[test]
+fn an_earlier_moment_counts_as_the_last(rt: HostRuntime) -> Result<(), Fail> {
+    let alloc = rt.alloc();
+    let mut core = core(alloc, 4, 64)?;
+    core.arrive(alloc, moment(7)?, Class::clamp(0), Offset::clamp(0), None)?;
+    let it = core.arrive(alloc, moment(3)?, Class::clamp(0), Offset::clamp(1), None)?;
+    let expected = Entry::Arrive(moment(7)?, arrival(2, 0, moment(7)?, 1, it.place));
+    assert_eq!(rt; core.log().entries().get(2), Some(&expected));
+    Ok(())
+}
+
+#[test]
+fn tells_where_requests_stand(rt: HostRuntime) -> Result<(), Fail> {
+    let alloc = rt.alloc();
+    let mut core = core(alloc, 4, 64)?;
+    let first = core.arrive(alloc, moment(0)?, Class::clamp(0), Offset::clamp(0), None)?;
+    let second = core.arrive(alloc, moment(3)?, Class::clamp(0), Offset::clamp(0), None)?;
+    assert_eq!(rt; core.phase(first.ticket), Some(Phase::Serving(0)));
+    assert_eq!(rt;
+        core.phase(second.ticket),
+        Some(Phase::Waiting(Queue::Backend, moment(3)?))
+    );
+    assert_eq!(rt; core.phase(3), None);
+    assert_eq!(rt; core.queued(Queue::Backend), 1);
+    assert_eq!(rt; core.queued(Queue::Server(0)), 0);
+    assert!(rt; core.has_room());
+    Ok(())
+}
+
+#[test]
+fn refusals_come_in_order(rt: HostRuntime) -> Result<(), Fail> {
+    let alloc = rt.alloc();
+    let mut core = core(alloc, 2, 16)?;
+    let (at, class, none) = (moment(0)?, Class::clamp(0), Offset::clamp(0));
+    core.arrive(alloc, at, class, none, None)?;
+    core.arrive(alloc, at, class, none, None)?;
+    assert_eq!(rt;
+        core.arrive(alloc, at, class, none, None),
+        Err(Refusal::PlacesFull)
+    );
+    assert_eq!(rt; core.done(at, 2), Err(Refusal::WrongPhase));
+    assert_eq!(rt; core.done(at, 9), Err(Refusal::NoSuchTicket));
+    core.done(at, 1)?;
+    assert_eq!(rt; core.log().len(), 8);
+    assert_eq!(rt; core.has_room(), false);
+    assert_eq!(rt; core.done(at, 9), Err(Refusal::LogFull));
+    assert_eq!(rt;
+        core.arrive(alloc, at, class, none, None),
+        Err(Refusal::LogFull)
+    );
+    assert_eq!(rt; core.log().len(), 8);
+    Ok(())
+}
+
+#[test]
+fn a_new_core_serves_nothing(rt: HostRuntime) -> Result<(), Fail> {
+    let alloc = rt.alloc();
+    let setup = setup(alloc, 4, 64)?;
+    if !setup.sound() {
+        return Err(Fail::from("not a sound setup"));
+    }
+    let core: Core<ListQueue<Key, ()>> = Core::new(alloc, setup)?;
+    assert_eq!(rt; core.served(0), 0);
+    assert!(rt; core.log().is_empty());
+    Ok(())
+}

@@ -1,0 +1,54 @@
+-- Worked logs that are not legal, each for one reason.
+use Rattle.std.specs.Prelude.{ℕ, ℤ, pos, negsuc, List, [], ◌∷◌, ◌++◌, None, false}
+use Rattle.dispatch_log.specs.declared.entry.Arrival.{Arrival}
+use Rattle.dispatch_log.specs.declared.entry.Entry.{Entry}
+use Rattle.dispatch_log.specs.declared.entry.Entry.TheVariants.{Arrive, Done, Direct, Joined, Granted, Freed, Ended}
+use Rattle.dispatch_log.specs.declared.queue.Queue.TheVariants.{Backend}
+use Rattle.dispatch_log.specs.declared.setup.ServerSet.{ServerSet}
+use Rattle.dispatch_log.specs.declared.setup.Setup.{Setup}
+use Rattle.dispatch_log.specs.Histories.{History}
+
+-- one plain server, four places
+abbrev pub plain_server : ServerSet
+plain_server = record { limit = 1; maxqueue = 0; weight = 1; rise_fall = None }
+
+abbrev pub worked_setup : Setup
+worked_setup = record { servers = plain_server ∷ []; places = 4; log = 64; retries = 3; redispatch = false; queue_timeout = 0 }
+
+abbrev pub worked : List Entry → History
+worked log = record { setup = worked_setup; log = log }
+
+-- an arrival of class 0 without a pin
+abbrev pub arrival : ℕ → ℤ → ℕ → Arrival
+arrival ticket due place = record { ticket = ticket; class = pos 0; due = due; pin = None; place = place }
+
+-- ticket 1 is served; 2 and 3 wait, and 3 is due first
+abbrev pub two_wait : List Entry
+two_wait =
+    Arrive 0 (arrival 1 (pos 0) 0) ∷ Direct 1 0
+    ∷ Arrive 1 (arrival 2 (pos 1) 1) ∷ Joined 2 Backend
+    ∷ Arrive 2 (arrival 3 (negsuc 2) 2) ∷ Joined 3 Backend ∷ []
+
+-- first come, first served: 2 is granted before 3
+abbrev pub first_come_first_served : List Entry
+first_come_first_served = two_wait ++ Done 10 1 ∷ Freed 1 0 ∷ Ended 1 ∷ Granted 2 Backend 0 ∷ []
+
+-- the slot that came back stays idle
+abbrev pub idle_slot : List Entry
+idle_slot = two_wait ++ Done 10 1 ∷ Freed 1 0 ∷ Ended 1 ∷ []
+
+-- a second request is served while the first one is
+abbrev pub grant_above_the_limit : List Entry
+grant_above_the_limit = two_wait ++ Granted 3 Backend 0 ∷ []
+
+-- a due date that no offset makes of the moment
+abbrev pub due_date_of_no_offset : List Entry
+due_date_of_no_offset = Arrive 5 (arrival 1 (pos 524293) 0) ∷ Direct 1 0 ∷ []
+
+-- a slot is freed, and its request doesn't end
+abbrev pub end_is_missing : List Entry
+end_is_missing = two_wait ++ Done 10 1 ∷ Freed 1 0 ∷ Granted 3 Backend 0 ∷ []
+
+-- a ticket is given twice
+abbrev pub ticket_twice : List Entry
+ticket_twice = Arrive 0 (arrival 1 (pos 0) 0) ∷ Direct 1 0 ∷ Arrive 1 (arrival 1 (pos 1) 1) ∷ Joined 1 Backend ∷ []

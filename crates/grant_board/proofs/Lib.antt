@@ -1,0 +1,13 @@
+pub mod Grants
+pub mod Members
+mod Totals
+mod Codes
+mod Moving
+mod Finding
+mod Keeping
+mod Joining
+mod Ending
+mod Seating
+mod Counting
+mod Reading
+mod Rows

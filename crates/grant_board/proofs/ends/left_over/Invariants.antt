@@ -1,0 +1,8 @@
+use Rattle.std.proofs.Common.{◌≡◌, ◌≤◌, take}
+use Rattle.std.specs.Mem.Slots.{slots_items}
+use Rattle.grant_board.specs.Weights.{total}
+use Rattle.grant_board.specs.Seats.{nonzero}
+use Rattle.grant_board.proofs.ends.left_over.Given as goal
+
+abbrev pub invariant-loop-i : goal.invariant-loop-i
+invariant-loop-i l = (l.left ≡ total nonzero (take l.i (slots_items l.closed.words))) × (l.left ≤ l.i)

@@ -1,0 +1,9 @@
+pub mod Words
+pub mod Weights
+pub mod Views
+pub mod Rule
+pub mod Plays
+pub mod Seats
+pub mod Parts
+pub mod Counted
+pub mod Places

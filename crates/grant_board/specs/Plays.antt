@@ -1,0 +1,201 @@
+-- What each step tells: of the step, its seat before, the number found (at a store, the number stored) and the seat after. And how views are cut in two and made one.
+use Rattle.std.specs.Prelude.{◌≡◌, ◌≢◌, ℕ, ◌+◌, ◌<◌, ◌≤◌, Bool, true, false, List, [], ◌∷◌, ◌++◌, length, slice_index, Contains}
+use Rattle.verdict.specs.declared.Verdict.{Verdict}
+use Rattle.verdict.specs.declared.Ending.{Ending}
+use Rattle.atomic_table.specs.Table.{Me, Step}
+use Rattle.grant_board.specs.declared.laws.Word.TheVariants.{Offered, Taken, Posted}
+use Rattle.grant_board.specs.declared.view.View.{View}
+use Rattle.grant_board.specs.Words.{encode_of, IsWord, IsUnposted}
+use Rattle.grant_board.specs.Weights.{total}
+use Rattle.grant_board.specs.Views.{Grant, grant, Terms, look, KeeperView, RelayView, KeeperPart, return_of, count_at, count_of, without}
+use Rattle.grant_board.specs.Rule.{Slot, MeetsRule}
+
+abbrev pub Seated : Type 0
+Seated = Me Slot View
+
+abbrev pub Telling : Type 1
+Telling = Step Slot → Seated → ℕ → Seated → Type 0
+
+abbrev pub view : List KeeperPart → List RelayView → View
+view keepers relays = record { keepers = keepers; relays = relays }
+
+-- the view of a seat that was joined into another
+abbrev pub blank : View
+blank = view [] []
+
+-- a seat with these parts
+abbrev pub seated : List KeeperPart → List RelayView → Seated
+seated keepers relays = (view keepers relays, [])
+
+abbrev pub keeper_seat : KeeperPart → Seated
+keeper_seat k = seated (k ∷ []) []
+
+abbrev pub relay_seat : RelayView → Seated
+relay_seat r = seated [] (r ∷ [])
+
+-- the keeper's view after each of its calls
+abbrev pub keeper_looked : KeeperView → ℕ → ℕ → KeeperView
+keeper_looked k place word = record k { looks = k.looks ++ look place word ∷ [] }
+
+abbrev pub offer_after : KeeperView → Grant → KeeperView
+offer_after k g = record k { out = k.out ++ g ∷ []; offers = k.offers ++ g ∷ [] }
+
+abbrev pub collect_after : KeeperView → Grant → Ending → KeeperView
+collect_after k g ending = record k { out = without g.place k.out; returns = k.returns ++ return_of g ending ∷ [] }
+
+-- a relay seat's view after each of its calls
+abbrev pub relay_looked : RelayView → ℕ → ℕ → RelayView
+relay_looked r place word = record r { looks = r.looks ++ look place word ∷ [] }
+
+abbrev pub take_after : RelayView → Grant → RelayView
+take_after r g = record r { passes = r.passes ++ g ∷ []; takes = r.takes ++ g ∷ [] }
+
+abbrev pub post_after : RelayView → Grant → Ending → RelayView
+post_after r g ending = record r { passes = without g.place r.passes; posts = r.posts ++ return_of g ending ∷ [] }
+
+abbrev pub split_after : RelayView → RelayView
+split_after r = record r { split = r.split + 1 }
+
+-- a seat that has done nothing
+abbrev pub new_relay : Terms → Bool → RelayView
+new_relay terms first = record { terms = terms; passes = []; takes = []; posts = []; looks = []; first = first; split = 0; joined = 0 }
+
+abbrev pub new_keeper : Terms → KeeperView
+new_keeper terms = record { terms = terms; bounds = terms.limits; out = []; offers = []; returns = []; looks = [] }
+
+-- the first seat, once another is joined into it
+abbrev pub join_after : RelayView → RelayView → RelayView
+join_after r q = record r { passes = r.passes ++ q.passes; takes = r.takes ++ q.takes; posts = r.posts ++ q.posts; joined = r.joined + 1 }
+
+-- the view of the only seat of a new board
+abbrev pub opened : Terms → View
+opened terms = view (record { view = new_keeper terms; sight = [] } ∷ []) (new_relay terms true ∷ [])
+
+-- the keeper between two calls
+abbrev pub at_rest : KeeperView → KeeperPart
+at_rest k = record { view = k; sight = [] }
+
+-- the parts of a seat. A seat of the wrong kind has these
+abbrev pub no_terms : Terms
+no_terms = record { places = 0; limits = [] }
+
+abbrev pub keeper_of : List KeeperPart → KeeperPart
+keeper_of [] = at_rest (new_keeper no_terms)
+keeper_of (k ∷ keepers) = k
+
+abbrev pub relay_of : List RelayView → RelayView
+relay_of [] = new_relay no_terms false
+relay_of (r ∷ relays) = r
+
+abbrev pub later : List RelayView → List RelayView
+later [] = []
+later (r ∷ relays) = relays
+
+-- and the rule holds once the step is made
+abbrev pub ruled : Telling → Telling
+ruled told st m r n = told st m r n × MeetsRule n.0
+
+-- the keeper stores a verdict
+abbrev pub offers : Telling
+offers st m r n =
+    let k = keeper_of m.0.keepers in
+    (ticket : ℕ) (verdict : Verdict) → IsWord (Offered ticket verdict) → st.first ≡ encode_of (Offered ticket verdict)
+    → n ≡ keeper_seat (record k { view = offer_after k.view (grant st.word ticket verdict) })
+
+-- the keeper loads a place's word, and has in sight what it finds posted
+abbrev pub sees : Telling
+sees st m r n =
+    let k = keeper_looked (keeper_of m.0.keepers).view st.word r in
+    ((ticket : ℕ) (verdict : Verdict) (ending : Ending) → IsWord (Posted ticket verdict ending) → r ≡ encode_of (Posted ticket verdict ending)
+    → n ≡ keeper_seat (record { view = k; sight = record { pass = grant st.word ticket verdict; ending = ending } ∷ [] }))
+    × (IsUnposted r → n ≡ keeper_seat (at_rest k))
+
+-- the keeper empties the place of what it has in sight
+abbrev pub clears : Telling
+clears st m r n =
+    let k = (keeper_of m.0.keepers).view in
+    (ticket : ℕ) (verdict : Verdict) (ending : Ending) →
+    let g = grant st.word ticket verdict in
+    IsWord (Posted ticket verdict ending) → (keeper_of m.0.keepers).sight ≡ record { pass = g; ending = ending } ∷ []
+    → (n ≡ keeper_seat (at_rest (collect_after k g ending))) × Contains k.out g
+    × ((weight : Grant → ℕ) → total weight (without st.word k.out) + weight g ≡ total weight k.out)
+
+-- the keeper loads a word beside a relay's part: the relay's passes are out
+abbrev pub vouches : Telling
+vouches st m r n =
+    let k = keeper_of m.0.keepers in
+    let q = relay_of m.0.relays in
+    (n ≡ seated (record k { view = keeper_looked k.view st.word r } ∷ []) (q ∷ []))
+    × ((weight : Grant → ℕ) → total weight q.passes ≤ total weight k.view.out)
+
+-- a relay loads a place's word
+abbrev pub glances : Telling
+glances st m r n = n ≡ relay_seat (relay_looked (relay_of m.0.relays) st.word r)
+
+-- a relay takes what stands offered by one exchange, or looks
+abbrev pub takes : Telling
+takes st m r n =
+    let q = relay_of m.0.relays in
+    (ticket : ℕ) (verdict : Verdict) → IsWord (Offered ticket verdict) → st.first ≡ encode_of (Offered ticket verdict) → st.second ≡ encode_of (Taken ticket verdict)
+    → (r ≡ st.first → (n ≡ relay_seat (take_after q (grant st.word ticket verdict))) × (length q.passes < q.terms.places))
+    × (r ≢ st.first → n ≡ relay_seat (relay_looked q st.word r))
+
+-- a relay posts how the exchange of a pass ended
+abbrev pub posts : Telling
+posts st m r n =
+    let q = relay_of m.0.relays in
+    (ticket : ℕ) (verdict : Verdict) (ending : Ending) →
+    let g = grant st.word ticket verdict in
+    IsWord (Posted ticket verdict ending) → st.first ≡ encode_of (Posted ticket verdict ending)
+    → (n ≡ relay_seat (post_after q g ending))
+    × ((weight : Grant → ℕ) → total weight (without st.word q.passes) + weight g ≡ total weight q.passes)
+
+-- the passes of two seats are of different places, no more of them are of a server than its bound, and no more in all than places
+pub record AreApart (terms : Terms) (xs ys : List Grant) : Type 0 where
+  pub places : (place : ℕ) → count_at place xs + count_at place ys ≤ 1
+  pub bounds : (server : ℕ) → 0 < slice_index terms.limits server → count_of server xs + count_of server ys ≤ slice_index terms.limits server
+  pub room : length xs + length ys ≤ terms.places
+
+-- a relay loads a word beside another's part
+abbrev pub meets : Telling
+meets st m r n =
+    let q = relay_of m.0.relays in
+    let other = relay_of (later m.0.relays) in
+    (n ≡ seated [] (relay_looked q st.word r ∷ other ∷ [])) × AreApart q.terms q.passes other.passes
+
+-- a load within a join, which is no look
+abbrev pub counts : Telling
+counts st m r n = let q = relay_of m.0.relays in (n ≡ relay_seat q) × (length q.passes ≤ q.terms.places)
+
+-- two seats as one, part beside part
+abbrev pub beside : View → View → View
+beside v w = view (v.keepers ++ w.keepers) (v.relays ++ w.relays)
+
+-- the relays but the last, and the last alone
+abbrev pub but_last : List RelayView → List RelayView
+but_last [] = []
+but_last (r ∷ []) = []
+but_last (r ∷ q ∷ relays) = r ∷ but_last (q ∷ relays)
+
+abbrev pub last_alone : List RelayView → List RelayView
+last_alone [] = []
+last_alone (r ∷ []) = r ∷ []
+last_alone (r ∷ q ∷ relays) = last_alone (q ∷ relays)
+
+-- a seat with its last relay's part cut off, and that part
+abbrev pub aside : View → View
+aside v = view v.keepers (but_last v.relays)
+
+abbrev pub cut_off : View → View
+cut_off v = view [] (last_alone v.relays)
+
+-- the first seat, once it split a new one off, and the new one
+abbrev pub parent : View → View
+parent v = view [] (split_after (relay_of v.relays) ∷ [])
+
+abbrev pub child : View → View
+child v = view [] (new_relay (relay_of v.relays).terms false ∷ [])
+
+-- the first seat with another's lists
+abbrev pub gathered : View → View → View
+gathered v w = view [] (join_after (relay_of v.relays) (relay_of w.relays) ∷ [])

@@ -1,0 +1,115 @@
+-- The rule of the board, which holds between any two steps. A clause about each weighing says that two lists have the same grants, each as often.
+use Rattle.std.specs.Prelude.{◌≡◌, ℕ, ◌+◌, ◌<◌, ◌≤◌, if◌then◌else◌, List, map, take, length, slice_index}
+use mathlib.Core.Option.{some}
+use lib.ListN.{get_elem?}
+use Rattle.atomic_table.specs.Table.{State}
+use Rattle.grant_board.specs.declared.laws.Word.{Word}
+use Rattle.grant_board.specs.declared.laws.Word.TheVariants.{Empty, Offered, Taken, Posted}
+use Rattle.grant_board.specs.declared.returned.Return.{Return}
+use Rattle.grant_board.specs.declared.view.View.{View}
+use Rattle.grant_board.specs.declared.view.Plan.{Plan}
+use Rattle.grant_board.specs.Words.{encode_of, IsWord}
+use Rattle.grant_board.specs.Weights.{total, along, Each}
+use Rattle.grant_board.specs.Views.{Grant, grant, Terms, KeeperPart, RelayView, Sighting, return_of, count_of}
+
+-- what a board was opened with
+abbrev pub terms_of : Plan → Terms
+terms_of plan = record { places = plan.places; limits = take plan.servers plan.limits }
+
+-- the table has no slots
+abbrev pub Slot : Type 0
+Slot = Unit {0}
+
+abbrev pub BoardState : Type 0
+BoardState = State Slot View
+
+-- the weight of the grant that a place's word has
+abbrev pub standing : (Grant → ℕ) → ℕ → Word → ℕ
+standing weight place Empty = 0
+standing weight place (Offered ticket verdict) = weight (grant place ticket verdict)
+standing weight place (Taken ticket verdict) = weight (grant place ticket verdict)
+standing weight place (Posted ticket verdict ending) = weight (grant place ticket verdict)
+
+-- the same of the words that are offered alone
+abbrev pub offered : (Grant → ℕ) → ℕ → Word → ℕ
+offered weight place (Offered ticket verdict) = weight (grant place ticket verdict)
+offered weight place _ = 0
+
+-- of those that are taken
+abbrev pub taken : (Grant → ℕ) → ℕ → Word → ℕ
+taken weight place (Taken ticket verdict) = weight (grant place ticket verdict)
+taken weight place _ = 0
+
+-- and of those that are posted, with their endings
+abbrev pub posted : (Sighting → ℕ) → ℕ → Word → ℕ
+posted weight place (Posted ticket verdict ending) = weight (record { pass = grant place ticket verdict; ending = ending })
+posted weight place _ = 0
+
+-- a sighting weighs as what will come back of it
+abbrev pub as_return : (Return → ℕ) → Sighting → ℕ
+as_return weight s = weight (return_of s.pass s.ending)
+
+-- the weights of all keeper's parts, and of all relays' parts, over all views
+abbrev pub of_keepers : (KeeperPart → ℕ) → List View → ℕ
+of_keepers weight views = total (λ v. total weight v.keepers) views
+
+abbrev pub of_relays : (RelayView → ℕ) → List View → ℕ
+of_relays weight views = total (λ v. total weight v.relays) views
+
+-- 1 of the first seat, and 1 of each other one
+abbrev pub is_first : RelayView → ℕ
+is_first r = if r.first then 1 else 0
+
+abbrev pub is_other : RelayView → ℕ
+is_other r = if r.first then 0 else 1
+
+-- how many seats the first one split off, and how many it joined
+abbrev pub split_off : RelayView → ℕ
+split_off r = if r.first then r.split else 0
+
+abbrev pub joined_in : RelayView → ℕ
+joined_in r = if r.first then r.joined else 0
+
+-- each part knows the board's terms, and the keeper the bounds
+abbrev pub KeeperAgrees : Terms → List ℕ → KeeperPart → Type 0
+KeeperAgrees terms bounds k = (k.view.terms ≡ terms) × (k.view.bounds ≡ bounds)
+
+abbrev pub RelayAgrees : Terms → RelayView → Type 0
+RelayAgrees terms r = r.terms ≡ terms
+
+abbrev pub Agrees : Terms → List ℕ → View → Type 0
+Agrees terms bounds v = Each (KeeperAgrees terms bounds) v.keepers × Each (RelayAgrees terms) v.relays
+
+pub record Orderly (terms : Terms) (s : BoardState) : Type 0 where
+  -- what the words say, and the servers' bounds
+  pub cells : List Word
+  pub bounds : List ℕ
+  pub words : s.words ≡ map encode_of cells
+  pub valid : Each IsWord cells
+  pub long : length cells ≡ terms.places
+  pub fixed : bounds ≡ terms.limits
+  -- one keeper, and one first seat, which knows how many others there are
+  pub one_keeper : of_keepers (λ _. 1) s.views ≡ 1
+  pub one_first : of_relays is_first s.views ≡ 1
+  pub others : of_relays is_other s.views + of_relays joined_in s.views ≡ of_relays split_off s.views
+  -- the words that aren't empty have the grants that are out, each at its place
+  pub out : (weight : Grant → ℕ) → of_keepers (λ k. total weight k.view.out) s.views ≡ along (standing weight) 0 cells
+  -- the words that are taken have the passes of all seats, so that no pass is with two of them
+  pub passes : (weight : Grant → ℕ) → of_relays (λ r. total weight r.passes) s.views ≡ along (taken weight) 0 cells
+  -- what was offered was taken or stands offered, each as often
+  pub offers : (weight : Grant → ℕ) → of_relays (λ r. total weight r.takes) s.views + along (offered weight) 0 cells ≡ of_keepers (λ k. total weight k.view.offers) s.views
+  -- what was posted has come back or stands posted, each as often
+  pub posts : (weight : Return → ℕ) → of_keepers (λ k. total weight k.view.returns) s.views + along (posted (as_return weight)) 0 cells ≡ of_relays (λ r. total weight r.posts) s.views
+  -- no more grants of a server are out than its bound, where it has one
+  pub bounded : (server : ℕ) → 0 < slice_index bounds server → of_keepers (λ k. count_of server k.view.out) s.views ≤ slice_index bounds server
+  -- what the keeper has in sight stands posted
+  pub sight : (weight : Sighting → ℕ) → of_keepers (λ k. total weight k.sight) s.views ≤ along (posted weight) 0 cells
+  pub agree : (j : ℕ) (v : View) → get_elem? s.views j ≡ some v → Agrees terms bounds v
+
+-- the rule holds of a state of the board, in which one seat has this view
+pub record MeetsRule (v : View) : Type 0 where
+  pub terms : Terms
+  pub state : BoardState
+  pub rule : Orderly terms state
+  pub seat : ℕ
+  pub seen : get_elem? state.views seat ≡ some v

@@ -1,0 +1,85 @@
+-- What seats know.
+use Rattle.std.specs.Prelude.{ℕ, Bool, List, [], ◌∷◌, ◌==◌, if◌then◌else◌}
+use Rattle.verdict.specs.declared.Verdict.{Verdict}
+use Rattle.verdict.specs.declared.Verdict.TheVariants.{Serve, Told}
+use Rattle.verdict.specs.declared.Ending.{Ending}
+use Rattle.grant_board.specs.declared.returned.Return.{Return}
+use Rattle.grant_board.specs.Weights.{total}
+
+-- a verdict for a ticket, at a place
+pub record Grant : Type 0 where
+  pub place : ℕ
+  pub ticket : ℕ
+  pub verdict : Verdict
+
+abbrev pub grant : ℕ → ℕ → Verdict → Grant
+grant place ticket verdict = record { place = place; ticket = ticket; verdict = verdict }
+
+-- what a board was opened with: the number of its places, and each server's limit, of which 0 is none
+pub record Terms : Type 0 where
+  pub places : ℕ
+  pub limits : List ℕ
+
+-- the number that a load or a failed exchange found at a place
+pub record Look : Type 0 where
+  pub place : ℕ
+  pub word : ℕ
+
+abbrev pub look : ℕ → ℕ → Look
+look place word = record { place = place; word = word }
+
+-- What the keeper knows: the grants that are out, each server's bound, of which 0 is none, all that it offered, all that came back, and its looks, each list in the order of its steps
+pub record KeeperView : Type 0 where
+  pub terms : Terms
+  pub bounds : List ℕ
+  pub out : List Grant
+  pub offers : List Grant
+  pub returns : List Return
+  pub looks : List Look
+
+-- What a relay seat knows: the passes that it has, all that it took, all that it posted, and its looks. The first seat also counts the seats that it split off and those that it joined
+pub record RelayView : Type 0 where
+  pub terms : Terms
+  pub passes : List Grant
+  pub takes : List Grant
+  pub posts : List Return
+  pub looks : List Look
+  pub first : Bool
+  pub split : ℕ
+  pub joined : ℕ
+
+-- a pass that was posted, as the keeper's load found it
+pub record Sighting : Type 0 where
+  pub pass : Grant
+  pub ending : Ending
+
+-- the keeper within a collect: what its load found posted, and it has still to clear
+pub record KeeperPart : Type 0 where
+  pub view : KeeperView
+  pub sight : List Sighting
+
+-- what comes back of a pass
+abbrev pub return_of : Grant → Ending → Return
+return_of pass ending = record { place = pass.place; ticket = pass.ticket; ending = ending }
+
+-- 1 at the grants of this place
+abbrev pub at_place : ℕ → Grant → ℕ
+at_place place g = if g.place == place then 1 else 0
+
+-- 1 at the grants that serve at this server
+abbrev pub serves_at : ℕ → Verdict → ℕ
+serves_at server (Serve s) = if s == server then 1 else 0
+serves_at server (Told cause) = 0
+
+-- how many grants are of this place
+abbrev pub count_at : ℕ → List Grant → ℕ
+count_at place grants = total (at_place place) grants
+
+-- how many grants serve at this server
+abbrev pub count_of : ℕ → List Grant → ℕ
+count_of server grants = total (λ g. serves_at server g.verdict) grants
+
+-- the grants of the other places
+abbrev pub without : ℕ → List Grant → List Grant
+without place [] = []
+without place (g ∷ grants) = if g.place == place then without place grants else (g ∷ without place grants)

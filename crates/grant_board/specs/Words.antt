@@ -1,0 +1,50 @@
+-- A place's word, as a number. Bits 0 and 1 are its kind, bits 2 to 8 the verdict, bit 9 is set in the word of a failed ending, and the ticket stands from bit 10 on.
+use Rattle.std.specs.Prelude.{◌≢◌, ℕ, ◌+◌, ◌*◌, ◌^◌, ◌<◌}
+use Rattle.verdict.specs.declared.cause.Cause.TheVariants.{Aborted, Timeout, Retries, NoServer}
+use Rattle.verdict.specs.declared.Verdict.{Verdict}
+use Rattle.verdict.specs.declared.Verdict.TheVariants.{Serve, Told}
+use Rattle.verdict.specs.declared.Ending.{Ending}
+use Rattle.verdict.specs.declared.Ending.TheVariants.{Done, Failed}
+use Rattle.grant_board.specs.declared.laws.Word.{Word}
+use Rattle.grant_board.specs.declared.laws.Word.TheVariants.{Empty, Offered, Taken, Posted}
+
+-- a server's verdict is the server's number, and the causes come after the 64 servers
+abbrev pub code_of : Verdict → ℕ
+code_of (Serve server) = server
+code_of (Told Aborted) = 64
+code_of (Told Timeout) = 65
+code_of (Told Retries) = 66
+code_of (Told NoServer) = 67
+
+-- the number of a word
+abbrev pub encode_of : Word → ℕ
+encode_of Empty = 0
+encode_of (Offered ticket verdict) = 1024 * ticket + 4 * code_of verdict + 1
+encode_of (Taken ticket verdict) = 1024 * ticket + 4 * code_of verdict + 2
+encode_of (Posted ticket verdict Done) = 1024 * ticket + 4 * code_of verdict + 3
+encode_of (Posted ticket verdict Failed) = 1024 * ticket + 512 + 4 * code_of verdict + 3
+
+-- there are at most 64 servers
+abbrev pub IsVerdict : Verdict → Type 0
+IsVerdict (Serve server) = server < 64
+IsVerdict (Told cause) = Unit {0}
+
+-- only an exchange with a server can fail
+abbrev pub MayEnd : Verdict → Ending → Type 0
+MayEnd (Told cause) Failed = ⊥
+MayEnd _ _ = Unit {0}
+
+-- a word that has a number: a ticket below 2^40, a server below 64, and Failed only of a server's verdict
+abbrev pub IsWord : Word → Type 0
+IsWord Empty = Unit {0}
+IsWord (Offered ticket verdict) = (ticket < 2 ^ 40) × IsVerdict verdict
+IsWord (Taken ticket verdict) = (ticket < 2 ^ 40) × IsVerdict verdict
+IsWord (Posted ticket verdict ending) = (ticket < 2 ^ 40) × IsVerdict verdict × MayEnd verdict ending
+
+-- the number of no word that is posted
+abbrev pub IsUnposted : ℕ → Type 0
+IsUnposted number = (ticket : ℕ) (verdict : Verdict) (ending : Ending) → IsWord (Posted ticket verdict ending) → number ≢ encode_of (Posted ticket verdict ending)
+
+-- the number of no word that offers this ticket
+abbrev pub OffersNot : ℕ → ℕ → Type 0
+OffersNot ticket number = (verdict : Verdict) → IsWord (Offered ticket verdict) → number ≢ encode_of (Offered ticket verdict)

@@ -1,0 +1,104 @@
+// How a board begins and ends.
+ghost use Rattle.std.specs.Prelude.{◌≡◌, ◌<◌, ◌≤◌, true, length, IfOk};
+ghost use Rattle.std.specs.Mem.Slots.{slots_items, slots_len, IsFull};
+ghost use Rattle.grant_board.specs.Weights.{total};
+ghost use Rattle.grant_board.specs.Rule.{terms_of};
+ghost use Rattle.grant_board.specs.Plays.{new_keeper, new_relay};
+ghost use Rattle.grant_board.specs.Seats.{terms, nonzero, IsClosed};
+
+use crate::board::Board;
+use crate::keeper::KeeperSeat;
+use crate::plays::Beside;
+use crate::relay::RelaySeat;
+use crate::relaying::Relaying;
+use crate::tally::Tally;
+use crate::view::Plan;
+use atomic_table::{Closed, Table};
+use std::alloc::{AllocError, Global};
+
+/// What a board held at its end.
+#[derive(Clone, Copy, Debug, PartialEq, Eq)]
+pub struct Closing {
+    /// The places whose words weren't empty.
+    pub left: u64,
+}
+
+impl Board {
+    /// A board whose places are empty, with the seat of its keeper and the first relay's. The limits are those of the servers,
+    /// by number; a limit of 0 is none. It takes a word for each place.
+    pub fn open(
+        alloc: Global,
+        places: usize,
+        limits: &[u32],
+    ) -> Result<(Board, KeeperSeat, RelaySeat), AllocError>
+        requires some_places { (0 < places) × (places ≤ 4096) }
+        requires some_servers { (0 < length limits.now) × (length limits.now ≤ 64) }
+        ensures keeper { IfOk result (λ made. made.1 ≡ record { board = made.0; view = new_keeper (terms places limits.now) }) }
+        ensures relay { IfOk result (λ made. made.2 ≡ record { board = made.0; view = new_relay (terms places limits.now) true }) }
+    {
+        let words = vec![in alloc; 0; places]?;
+        let plan = plan(places, limits);
+        let (table, mut seat) = Table::of_words(alloc, &words, &plan)?;
+        let first = table.shared.split_seat::<Beside>(&mut seat);
+        let relay = RelaySeat {
+            relaying: Relaying { seat: first },
+            first: true,
+            tally: Tally::none(),
+        };
+        Ok((Board { table }, KeeperSeat { seat }, relay))
+    }
+
+    /// Ends the board, once all its seats are joined, and gives its memory back.
+    pub fn close(self, keeper: KeeperSeat, relay: RelaySeat) -> Closing
+        requires keeper_board { keeper.board ≡ self }
+        requires relay_board { relay.board ≡ self }
+        requires first { relay.view.first ≡ true }
+        requires settled { relay.view.split ≡ relay.view.joined }
+        ensures { IsClosed keeper.view relay.view result.left }
+    {
+        let Board { table } = self;
+        let KeeperSeat { mut seat } = keeper;
+        let RelaySeat {
+            relaying,
+            first: _,
+            tally: _,
+        } = relay;
+        let Relaying { seat: other } = relaying;
+        table.shared.join_seat::<Beside>(&mut seat, other);
+        let places = table.word_count();
+        let closed = table.close_with(seat);
+        let left = left_over(&closed, places);
+        closed.free();
+        Closing { left }
+    }
+}
+
+// What the table is told of the limits.
+fn plan(places: usize, limits: &[u32]) -> Plan
+    requires { length limits.now ≤ 64 }
+    ensures { terms_of result ≡ terms places limits.now }
+{
+    let servers = limits.len();
+    let mut row = [0; 64];
+    row[..servers].copy_from_slice(limits);
+    Plan {
+        places,
+        servers,
+        limits: row,
+    }
+}
+
+// The words that aren't empty.
+fn left_over(closed: &Closed<(), Global>, words: usize) -> u64
+    requires full { IsFull closed.now.words }
+    requires count { words ≡ slots_len closed.now.words }
+    ensures { result ≡ total nonzero (slots_items closed.now.words) }
+{
+    let mut left = 0;
+    for i in 0..words {
+        if closed.word(i) != 0 {
+            left += 1;
+        }
+    }
+    left
+}

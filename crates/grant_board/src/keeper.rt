@@ -1,0 +1,117 @@
+ghost use Rattle.std.specs.Prelude.{◌≡◌, ◌^◌, ◌<◌, [], ◌∷◌, ◌++◌, IfSome, IfNone, length};
+ghost use Rattle.grant_board.specs.Views.{grant, count_at, look};
+ghost use Rattle.grant_board.specs.Plays.{offer_after};
+ghost use Rattle.grant_board.specs.Seats.{HasRoom, Collects, FindsUnposted, AreIn, KeeperRuled, VouchRuled};
+
+use crate::board::Board;
+use crate::laws::{Word, encode, posted_in};
+use crate::plays::{Beside, Clear, Offer, See, Vouch};
+use crate::relay::RelaySeat;
+use crate::relaying::Relaying;
+use crate::returned::Return;
+use crate::view::View;
+use atomic_table::Seat;
+use std::marker::Model;
+use verdict::Verdict;
+
+/// The seat of the one thread at a time that offers verdicts and collects endings. Contracts see its board, and what it
+/// knows.
+#[derive(Drop)]
+pub struct KeeperSeat {
+    pub(crate) seat: Seat<(), View>,
+}
+
+impl Model for KeeperSeat {
+    ghost use Rattle.grant_board.specs.Seats.{Keeper};
+    ghost use Rattle.grant_board.specs.Plays.{keeper_of};
+    ghost use Rattle.grant_board.specs.Parts.{IsKeeperSeat};
+
+    ghost Value = { Keeper };
+
+    ghost view = { λ s. record { board = s.seat.table_id; view = (keeper_of s.seat.me.0.keepers).view } };
+
+    ghost invariant = { λ s. IsKeeperSeat s.seat.table_id s.seat.me };
+}
+
+impl KeeperSeat {
+    /// Offers a verdict to the thread that asks for the ticket. One step, and no memory.
+    pub fn offer(&mut self, board: &Board, place: usize, ticket: u64, verdict: Verdict)
+        requires same_board { self.old.board ≡ board.now }
+        requires in_range { place < self.old.view.terms.places }
+        requires free { count_at place self.old.view.out ≡ 0 }
+        requires ticket_fits { ticket < 2 ^ 40 }
+        requires has_room { HasRoom self.old.view verdict }
+        ensures offered { self.new ≡ record self.old { view = offer_after self.old.view (grant place ticket verdict) } }
+        ensures ruled { KeeperRuled self.new.view }
+    {
+        let seat = &mut self.seat;
+        let word = encode(Word::Offered(ticket, verdict));
+        board.table.shared.store::<Offer>(seat, place, word);
+    }
+
+    /// What came back from the place, which is then empty; `None` where nothing is posted there. One step or two, and no
+    /// memory.
+    pub fn collect(&mut self, board: &Board, place: usize) -> Option<Return>
+        requires same_board { self.old.board ≡ board.now }
+        requires in_range { place < self.old.view.terms.places }
+        ensures some { IfSome result (λ back. Collects self.old.view self.new.view place back) }
+        ensures none { IfNone result (FindsUnposted self.old.view self.new.view place) }
+        ensures board { self.new.board ≡ self.old.board }
+        ensures ruled { KeeperRuled self.new.view }
+    {
+        let number = board.table.shared.load::<See>(&mut self.seat, place);
+        let (ticket, _verdict, ending) = posted_in(number)?;
+        let empty = encode(Word::Empty);
+        board
+            .table
+            .shared
+            .store::<Clear>(&mut self.seat, place, empty);
+        Some(Return {
+            place,
+            ticket,
+            ending,
+        })
+    }
+
+    /// The relay's seat as it was, and how many passes it has, each of which is out. Three steps, and no memory.
+    pub fn vouch(&mut self, board: &Board, relay: RelaySeat) -> (RelaySeat, u64)
+        requires same_board { self.old.board ≡ board.now }
+        requires relay_board { relay.board ≡ board.now }
+        ensures back { result.0 ≡ relay }
+        ensures count { result.1 ≡ length relay.view.passes }
+        ensures ruled { VouchRuled self.new.view relay.view }
+        ensures passes { AreIn relay.view.passes self.old.view.out }
+        ensures same { self.new ≡ record self.old { view = record self.old.view { looks = self.new.view.looks } } }
+        ensures looked { (word : _) × (self.new.view.looks ≡ self.old.view.looks ++ look 0 word ∷ []) }
+    {
+        let RelaySeat {
+            relaying,
+            first,
+            tally,
+        } = relay;
+        let relaying = self.vouch_for(board, relaying);
+        let relay = RelaySeat {
+            relaying,
+            first,
+            tally,
+        };
+        (relay, u64::from(tally.all))
+    }
+
+    // The relay's seat as it was: its passes are out.
+    fn vouch_for(&mut self, board: &Board, relaying: Relaying) -> Relaying
+        requires same_board { self.old.board ≡ board.now }
+        requires relay_board { relaying.board ≡ board.now }
+        ensures back { result ≡ relaying }
+        ensures same { self.new ≡ record self.old { view = record self.old.view { looks = self.new.view.looks } } }
+        ensures looked { (word : _) × (self.new.view.looks ≡ self.old.view.looks ++ look 0 word ∷ []) }
+        ensures ruled { VouchRuled self.new.view relaying.view }
+        ensures passes { AreIn relaying.view.passes self.old.view.out }
+    {
+        let Relaying { seat } = relaying;
+        board.table.shared.join_seat::<Beside>(&mut self.seat, seat);
+        board.table.shared.load::<Vouch>(&mut self.seat, 0);
+        let seat = board.table.shared.split_seat::<Beside>(&mut self.seat);
+        Relaying { seat }
+    }
+}

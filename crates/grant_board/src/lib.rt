@@ -1,0 +1,29 @@
+//! The grant board: how verdicts reach the threads that act on them, and how endings come back.
+//!
+//! Each request has a place, and a board has a word for each. The keeper's seat offers a verdict for a ticket at its
+//! place. One of the relays' seats takes it, which gives a `Pass`, and posts how its exchange ended. The keeper collects
+//! that, and the place is empty again. Each of these is one atomic step on the place's word, so that no thread waits for
+//! another, and only `Board::open` takes memory.
+#![tactic(auto)]
+
+mod board;
+mod ends;
+mod keeper;
+pub mod laws;
+mod pass;
+mod plays;
+mod relay;
+mod relaying;
+mod returned;
+mod tally;
+mod view;
+
+pub use board::{Board, BoardName};
+pub use ends::Closing;
+pub use keeper::KeeperSeat;
+pub use pass::{Pass, Taking};
+pub use relay::RelaySeat;
+pub use returned::Return;
+
+#[cfg(test)]
+mod tests;

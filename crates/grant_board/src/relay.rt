@@ -1,0 +1,144 @@
+ghost use Rattle.std.specs.Prelude.{◌≡◌, ◌+◌, ◌<◌, ◌≤◌, true, false, [], ◌∷◌, ◌++◌, length, slice_index, Contains};
+ghost use Rattle.grant_board.specs.Words.{MayEnd};
+ghost use Rattle.grant_board.specs.Views.{count_at, count_of, look};
+ghost use Rattle.grant_board.specs.Plays.{post_after, split_after, join_after, new_relay};
+ghost use Rattle.grant_board.specs.Seats.{Answers, RelayRuled, MeetRuled};
+
+use crate::board::Board;
+use crate::laws::offered_in;
+use crate::pass::{Pass, Taking};
+use crate::relaying::Relaying;
+use crate::tally::Tally;
+use std::marker::Model;
+use verdict::Ending;
+
+/// A seat of a thread that takes passes and posts their endings. Contracts see its board, and what it knows.
+#[derive(Drop)]
+pub struct RelaySeat {
+    pub(crate) relaying: Relaying,
+    pub(crate) first: bool,
+    pub(crate) tally: Tally,
+}
+
+impl Model for RelaySeat {
+    ghost use Rattle.grant_board.specs.Seats.{Relay};
+    ghost use Rattle.grant_board.specs.Counted.{IsCounted};
+
+    ghost Value = { Relay };
+
+    ghost view = { λ s. s.relaying };
+
+    ghost invariant = { λ s. IsCounted s.relaying s.first s.tally };
+}
+
+impl RelaySeat {
+    /// Whether it is the seat that `Board::open` gave, which alone splits off and joins others.
+    pub fn first(&self) -> bool
+        ensures { result ≡ self.now.view.first }
+    {
+        self.first
+    }
+
+    /// Takes the pass of the ticket, if it is found offered at the place. One load, and one exchange where the load found
+    /// it; the exchange fails where another thread's step came between. No memory.
+    pub fn try_take(&mut self, board: &Board, place: usize, ticket: u64) -> Taking
+        requires same_board { self.old.board ≡ board.now }
+        requires in_range { place < self.old.view.terms.places }
+        ensures answer { Answers self.old.view self.new.view place ticket result }
+        ensures board { self.new.board ≡ self.old.board }
+        ensures ruled { RelayRuled self.new.view }
+    {
+        let number = self.relaying.glance(board, place);
+        let Some(verdict) = offered_in(number, ticket) else {
+            return Taking::NotYet;
+        };
+        if !self.relaying.take(board, place, ticket, verdict) {
+            return Taking::NotYet;
+        }
+        self.tally.add(verdict);
+        Taking::Taken(Pass {
+            place,
+            ticket,
+            verdict,
+        })
+    }
+
+    /// Spends the pass: says how its exchange ended. One step, and no memory.
+    pub fn post(&mut self, board: &Board, pass: Pass, ending: Ending)
+        requires same_board { self.old.board ≡ board.now }
+        requires held { Contains self.old.view.passes pass }
+        requires may_end { MayEnd pass.verdict ending }
+        ensures posted { self.new ≡ record self.old { view = post_after self.old.view pass ending } }
+        ensures ruled { RelayRuled self.new.view }
+    {
+        let Pass {
+            place,
+            ticket,
+            verdict,
+        } = pass;
+        self.relaying.post(board, place, ticket, verdict, ending);
+        self.tally.remove(verdict);
+    }
+
+    /// The other seat as it was, and how many passes of the server the two have together. Three steps, and no memory.
+    pub fn meet(&mut self, board: &Board, other: RelaySeat, server: usize) -> (RelaySeat, u64)
+        requires same_board { self.old.board ≡ board.now }
+        requires other_board { other.board ≡ board.now }
+        requires server { server < length self.old.view.terms.limits }
+        ensures back { result.0 ≡ other }
+        ensures count { result.1 ≡ count_of server self.old.view.passes + count_of server other.view.passes }
+        ensures within_limit { 0 < slice_index self.old.view.terms.limits server → result.1 ≤ slice_index self.old.view.terms.limits server }
+        ensures within_places { result.1 ≤ self.old.view.terms.places }
+        ensures apart { (place : _) → count_at place self.old.view.passes + count_at place other.view.passes ≤ 1 }
+        ensures ruled { MeetRuled self.new.view other.view }
+        ensures same { self.new ≡ record self.old { view = record self.old.view { looks = self.new.view.looks } } }
+        ensures looked { (word : _) × (self.new.view.looks ≡ self.old.view.looks ++ look 0 word ∷ []) }
+    {
+        let mine = &self.tally;
+        let RelaySeat {
+            relaying,
+            first,
+            tally,
+        } = other;
+        let passes = u64::from(mine.of_server[server]) + u64::from(tally.of_server[server]);
+        let relaying = self.relaying.meet(board, relaying);
+        let other = RelaySeat {
+            relaying,
+            first,
+            tally,
+        };
+        (other, passes)
+    }
+
+    /// A seat for another thread. No memory.
+    pub fn split(&mut self, board: &Board) -> RelaySeat
+        requires same_board { self.old.board ≡ board.now }
+        requires first { self.old.view.first ≡ true }
+        ensures parent { self.new ≡ record self.old { view = split_after self.old.view } }
+        ensures child { result ≡ record { board = self.old.board; view = new_relay self.old.view.terms false } }
+    {
+        let relaying = self.relaying.split(board);
+        RelaySeat {
+            relaying,
+            first: false,
+            tally: Tally::none(),
+        }
+    }
+
+    /// Takes another seat in, with its passes and what it took and posted. No memory.
+    pub fn join(&mut self, board: &Board, other: RelaySeat)
+        requires same_board { self.old.board ≡ board.now }
+        requires other_board { other.board ≡ board.now }
+        requires first { self.old.view.first ≡ true }
+        ensures joined { self.new ≡ record self.old { view = join_after self.old.view other.view } }
+        ensures ruled { RelayRuled self.new.view }
+    {
+        let RelaySeat {
+            relaying,
+            first: _,
+            tally,
+        } = other;
+        self.relaying.join(board, relaying);
+        self.tally.merge(&tally);
+    }
+}

@@ -1,0 +1,62 @@
+//! Dueproxy: a reverse proxy that queues requests by class and due date, with HAProxy's keywords.
+//!
+//! Statuses: 0; 1 no memory, or a read or a write failed; 2 the words of the command line; 5 the script.
+#![tactic(auto)]
+
+ghost use Rattle.std.specs.Prelude.{◌≡◌};
+ghost use Rattle.dueproxy.specs.Statuses.{status_of};
+
+mod words;
+
+use replay::{Fault, replay};
+use std::env;
+use std::io::{Read, Write};
+use std::process::ExitCode;
+use words::{Asked, ask};
+
+const USAGE: u8 = 2;
+
+fn main(rt: HostRuntime) -> ExitCode {
+    let Ok(words) = env::args(&rt) else {
+        let _ = rt.eprintln("a word of the command line is no text");
+        return ExitCode::from(USAGE);
+    };
+    let Ok(words) = words.collect::<Vec<String>>(rt.alloc()) else {
+        return ExitCode::from(end(&rt, Err(Fault::NoMemory)));
+    };
+    let status = match ask(&rt, &words) {
+        Asked::Replay => replay_streams(&rt, &mut rt.stdin(), &mut rt.stdout()),
+        Asked::Later => {
+            let _ = rt.eprintln("this subcommand comes later: only replay is there");
+            USAGE
+        }
+        Asked::Nothing(status) => status,
+    };
+    ExitCode::from(status)
+}
+
+// Replays the script of a stream onto another, and answers the status.
+fn replay_streams<R: Read, W: Write>(
+    rt: &(impl Eprint + AllocGlobal),
+    input: &mut R,
+    output: &mut W,
+) -> u8 {
+    let ended = replay(rt.alloc(), input, output);
+    end(rt, ended)
+}
+
+// Prints what went wrong, and answers the status.
+fn end(rt: &impl Eprint, ended: Result<(), Fault>) -> u8
+    ensures { result ≡ status_of ended }
+{
+    match ended {
+        Ok(()) => 0,
+        Err(fault) => {
+            let _ = rt.eprintln(fault);
+            match fault {
+                Fault::Script { .. } => 5,
+                Fault::NoMemory | Fault::Read | Fault::Write => 1,
+            }
+        }
+    }
+}

@@ -1,0 +1,134 @@
+use clap::error::ErrorKind;
+use clap::{Arg, ArgAction, Command, Error};
+use std::alloc::{AllocError, Global};
+
+/// What the words of the command line ask for.
+#[derive(Clone, Copy, Debug, PartialEq, Eq)]
+pub(crate) enum Asked {
+    Replay,
+    /// A subcommand that is not there yet.
+    Later,
+    /// Nothing more: help was printed, or a fault in the words, and this is the status.
+    Nothing(u8),
+}
+
+const SCRIPT_HELP: &str = "\
+A script has one event a line; a line that begins with # is a comment:
+  M arrive C O    at moment M (ms) a request of class C comes, due O ms later
+  M done T        at moment M the request with ticket T is over
+
+For example, dueproxy replay reads
+  0 arrive 0 0
+  1 arrive 0 0
+  2 arrive 0 -5
+  10 done 1
+and grants the slot of ticket 1 to ticket 3, which is due before ticket 2.";
+
+/// Reads the words, and prints help or what is wrong with them.
+pub(crate) fn ask(rt: &(impl Print + Eprint + AllocGlobal), words: &[String]) -> Asked {
+    let Ok(command) = command(rt.alloc()) else {
+        return no_memory(rt);
+    };
+    match command.try_get_matches_from(words) {
+        Err(error) => refuse(rt, error),
+        Ok(matches) => match matches.subcommand_name() {
+            Some("replay") => Asked::Replay,
+            _ => Asked::Later,
+        },
+    }
+}
+
+fn refuse(rt: &(impl Print + Eprint + AllocGlobal), error: Error) -> Asked {
+    if error.kind() == ErrorKind::OutOfMemory {
+        return no_memory(rt);
+    }
+    let _ = error.print(rt);
+    Asked::Nothing(if error.exit_code() == 0 { 0 } else { 2 })
+}
+
+fn no_memory(rt: &impl Eprint) -> Asked {
+    let _ = rt.eprintln("no memory");
+    Asked::Nothing(1)
+}
+
+fn command<'a>(alloc: Global) -> Result<Command<'a>, AllocError> {
+    Command::new(alloc, "dueproxy")
+        .about("Queues requests by class and due date")
+        .after_help(SCRIPT_HELP)
+        .subcommand_required(true)
+        .subcommand(replay(alloc))?
+        .subcommand(check(alloc)?)?
+        .subcommand(run(alloc)?)
+}
+
+fn replay<'a>(alloc: Global) -> Command<'a> {
+    Command::new(alloc, "replay")
+        .about("Runs a script of events from standard input, and prints what the dispatcher did")
+        .after_help(SCRIPT_HELP)
+}
+
+fn check<'a>(alloc: Global) -> Result<Command<'a>, AllocError> {
+    Command::new(alloc, "check")
+        .about("Reads a configuration, and prints its first faulty line (not there yet)")
+        .arg(file(alloc))
+}
+
+fn run<'a>(alloc: Global) -> Result<Command<'a>, AllocError> {
+    Command::new(alloc, "run")
+        .about("Serves as a configuration says (not there yet)")
+        .arg(file(alloc))?
+        .arg(number(alloc, "workers", "64", 1, 256))?
+        .arg(number(alloc, "places", "1024", 1, 4096))?
+        .arg(number(alloc, "requests", "0", 0, 999_999_999))
+}
+
+fn file<'a>(alloc: Global) -> Arg<'a> {
+    Arg::new(alloc, "FILE")
+        .required(true)
+        .action(ArgAction::Set)
+        .help("The configuration")
+}
+
+fn number<'a>(alloc: Global, name: &'a str, default: &'a str, low: i64, high: i64) -> Arg<'a> {
+    Arg::new(alloc, name)
+        .long(name)
+        .action(ArgAction::Set)
+        .value_name("N")
+        .value_parser(clap::value_parser!(u32).range(low..=high))
+        .default_value(default)
+}
+
+#[cfg(test)]
+mod tests {
+    use super::*;
+    use std::test::Fail;
+
+    fn asked(rt: &HostRuntime, words: &[&str]) -> Result<Asked, Fail> {
+        let mut texts = Vec::new(rt.alloc());
+        for word in words {
+            texts.push(String::from_str(rt.alloc(), word)?)?;
+        }
+        Ok(ask(rt, &texts))
+    }
+
+    #[test]
+    fn subcommands_are_told_apart(rt: HostRuntime) -> Result<(), Fail> {
+        assert_eq!(rt; asked(&rt, &["dueproxy", "replay"])?, Asked::Replay);
+        assert_eq!(rt; asked(&rt, &["dueproxy", "check", "file"])?, Asked::Later);
+        assert_eq!(rt;
+            asked(&rt, &["dueproxy", "run", "file", "--workers", "7"])?,
+            Asked::Later
+        );
+        assert_eq!(rt; asked(&rt, &["dueproxy", "--help"])?, Asked::Nothing(0));
+        assert_eq!(rt; asked(&rt, &["dueproxy"])?, Asked::Nothing(2));
+        assert_eq!(rt;
+            asked(&rt, &["dueproxy", "replay", "more"])?,
+            Asked::Nothing(2)
+        );
+        assert_eq!(rt;
+            asked(&rt, &["dueproxy", "run", "file", "--workers", "0"])?,
+            Asked::Nothing(2)
+        );
+        Ok(())
+    }
+}

@@ -1,0 +1,20 @@
+-- What a replay does to the bytes that a writer holds, where they are known.
+use Rattle.std.specs.Prelude.{◌≡◌, ℕ, List, Option, None}
+use Rattle.std.specs.Io.KnownBytes.{Appends}
+use Rattle.script.specs.Steps.{fault_of}
+use Rattle.replay.specs.Defaults.{IsTraceOf}
+use Rattle.replay.specs.Ends.{WritesFront}
+
+-- the script is faultless, and its trace is written
+pub record WritesTrace (script : List ℕ) (old new : Option (List ℕ)) : Type 0 where
+  pub faultless : fault_of script ≡ None
+  pub trace : List ℕ
+  pub is_trace : IsTraceOf script trace
+  pub written : Appends old new trace
+
+-- the script is faultless, and a front of its trace is written
+pub record WritesFrontOfTrace (script : List ℕ) (old new : Option (List ℕ)) : Type 0 where
+  pub faultless : fault_of script ≡ None
+  pub trace : List ℕ
+  pub is_trace : IsTraceOf script trace
+  pub written : WritesFront old new trace

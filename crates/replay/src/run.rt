@@ -1,0 +1,86 @@
+ghost use Rattle.std.specs.Prelude.{◌≡◌, ◌++◌, ℕ, List, IfOk, IfErr, OnOk, OnErr, IsOk, string_bytes};
+ghost use Rattle.dispatch_log.specs.declared.entry.Entry.{Entry};
+ghost use Rattle.dispatch_log.specs.Histories.{AddsEvent, RefusedOrNoMemory};
+ghost use Rattle.script.specs.Steps.{steps_of};
+ghost use Rattle.script.specs.ScriptTexts.{Answers, IsEventOf, IsScriptText, refuses};
+
+use crate::fault::Fault;
+use dispatch_core::Core;
+use dispatch_log::Refusal;
+use due_key::Key;
+use pend_queue::PendQueue;
+use proxy_words::Lines;
+use script::{Names, Step, push_entries, push_refusal, step_of};
+use std::alloc::{AllocError, Global};
+
+/// Runs the events of a script in order, and answers their lines.
+pub(crate) fn run<Q: PendQueue<Key, ()>>(
+    alloc: Global,
+    core: &mut Core<Q>,
+    names: &Names,
+    script: &[u8],
+) -> Result<String, Fault>
+    ensures ok { IfOk result (λ text. IsScriptText names.now core.old (steps_of script.now) (string_bytes text)) }
+    ensures err { IfErr result (λ fault. fault ≡ Fault.NoMemory) }
+{
+    let mut text = String::new(alloc);
+    let mut lines = Lines::new(script);
+    'lines: while let Some(line) = lines.next() {
+        if let Some(step) = step_of(line) {
+            take_step(alloc, core, names, step, &mut text)?;
+        }
+    }
+    Ok(text)
+}
+
+// Runs one event, and writes its lines at the end.
+fn take_step<Q: PendQueue<Key, ()>>(
+    alloc: Global,
+    core: &mut Core<Q>,
+    names: &Names,
+    step: Step,
+    text: &mut String,
+) -> Result<(), Fault>
+    ensures ok { OnOk result ((front : List ℕ) × Answers names.now core.old core.new step front
+        × (string_bytes text.new ≡ string_bytes text.old ++ front)) }
+    ensures err { IfErr result (λ fault. fault ≡ Fault.NoMemory) }
+{
+    let before = core.log().len();
+    match ask(alloc, core, step) {
+        Ok(()) => kept(push_entries(text, names, &core.log().entries()[before..])),
+        Err(refusal) => {
+            if refusal == Refusal::NoMemory {
+                return Err(Fault::NoMemory);
+            }
+            kept(push_refusal(text, refusal))
+        }
+    }
+}
+
+fn kept(written: Result<(), AllocError>) -> Result<(), Fault>
+    ensures ok { OnOk result (IsOk written) }
+    ensures err { IfErr result (λ fault. fault ≡ Fault.NoMemory) }
+{
+    match written {
+        Ok(()) => Ok(()),
+        Err(_) => Err(Fault::NoMemory),
+    }
+}
+
+fn ask<Q: PendQueue<Key, ()>>(alloc: Global, core: &mut Core<Q>, step: Step) -> Result<(), Refusal>
+    ensures ok { OnOk result ((event : Entry) × IsEventOf core.old step event × AddsEvent core.old core.new event) }
+    ensures err { IfErr result (RefusedOrNoMemory (refuses core.old step)) }
+    ensures unchanged { OnErr result (core.new ≡ core.old) }
+{
+    match step {
+        Step::Arrive {
+            moment,
+            class,
+            offset,
+        } => {
+            core.arrive(alloc, moment, class, offset, None)?;
+            Ok(())
+        }
+        Step::Done { moment, ticket } => core.done(moment, ticket),
+    }
+}

@@ -1,0 +1,59 @@
+ghost use Rattle.std.specs.Prelude.{◌≡◌, ◌≢◌, ℕ, Some, IfOk, IfErr, IfSome, OnOk, OnErr, string_bytes};
+ghost use Rattle.std.specs.Io.KnownBytes.{IsAtEnd, Keeps};
+ghost use Rattle.script.specs.Steps.{fault_of};
+ghost use Rattle.replay.specs.Defaults.{IsTraceOf, opening};
+ghost use Rattle.replay.specs.Replays.{WritesTrace, WritesFrontOfTrace};
+
+use crate::defaults::{default_names, default_setup};
+use crate::ends::{read_whole, write_whole};
+use crate::fault::Fault;
+use crate::run::run;
+use dispatch_core::Core;
+use due_key::Key;
+use pend_queue::ListQueue;
+use script::first_fault;
+use std::alloc::{AllocError, Global};
+use std::io::{Read, Write};
+
+/// Reads a script to its end, runs its events in order, and writes their trace.
+///
+/// At most 4,194,305 reads are made, of which each but the last gives a byte at least, and at most as many writes as
+/// the trace has bytes. Nothing is written before the whole script was read and run. The writer is not flushed.
+pub fn replay<R: Read, W: Write>(alloc: Global, reader: &mut R, writer: &mut W) -> Result<(), Fault>
+    ensures read { OnOk result (IsAtEnd (R.remaining reader.new)) }
+    ensures ok { OnOk result (IfSome (R.remaining reader.old) (λ script. WritesTrace script (W.contents writer.old) (W.contents writer.new))) }
+
+    // The fault is the script's first, and nothing is written but where a write failed.
+    ensures script { IfErr result (λ fault. (line : ℕ) → fault ≡ Fault.Script line
+        → IfSome (R.remaining reader.old) (λ script. fault_of script ≡ Some line)) }
+    ensures write { result ≡ Err Fault.Write
+        → IfSome (R.remaining reader.old) (λ script. WritesFrontOfTrace script (W.contents writer.old) (W.contents writer.new)) }
+    ensures nothing { result ≢ Err Fault.Write → OnErr result (Keeps (W.contents writer.old) (W.contents writer.new)) }
+{
+    let script = read_whole(alloc, reader)?;
+    if let Some(line) = first_fault(&script) {
+        return Err(Fault::Script { line });
+    }
+    let trace = trace_of(alloc, &script)?;
+    write_whole(writer, trace.as_bytes())
+}
+
+// The trace of a script.
+fn trace_of(alloc: Global, script: &[u8]) -> Result<String, Fault>
+    ensures ok { IfOk result (λ trace. IsTraceOf script.now (string_bytes trace)) }
+    ensures err { IfErr result (λ fault. fault ≡ Fault.NoMemory) }
+{
+    let Ok(names) = default_names(alloc) else {
+        return Err(Fault::NoMemory);
+    };
+    let Ok(mut core) = default_core(alloc) else {
+        return Err(Fault::NoMemory);
+    };
+    run(alloc, &mut core, &names, script)
+}
+
+fn default_core(alloc: Global) -> Result<Core<ListQueue<Key, ()>>, AllocError>
+    ensures { IfOk result (λ core. core ≡ opening) }
+{
+    Core::new(alloc, default_setup(alloc)?)
+}

@@ -1,0 +1,44 @@
+-- The text that a dispatcher's answers to a script are written as.
+use Rattle.std.specs.Prelude.{◌≡◌, ◌⊎◌, ℕ, pos, ◌+ℤ◌, List, [], ◌∷◌, ◌++◌, Option, Some, None}
+use Rattle.dispatch_log.specs.declared.entry.Entry.{Entry}
+use Rattle.dispatch_log.specs.declared.entry.Entry.TheVariants as entries
+use Rattle.dispatch_log.specs.declared.refusal.Refusal.{Refusal}
+use Rattle.dispatch_log.specs.Histories.{History, AddsEvent, effective, refuses_arrival, refuses_done}
+use Rattle.script.specs.declared.step.Step.{Step}
+use Rattle.script.specs.declared.step.Step.TheVariants.{Arrive, Done}
+use Rattle.script.specs.Traces.{entries_text, refusal_text}
+
+-- what refuses a step now
+abbrev pub refuses : History → Step → Option Refusal
+refuses history (Arrive moment class offset) = refuses_arrival history
+refuses history (Done moment ticket) = refuses_done history ticket
+
+-- an entry is the event that a step asks for, at the step's effective moment: an arrival is due by its offset from then
+abbrev pub IsEventOf : History → Step → Entry → Type 0
+IsEventOf history (Arrive moment class offset) (entries.Arrive at arrival) =
+    (at ≡ effective history moment) × (arrival.class ≡ class) × (arrival.due ≡ (pos at +ℤ offset)) × (arrival.pin ≡ None)
+IsEventOf history (Done moment ticket) (entries.Done at leaver) = (at ≡ effective history moment) × (leaver ≡ ticket)
+IsEventOf history step entry = ⊥
+
+-- a step that is refused leaves the history as it was, and the line of its refusal
+pub record IsRefused (old new : History) (step : Step) (text : List ℕ) : Type 0 where
+  pub refusal : Refusal
+  pub applies : refuses old step ≡ Some refusal
+  pub unchanged : new ≡ old
+  pub written : text ≡ refusal_text refusal
+
+-- a step that is accepted adds its event to the legal log, and leaves the lines of the entries that are new
+pub record IsAccepted (names : List (List ℕ)) (old new : History) (step : Step) (text : List ℕ) : Type 0 where
+  pub event : Entry
+  pub asked : IsEventOf old step event
+  pub adds : AddsEvent old new event
+  pub written : text ≡ entries_text names (event ∷ adds.brought)
+
+abbrev pub Answers : List (List ℕ) → History → History → Step → List ℕ → Type 0
+Answers names old new step text = IsRefused old new step text ⊎ IsAccepted names old new step text
+
+-- script text: what is written for each step in order, where each step finds the history that those before it left
+abbrev pub IsScriptText : List (List ℕ) → History → List Step → List ℕ → Type 0
+IsScriptText names history [] text = text ≡ []
+IsScriptText names history (step ∷ steps) text =
+    (new : History) × (front : List ℕ) × (rest : List ℕ) × Answers names history new step front × (text ≡ front ++ rest) × IsScriptText names new steps rest

@@ -1,0 +1,45 @@
+-- The text of a trace. A line feed ends each line.
+use Rattle.std.specs.Prelude.{ℕ, List, [], ◌++◌, Option, Some, None, slice_index_or, codes}
+use Rattle.std.specs.List.{flat_map}
+use Rattle.std.specs.Fmt.{decimal, signed_decimal}
+use Rattle.dispatch_log.specs.declared.entry.Arrival.{Arrival}
+use Rattle.dispatch_log.specs.declared.entry.Entry.{Entry}
+use Rattle.dispatch_log.specs.declared.entry.Entry.TheVariants.{Arrive, Done, Direct, Joined, Granted, Freed, Ended}
+use Rattle.dispatch_log.specs.declared.queue.Queue.{Queue}
+use Rattle.dispatch_log.specs.declared.queue.Queue.TheVariants.{Backend, Server}
+use Rattle.dispatch_log.specs.declared.refusal.Refusal.{Refusal}
+use Rattle.dispatch_log.specs.Refusals.{number_of}
+
+-- the name of the server with a number, of the names in file order
+abbrev pub name_of : List (List ℕ) → ℕ → List ℕ
+name_of names server = slice_index_or names server []
+
+abbrev pub queue_name : List (List ℕ) → Queue → List ℕ
+queue_name names Backend = codes "*"
+queue_name names (Server server) = name_of names server
+
+-- the name of the server that an arrival is bound to, behind a space
+abbrev pub pin_text : List (List ℕ) → Option ℕ → List ℕ
+pin_text names None = []
+pin_text names (Some server) = codes " " ++ name_of names server
+
+-- an arrival at a moment, with its ticket, class and due date
+abbrev pub arrival_text : ℕ → Arrival → List ℕ
+arrival_text moment arrival = decimal moment ++ codes " arrive " ++ decimal arrival.ticket ++ codes " " ++ signed_decimal arrival.class ++ codes " " ++ signed_decimal arrival.due
+
+-- the line of an entry, under these names of the servers
+abbrev pub entry_text : List (List ℕ) → Entry → List ℕ
+entry_text names (Arrive moment arrival) = arrival_text moment arrival ++ (pin_text names arrival.pin ++ codes "\n")
+entry_text names (Done moment ticket) = decimal moment ++ codes " done " ++ decimal ticket ++ codes "\n"
+entry_text names (Direct ticket server) = codes "  direct " ++ decimal ticket ++ codes " " ++ name_of names server ++ codes "\n"
+entry_text names (Joined ticket queue) = codes "  join " ++ decimal ticket ++ codes " " ++ queue_name names queue ++ codes "\n"
+entry_text names (Granted ticket queue server) = codes "  grant " ++ decimal ticket ++ codes " " ++ queue_name names queue ++ codes " " ++ name_of names server ++ codes "\n"
+entry_text names (Freed ticket server) = codes "  free " ++ decimal ticket ++ codes " " ++ name_of names server ++ codes "\n"
+entry_text names (Ended ticket) = codes "  end " ++ decimal ticket ++ codes "\n"
+
+abbrev pub entries_text : List (List ℕ) → List Entry → List ℕ
+entries_text names entries = flat_map (entry_text names) entries
+
+-- the line of an event that was refused
+abbrev pub refusal_text : Refusal → List ℕ
+refusal_text refusal = codes "refused " ++ decimal (number_of refusal) ++ codes "\n"

@@ -3,10 +3,10 @@
 //! made and at arrivals alone.
 #![tactic(auto)]
 
-mod core;
+mod dispatcher;
 mod trace;
 
-pub use crate::core::Core;
+pub use crate::dispatcher::Core;
 pub use crate::trace::Ticketed;
 pub use dispatch_log::{Log, Phase, Queue, Refusal, ServerSet, Servers, Setup};
 

@@ -1,8 +1,7 @@
 -- Why the worked logs are not legal.
-use Rattle.std.proofs.Common.{◌≡◌, ◌≢◌, ℕ, zero, suc, ◌+◌, ℤ, pos, negsuc, ◌+ℤ◌, List, [], ◌∷◌, Option, None, Some, refl, ap, sym, ◌∙◌, subst, arith, Greater}
+use Rattle.std.proofs.Common.{◌≡◌, ◌≢◌, ℕ, zero, suc, ◌+◌, pos, negsuc, [], ◌∷◌, None, Some, refl, ap, sym, ◌∙◌, arith, Greater}
 use Rattle.std.proofs.lemmas.Int.{ints}
 use Rattle.std.proofs.lemmas.Option.{same_Some}
-use Rattle.due_key.specs.declared.key.Key.{Key}
 use Rattle.due_key.specs.Order.{key_cmp}
 use Rattle.dispatch_log.specs.declared.row.Phase.TheVariants.{Waiting}
 use Rattle.dispatch_log.specs.declared.queue.Queue.TheVariants.{Backend}

@@ -17,5 +17,4 @@ pub fn wrong_logs_are_not_legal()
     ensures due_date_of_no_offset { IsLegal (worked due_date_of_no_offset) → ⊥ }
     ensures end_is_missing { IsLegal (worked end_is_missing) → ⊥ }
     ensures ticket_twice { IsLegal (worked ticket_twice) → ⊥ }
-{
-}
+{}

@@ -1,7 +1,7 @@
 use Rattle.std.proofs.Common.{subst}
 use Rattle.dispatch_log.specs.Dispatch.{IsDispatched}
 use Rattle.dispatch_log.proofs.Dispatched.{dispatched}
-use Rattle.dispatch_core.proofs.core.Core.log.Goals as goal
+use Rattle.dispatch_core.proofs.dispatcher.Core.log.Goals as goal
 
 pub returns-clause-dispatched : goal.returns-clause-dispatched
 returns-clause-dispatched g c = subst IsDispatched c.self.view_is (dispatched _ c.self.invariant)

@@ -2,7 +2,7 @@ use Rattle.dispatch_log.specs.declared.queue.Queue.TheVariants.{Backend}
 use Rattle.dispatch_log.specs.Histories.{state_of}
 use Rattle.dispatch_log.specs.Rows.{queued}
 use Rattle.dispatch_core.proofs.Settling.{GrantsSince}
-use Rattle.dispatch_core.proofs.core.settle.Given as goal
+use Rattle.dispatch_core.proofs.dispatcher.settle.Given as goal
 
 abbrev pub invariant-granting : goal.invariant-granting
 invariant-granting g l = GrantsSince l.initial.trace l.trace

@@ -4,7 +4,7 @@ use Rattle.dispatch_log.specs.Rows.{server_in}
 use Rattle.dispatch_log.specs.Dispatch.{IsDispatched}
 use Rattle.dispatch_log.proofs.Dispatched.{dispatched}
 use Rattle.dispatch_core.proofs.Calls.{told_serving, done_serves, done_frees, freed_ends, done_settles, done_adds, added_dispatched}
-use Rattle.dispatch_core.proofs.core.Core.done.Goals as goal
+use Rattle.dispatch_core.proofs.dispatcher.Core.done.Goals as goal
 
 pub returns-in-Some-clause-dispatched : goal.returns-in-Some-clause-dispatched
 returns-in-Some-clause-dispatched g c = subst IsDispatched c.self.view_is (dispatched _ c.self.invariant)

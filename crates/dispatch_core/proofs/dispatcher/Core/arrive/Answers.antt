@@ -2,7 +2,7 @@ use Rattle.std.proofs.Common.{sym, subst, ◌∙◌}
 use Rattle.dispatch_log.specs.Dispatch.{IsDispatched}
 use Rattle.dispatch_log.proofs.Dispatched.{dispatched}
 use Rattle.dispatch_core.proofs.Calls.{arrival_places, arrive_settles, arrive_adds, added_dispatched}
-use Rattle.dispatch_core.proofs.core.Core.arrive.Goals as goal
+use Rattle.dispatch_core.proofs.dispatcher.Core.arrive.Goals as goal
 
 pub returns-in-Some-clause-dispatched : goal.returns-in-Some-clause-dispatched
 returns-in-Some-clause-dispatched g c = subst IsDispatched c.self.view_is (dispatched _ c.self.invariant)

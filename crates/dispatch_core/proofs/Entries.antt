@@ -21,7 +21,8 @@ use Rattle.slot_ledger.specs.declared.ledger.Slot.{Slot}
 use Rattle.slot_ledger.specs.Slots.{StandsIn, HasNode, HasTicketAt, HasNoTicket, with_phase, waiting}
 use Rattle.dispatch_core.specs.Steps.{with_entry, stage_of, MayComeNext}
 use Rattle.dispatch_core.specs.Traces.{Waits, HasItsNode, HoldsWaiting, IsTrace}
-use Rattle.dispatch_core.proofs.Holding.{stands_row, with_slot_at, found_row, not_missed, held_change, trace_step, trace_consistent}
+use Rattle.slot_ledger.proofs.Standing.{with_slot_at}
+use Rattle.dispatch_core.proofs.Holding.{stands_row, found_row, not_missed, held_change, trace_step, trace_consistent}
 use Rattle.dispatch_core.proofs.Waiting.{NoneWaits, waiting_kept, absent_key, waiting_joined}
 
 -- rows in these phases don't wait

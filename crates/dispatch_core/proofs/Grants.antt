@@ -27,7 +27,8 @@ use Rattle.slot_ledger.specs.Slots.{StandsIn, HasTicketAt, HasNoTicket, with_pha
 use Rattle.dispatch_core.specs.Steps.{with_entry, stage_of, MayComeNext, IsGrant}
 use Rattle.dispatch_core.specs.Traces.{Waits, HasItsNode, HoldsWaiting, IsTrace}
 use Rattle.dispatch_core.proofs.Entries.{serving_rests}
-use Rattle.dispatch_core.proofs.Holding.{closed, stands_row, with_slot_at, found_row, not_missed, held_change, trace_step, trace_consistent}
+use Rattle.slot_ledger.proofs.Standing.{with_slot_at}
+use Rattle.dispatch_core.proofs.Holding.{closed, stands_row, found_row, not_missed, held_change, trace_step, trace_consistent}
 use Rattle.dispatch_core.proofs.Plain.{usable_is, free_is, settled_busy, settled_empty}
 use Rattle.dispatch_core.proofs.Waiting.{waiting_granted}
 

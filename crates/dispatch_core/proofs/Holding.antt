@@ -2,7 +2,7 @@
 use Rattle.std.proofs.Common.{◌≡◌, ℕ, ◌+◌, List, [], ◌∷◌, ◌++◌, Option, None, Some, option_map, slice_get, length, refl, ap, sym, ◌∙◌, subst, arith, inl, inr}
 use Rattle.std.proofs.Math.ListN.{set}
 use Rattle.std.proofs.lemmas.List.{map-set}
-use Rattle.std.proofs.lemmas.Option.{same_Some, slice_get-map, get_or_from_slice_get}
+use Rattle.std.proofs.lemmas.Option.{same_Some, slice_get-map}
 use Rattle.due_key.specs.declared.key.Key.{Key}
 use Rattle.dispatch_log.specs.declared.entry.Entry.{Entry}
 use Rattle.dispatch_log.specs.declared.row.Phase.TheVariants.{Serving}
@@ -19,7 +19,7 @@ use Rattle.dispatch_log.proofs.Judged.{after_all-push, judged_push, consistent_a
 use Rattle.dispatch_log.proofs.Places.{tally, get-set_cases, count-set}
 use Rattle.dispatch_log.proofs.RowLemmas.{HaveOwnTickets, changed_at}
 use Rattle.slot_ledger.specs.declared.ledger.Slot.{Slot}
-use Rattle.slot_ledger.specs.Slots.{StandsIn, HasTicketAt, HasNoTicket, with_slot}
+use Rattle.slot_ledger.specs.Slots.{StandsIn, HasTicketAt, HasNoTicket}
 use Rattle.dispatch_core.specs.Steps.{with_entry, stage_of, MayComeNext}
 use Rattle.dispatch_core.specs.Traces.{Waits, rows_in, HasItsNode, HoldsWaiting, Holds, IsTrace}
 
@@ -40,10 +40,6 @@ module _ {N : Type 0} where
       by_cell (Some (Some s)) e =
           let h : Some (Some s.row) ≡ Some (Some r) = sym (slice_get-map row_in slots p ∙ ap (option_map row_in) e) ∙ ap (λ (l : Rows). slice_get l p) same ∙ stands in
           (s, e, same_Some s.row r (same_Some (Some s.row) (Some r) h))
-
-  -- a change of the slot at a place is a write there
-  pub with_slot_at : (change : Slot N → Slot N) (slots : List (Option (Slot N))) (p : ℕ) (s : Slot N) → StandsIn slots p s → with_slot change slots p ≡ set slots p (Some (change s))
-  with_slot_at change slots p s stands = ap (λ (cell : Option (Slot N)). set slots p (option_map change cell)) (get_or_from_slice_get slots p (Some s) None stands)
 
   -- the slot that a look-up of a ticket found is that of the ticket's row
   pub found_row : (slots : List (Option (Slot N))) (rows : Rows) (u p q : ℕ) (r : Row) → rows_in slots ≡ rows → HaveOwnTickets rows → StandsAt rows p r → r.key.ticket ≡ u → (has : HasTicketAt u slots q) → (q ≡ p) × (has.0.row ≡ r)

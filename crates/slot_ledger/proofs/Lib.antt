@@ -1,3 +1,4 @@
+pub mod Standing
 pub mod Keeping
 pub mod Finding
 pub mod Indexing

@@ -5,3 +5,6 @@
 mod ledger;
 
 pub use ledger::{Ledger, Slot};
+
+#[cfg(test)]
+mod tests;

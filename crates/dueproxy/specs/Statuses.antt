@@ -1,5 +1,7 @@
 -- The statuses that the program ends with.
 use Rattle.std.specs.Prelude.{ℕ, Result, Ok, Err}
+use Rattle.dueproxy.specs.declared.check.Checked.{Checked}
+use Rattle.dueproxy.specs.declared.check.Checked.TheVariants as checks
 use Rattle.replay.specs.declared.fault.Fault.{Fault}
 use Rattle.replay.specs.declared.fault.Fault.TheVariants.{NoMemory, Script, Read, Write}
 
@@ -10,3 +12,10 @@ status_of (Err NoMemory) = 1
 status_of (Err (Script line)) = 5
 status_of (Err Read) = 1
 status_of (Err Write) = 1
+
+-- 0; 1 where memory or the reading of the file failed; 3 where the configuration is faulty
+abbrev pub status_of_check : Checked → ℕ
+status_of_check (checks.Good servers) = 0
+status_of_check (checks.Faulty fault) = 3
+status_of_check checks.NoMemory = 1
+status_of_check checks.Unread = 1

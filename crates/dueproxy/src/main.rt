@@ -1,13 +1,16 @@
 //! Dueproxy: a reverse proxy that queues requests by class and due date, with HAProxy's keywords.
 //!
-//! Statuses: 0; 1 no memory, or a read or a write failed; 2 the words of the command line; 5 the script.
+//! Statuses: 0; 1 no memory, or a read or a write failed; 2 the words of the command line; 3 the configuration;
+//! 5 the script.
 #![tactic(auto)]
 
 ghost use Rattle.std.specs.Prelude.{◌≡◌};
 ghost use Rattle.dueproxy.specs.Statuses.{status_of};
 
+mod check;
 mod words;
 
+use check::check;
 use replay::{Fault, replay};
 use std::env;
 use std::io::{Read, Write};
@@ -26,8 +29,9 @@ fn main(rt: HostRuntime) -> ExitCode {
     };
     let status = match ask(&rt, &words) {
         Asked::Replay => replay_streams(&rt, &mut rt.stdin(), &mut rt.stdout()),
+        Asked::Check(file) => check(&rt, &file),
         Asked::Later => {
-            let _ = rt.eprintln("this subcommand comes later: only replay is there");
+            let _ = rt.eprintln("run isn't there yet: replay and check are");
             USAGE
         }
         Asked::Nothing(status) => status,

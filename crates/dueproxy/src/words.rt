@@ -3,9 +3,11 @@ use clap::{Arg, ArgAction, Command, Error};
 use std::alloc::{AllocError, Global};
 
 /// What the words of the command line ask for.
-#[derive(Clone, Copy, Debug, PartialEq, Eq)]
+#[derive(Debug, PartialEq, Eq, Drop)]
 pub(crate) enum Asked {
     Replay,
+    /// Look at the configuration in the file of this name.
+    Check(String),
     /// A subcommand that is not there yet.
     Later,
     /// Nothing more: help was printed, or a fault in the words, and this is the status.
@@ -24,6 +26,14 @@ For example, dueproxy replay reads
   10 done 1
 and grants the slot of ticket 1 to ticket 3, which is due before ticket 2.";
 
+const CHECK_HELP: &str = "\
+Prints one of
+  ok servers N           the configuration is good and has N servers: status 0
+  config line L: CAUSE   line L is the first faulty one: status 3
+  read fault             the file can't be read: status 1
+
+For example, dueproxy check examples/shop.cfg";
+
 /// Reads the words, and prints help or what is wrong with them.
 pub(crate) fn ask(rt: &(impl Print + Eprint + AllocGlobal), words: &[String]) -> Asked {
     let Ok(command) = command(rt.alloc()) else {
@@ -31,10 +41,18 @@ pub(crate) fn ask(rt: &(impl Print + Eprint + AllocGlobal), words: &[String]) ->
     };
     match command.try_get_matches_from(words) {
         Err(error) => refuse(rt, error),
-        Ok(matches) => match matches.subcommand_name() {
-            Some("replay") => Asked::Replay,
+        Ok(matches) => match matches.subcommand() {
+            Some(("replay", _)) => Asked::Replay,
+            Some(("check", words)) => check_of(rt, words.get_str("FILE").unwrap_or_default()),
             _ => Asked::Later,
         },
+    }
+}
+
+fn check_of(rt: &(impl Eprint + AllocGlobal), file: &str) -> Asked {
+    match String::from_str(rt.alloc(), file) {
+        Ok(file) => Asked::Check(file),
+        Err(_) => no_memory(rt),
     }
 }
 
@@ -69,7 +87,10 @@ fn replay<'a>(alloc: Global) -> Command<'a> {
 
 fn check<'a>(alloc: Global) -> Result<Command<'a>, AllocError> {
     Command::new(alloc, "check")
-        .about("Reads a configuration, and prints its first faulty line (not there yet)")
+        .about(
+            "Reads a configuration, and prints how many servers it has, or its first faulty line",
+        )
+        .after_help(CHECK_HELP)
         .arg(file(alloc))
 }
 
@@ -114,7 +135,12 @@ mod tests {
     #[test]
     fn subcommands_are_told_apart(rt: HostRuntime) -> Result<(), Fail> {
         assert_eq!(rt; asked(&rt, &["dueproxy", "replay"])?, Asked::Replay);
-        assert_eq!(rt; asked(&rt, &["dueproxy", "check", "file"])?, Asked::Later);
+        let file = String::from_str(rt.alloc(), "file")?;
+        assert_eq!(rt;
+            asked(&rt, &["dueproxy", "check", "file"])?,
+            Asked::Check(file)
+        );
+        assert_eq!(rt; asked(&rt, &["dueproxy", "check"])?, Asked::Nothing(2));
         assert_eq!(rt;
             asked(&rt, &["dueproxy", "run", "file", "--workers", "7"])?,
             Asked::Later

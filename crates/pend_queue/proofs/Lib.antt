@@ -5,3 +5,4 @@ pub mod Inserted
 pub mod Without
 pub mod Merged
 mod Falling
+mod Rows

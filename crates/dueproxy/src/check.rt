@@ -1,0 +1,74 @@
+ghost use Rattle.proxy_config.specs.File.{reading};
+ghost use Rattle.std.specs.Prelude.{◌≡◌};
+ghost use Rattle.dueproxy.specs.Checks.{IsCheckOf};
+ghost use Rattle.dueproxy.specs.Statuses.{status_of_check};
+
+use proxy_config::{ConfigFault, ReadError, read};
+use std::alloc::Global;
+use std::io::{ErrorKind, Read};
+use std::rt::Files;
+use std::{fs, io};
+use thiserror::Error;
+
+/// What a look at a configuration came to.
+#[derive(Clone, Copy, Debug, PartialEq, Eq, Error)]
+pub(crate) enum Checked {
+    #[error("ok servers {0}")]
+    Good(usize),
+    #[error("config {0}")]
+    Faulty(ConfigFault),
+    #[error("no memory")]
+    NoMemory,
+    #[error("read fault")]
+    Unread,
+}
+
+/// Looks at the configuration in a file, prints what it is, and answers the status.
+pub(crate) fn check<R: Files + Print + Eprint + AllocGlobal>(rt: &R, file: &str) -> u8 {
+    let checked = match read_file(rt, file) {
+        Ok(bytes) => check_bytes(rt.alloc(), &bytes),
+        Err(error) if error.kind() == ErrorKind::OutOfMemory => Checked::NoMemory,
+        Err(_) => Checked::Unread,
+    };
+    print(rt, checked)
+}
+
+fn read_file<R: Files + AllocGlobal>(rt: &R, file: &str) -> io::Result<Vec<u8>> {
+    let mut opened = fs::open(rt, file)?;
+    let mut bytes = Vec::new(rt.alloc());
+    opened.read_to_end(&mut bytes)?;
+    Ok(bytes)
+}
+
+fn check_bytes(alloc: Global, bytes: &[u8]) -> Checked
+    ensures { IsCheckOf (reading bytes.now) result }
+{
+    match read(alloc, bytes) {
+        Ok(config) => Checked::Good(config.servers.len()),
+        Err(ReadError::Fault(fault)) => Checked::Faulty(fault),
+        Err(ReadError::NoMemory) => Checked::NoMemory,
+    }
+}
+
+// What was asked for goes to standard output, other faults to standard error.
+fn print(rt: &(impl Print + Eprint), checked: Checked) -> u8 {
+    let printed = match checked {
+        Checked::Good(_) | Checked::Faulty(_) => rt.println(checked),
+        Checked::NoMemory | Checked::Unread => rt.eprintln(checked),
+    };
+    if printed.is_err() {
+        let _ = rt.eprintln("write fault");
+        return 1;
+    }
+    status_of(checked)
+}
+
+fn status_of(checked: Checked) -> u8
+    ensures { result ≡ status_of_check checked }
+{
+    match checked {
+        Checked::Good(_) => 0,
+        Checked::Faulty(_) => 3,
+        Checked::NoMemory | Checked::Unread => 1,
+    }
+}

@@ -1,0 +1,17 @@
+pub mod Dots
+pub mod SettingSteps
+pub mod Outcomes
+pub mod Lengths
+pub mod Alternatives
+pub mod AclLists
+pub mod FirstFaults
+pub mod TestWords
+pub mod ConditionWords
+pub mod Causes
+pub mod CauseRows
+pub mod Soundness
+pub mod LeftReaders
+pub mod LeftTests
+pub mod LeftLines
+pub mod Surveys
+pub mod WorkedRows

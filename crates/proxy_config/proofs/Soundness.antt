@@ -1,0 +1,330 @@
+-- Each line that is taken in keeps what holds of accepted configurations.
+use Rattle.std.proofs.Common.{◌≡◌, inl, inr, ◌+◌, ◌<◌, ◌≤◌, ◌==◌, ◌++◌, ℕ, Bool, true, false, cond, not, List, [], ◌∷◌, length, Option, Some, None, Result, Ok, Err, refl, sym, subst, arith, length-append, ap}
+use Rattle.std.specs.Option.{ok_or, is_some, option_and_then, IfSome}
+use Rattle.std.specs.List.{AllByRecursion, list_any}
+use Rattle.std.specs.Str.Lines.{lines}
+use Rattle.std.specs.Prelude.{nat_le, nat_lt}
+use Rattle.std.proofs.lemmas.List.Elements.{All-from_recursion}
+use Rattle.std.specs.Result.{IfOk}
+use Rattle.std.proofs.lemmas.Bool.Decides.{nat_tests}
+use Rattle.std.proofs.lemmas.Bool.{leb-false}
+use borrow.Author.Tests.{ltb-false, ltb-true}
+use Rattle.proxy_words.specs.Numerals.{numeral}
+use Rattle.proxy_words.specs.Times.{time}
+use Rattle.proxy_words.specs.Text.{uncommented, words}
+use Rattle.proxy_config.specs.declared.faults.Cause.{Cause}
+use Rattle.proxy_config.specs.declared.faults.Cause.TheVariants as causes
+use Rattle.proxy_config.specs.declared.faults.ConfigFault.{ConfigFault}
+use Rattle.proxy_config.specs.declared.faults.ReadError.{ReadError}
+use Rattle.proxy_config.specs.declared.parts.Bind.{Bind}
+use Rattle.proxy_config.specs.declared.parts.Config.{Config}
+use Rattle.proxy_config.specs.declared.draft.Draft.{Draft}
+use Rattle.proxy_config.specs.declared.draft.Section.{Section}
+use Rattle.proxy_config.specs.declared.draft.Section.TheVariants as sections
+use Rattle.proxy_config.specs.declared.keywords.Keyword.{Keyword}
+use Rattle.proxy_config.specs.declared.keywords.Keyword.TheVariants as keywords
+use Rattle.proxy_config.specs.declared.parts.Address.{Address}
+use Rattle.proxy_config.specs.declared.parts.Acl.{Acl}
+use Rattle.proxy_config.specs.declared.parts.Pin.{Pin}
+use Rattle.proxy_config.specs.declared.parts.Server.{Server}
+use Rattle.proxy_config.specs.declared.settings.Settings.{Settings}
+use Rattle.proxy_config.specs.declared.settings.Setting.{Setting}
+use Rattle.proxy_config.specs.declared.settings.Setting.TheVariants.{Weight, Maxconn, Maxqueue, Inter, Rise, Fall}
+use Rattle.proxy_config.specs.declared.values.Values.{Values}
+use Rattle.proxy_config.specs.declared.values.Shared.{Shared}
+use Rattle.proxy_config.specs.Outcomes.{unless}
+use Rattle.proxy_config.specs.Pieces.{word_at, end_at, number_in, number_from, time_from}
+use Rattle.proxy_config.specs.Names.{is_name}
+use Rattle.proxy_config.specs.Addresses.{bind_of, address_of}
+use Rattle.proxy_config.specs.Keywords.{keyword_of}
+use Rattle.std.specs.Str.{bytes_eq}
+use Rattle.std.specs.List.{position}
+use Rattle.std.proofs.lemmas.List.Quantifiers.{position-Some}
+use Rattle.proxy_config.specs.Conditions.{guard_at}
+use Rattle.proxy_config.specs.Settings as server
+use Rattle.proxy_config.specs.Values as values
+use Rattle.proxy_config.specs.Rules.{acl_line, rule_line, pin_line, server_index}
+use Rattle.proxy_config.specs.Draft as draft
+use Rattle.proxy_config.specs.File.{Answers, declared_servers, is_line, long_line, reading, whole}
+use Rattle.proxy_config.specs.Laws.{TakenIn, Says}
+use Rattle.proxy_config.specs.Sound.{IsSoundCheck, IsSoundServer, IsSound}
+use Rattle.proxy_config.proofs.Outcomes.{bind_ok, chosen, from_ok, ok_or_ok, unless_ok}
+use Rattle.proxy_config.proofs.FirstFaults.{reading-ok}
+use Rattle.proxy_config.proofs.Surveys.{survey-taken}
+
+-- what a number or a time within ends is
+some_same : {A : Type 0} (x y : A) → Some x ≡ Some y → x ≡ y
+some_same x y same = cc
+
+number_in-most : (least most : ℕ) (o : Option ℕ) (n : ℕ) → option_and_then (λ m. cond (nat_lt m least) None (cond (nat_lt most m) None (Some m))) o ≡ Some n → n ≤ most
+number_in-most least most None n is = absurd (let none = is in cc)
+number_in-most least most (Some m) n is = elim (chosen (nat_lt m least) _ _ _ is) [
+  | inl small ↦ absurd (let none = small.1 in cc)
+  | inr enough ↦ elim (chosen (nat_lt most m) _ _ _ enough.1) [
+    | inl large ↦ absurd (let none = large.1 in cc)
+    | inr within ↦ let same : m ≡ n = some_same m n within.1 in let most_is : m ≤ most = ltb-false most m within.0 in omega arith
+  ]
+]
+
+from-least : (least : ℕ) (o : Option ℕ) (n : ℕ) → option_and_then (λ m. cond (nat_lt m least) None (Some m)) o ≡ Some n → least ≤ n
+from-least least None n is = absurd (let none = is in cc)
+from-least least (Some m) n is = elim (chosen (nat_lt m least) _ _ _ is) [
+  | inl small ↦ absurd (let none = small.1 in cc)
+  | inr enough ↦ let same : m ≡ n = some_same m n enough.1 in let least_is : least ≤ m = ltb-false m least enough.0 in omega arith
+]
+
+record SoundSettings (s : Settings) : Type 0 where
+  weight : s.weight ≤ 256
+  inter : 0 < s.inter
+  rise : 0 < s.rise
+  fall : 0 < s.fall
+
+set_keeps : (setting : Setting) (word : List ℕ) (s t : Settings) → server.set setting word s ≡ Ok t → SoundSettings s → SoundSettings t
+set_keeps Weight word s t is sound =
+    let n = bind_ok (ok_or (number_in 0 256 word) causes.Number) _ t is in
+    let most : n.0 ≤ 256 = number_in-most 0 256 (numeral 9 word) n.0 (ok_or_ok _ causes.Number n.0 n.1) in
+    subst SoundSettings (from_ok _ t n.2) (record { weight = most; inter = sound.inter; rise = sound.rise; fall = sound.fall })
+set_keeps Maxconn word s t is sound =
+    let n = bind_ok (ok_or (numeral 9 word) causes.Number) _ t is in
+    subst SoundSettings (from_ok _ t n.2) (record { weight = sound.weight; inter = sound.inter; rise = sound.rise; fall = sound.fall })
+set_keeps Maxqueue word s t is sound =
+    let n = bind_ok (ok_or (numeral 9 word) causes.Number) _ t is in
+    subst SoundSettings (from_ok _ t n.2) (record { weight = sound.weight; inter = sound.inter; rise = sound.rise; fall = sound.fall })
+set_keeps Inter word s t is sound =
+    let n = bind_ok (ok_or (time_from 1 word) causes.Number) _ t is in
+    let least : 1 ≤ n.0 = from-least 1 (time word) n.0 (ok_or_ok _ causes.Number n.0 n.1) in
+    subst SoundSettings (from_ok _ t n.2) (record { weight = sound.weight; inter = least; rise = sound.rise; fall = sound.fall })
+set_keeps Rise word s t is sound =
+    let n = bind_ok (ok_or (number_from 1 word) causes.Number) _ t is in
+    let least : 1 ≤ n.0 = from-least 1 (numeral 9 word) n.0 (ok_or_ok _ causes.Number n.0 n.1) in
+    subst SoundSettings (from_ok _ t n.2) (record { weight = sound.weight; inter = sound.inter; rise = least; fall = sound.fall })
+set_keeps Fall word s t is sound =
+    let n = bind_ok (ok_or (number_from 1 word) causes.Number) _ t is in
+    let least : 1 ≤ n.0 = from-least 1 (numeral 9 word) n.0 (ok_or_ok _ causes.Number n.0 n.1) in
+    subst SoundSettings (from_ok _ t n.2) (record { weight = sound.weight; inter = sound.inter; rise = sound.rise; fall = least })
+
+with_check : (s : Settings) → SoundSettings s → SoundSettings (record s { check = true })
+with_check s sound = record { weight = sound.weight; inter = sound.inter; rise = sound.rise; fall = sound.fall }
+
+settings_keep : (s : Settings) (words : List (List ℕ)) (t : Settings) → server.settings s words ≡ Ok t → SoundSettings s → SoundSettings t
+settings_keep s [] t is sound = subst SoundSettings (from_ok s t is) sound
+settings_keep s (word ∷ []) t is sound = elim (chosen (server.is_check word) _ _ _ is) [
+  | inl check ↦ subst SoundSettings (from_ok _ t check.1) (with_check s sound)
+  | inr other ↦ let setting = bind_ok (ok_or (server.setting_of word) causes.Keyword) _ t other.1 in absurd (let none = setting.2 in cc)
+]
+settings_keep s (word ∷ value ∷ words) t is sound = elim (chosen (server.is_check word) _ _ _ is) [
+  | inl check ↦ settings_keep (record s { check = true }) (value ∷ words) t check.1 (with_check s sound)
+  | inr other ↦
+      let setting = bind_ok (ok_or (server.setting_of word) causes.Keyword) _ t other.1 in
+      let next = bind_ok (server.set setting.0 value s) _ t setting.2 in
+      settings_keep next.0 words t next.2 (set_keeps setting.0 value s next.0 next.1 sound)
+]
+
+checks_sound : (b : Bool) (s : Settings) → SoundSettings s → IfSome (cond b (Some (record { inter = s.inter; rise = s.rise; fall = s.fall })) None) IsSoundCheck
+checks_sound true s sound = record { inter = sound.inter; rise = sound.rise; fall = sound.fall }
+checks_sound false s sound = tt
+
+server_sound : (name : List ℕ) (address : Address) (s : Settings) → SoundSettings s → IsSoundServer (draft.server_of name address s)
+server_sound name address s sound = record { weight = sound.weight; check = checks_sound s.check s sound }
+
+all_push : (servers : List Server) (one : Server) → AllByRecursion IsSoundServer servers → IsSoundServer one → AllByRecursion IsSoundServer (servers ++ one ∷ [])
+all_push [] one all is = (is, tt)
+all_push (first ∷ servers) one all is = (all.0, all_push servers one all.1 is)
+
+-- what holds of each draft
+record SoundDraft (known : List Server) (d : Draft) : Type 0 where
+  most : length d.servers ≤ 64
+  servers : AllByRecursion IsSoundServer d.servers
+  rules : length d.rules + length d.pins ≤ 256
+  pins : AllByRecursion (λ pin. pin.server < length known) d.pins
+
+pins_push : (known : List Server) (pins : List Pin) (one : Pin) → AllByRecursion (λ pin. pin.server < length known) pins → one.server < length known → AllByRecursion (λ pin. pin.server < length known) (pins ++ one ∷ [])
+pins_push known [] one all is = (is, tt)
+pins_push known (first ∷ pins) one all is = (all.0, pins_push known pins one all.1 is)
+
+-- a pin is of one of the known servers
+pin_below : (known : List Server) (acls : List Acl) (words : List (List ℕ)) (pin : Pin) → pin_line known acls words ≡ Ok pin → pin.server < length known
+unfolding pin_line
+pin_below known acls words pin is =
+    let name = bind_ok (word_at words) _ pin is in
+    let named = bind_ok (unless (not (is_name name.0.0)) causes.Name) _ pin name.2 in
+    let index = bind_ok (ok_or (server_index name.0.0 known) causes.Unknown) _ pin named.2 in
+    let first = bind_ok (word_at name.0.1) _ pin index.2 in
+    let guard = bind_ok (guard_at acls first.0.0 first.0.1) _ pin first.2 in
+    let below : index.0 < length known = position_below known (λ one. bytes_eq one.name name.0.0) index.0 (ok_or_ok _ causes.Unknown index.0 index.1) in
+    subst (λ (one : Pin). one.server < length known) (from_ok _ pin guard.2) below
+  where
+    position_below : (known : List Server) (p : Server → Bool) (i : ℕ) → position p known ≡ Some i → i < length known
+    position_below [] p i at_ = absurd (let none = at_ in cc)
+    position_below (one ∷ more) p i at_ = (position-Some p (one ∷ more) i one at_).0
+
+global_keeps : (known : List Server) (d e : Draft) (words : List (List ℕ)) → draft.global_line d words ≡ Ok e → SoundDraft known d → SoundDraft known e
+unfolding draft.global_line
+global_keeps known d e words is sound =
+    let end = bind_ok (end_at words) _ e is in
+    subst (SoundDraft known) (from_ok _ e end.2) (record { most = sound.most; servers = sound.servers; rules = sound.rules; pins = sound.pins })
+
+defaults_keep : (known : List Server) (d e : Draft) (words : List (List ℕ)) → draft.defaults_line d words ≡ Ok e → SoundDraft known d → SoundDraft known e
+unfolding draft.defaults_line
+defaults_keep known d e words is sound =
+    let name = bind_ok (draft.optional_name words) _ e is in
+    subst (SoundDraft known) (from_ok _ e name.2) (record { most = sound.most; servers = sound.servers; rules = sound.rules; pins = sound.pins })
+
+listen_keeps : (known : List Server) (d e : Draft) (n : ℕ) (words : List (List ℕ)) → draft.listen_line d n words ≡ Ok e → SoundDraft known d → SoundDraft known e
+unfolding draft.listen_line
+listen_keeps known d e n words is sound =
+    let again = bind_ok (unless (is_some d.listen) causes.Section) _ e is in
+    let name = bind_ok (word_at words) _ e again.2 in
+    let named = bind_ok (unless (not (is_name name.0.0)) causes.Name) _ e name.2 in
+    let end = bind_ok (end_at name.0.1) _ e named.2 in
+    subst (SoundDraft known) (from_ok _ e end.2) (record { most = sound.most; servers = sound.servers; rules = sound.rules; pins = sound.pins })
+
+value_keeps : (known : List Server) (d e : Draft) (kind : Shared) (words : List (List ℕ)) (section : Section) → d.section ≡ section → draft.value_line d kind words ≡ Ok e → SoundDraft known d → SoundDraft known e
+unfolding draft.value_line
+value_keeps known d e kind words sections.Outside at_ is sound = let fault : (let one : Result Draft Cause = Err causes.Place in one ≡ Ok e) = (rw at_ at is) in absurd (let none = fault in cc)
+value_keeps known d e kind words sections.Global at_ is sound = let fault : (let one : Result Draft Cause = Err causes.Place in one ≡ Ok e) = (rw at_ at is) in absurd (let none = fault in cc)
+value_keeps known d e kind words sections.Defaults at_ is sound =
+    let v = bind_ok (values.shared_line kind d.defaults words) _ e (rw at_ at is) in
+    subst (SoundDraft known) (from_ok _ e v.2) (record { most = sound.most; servers = sound.servers; rules = sound.rules; pins = sound.pins })
+value_keeps known d e kind words sections.Listen at_ is sound =
+    let v = bind_ok (values.shared_line kind d.values words) _ e (rw at_ at is) in
+    subst (SoundDraft known) (from_ok _ e v.2) (record { most = sound.most; servers = sound.servers; rules = sound.rules; pins = sound.pins })
+
+bind_keeps : (known : List Server) (d e : Draft) (words : List (List ℕ)) → draft.bind_line d words ≡ Ok e → SoundDraft known d → SoundDraft known e
+unfolding draft.bind_line
+bind_keeps known d e words is sound =
+    let place = bind_ok (unless (not (draft.in_listen d.section)) causes.Place) _ e is in
+    let again = bind_ok (unless (is_some d.bind) causes.Twice) _ e place.2 in
+    let word = bind_ok (word_at words) _ e again.2 in
+    let bind = bind_ok (ok_or (bind_of word.0.0) causes.Address) _ e word.2 in
+    let end = bind_ok (end_at word.0.1) _ e bind.2 in
+    subst (SoundDraft known) (from_ok _ e end.2) (record { most = sound.most; servers = sound.servers; rules = sound.rules; pins = sound.pins })
+
+test_keeps : (known : List Server) (d e : Draft) (words : List (List ℕ)) → draft.test_line d words ≡ Ok e → SoundDraft known d → SoundDraft known e
+unfolding draft.test_line
+test_keeps known d e words is sound =
+    let place = bind_ok (unless (not (draft.in_listen d.section)) causes.Place) _ e is in
+    let limit = bind_ok (unless (nat_le draft.most_acl_lines d.acl_lines) causes.Limit) _ e place.2 in
+    let acls = bind_ok (acl_line d.acls words) _ e limit.2 in
+    subst (SoundDraft known) (from_ok _ e acls.2) (record { most = sound.most; servers = sound.servers; rules = sound.rules; pins = sound.pins })
+
+request_keeps : (known : List Server) (d e : Draft) (words : List (List ℕ)) → draft.request_line d words ≡ Ok e → SoundDraft known d → SoundDraft known e
+unfolding draft.request_line
+request_keeps known d e words is sound =
+    let place = bind_ok (unless (not (draft.in_listen d.section)) causes.Place) _ e is in
+    let limit = bind_ok (draft.has_room d) _ e place.2 in
+    let rule = bind_ok (rule_line d.acls words) _ e limit.2 in
+    let room : length d.rules + length d.pins < 256 = leb-false 256 _ (unless_ok _ causes.Limit limit.0 limit.1) in
+    subst (SoundDraft known) (from_ok _ e rule.2) (record { most = sound.most; servers = sound.servers; rules = omega (arith, length-append d.rules (rule.0 ∷ [])); pins = sound.pins })
+
+use_keeps : (known : List Server) (d e : Draft) (words : List (List ℕ)) → draft.use_line known d words ≡ Ok e → SoundDraft known d → SoundDraft known e
+unfolding draft.use_line
+use_keeps known d e words is sound =
+    let place = bind_ok (unless (not (draft.in_listen d.section)) causes.Place) _ e is in
+    let limit = bind_ok (draft.has_room d) _ e place.2 in
+    let pin = bind_ok (pin_line known d.acls words) _ e limit.2 in
+    let room : length d.rules + length d.pins < 256 = leb-false 256 _ (unless_ok _ causes.Limit limit.0 limit.1) in
+    subst (SoundDraft known) (from_ok _ e pin.2) (record { most = sound.most; servers = sound.servers; rules = omega (arith, length-append d.pins (pin.0 ∷ [])); pins = pins_push known d.pins pin.0 sound.pins (pin_below known d.acls words pin.0 pin.1) })
+
+server_keeps : (known : List Server) (d e : Draft) (words : List (List ℕ)) → draft.server_line d words ≡ Ok e → SoundDraft known d → SoundDraft known e
+unfolding draft.server_line
+server_keeps known d e words is sound =
+    let place = bind_ok (unless (not (draft.in_listen d.section)) causes.Place) _ e is in
+    let limit = bind_ok (unless (nat_le draft.most_servers (length d.servers)) causes.Limit) _ e place.2 in
+    let name = bind_ok (word_at words) _ e limit.2 in
+    let named = bind_ok (unless (not (is_name name.0.0)) causes.Name) _ e name.2 in
+    let again = bind_ok (unless (is_some (server_index name.0.0 d.servers)) causes.Twice) _ e named.2 in
+    let second = bind_ok (word_at name.0.1) _ e again.2 in
+    let address = bind_ok (ok_or (address_of second.0.0) causes.Address) _ e second.2 in
+    let s = bind_ok (server.settings server.built_in second.0.1) _ e address.2 in
+    let room : length d.servers < 64 = leb-false 64 _ (unless_ok _ causes.Limit limit.0 limit.1) in
+    let built_in : SoundSettings server.built_in = record { weight = omega arith; inter = omega arith; rise = omega arith; fall = omega arith } in
+    let one : IsSoundServer (draft.server_of name.0.0 address.0 s.0) = server_sound name.0.0 address.0 s.0 (settings_keep server.built_in second.0.1 s.0 s.1 built_in) in
+    subst (SoundDraft known) (from_ok _ e s.2) (record {
+      most = omega (arith, length-append d.servers (draft.server_of name.0.0 address.0 s.0 ∷ []));
+      servers = all_push d.servers (draft.server_of name.0.0 address.0 s.0) sound.servers one;
+      rules = sound.rules;
+      pins = sound.pins;
+    })
+
+line_keeps : (known : List Server) (d e : Draft) (n : ℕ) (keyword : Keyword) (words : List (List ℕ)) → draft.keyword_line known d n keyword words ≡ Ok e → SoundDraft known d → SoundDraft known e
+line_keeps known d e n keywords.Global words is sound = global_keeps known d e words is sound
+line_keeps known d e n keywords.Defaults words is sound = defaults_keep known d e words is sound
+line_keeps known d e n keywords.Listen words is sound = listen_keeps known d e n words is sound
+line_keeps known d e n keywords.Refused words is sound = absurd (let none = is in cc)
+line_keeps known d e n (keywords.Shared kind) words is sound = value_keeps known d e kind words d.section refl is sound
+line_keeps known d e n keywords.Bind words is sound = bind_keeps known d e words is sound
+line_keeps known d e n keywords.Server words is sound = server_keeps known d e words is sound
+line_keeps known d e n keywords.Acl words is sound = test_keeps known d e words is sound
+line_keeps known d e n keywords.HttpRequest words is sound = request_keeps known d e words is sound
+line_keeps known d e n keywords.UseServer words is sound = use_keeps known d e words is sound
+
+words_keep : (known : List Server) (d e : Draft) (n : ℕ) (words : List (List ℕ)) → draft.words_line known d n words ≡ Ok e → SoundDraft known d → SoundDraft known e
+unfolding draft.words_line
+words_keep known d e n [] is sound = subst (SoundDraft known) (from_ok d e is) sound
+words_keep known d e n (word ∷ words) is sound =
+    let keyword = bind_ok (ok_or (keyword_of word) causes.Keyword) _ e is in
+    line_keeps known d e n keyword.0 words keyword.2 sound
+
+step_keeps : (known : List Server) (too_long : Bool) (d e : Draft) (n : ℕ) (line : List ℕ) → draft.step known too_long d n line ≡ Ok e → SoundDraft known d → SoundDraft known e
+unfolding draft.step
+step_keeps known too_long d e n line is sound = elim (chosen (draft.is_ignored d.section (words (uncommented line))) _ _ _ is) [
+  | inl ignored ↦ let short = bind_ok (unless too_long causes.Limit) _ e ignored.1 in subst (SoundDraft known) (from_ok d e short.2) sound
+  | inr heeded ↦
+      let plain = bind_ok (unless (list_any draft.is_quoting (uncommented line)) causes.Quoting) _ e heeded.1 in
+      let short = bind_ok (unless too_long causes.Limit) _ e plain.2 in
+      words_keep known d e n (words (uncommented line)) short.2 sound
+]
+
+taken_keep : (known : List Server) (long : Option ℕ) (d e : Draft) (n : ℕ) (lines : List (List ℕ)) → TakenIn known long d n lines e → SoundDraft known d → SoundDraft known e
+taken_keep known long d e n [] taken sound = subst (SoundDraft known) (sym taken) sound
+taken_keep known long d e n (line ∷ lines) taken sound =
+    taken_keep known long taken.0 e (n + 1) lines taken.2 (step_keeps known (is_line long n) d taken.0 n line taken.1 sound)
+
+timeout_sound : (v : Values) → IfSome (values.queue_timeout v) (λ t. 0 < t)
+timeout_sound v = of_queue (nat_lt 0 v.queue) refl
+  where
+    of_connect : (b : Bool) → nat_lt 0 v.connect ≡ b → IfSome (cond b (Some v.connect) None) (λ t. 0 < t)
+    of_connect true above = ltb-true 0 v.connect above
+    of_connect false above = tt
+
+    of_queue : (b : Bool) → nat_lt 0 v.queue ≡ b → IfSome (cond b (Some v.queue) (cond (nat_lt 0 v.connect) (Some v.connect) None)) (λ t. 0 < t)
+    of_queue true above = ltb-true 0 v.queue above
+    of_queue false above = of_connect (nat_lt 0 v.connect) refl
+
+whole_sound : (listen : Option ℕ) (bind : Option Bind) (d : Draft) (config : Config) → whole listen bind d ≡ Ok config → SoundDraft d.servers d → IsSound config
+whole_sound None bind d config is sound = absurd (let none = is in cc)
+whole_sound (Some line) None d config is sound = absurd (let none = is in cc)
+whole_sound (Some line) (Some bind) d config is sound = elim (chosen (length d.servers == 0) _ _ _ is) [
+  | inl none ↦ absurd (let fault = none.1 in cc)
+  | inr some ↦
+      let filled : 0 < length d.servers = above_zero (length d.servers) some.0 in
+      subst IsSound (config_same _ config some.1) (record {
+        some = filled;
+        most = sound.most;
+        servers = All-from_recursion IsSoundServer d.servers sound.servers;
+        rules = sound.rules;
+        pins = All-from_recursion (λ pin. pin.server < length d.servers) d.pins sound.pins;
+        queue_timeout = timeout_sound d.values;
+      })
+]
+  where
+    above_zero : (n : ℕ) → (n == 0) ≡ false → 0 < n
+    above_zero n other = grind (arith, nat_tests)
+
+    config_same : (x y : Config) → (let one : Result Config ConfigFault = Ok x in one ≡ Ok y) → x ≡ y
+    config_same x y same = cc
+
+-- what is accepted is sound
+pub says-sound : (bytes : List ℕ) (config : Config) → Says bytes config → IsSound config
+says-sound bytes config says =
+    let known = declared_servers bytes in
+    let start : SoundDraft known draft.start = record { most = omega arith; servers = tt; rules = omega arith; pins = tt } in
+    let same : known ≡ says.draft.servers = ap (λ (d : Draft). d.servers) (survey-taken known (long_line bytes) draft.start says.draft 1 (lines bytes) says.taken_in) in
+    whole_sound says.draft.listen says.draft.bind says.draft config says.whole
+    (subst (λ (servers : List Server). SoundDraft servers says.draft) same
+    (taken_keep known (long_line bytes) draft.start says.draft 1 (lines bytes) says.taken_in start))
+
+pub answers-sound : (result : Result Config ReadError) (bytes : List ℕ) → Answers result (reading bytes) → IfOk result IsSound
+answers-sound (Ok config) bytes is = says-sound bytes config (reading-ok bytes config is)
+answers-sound (Err e) bytes is = tt

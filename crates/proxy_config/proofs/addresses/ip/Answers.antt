@@ -1,0 +1,7 @@
+use Rattle.proxy_config.proofs.Dots.{ip-five}
+use Rattle.proxy_config.proofs.addresses.ip.Goals as goal
+
+pub returns-in-Some : goal.returns-in-Some
+returns-in-Some c = ip-five c.args.word.now c.in_ok-first.first.now c.in_ok-first.rest.now c.in_ok-second.second.now c.in_ok-second.rest.now
+    c.in_ok-third.third.now c.in_ok-third.fourth.now c.in-Some.field-0-0.now c.in-Some.field-0-1.now
+    c.in_ok-first.ensures.some c.in_ok-second.ensures.some c.in_ok-third.ensures.some c.in-Some.ensures.some

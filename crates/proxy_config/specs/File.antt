@@ -1,0 +1,90 @@
+-- What a whole file says.
+use Rattle.std.specs.Prelude.{◌≡◌, ℕ, ◌+◌, ◌==◌, Bool, false, nat_lt, if◌then◌else◌, List, [], ◌∷◌, length, take, count_by, Option, Some, None, Result, Ok, Err}
+use Rattle.std.specs.Str.Lines.{lines}
+use Rattle.proxy_words.specs.Text.{is_line_feed}
+use Rattle.proxy_config.specs.declared.faults.Cause.{Cause}
+use Rattle.proxy_config.specs.declared.faults.Cause.TheVariants as causes
+use Rattle.proxy_config.specs.declared.faults.ConfigFault.{ConfigFault}
+use Rattle.proxy_config.specs.declared.faults.ReadError.{ReadError}
+use Rattle.proxy_config.specs.declared.faults.ReadError.TheVariants as errors
+use Rattle.proxy_config.specs.declared.faults.LineError.{LineError}
+use Rattle.proxy_config.specs.declared.faults.LineError.TheVariants as line_errors
+use Rattle.proxy_config.specs.declared.draft.Draft.{Draft}
+use Rattle.proxy_config.specs.declared.parts.Bind.{Bind}
+use Rattle.proxy_config.specs.declared.parts.Config.{Config}
+use Rattle.proxy_config.specs.declared.parts.Server.{Server}
+use Rattle.proxy_config.specs.Draft.{start, step}
+use Rattle.proxy_config.specs.Values.{queue_timeout}
+
+-- how many bytes a file may have
+abbrev pub most_bytes : ℕ
+most_bytes = 1048576
+
+-- the number of the line in which the byte past the last allowed one stands, in a file that is too long
+abbrev pub long_line : List ℕ → Option ℕ
+long_line bytes = if nat_lt most_bytes (length bytes) then Some (count_by is_line_feed (take most_bytes bytes) + 1) else None
+
+abbrev pub is_line : Option ℕ → ℕ → Bool
+is_line None n = false
+is_line (Some line) n = line == n
+
+-- a line's outcome, with its number beside the cause, and what comes after it
+abbrev pub then_lines : {A : Type 0} → ℕ → Result Draft Cause → (Draft → Result A ConfigFault) → Result A ConfigFault
+then_lines n (Ok d) more = more d
+then_lines n (Err cause) more = Err (record { line = n; cause = cause })
+
+-- the lines from this number on, each by the draft that those before it left: the first faulty one is named
+abbrev pub run : List Server → Option ℕ → Draft → ℕ → List (List ℕ) → Result Draft ConfigFault
+run servers long d n [] = Ok d
+run servers long d n (line ∷ lines) = then_lines n (step servers (is_line long n) d n line) (λ next. run servers long next (n + 1) lines)
+
+-- a faulty line changes nothing
+abbrev pub unless_faulty : Draft → Result Draft Cause → Draft
+unless_faulty d (Ok next) = next
+unless_faulty d (Err cause) = d
+
+-- the draft after all lines, faulty ones aside: its servers may be named anywhere in the file
+abbrev pub survey : Option ℕ → Draft → ℕ → List (List ℕ) → Draft
+survey long d n [] = d
+survey long d n (line ∷ lines) = survey long (unless_faulty d (step [] (is_line long n) d n line)) (n + 1) lines
+
+abbrev pub declared_servers : List ℕ → List Server
+declared_servers bytes = (survey (long_line bytes) start 1 (lines bytes)).servers
+
+abbrev pub missing : {A : Type 0} → ℕ → Result A ConfigFault
+missing line = Err (record { line = line; cause = causes.Missing })
+
+-- what the lines come to: a `listen`, with a `bind` and one server or more
+abbrev pub whole : Option ℕ → Option Bind → Draft → Result Config ConfigFault
+whole None bind d = missing 0
+whole (Some line) None d = missing line
+whole (Some line) (Some bind) d = if length d.servers == 0 then missing line else Ok (record {
+  bind = bind;
+  servers = d.servers;
+  retries = d.values.retries;
+  redispatch = d.values.redispatch;
+  abortonclose = d.values.abortonclose;
+  queue_timeout = queue_timeout d.values;
+  acls = d.acls;
+  rules = d.rules;
+  pins = d.pins;
+})
+
+abbrev pub finished : Result Draft ConfigFault → Result Config ConfigFault
+finished (Ok d) = whole d.listen d.bind d
+finished (Err fault) = Err fault
+
+-- what a file says, or its first fault
+abbrev pub reading : List ℕ → Result Config ConfigFault
+reading bytes = finished (run (declared_servers bytes) (long_line bytes) start 1 (lines bytes))
+
+-- what a function returned is what reading gives, memory aside
+abbrev pub Answers : {X : Type 0} → Result X ReadError → Result X ConfigFault → Type 0
+Answers (Ok x) read = read ≡ Ok x
+Answers (Err errors.NoMemory) read = Unit {0}
+Answers (Err (errors.Fault fault)) read = read ≡ Err fault
+
+-- a line's error, with its number
+abbrev pub at_line : ℕ → LineError → ReadError
+at_line line line_errors.NoMemory = errors.NoMemory
+at_line line (line_errors.Fault cause) = errors.Fault (record { line = line; cause = cause })

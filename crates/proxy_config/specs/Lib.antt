@@ -1,0 +1,17 @@
+pub mod Outcomes
+pub mod Pieces
+pub mod Names
+pub mod Addresses
+pub mod Settings
+pub mod Samples
+pub mod Conditions
+pub mod Rules
+pub mod Values
+pub mod Keywords
+pub mod Draft
+pub mod File
+pub mod Laws
+pub mod ConditionGrammar
+pub mod Rows
+pub mod Sound
+pub mod LeftToRight

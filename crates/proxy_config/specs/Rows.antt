@@ -1,0 +1,58 @@
+-- Where the causes that the lines before a line decide can stand.
+use Rattle.std.specs.Prelude.{◌≡◌, ◌⊎◌, ◌↔◌, ℕ, Bool, true, false, is_some, List, [], ◌∷◌, Some, Err}
+use Rattle.std.specs.List.{list_any}
+use Rattle.proxy_words.specs.Text.{words, uncommented}
+use Rattle.proxy_config.specs.declared.faults.Cause.TheVariants as causes
+use Rattle.proxy_config.specs.declared.parts.Server.{Server}
+use Rattle.proxy_config.specs.declared.draft.Draft.{Draft}
+use Rattle.proxy_config.specs.declared.draft.Section.{Section}
+use Rattle.proxy_config.specs.declared.draft.Section.TheVariants as sections
+use Rattle.proxy_config.specs.declared.keywords.Keyword.{Keyword}
+use Rattle.proxy_config.specs.declared.keywords.Keyword.TheVariants as keywords
+use Rattle.proxy_config.specs.Keywords.{keyword_of}
+use Rattle.proxy_config.specs.Draft.{in_listen, is_ignored, is_quoting, step}
+
+-- the words of a line, and whether it is one that `global` ignores
+abbrev pub words_of : List ℕ → List (List ℕ)
+words_of line = words (uncommented line)
+
+-- a quote or a backslash before the comment, in a line that is not ignored
+abbrev pub IsQuoted : Draft → List ℕ → Type 0
+IsQuoted d line = (is_ignored d.section (words_of line) ≡ false) × (list_any is_quoting (uncommented line) ≡ true)
+
+abbrev pub in_values : Section → Bool
+in_values sections.Defaults = true
+in_values sections.Listen = true
+in_values other = false
+
+-- a section that takes the keyword's lines
+abbrev pub takes : Section → Keyword → Bool
+takes section keywords.Global = true
+takes section keywords.Defaults = true
+takes section keywords.Listen = true
+takes section keywords.Refused = true
+takes section (keywords.Shared shared) = in_values section
+takes section other = in_listen section
+
+-- a known keyword in a section that doesn't take it
+abbrev pub IsMisplaced : Draft → List (List ℕ) → Type 0
+IsMisplaced d [] = ⊥
+IsMisplaced d (word ∷ words) = (keyword : Keyword) × (keyword_of word ≡ Some keyword) × (takes d.section keyword ≡ false)
+
+-- a section that is refused, or a second `listen`
+abbrev pub BeginsRefused : Draft → List (List ℕ) → Type 0
+BeginsRefused d [] = ⊥
+BeginsRefused d (word ∷ words) = (keyword_of word ≡ Some keywords.Refused) ⊎ ((keyword_of word ≡ Some keywords.Listen) × (is_some d.listen ≡ true))
+
+-- The line is looked at word by word: it is not ignored, has no quote, and the file is not too long in it.
+pub record IsRead (d : Draft) (too_long : Bool) (line : List ℕ) : Type 0 where
+  pub heeded : is_ignored d.section (words_of line) ≡ false
+  pub unquoted : list_any is_quoting (uncommented line) ≡ false
+  pub short : too_long ≡ false
+
+-- Where each of these causes stands, and nowhere else.
+pub record EachInItsRow (servers : List Server) (too_long : Bool) (d : Draft) (n : ℕ) (line : List ℕ) : Type 0 where
+  pub quoting : (step servers too_long d n line ≡ Err causes.Quoting) ↔ IsQuoted d line
+  pub place : (step servers too_long d n line ≡ Err causes.Place) ↔ (IsRead d too_long line × IsMisplaced d (words_of line))
+  pub section : (step servers too_long d n line ≡ Err causes.Section) ↔ (IsRead d too_long line × BeginsRefused d (words_of line))
+  pub missing : ¬ (step servers too_long d n line ≡ Err causes.Missing)

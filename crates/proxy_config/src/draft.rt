@@ -1,0 +1,336 @@
+//! What the lines read so far say.
+
+ghost use Rattle.std.specs.Prelude.{◌≡◌, length};
+ghost use Rattle.std.specs.List.{list_any};
+ghost use Rattle.proxy_words.specs.Text.{words as words_of, uncommented};
+ghost use Rattle.proxy_config.specs.Outcomes.{Becomes, Sees};
+ghost use Rattle.proxy_config.specs.Draft as grammar;
+
+use crate::addresses::{address, bind};
+use crate::faults::{Cause, LineError};
+use crate::keywords::{Keyword, keyword_of, section_of};
+use crate::lists::Items;
+use crate::names::is_name;
+use crate::parts::{Acl, Bind, Pin, Rule, Server};
+use crate::pieces::{end, word};
+use crate::rules::{acl_line, pin_line, rule_line, server_index};
+use crate::settings::{Settings, settings_to_end};
+use crate::values::{Shared, Values, shared_line};
+use proxy_words::{Words, without_comment};
+use std::alloc::Global;
+
+/// The most servers.
+const MOST_SERVERS: usize = 64;
+
+/// The most lines of ACLs.
+const MOST_ACL_LINES: usize = 256;
+
+/// The most rules, of both kinds together.
+const MOST_RULES: usize = 256;
+
+#[derive(Clone, Copy)]
+pub(crate) enum Section {
+    /// Before the first section.
+    Outside,
+    Global,
+    Defaults,
+    Listen,
+}
+
+#[derive(Drop)]
+pub(crate) struct Draft {
+    pub section: Section,
+    /// The line of the `listen`.
+    pub listen: Option<u64>,
+    pub defaults: Values,
+    pub values: Values,
+    pub bind: Option<Bind>,
+    pub servers: Items<Server>,
+    pub acls: Items<Acl>,
+    pub acl_lines: usize,
+    pub rules: Items<Rule>,
+    pub pins: Items<Pin>,
+}
+
+impl Draft {
+    pub(crate) fn new(alloc: Global) -> Draft
+        ensures { result ≡ grammar.start }
+    {
+        Draft {
+            section: Section::Outside,
+            listen: None,
+            defaults: Values::built_in(),
+            values: Values::built_in(),
+            bind: None,
+            servers: Items::new(alloc),
+            acls: Items::new(alloc),
+            acl_lines: 0,
+            rules: Items::new(alloc),
+            pins: Items::new(alloc),
+        }
+    }
+
+    /// Takes a line in, by its number and whether the file is too long in it. An error changes nothing.
+    #[tactic(auto, unfolding(crate::specs::Draft::step))]
+    pub(crate) fn step(
+        &mut self,
+        alloc: Global,
+        servers: &Items<Server>,
+        too_long: bool,
+        number: u64,
+        line: &[u8],
+    ) -> Result<(), LineError>
+        ensures { Becomes result self.old self.new
+            (grammar.step servers.now too_long self.old number line.now) }
+    {
+        let text = without_comment(line);
+        let ignored = is_ignored(self.section, Words::new(text));
+        if !ignored && has_quoting(text) {
+            return Err(Cause::Quoting.into());
+        }
+        if too_long {
+            return Err(Cause::Limit.into());
+        }
+        if ignored {
+            return Ok(());
+        }
+        self.take_words(alloc, servers, number, Words::new(text))
+    }
+
+    #[tactic(auto, unfolding(crate::specs::Draft::words_line))]
+    fn take_words(
+        &mut self,
+        alloc: Global,
+        servers: &Items<Server>,
+        number: u64,
+        words: Words,
+    ) -> Result<(), LineError>
+        ensures { Becomes result self.old self.new
+            (grammar.words_line servers.now self.old number words.entry) }
+    {
+        let mut words = words;
+        let Some(word) = words.next() else {
+            return Ok(());
+        };
+        let keyword = keyword_of(word).ok_or(Cause::Keyword)?;
+        match keyword {
+            Keyword::Global => self.global(words),
+            Keyword::Defaults => self.defaults(words),
+            Keyword::Listen => self.listen(number, words),
+            Keyword::Refused => Err(Cause::Section.into()),
+            Keyword::Shared(shared) => self.value(shared, words),
+            Keyword::Bind => self.bind(words),
+            Keyword::Server => self.server(alloc, words),
+            Keyword::Acl => self.test(alloc, words),
+            Keyword::HttpRequest => self.request(alloc, words),
+            Keyword::UseServer => self.use_server(alloc, servers, words),
+        }
+    }
+
+    #[tactic(auto, unfolding(crate::specs::Draft::global_line))]
+    fn global(&mut self, words: Words) -> Result<(), LineError>
+        ensures { Becomes result self.old self.new (grammar.global_line self.old words.entry) }
+    {
+        end(words)?;
+        self.section = Section::Global;
+        Ok(())
+    }
+
+    #[tactic(auto, unfolding(crate::specs::Draft::defaults_line))]
+    fn defaults(&mut self, words: Words) -> Result<(), LineError>
+        ensures { Becomes result self.old self.new (grammar.defaults_line self.old words.entry) }
+    {
+        optional_name(words)?;
+        self.section = Section::Defaults;
+        self.defaults = Values::built_in();
+        Ok(())
+    }
+
+    #[tactic(auto, unfolding(crate::specs::Draft::listen_line))]
+    fn listen(&mut self, number: u64, words: Words) -> Result<(), LineError>
+        ensures { Becomes result self.old self.new (grammar.listen_line self.old number words.entry) }
+    {
+        if self.listen.is_some() {
+            return Err(Cause::Section.into());
+        }
+        let (name, words) = word(words)?;
+        if !is_name(name) {
+            return Err(Cause::Name.into());
+        }
+        end(words)?;
+        self.section = Section::Listen;
+        self.listen = Some(number);
+        self.values = self.defaults;
+        Ok(())
+    }
+
+    #[tactic(auto, unfolding(crate::specs::Draft::value_line))]
+    fn value(&mut self, shared: Shared, words: Words) -> Result<(), LineError>
+        ensures { Becomes result self.old self.new (grammar.value_line self.old shared words.entry) }
+    {
+        match self.section {
+            Section::Outside | Section::Global => Err(Cause::Place.into()),
+            Section::Defaults => {
+                self.defaults = shared_line(shared, self.defaults, words)?;
+                Ok(())
+            }
+            Section::Listen => {
+                self.values = shared_line(shared, self.values, words)?;
+                Ok(())
+            }
+        }
+    }
+
+    #[tactic(auto, unfolding(crate::specs::Draft::bind_line))]
+    fn bind(&mut self, words: Words) -> Result<(), LineError>
+        ensures { Becomes result self.old self.new (grammar.bind_line self.old words.entry) }
+    {
+        if !in_listen(self.section) {
+            return Err(Cause::Place.into());
+        }
+        if self.bind.is_some() {
+            return Err(Cause::Twice.into());
+        }
+        let (word, words) = word(words)?;
+        let bind = bind(word).ok_or(Cause::Address)?;
+        end(words)?;
+        self.bind = Some(bind);
+        Ok(())
+    }
+
+    #[tactic(auto, unfolding(crate::specs::Draft::server_line))]
+    fn server(&mut self, alloc: Global, words: Words) -> Result<(), LineError>
+        ensures { Becomes result self.old self.new (grammar.server_line self.old words.entry) }
+    {
+        if !in_listen(self.section) {
+            return Err(Cause::Place.into());
+        }
+        if self.servers.len() >= MOST_SERVERS {
+            return Err(Cause::Limit.into());
+        }
+        let (name, words) = word(words)?;
+        if !is_name(name) {
+            return Err(Cause::Name.into());
+        }
+        if server_index(name, &self.servers).is_some() {
+            return Err(Cause::Twice.into());
+        }
+        let (second, words) = word(words)?;
+        let address = address(alloc, second)?;
+        let settings = settings_to_end(Settings::built_in(), words)?;
+        let name = Items::copied(alloc, name)?;
+        self.servers.push(Server {
+            name,
+            address,
+            maxconn: settings.maxconn,
+            maxqueue: settings.maxqueue,
+            weight: settings.weight,
+            check: settings.checks(),
+        })?;
+        Ok(())
+    }
+
+    #[tactic(auto, unfolding(crate::specs::Draft::test_line))]
+    fn test(&mut self, alloc: Global, words: Words) -> Result<(), LineError>
+        ensures { Becomes result self.old self.new (grammar.test_line self.old words.entry) }
+    {
+        if !in_listen(self.section) {
+            return Err(Cause::Place.into());
+        }
+        if self.acl_lines >= MOST_ACL_LINES {
+            return Err(Cause::Limit.into());
+        }
+        acl_line(alloc, &mut self.acls, words)?;
+        self.acl_lines += 1;
+        Ok(())
+    }
+
+    #[tactic(auto, unfolding(crate::specs::Draft::request_line))]
+    fn request(&mut self, alloc: Global, words: Words) -> Result<(), LineError>
+        ensures { Becomes result self.old self.new (grammar.request_line self.old words.entry) }
+    {
+        if !in_listen(self.section) {
+            return Err(Cause::Place.into());
+        }
+        self.has_room()?;
+        let rule = rule_line(alloc, &self.acls, words)?;
+        self.rules.push(rule)?;
+        Ok(())
+    }
+
+    #[tactic(auto, unfolding(crate::specs::Draft::use_line))]
+    fn use_server(
+        &mut self,
+        alloc: Global,
+        servers: &Items<Server>,
+        words: Words,
+    ) -> Result<(), LineError>
+        ensures { Becomes result self.old self.new (grammar.use_line servers.now self.old words.entry) }
+    {
+        if !in_listen(self.section) {
+            return Err(Cause::Place.into());
+        }
+        self.has_room()?;
+        let pin = pin_line(alloc, servers, &self.acls, words)?;
+        self.pins.push(pin)?;
+        Ok(())
+    }
+
+    fn has_room(&self) -> Result<(), Cause>
+        ensures { Sees (λ x. x) result (grammar.has_room self.now) }
+    {
+        let rules = self.rules.len();
+        if rules >= MOST_RULES || self.pins.len() >= MOST_RULES - rules {
+            return Err(Cause::Limit);
+        }
+        Ok(())
+    }
+}
+
+fn in_listen(section: Section) -> bool
+    ensures { result ≡ grammar.in_listen section }
+{
+    matches!(section, Section::Listen)
+}
+
+fn in_global(section: Section) -> bool
+    ensures { result ≡ grammar.in_global section }
+{
+    matches!(section, Section::Global)
+}
+
+fn is_ignored(section: Section, mut words: Words) -> bool
+    ensures { result ≡ grammar.is_ignored section words.entry }
+{
+    match words.next() {
+        None => in_global(section),
+        Some(word) => in_global(section) && section_of(word).is_none(),
+    }
+}
+
+fn has_quoting(text: &[u8]) -> bool
+    ensures { result ≡ list_any grammar.is_quoting text.now }
+{
+    text.iter().any(|byte| is_quoting(*byte))
+}
+
+fn is_quoting(byte: u8) -> bool
+    ensures { result ≡ grammar.is_quoting byte }
+{
+    b"\"'\\".contains(&byte)
+}
+
+#[tactic(auto, unfolding(crate::specs::Draft::optional_name))]
+fn optional_name(mut words: Words) -> Result<(), Cause>
+    ensures { Sees (λ x. x) result (grammar.optional_name words.entry) }
+{
+    match words.next() {
+        None => Ok(()),
+        Some(name) => {
+            if !is_name(name) {
+                return Err(Cause::Name);
+            }
+            end(words)
+        }
+    }
+}

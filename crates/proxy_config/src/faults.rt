@@ -1,0 +1,106 @@
+//! Why a configuration is refused.
+
+ghost use Rattle.std.specs.Prelude.{◌≡◌};
+
+use std::alloc::{AllocError, AllocFailed};
+use thiserror::Error;
+
+/// What is wrong with a line.
+#[derive(Clone, Copy, Debug, PartialEq, Eq, Error)]
+pub enum Cause {
+    /// A quote or a backslash before the comment.
+    #[error("quoting")]
+    Quoting,
+    /// A section that the profile leaves out, or a second `listen`.
+    #[error("section")]
+    Section,
+    /// An unknown keyword, option, timeout, server setting or `http-request` action, or another `mode` or
+    /// `balance`.
+    #[error("keyword")]
+    Keyword,
+    /// A keyword in a section that doesn't take it.
+    #[error("place")]
+    Place,
+    /// Too few words, or too many.
+    #[error("words")]
+    Words,
+    /// A number or a time that isn't one, or is out of range.
+    #[error("number")]
+    Number,
+    /// An address that isn't one.
+    #[error("address")]
+    Address,
+    /// The name of a section, a server or an ACL that isn't one.
+    #[error("name")]
+    Name,
+    /// A second `bind`, or a server's name again.
+    #[error("twice")]
+    Twice,
+    /// An ACL or a server that isn't declared.
+    #[error("unknown")]
+    Unknown,
+    /// A condition, a test or an expression that isn't one.
+    #[error("condition")]
+    Condition,
+    /// No `listen`, or one without a `bind` or a server.
+    #[error("missing")]
+    Missing,
+    /// One server, ACL line or rule too many, or the file is too long.
+    #[error("limit")]
+    Limit,
+}
+
+/// The first faulty line, counted from 1. The line is 0 where a `listen` is missing.
+#[derive(Clone, Copy, Debug, PartialEq, Eq, Error)]
+#[error("line {line}: {cause}")]
+pub struct ConfigFault {
+    pub line: u64,
+    pub cause: Cause,
+}
+
+/// Why a configuration wasn't read.
+#[derive(Clone, Copy, Debug, PartialEq, Eq, Error)]
+pub enum ReadError {
+    /// A growth was refused.
+    #[error("no memory")]
+    NoMemory,
+    #[error("{0}")]
+    Fault(ConfigFault),
+}
+
+/// Why a line wasn't read.
+#[derive(Clone, Copy)]
+pub(crate) enum LineError {
+    NoMemory,
+    Fault(Cause),
+}
+
+impl From<Cause> for LineError {
+    ghost use Rattle.proxy_config.specs.declared.faults.LineError.TheVariants.{Fault};
+
+    ghost from_gives = { λ cause e. e ≡ Fault cause };
+
+    fn from(cause: Cause) -> LineError {
+        LineError::Fault(cause)
+    }
+}
+
+impl From<AllocError> for LineError {
+    ghost use Rattle.proxy_config.specs.declared.faults.LineError.TheVariants.{NoMemory};
+
+    ghost from_gives = { λ _ e. e ≡ NoMemory };
+
+    fn from(_: AllocError) -> LineError {
+        LineError::NoMemory
+    }
+}
+
+impl<T: Drop> From<AllocFailed<T>> for LineError {
+    ghost use Rattle.proxy_config.specs.declared.faults.LineError.TheVariants.{NoMemory};
+
+    ghost from_gives = { λ _ e. e ≡ NoMemory };
+
+    fn from(_: AllocFailed<T>) -> LineError {
+        LineError::NoMemory
+    }
+}

@@ -1,0 +1,44 @@
+//! Laws of the grammar, each the contract of a function that does nothing.
+
+ghost use Rattle.std.specs.Prelude.{◌≡◌, ℕ, Bool, List, Option, Ok, Err};
+ghost use Rattle.proxy_config.specs.Conditions.{condition};
+ghost use Rattle.proxy_config.specs.ConditionGrammar.{IsCondition};
+ghost use Rattle.proxy_config.specs.Draft.{start, words_line};
+ghost use Rattle.proxy_config.specs.File.{run};
+ghost use Rattle.proxy_config.specs.Laws.{FirstFault};
+ghost use Rattle.proxy_config.specs.LeftToRight.{IsLeftToRight};
+ghost use Rattle.proxy_config.specs.Rows.{EachInItsRow};
+ghost use Rattle.proxy_config.specs.declared.draft.Draft.{Draft};
+ghost use Rattle.proxy_config.specs.declared.faults.ConfigFault.{ConfigFault};
+ghost use Rattle.proxy_config.specs.declared.parts.Acl.{Acl};
+ghost use Rattle.proxy_config.specs.declared.parts.Condition.{Condition};
+ghost use Rattle.proxy_config.specs.declared.parts.Server.{Server};
+
+/// Words are read as a condition exactly where they are one: alternatives with `or` or `||` between them, each
+/// of one term or more, and each term an ACL's name or a test in braces, with one `!` before it or none.
+pub fn conditions_are_read_as_spelled()
+    ensures found { (acls : List Acl) (words : List (List ℕ)) (c : Condition) →
+        condition acls words ≡ Ok c → IsCondition acls words c }
+    ensures only { (acls : List Acl) (words : List (List ℕ)) (c : Condition) →
+        IsCondition acls words c → condition acls words ≡ Ok c }
+{}
+
+/// The first faulty line is named, whatever lines follow it.
+pub fn a_faulty_line_names_itself()
+    ensures { (servers : List Server) (long : Option ℕ) (lines : List (List ℕ)) (fault : ConfigFault) →
+        FirstFault servers long lines fault → run servers long start 1 lines ≡ Err fault }
+{}
+
+/// `quoting`, `place` and `section` stand exactly where their rows of `docs/FORMATS.md` say, and no line is
+/// `missing`.
+pub fn each_cause_stands_in_its_row()
+    ensures { (servers : List Server) (too_long : Bool) (draft : Draft) (n : ℕ) (line : List ℕ) →
+        EachInItsRow servers too_long draft n line }
+{}
+
+/// The words of a line are read from the left: a fault other than `words` is that of a word that can't stand
+/// where it does, whatever follows it, and behind words that are at most too few.
+pub fn words_are_read_from_the_left()
+    ensures { (servers : List Server) (draft : Draft) (n : ℕ) →
+        IsLeftToRight (words_line servers draft n) }
+{}

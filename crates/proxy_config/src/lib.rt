@@ -1,0 +1,28 @@
+//! The proxy's configuration: HAProxy's syntax in the profile that `docs/FORMATS.md` states.
+#![tactic(auto)]
+
+mod addresses;
+mod conditions;
+mod draft;
+mod faults;
+mod keywords;
+pub mod laws;
+mod lists;
+mod names;
+mod parts;
+mod pieces;
+mod reading;
+mod rules;
+mod samples;
+mod settings;
+#[cfg(test)]
+mod tests;
+mod values;
+
+pub use faults::{Cause, ConfigFault, ReadError};
+pub use lists::Items;
+pub use parts::{
+    Acl, Action, Address, Bind, Checks, Condition, Config, Expression, Guard, Host, Operand, Pin,
+    Rule, Server, Subject, Term, Test, Text,
+};
+pub use reading::{MOST_BYTES, read};

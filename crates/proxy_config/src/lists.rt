@@ -1,0 +1,92 @@
+//! A list that contracts see as its items.
+
+ghost use Rattle.std.specs.Prelude.{◌≡◌, ◌==◌, ◌∷◌, [], ◌++◌, List, length, OnOk, OnErr, IfOk};
+
+use std::alloc::{AllocError, Global};
+use std::marker::Model;
+
+/// A list that grows at its end.
+#[derive(Debug, Drop)]
+pub struct Items<T> {
+    pub(crate) items: Vec<T>,
+}
+
+impl<T> Model for Items<T> {
+    ghost Value = { List T };
+
+    ghost view = { λ list. list.items.items };
+}
+
+impl<T> Items<T> {
+    pub fn from_vec(items: Vec<T>) -> Self
+        ensures { result ≡ items.items }
+    {
+        Items { items }
+    }
+
+    pub fn into_vec(self) -> Vec<T>
+        ensures { result.items ≡ self }
+    {
+        let Items { items: vec } = self;
+        vec
+    }
+
+    pub fn as_slice(&self) -> &[T]
+        ensures { result.now ≡ self.now }
+    {
+        self.items.as_slice()
+    }
+
+    pub fn is_empty(&self) -> bool
+        ensures { result ≡ (length self.now == 0) }
+    {
+        self.items.is_empty()
+    }
+
+    pub fn len(&self) -> usize
+        ensures { result ≡ length self.now }
+    {
+        self.items.len()
+    }
+
+    pub(crate) fn new(alloc: Global) -> Self
+        ensures { result ≡ [] }
+    {
+        Items::from_vec(Vec::new(alloc))
+    }
+}
+
+impl<T: Drop> Items<T> {
+    pub(crate) fn push(&mut self, item: T) -> Result<(), AllocError>
+        ensures ok { OnOk result (self.new ≡ self.old ++ item ∷ []) }
+        ensures err { OnErr result (self.new ≡ self.old) }
+    {
+        self.items.push(item)?;
+        Ok(())
+    }
+}
+
+impl Items<u8> {
+    pub(crate) fn copied(alloc: Global, bytes: &[u8]) -> Result<Self, AllocError>
+        ensures { IfOk result (λ text. text ≡ bytes.now) }
+    {
+        Ok(Items::from_vec(Vec::from_slice(alloc, bytes)?))
+    }
+}
+
+#[cfg(test)]
+mod tests {
+    use super::*;
+    use std::test::Fail;
+
+    #[test]
+    fn a_list_is_a_vec_and_back(rt: HostRuntime) -> Result<(), Fail> {
+        let mut list = Items::from_vec([1, 2].to_vec(rt.alloc())?);
+        list.push(3)?;
+        assert_eq!(rt; list.as_slice(), [1, 2, 3].as_slice());
+        assert_eq!(rt; list.len(), 3);
+        assert!(rt; !list.is_empty());
+        assert_eq!(rt; list.into_vec().as_slice(), [1, 2, 3].as_slice());
+        Ok(())
+    }
+}

@@ -1,0 +1,109 @@
+//! The lines that decide where a request goes, and when.
+
+ghost use Rattle.std.specs.Prelude.{◌≡◌, Ok, position};
+ghost use Rattle.std.specs.Str.{bytes_eq};
+ghost use Rattle.proxy_config.specs.Outcomes.{Gives, Becomes};
+ghost use Rattle.proxy_config.specs.Rules as grammar;
+
+use crate::conditions::{acl_index, guard, optional_guard};
+use crate::faults::{Cause, LineError};
+use crate::lists::Items;
+use crate::names::{is_acl_name, is_name};
+use crate::parts::{Acl, Action, Pin, Rule, Server, Test};
+use crate::pieces::{is, word};
+use crate::samples::{expression, test_to_end};
+use proxy_words::Words;
+use std::alloc::Global;
+
+/// `acl NAME TEST`.
+#[tactic(auto, unfolding(crate::specs::Rules::acl_line))]
+pub(crate) fn acl_line(alloc: Global, acls: &mut Items<Acl>, words: Words) -> Result<(), LineError>
+    ensures { Becomes result acls.old acls.new (grammar.acl_line acls.old words.entry) }
+{
+    let (name, words) = word(words)?;
+    if !is_acl_name(name) {
+        return Err(Cause::Name.into());
+    }
+    let test = test_to_end(alloc, words)?;
+    add_test(alloc, acls, name, test)
+}
+
+/// `http-request ACTION EXPRESSION`, and a guard or none.
+#[tactic(auto, unfolding(crate::specs::Rules::rule_line))]
+pub(crate) fn rule_line(alloc: Global, acls: &Items<Acl>, words: Words) -> Result<Rule, LineError>
+    ensures { Gives (λ x. x) result (grammar.rule_line acls.now words.entry) }
+{
+    let (first, words) = word(words)?;
+    let action = action_of(first).ok_or(Cause::Keyword)?;
+    let (second, words) = word(words)?;
+    let value = expression(alloc, second)?;
+    let guard = optional_guard(alloc, acls, words)?;
+    Ok(Rule {
+        action,
+        value,
+        guard,
+    })
+}
+
+/// `use-server NAME` and a guard.
+#[tactic(auto, unfolding(crate::specs::Rules::pin_line))]
+pub(crate) fn pin_line(
+    alloc: Global,
+    servers: &Items<Server>,
+    acls: &Items<Acl>,
+    words: Words,
+) -> Result<Pin, LineError>
+    ensures { Gives (λ x. x) result (grammar.pin_line servers.now acls.now words.entry) }
+{
+    let (name, words) = word(words)?;
+    if !is_name(name) {
+        return Err(Cause::Name.into());
+    }
+    let server = server_index(name, servers).ok_or(Cause::Unknown)?;
+    let (first, words) = word(words)?;
+    let guard = guard(alloc, acls, first, words)?;
+    Ok(Pin { server, guard })
+}
+
+// One alternative more of an ACL, or a new one.
+fn add_test(alloc: Global, acls: &mut Items<Acl>, name: &[u8], test: Test) -> Result<(), LineError>
+    ensures { Becomes result acls.old acls.new (Ok (grammar.with_test name.now test acls.old)) }
+{
+    match acl_index(name, acls) {
+        Some(i) => acls.items[i].tests.push(test)?,
+        None => {
+            let name = Items::copied(alloc, name)?;
+            let mut tests = Items::new(alloc);
+            tests.push(test)?;
+            acls.push(Acl { name, tests })?;
+        }
+    }
+    Ok(())
+}
+
+fn action_of(word: &[u8]) -> Option<Action>
+    ensures { result ≡ grammar.action_of word.now }
+{
+    if is(word, "set-priority-class") {
+        Some(Action::SetPriorityClass)
+    } else if is(word, "set-priority-offset") {
+        Some(Action::SetPriorityOffset)
+    } else {
+        None
+    }
+}
+
+pub(crate) fn server_index(name: &[u8], servers: &Items<Server>) -> Option<usize>
+    ensures { result ≡ grammar.server_index name.now servers.now }
+{
+    servers
+        .as_slice()
+        .iter()
+        .position(|server| is_server(name, server))
+}
+
+fn is_server(name: &[u8], server: &Server) -> bool
+    ensures { result ≡ bytes_eq server.now.name name.now }
+{
+    server.name.as_slice() == name
+}

@@ -1,4 +1,4 @@
--- The definitions at worked rows: what must hold, and wrong lists that must not be taken.
+-- The definitions at worked examples: what must hold, and wrong lists that must not be taken.
 use Rattle.std.proofs.Common.{◌≡◌, ◌≢◌, ℕ, List, [], ◌∷◌, Some, None, refl, nat_cmp}
 use Rattle.pend_queue.specs.Pairs.{IsAscending, IsAbsent, HaveNoCommonKey, inserted, pair_at, without, merged}
 

@@ -1,4 +1,4 @@
--- The definitions at worked rows: what must hold, and wrong words that must not be taken.
+-- The definitions at worked examples: what must hold, and wrong words that must not be taken.
 use Rattle.std.proofs.Common.{◌≡◌, ◌++◌, true, false, [], ◌∷◌, Some, None, Ok, Err, negsuc, codes, refl}
 use Rattle.proxy_words.specs.Text.{words}
 use Rattle.proxy_config.specs.declared.faults.Cause.TheVariants as causes

@@ -1,4 +1,4 @@
--- The definitions at worked rows: what must hold, and wrong values that must not be taken.
+-- The definitions at worked examples: what must hold, and wrong values that must not be taken.
 use Rattle.std.proofs.Common.{◌≡◌, ◌++◌, pos, negsuc, Some, None, [], ◌∷◌, codes, refl}
 use Rattle.std.specs.Str.Lines.{lines}
 use Rattle.proxy_words.specs.Text.{words, uncommented}

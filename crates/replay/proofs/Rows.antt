@@ -1,4 +1,4 @@
--- The trace of a script at worked rows: what must hold, and a wrong text that must not be taken.
+-- The trace of a script at worked examples: what must hold, and a wrong text that must not be taken.
 use Rattle.std.proofs.Common.{[], codes, inl, refl}
 use Rattle.dispatch_log.specs.declared.refusal.Refusal.TheVariants.{NoSuchTicket}
 use Rattle.std.specs.Fmt.{digits}

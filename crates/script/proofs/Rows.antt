@@ -1,4 +1,4 @@
--- The definitions at worked rows: what must hold, and wrong values that must not be taken.
+-- The definitions at worked examples: what must hold, and wrong values that must not be taken.
 use Rattle.std.proofs.Common.{◌≡◌, ◌≢◌, ◌++◌, ℕ, pos, negsuc, List, [], ◌∷◌, Some, None, true, false, codes, slice_index, refl, ap, arith}
 use Rattle.std.specs.Fmt.{digits}
 use Rattle.dispatch_log.specs.declared.entry.Entry.TheVariants as entries

@@ -113,10 +113,7 @@ impl<H: Drop> Ledger<H> {
         requires { HasRow self.old place }
         ensures { self.new ≡ with_phase (Phase.Serving server) self.old place }
     {
-        let Some(slot) = &mut self.slots[place] else {
-            unreachable!()
-        };
-        slot.row.phase = Phase::Serving(server);
+        self.set_phase(place, Phase::Serving(server));
     }
 
     /// The row loses its slot.
@@ -124,10 +121,17 @@ impl<H: Drop> Ledger<H> {
         requires { HasRow self.old place }
         ensures { self.new ≡ with_phase Phase.Loose self.old place }
     {
+        self.set_phase(place, Phase::Loose);
+    }
+
+    fn set_phase(&mut self, place: usize, phase: Phase)
+        requires { HasRow self.old place }
+        ensures { self.new ≡ with_phase phase self.old place }
+    {
         let Some(slot) = &mut self.slots[place] else {
             unreachable!()
         };
-        slot.row.phase = Phase::Loose;
+        slot.row.phase = phase;
     }
 
     /// The row waits in a queue from this moment on; its node is handed out.

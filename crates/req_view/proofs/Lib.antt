@@ -1,0 +1,5 @@
+pub mod Fronts
+pub mod Copies
+pub mod Lookups
+pub mod Names
+pub mod Rows

@@ -1,0 +1,33 @@
+-- The names of a parsed head are names for a map.
+use Rattle.std.proofs.Common.{◌≡◌, ℕ, ◌-◌, ◌≤◌, List, length, drop, map, get_or, sym, subst, arith}
+use Rattle.std.specs.List.{All}
+use Rattle.std.proofs.Math.ListN.{get_or-map}
+use Rattle.std.proofs.lemmas.List.{length-map, length-take}
+use Rattle.std.proofs.lemmas.List.Elements.{All-map}
+use Rattle.http_header.specs.Token.{is_token_byte, IsToken}
+use Rattle.httparse.specs.declared.spans.HeaderSpan.{HeaderSpan}
+use Rattle.httparse.specs.Grammar.{Field, IsField, is_token_byte as is_grammar_byte, IsToken as IsGrammarToken}
+use Rattle.httparse.specs.Spans.{span_bytes, header_bytes, name_and_value, IsHeaderWithin}
+use Rattle.req_view.specs.Request.{NamedValue}
+use Rattle.req_view.specs.Spans.{AreNames}
+
+-- both crates have the same tokens
+same_tokens : (bytes : List ℕ) → IsGrammarToken bytes → IsToken bytes
+unfolding is_token_byte is_grammar_byte
+same_tokens bytes token = token
+
+All-from_map : {X Y : Type 0} (P : Y → Type 0) (f : X → Y) (xs : List X) → All P (map f xs) → All (λ x. P (f x)) xs
+All-from_map P f xs all k d below = subst P (get_or-map f xs k d) (all k (f d) (omega (arith, length-map xs f)))
+
+name-length : (bytes : List ℕ) (place : HeaderSpan) (n : ℕ) → n ≤ 16384 → IsHeaderWithin n place → length (span_bytes bytes place.name) ≤ 65535
+name-length bytes place n small within =
+    omega (arith, within.0.0, within.0.1, length-take (place.name.end - place.name.start) (drop place.name.start bytes))
+
+pub field-names : (bytes : List ℕ) (n : ℕ) (places : List HeaderSpan) (fields : List Field) → n ≤ 16384
+    → map (header_bytes bytes) places ≡ map name_and_value fields → All IsField fields → All (IsHeaderWithin n) places → AreNames bytes places
+field-names bytes n places fields small same tokens within =
+    let IsNamed : NamedValue → Type 0 = λ f. IsToken f.0 in
+    let named : All IsNamed (map name_and_value fields) =
+    All-map IsNamed name_and_value fields (λ k d below. same_tokens _ (tokens k d below).name) in
+    let spans = All-from_map IsNamed (header_bytes bytes) places (subst (λ (fs : List NamedValue). All IsNamed fs) (sym same) named) in
+    λ k d below. (spans k d below, name-length bytes (get_or places k d) n small (within k d below))

@@ -1,0 +1,4 @@
+pub mod Heads
+pub mod Request
+pub mod Spans
+pub mod Target

@@ -1,0 +1,31 @@
+-- What the spans of a parsed head say.
+use Rattle.std.specs.Prelude.{ℕ, List, [], map, take, All}
+use Rattle.http_header.specs.HeaderMap.{Entries, append_all}
+use Rattle.http_header.specs.FieldName.{IsFieldName}
+use Rattle.http_header.specs.Token.{lowercase}
+use Rattle.httparse.specs.declared.spans.Span.{Span}
+use Rattle.httparse.specs.declared.spans.HeaderSpan.{HeaderSpan}
+use Rattle.httparse.specs.declared.spans.RequestSpans.{RequestSpans}
+use Rattle.httparse.specs.Spans.{span_bytes, header_bytes}
+use Rattle.req_view.specs.Request.{Request, version_of}
+
+-- the request whose parts the spans cover
+abbrev pub request_at : List ℕ → List HeaderSpan → RequestSpans → Request
+request_at bytes places spans = record {
+  method = span_bytes bytes spans.method;
+  target = span_bytes bytes spans.path;
+  version = version_of spans.version;
+  fields = map (header_bytes bytes) (take spans.headers places);
+}
+
+-- where a field's value is, beside its name in lower case
+abbrev pub named_span : List ℕ → HeaderSpan → List ℕ × Span
+named_span text place = (lowercase (span_bytes text place.name), place.value)
+
+-- where the values of each name are
+abbrev pub index_of : List ℕ → List HeaderSpan → Entries Span
+index_of text places = append_all [] (map (named_span text) places)
+
+-- each place covers a field's name
+abbrev pub AreNames : List ℕ → List HeaderSpan → Type 0
+AreNames text places = All (λ place. IsFieldName (span_bytes text place.name)) places

@@ -1,0 +1,51 @@
+ghost use Rattle.req_view.specs.Heads.{Tells};
+
+use crate::refusal::Refusal;
+use crate::request::View;
+use httparse::Status;
+use httparse::spans::{EMPTY_HEADER_SPAN, parse_request};
+use std::alloc::Global;
+
+/// The most bytes that a head has, its line ends and the last, empty line included.
+pub const HEAD_BYTES: usize = 16_384;
+
+/// The most fields that a head has.
+pub const HEAD_FIELDS: usize = 64;
+
+/// What bytes say so far.
+#[derive(Drop)]
+pub enum Viewed {
+    /// They begin with a head of so many bytes.
+    Whole(View, usize),
+    /// They are no head yet, may become one, and are fewer than a head may have.
+    More,
+    /// They never become a head that the proxy takes, or memory is wanting.
+    Refused(Refusal),
+}
+
+/// Looks for a request's head at the front of the bytes, of which it reads 16,384 at most.
+///
+/// The head is what `httparse` takes in its default configuration: empty lines before it belong to it, a
+/// bare line feed ends a line, no line is folded, and the target is UTF-8 (RFC 9112, sections 2 to 5).
+/// `O(n)`. Memory is taken once a whole head stands there: for its bytes, its fields and their names.
+pub fn view(alloc: Global, bytes: &[u8]) -> Viewed
+    ensures { Tells bytes.now result }
+{
+    let front = &bytes[..bytes.len().min(HEAD_BYTES)];
+    let mut places = [EMPTY_HEADER_SPAN; HEAD_FIELDS];
+    match parse_request(front, &mut places) {
+        Ok(Status::Complete(spans)) => match View::copied(alloc, front, &places, spans) {
+            Ok(view) if view.is_welcome() => Viewed::Whole(view, spans.len),
+            Ok(_) => Viewed::Refused(Refusal::HeadFault),
+            Err(_) => Viewed::Refused(Refusal::NoMemory),
+        },
+        Ok(Status::Partial) => {
+            if bytes.len() < HEAD_BYTES {
+                Viewed::More
+            } else {
+                Viewed::Refused(Refusal::HeadFault)
+            }
+        }
+        Err(_) => Viewed::Refused(Refusal::HeadFault),
+    }
+}

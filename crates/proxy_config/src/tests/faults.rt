@@ -163,155 +163,63 @@ fn tests_and_acls(rt: HostRuntime) {
 }
 
 #[test]
-fn rules_and_conditions(rt: HostRuntime) {
-    let alloc = rt.alloc();
-    faulty_line(&rt, alloc, "http-request", Cause::Words);
-    faulty_line(&rt, alloc, "http-request deny", Cause::Keyword);
-    faulty_line(&rt, alloc, "http-request set-priority-class", Cause::Words);
-    faulty_line(
-        &rt,
-        alloc,
-        "http-request set-priority-class 5",
-        Cause::Condition,
-    );
-    faulty_line(
-        &rt,
-        alloc,
-        "http-request set-priority-class int(5",
-        Cause::Condition,
-    );
-    faulty_line(
-        &rt,
-        alloc,
-        "http-request set-priority-class int(1234567890123456789)",
-        Cause::Condition,
-    );
-    faulty_line(
-        &rt,
-        alloc,
-        "http-request set-priority-offset req.hdr_val()",
-        Cause::Condition,
-    );
-    faulty_line(
-        &rt,
-        alloc,
-        "http-request set-priority-class int(5) when",
-        Cause::Condition,
-    );
-    faulty_line(
-        &rt,
-        alloc,
-        "http-request set-priority-class int(5) if",
-        Cause::Words,
-    );
-    faulty_line(
-        &rt,
-        alloc,
-        "http-request set-priority-class int(5) if or known",
-        Cause::Condition,
-    );
-    faulty_line(
-        &rt,
-        alloc,
-        "http-request set-priority-class int(5) if known or",
-        Cause::Words,
-    );
-    faulty_line(
-        &rt,
-        alloc,
-        "http-request set-priority-class int(5) if known or or known",
-        Cause::Condition,
-    );
-    faulty_line(
-        &rt,
-        alloc,
-        "http-request set-priority-class int(5) if known || known x",
-        Cause::Unknown,
-    );
-    faulty_line(
-        &rt,
-        alloc,
-        "http-request set-priority-class int(5) if !",
-        Cause::Words,
-    );
-    faulty_line(
-        &rt,
-        alloc,
-        "http-request set-priority-class int(5) if ! ! known",
-        Cause::Condition,
-    );
-    faulty_line(
-        &rt,
-        alloc,
-        "http-request set-priority-class int(5) if !!known",
-        Cause::Condition,
-    );
-    faulty_line(
-        &rt,
-        alloc,
-        "http-request set-priority-class int(5) if !or",
-        Cause::Condition,
-    );
-    faulty_line(
-        &rt,
-        alloc,
-        "http-request set-priority-class int(5) if a/b",
-        Cause::Condition,
-    );
-    faulty_line(
-        &rt,
-        alloc,
-        "http-request set-priority-class int(5) if }",
-        Cause::Condition,
-    );
-    faulty_line(
-        &rt,
-        alloc,
-        "http-request set-priority-class int(5) if {",
-        Cause::Words,
-    );
-    faulty_line(
-        &rt,
-        alloc,
-        "http-request set-priority-class int(5) if { path",
-        Cause::Words,
-    );
-    faulty_line(
-        &rt,
-        alloc,
-        "http-request set-priority-class int(5) if { path }",
-        Cause::Condition,
-    );
-    faulty_line(
-        &rt,
-        alloc,
-        "http-request set-priority-class int(5) if { path /",
-        Cause::Words,
-    );
-    faulty_line(
-        &rt,
-        alloc,
-        "http-request set-priority-class int(5) if { path -i }",
-        Cause::Condition,
-    );
-    faulty_line(
-        &rt,
-        alloc,
-        "http-request set-priority-class int(5) if { known }",
-        Cause::Condition,
-    );
-    faulty_line(
-        &rt,
-        alloc,
-        "http-request set-priority-class int(5) if later\nacl later path /",
-        Cause::Unknown,
-    );
-    faulty_line(&rt, alloc, "use-server", Cause::Words);
-    faulty_line(&rt, alloc, "use-server a/b", Cause::Name);
-    faulty_line(&rt, alloc, "use-server b if x", Cause::Unknown);
-    faulty_line(&rt, alloc, "use-server a", Cause::Words);
-    faulty_line(&rt, alloc, "use-server a when known", Cause::Condition);
-    faulty_line(&rt, alloc, "use-server a if", Cause::Words);
+fn rules(rt: HostRuntime) {
+    let rows = [
+        ("http-request", Cause::Words),
+        ("http-request deny", Cause::Keyword),
+        ("http-request set-priority-class", Cause::Words),
+        ("http-request set-priority-class 5", Cause::Condition),
+        ("http-request set-priority-class int(5", Cause::Condition),
+        (
+            "http-request set-priority-class int(1234567890123456789)",
+            Cause::Condition,
+        ),
+        (
+            "http-request set-priority-offset req.hdr_val()",
+            Cause::Condition,
+        ),
+        (
+            "http-request set-priority-class int(5) when",
+            Cause::Condition,
+        ),
+        ("http-request set-priority-class int(5) if", Cause::Words),
+        ("use-server", Cause::Words),
+        ("use-server a/b", Cause::Name),
+        ("use-server b if x", Cause::Unknown),
+        ("use-server a", Cause::Words),
+        ("use-server a when known", Cause::Condition),
+        ("use-server a if", Cause::Words),
+    ];
+    for (line, cause) in rows {
+        faulty_line(&rt, rt.alloc(), line, cause);
+    }
+}
+
+#[test]
+fn conditions(rt: HostRuntime) {
+    let rows = [
+        ("or known", Cause::Condition),
+        ("known or", Cause::Words),
+        ("known or or known", Cause::Condition),
+        ("known || known x", Cause::Unknown),
+        ("!", Cause::Words),
+        ("! ! known", Cause::Condition),
+        ("!!known", Cause::Condition),
+        ("!or", Cause::Condition),
+        ("a/b", Cause::Condition),
+        ("}", Cause::Condition),
+        ("{", Cause::Words),
+        ("{ path", Cause::Words),
+        ("{ path }", Cause::Condition),
+        ("{ path /", Cause::Words),
+        ("{ path -i }", Cause::Condition),
+        ("{ known }", Cause::Condition),
+        ("later\nacl later path /", Cause::Unknown),
+    ];
+    for (condition, cause) in rows {
+        let line = format!(in rt.alloc(); "http-request set-priority-class int(5) if {condition}");
+        faulty_line(&rt, rt.alloc(), line.expect(&rt, "memory").as_str(), cause);
+    }
 }
 
 #[test]

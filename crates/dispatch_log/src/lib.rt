@@ -17,3 +17,6 @@ pub use queue::Queue;
 pub use refusal::Refusal;
 pub use row::{Phase, Row};
 pub use setup::{ServerSet, Servers, Setup};
+
+#[cfg(test)]
+mod tests;

@@ -72,3 +72,30 @@ fn status_of(checked: Checked) -> u8
         Checked::NoMemory | Checked::Unread => 1,
     }
 }
+
+#[cfg(test)]
+mod tests {
+    use super::*;
+    use proxy_config::Cause;
+    use std::test::Fail;
+
+    #[test]
+    fn each_end_has_its_line_and_status(rt: HostRuntime) -> Result<(), Fail> {
+        let fault = ConfigFault {
+            line: 7,
+            cause: Cause::Keyword,
+        };
+        let rows = [
+            (Checked::Good(3), "ok servers 3", 0),
+            (Checked::Faulty(fault), "config line 7: keyword", 3),
+            (Checked::NoMemory, "no memory", 1),
+            (Checked::Unread, "read fault", 1),
+        ];
+        for (checked, line, status) in rows {
+            let text = format!(in rt.alloc(); "{checked}")?;
+            assert_eq!(rt; text.as_str(), line);
+            assert_eq!(rt; status_of(checked), status);
+        }
+        Ok(())
+    }
+}

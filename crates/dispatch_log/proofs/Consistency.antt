@@ -113,6 +113,17 @@ removed rows last t p r is stands named =
     ])
     (λ t e. none_some e)
 
+-- a row that is told goes
+pub dismissed : (rows : Rows) (last t p : ℕ) (r : Row) → IsConsistent rows last (returning t) → StandsAt rows p r → IsConsistent (set rows p None) last granting
+dismissed rows last t p r is stands =
+    write rows last (returning t) granting p r None is stands (λ u e. none_some e)
+    (λ k u there loose.
+    elim (get-set_cases rows p k (Some r) None (Some u) stands there) [
+      | inl e ↦ none_some e.1
+      | inr e ↦ none_some (is.loose k u e.1 loose)
+    ])
+    (λ t e. none_some e)
+
 -- a row comes under the next ticket
 pub admitted : (rows : Rows) (last p : ℕ) (s : Row) → IsConsistent rows last granting → IsVacant rows p → s.key.ticket ≡ last + 1 → s.phase ≡ Loose → IsConsistent (set rows p (Some s)) s.key.ticket (placing s.key.ticket)
 admitted rows last p s is vacant next loose = record {

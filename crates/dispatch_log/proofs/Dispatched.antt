@@ -5,9 +5,10 @@ use Rattle.std.specs.Option.{option_map_or}
 use Rattle.std.proofs.lemmas.Bool.Decides.{Decides-eqb, nat_tests}
 use Rattle.std.proofs.lemmas.List.Sums.{sum_by-cons}
 use Rattle.dispatch_log.specs.declared.entry.Entry.{Entry}
-use Rattle.dispatch_log.specs.declared.entry.Entry.TheVariants.{Arrive, Done, Direct, Joined, Granted, Freed, Ended}
+use Rattle.dispatch_log.specs.declared.entry.Entry.TheVariants.{Arrive, Done, Direct, Joined, Granted, Freed, Left, Ended}
 use Rattle.dispatch_log.specs.declared.row.Phase.{Phase}
-use Rattle.dispatch_log.specs.declared.row.Phase.TheVariants.{Loose, Waiting, Serving}
+use Rattle.dispatch_log.specs.declared.row.Phase.TheVariants.{Loose, Waiting, Serving, Told}
+use Rattle.verdict.specs.declared.cause.Cause.TheVariants.{NoServer}
 use Rattle.dispatch_log.specs.declared.row.Row.{Row}
 use Rattle.dispatch_log.specs.declared.setup.ServerSet.{ServerSet}
 use Rattle.dispatch_log.specs.declared.setup.Setup.{Setup}
@@ -16,7 +17,8 @@ use Rattle.dispatch_log.specs.Histories.{History, IsLegal, state_of}
 use Rattle.dispatch_log.specs.Judgement.{Stage, placing, returning, ending, granting, MayCome, next_stage, AllMayCome}
 use Rattle.dispatch_log.specs.Rows.{Rows, StandsAt, IsRow, changed, in_phase, gone, has_ticket, is_served_by, served, rows_of}
 use Rattle.dispatch_log.specs.States.{State, after, after_all, arrived, opening_state}
-use Rattle.dispatch_log.specs.Words.{is_free}
+use Rattle.dispatch_log.specs.States.{scene}
+use Rattle.dispatch_log.specs.Words.{Scene, is_free}
 use Rattle.dispatch_log.proofs.Consistency.{IsConsistent}
 use Rattle.dispatch_log.proofs.Judged.{consistent_after, consistent_all}
 use Rattle.dispatch_log.proofs.Places.{tally, count-set}
@@ -30,12 +32,12 @@ pub record Writes (setup : Setup) (rows new : Rows) (entry : Entry) : Type 0 whe
   pub cell : Option Row
   pub stood : slice_get rows place ≡ Some old
   pub written : new ≡ set rows place cell
-  pub takes : (server : ℕ) → is_served_by server cell ≡ true → is_free setup rows server ≡ true
+  pub takes : (server : ℕ) → is_served_by server cell ≡ true → is_free (record { servers = setup.servers; rows = rows }) server ≡ true
   pub balanced : (ticket : ℕ) → tally (has_ticket ticket old) + tally (is_arrival_of ticket entry) ≡ tally (has_ticket ticket cell) + tally (is_end_of ticket entry)
 
 -- the entry names a row, and changes it
 named : (setup : Setup) (rows : Rows) (last : ℕ) (t : Stage) (e : Entry) (u p : ℕ) (r : Row) (f : Row → Option Row) → IsConsistent rows last t → StandsAt rows p r → r.key.ticket ≡ u
-    → ((server : ℕ) → is_served_by server (f r) ≡ true → is_free setup rows server ≡ true)
+    → ((server : ℕ) → is_served_by server (f r) ≡ true → is_free (record { servers = setup.servers; rows = rows }) server ≡ true)
     → ((ticket : ℕ) → tally (has_ticket ticket (Some r)) + tally (is_arrival_of ticket e) ≡ tally (has_ticket ticket (f r)) + tally (is_end_of ticket e))
     → Writes setup rows (changed u f rows) e
 named setup rows last t e u p r f is stands is_named takes balanced = record {
@@ -48,14 +50,17 @@ named setup rows last t e u p r f is stands is_named takes balanced = record {
   balanced = balanced;
 }
 
-slot_was_free : (setup : Setup) (rows : Rows) (v w : ℕ) → is_free setup rows v ≡ true → (v == w) ≡ true → is_free setup rows w ≡ true
-slot_was_free setup rows v w free same = subst (λ x. is_free setup rows x ≡ true) ((Decides-eqb v w).0 same) free
+slot_was_free : (setup : Setup) (rows : Rows) (v w : ℕ) → is_free (record { servers = setup.servers; rows = rows }) v ≡ true → (v == w) ≡ true → is_free (record { servers = setup.servers; rows = rows }) w ≡ true
+slot_was_free setup rows v w free same = subst (λ x. is_free (record { servers = setup.servers; rows = rows }) x ≡ true) ((Decides-eqb v w).0 same) free
 
 no_slot : {P : Type 0} → false ≡ true → P
 no_slot e = cc
 
+ended : (ticket own u : ℕ) → own ≡ u → tally (own == ticket) + 0 ≡ 0 + tally (u == ticket)
+ended ticket own u e = subst (λ x. tally (own == ticket) + 0 ≡ 0 + tally (x == ticket)) e (omega arith)
+
 -- every entry that is judged writes one place, but for the return of a slot, which writes none
-pub writes_of : (setup : Setup) (s : State) (n : ℕ) (t : Stage) (e : Entry) → IsConsistent s.rows s.ticket t → MayCome setup s n t e → ((m u : ℕ) → e ≡ Done m u → ⊥) → Writes setup s.rows (after s e).rows e
+pub writes_of : (setup : Setup) (s : State) (n : ℕ) (t : Stage) (e : Entry) → IsConsistent s.rows s.ticket t → MayCome setup s n t e → ((m u : ℕ) → e ≡ Done m u → ⊥) → Writes setup s.rows (after setup s e).rows e
 writes_of setup s n granting (Arrive m a) is may other = record {
   place = a.place;
   old = None;
@@ -68,7 +73,7 @@ writes_of setup s n granting (Arrive m a) is may other = record {
 writes_of setup s n granting (Done m u) is may other = absurd (other m u refl)
 writes_of setup s n granting (Granted u q v) is may other =
     named setup s.rows s.ticket granting (Granted u q v) u may.live.0 may.row (in_phase (Serving v)) is may.live.1 may.named
-    (λ server same. slot_was_free setup s.rows v server may.free same) (λ ticket. refl)
+    (λ server same. slot_was_free setup s.rows v server may.next.takes.0 same) (λ ticket. refl)
 writes_of setup s n (placing t) (Direct u v) is may other =
     let it = is.owed t refl in
     named setup s.rows s.ticket (placing t) (Direct u v) u it.place it.row (in_phase (Serving v)) is it.stands (it.named ∙ sym may.0)
@@ -85,13 +90,18 @@ writes_of setup s n (ending t) (Ended u) is may other =
     let it = is.owed t refl in
     named setup s.rows s.ticket (ending t) (Ended u) u it.place it.row gone is it.stands (it.named ∙ sym may)
     (λ server e. no_slot e) (λ ticket. ended ticket it.row.key.ticket u (it.named ∙ sym may))
-  where
-    ended : (ticket own u : ℕ) → own ≡ u → tally (own == ticket) + 0 ≡ 0 + tally (u == ticket)
-    ended ticket own u e = subst (λ x. tally (own == ticket) + 0 ≡ 0 + tally (x == ticket)) e (omega arith)
+writes_of setup s n (placing t) (Left u NoServer) is may other =
+    let it = is.owed t refl in
+    named setup s.rows s.ticket (placing t) (Left u NoServer) u it.place it.row (in_phase (Told NoServer)) is it.stands (it.named ∙ sym may.0)
+    (λ server e. no_slot e) (λ ticket. refl)
+writes_of setup s n (returning t) (Ended u) is may other =
+    let told = may.1 in
+    named setup s.rows s.ticket (returning t) (Ended u) u told.live.0 told.row gone is told.live.1 told.named
+    (λ server e. no_slot e) (λ ticket. ended ticket told.row.key.ticket u told.named)
 writes_of setup s n t e is may other = absurd may
 
 -- a free server serves fewer than its limit
-free_below : (setup : Setup) (rows : Rows) (server : ℕ) → is_free setup rows server ≡ true → 0 < bound_of setup server → served server rows < bound_of setup server
+free_below : (setup : Setup) (rows : Rows) (server : ℕ) → is_free (record { servers = setup.servers; rows = rows }) server ≡ true → 0 < bound_of setup server → served server rows < bound_of setup server
 free_below setup rows server free some = by_server (slice_get setup.servers server) free some
   where
     by_server : (it : Option ServerSet) → option_map_or (λ (x : ServerSet). (x.limit == 0) || nat_lt (served server rows) x.limit) it false ≡ true → 0 < option_map_or (λ (x : ServerSet). x.limit) it 0 → served server rows < option_map_or (λ (x : ServerSet). x.limit) it 0
@@ -99,7 +109,7 @@ free_below setup rows server free some = by_server (slice_get setup.servers serv
     by_server (Some x) free some = grind (arith, nat_tests)
 
 -- limits are kept by a write whose slots were free
-limits_written : (setup : Setup) (rows : Rows) (p : ℕ) (old cell : Option Row) → slice_get rows p ≡ Some old → ((server : ℕ) → is_served_by server cell ≡ true → is_free setup rows server ≡ true) → KeepsLimits setup rows → KeepsLimits setup (set rows p cell)
+limits_written : (setup : Setup) (rows : Rows) (p : ℕ) (old cell : Option Row) → slice_get rows p ≡ Some old → ((server : ℕ) → is_served_by server cell ≡ true → is_free (record { servers = setup.servers; rows = rows }) server ≡ true) → KeepsLimits setup rows → KeepsLimits setup (set rows p cell)
 limits_written setup rows p old cell stood takes keeps server some = by_test (is_served_by server cell) refl
   where
     by_test : (b : Bool) → is_served_by server cell ≡ b → served server (set rows p cell) ≤ bound_of setup server
@@ -114,29 +124,20 @@ limits_written setup rows p old cell stood takes keeps server some = by_test (is
         let none : tally (is_served_by server cell) ≡ 0 = ap tally e in
         omega arith
 
-is_done : Entry → Bool
-is_done (Done m u) = true
-is_done (Arrive m a) = false
-is_done (Direct u v) = false
-is_done (Joined u q) = false
-is_done (Granted u q v) = false
-is_done (Freed u v) = false
-is_done (Ended u) = false
-
 -- limits are kept by every entry
-limits_after : (setup : Setup) (s : State) (n : ℕ) (t : Stage) (e : Entry) → IsConsistent s.rows s.ticket t → MayCome setup s n t e → KeepsLimits setup s.rows → KeepsLimits setup (after s e).rows
+limits_after : (setup : Setup) (s : State) (n : ℕ) (t : Stage) (e : Entry) → IsConsistent s.rows s.ticket t → MayCome setup s n t e → KeepsLimits setup s.rows → KeepsLimits setup (after setup s e).rows
 limits_after setup s n t (Done m u) is may keeps = keeps
 limits_after setup s n t e is may keeps =
     let w = writes_of setup s n t e is may (λ m u same. cc) in
     subst (KeepsLimits setup) (sym w.written) (limits_written setup s.rows w.place w.old w.cell w.stood w.takes keeps)
 
-pub limits_all : (setup : Setup) (s : State) (n : ℕ) (t : Stage) (es : List Entry) → IsConsistent s.rows s.ticket t → AllMayCome setup s n t es → KeepsLimits setup s.rows → KeepsLimits setup (after_all s es).rows
+pub limits_all : (setup : Setup) (s : State) (n : ℕ) (t : Stage) (es : List Entry) → IsConsistent s.rows s.ticket t → AllMayCome setup s n t es → KeepsLimits setup s.rows → KeepsLimits setup (after_all setup s es).rows
 limits_all setup s n t [] is all keeps = keeps
 limits_all setup s n t (e ∷ es) is all keeps =
-    limits_all setup (after s e) (n + 1) (next_stage t e) es (consistent_after setup s n t e is all.0) all.1 (limits_after setup s n t e is all.0 keeps)
+    limits_all setup (after setup s e) (n + 1) (next_stage t e) es (consistent_after setup s n t e is all.0) all.1 (limits_after setup s n t e is all.0 keeps)
 
 -- the rows of a ticket and its ends after an entry are those before and its arrivals
-balance_after : (setup : Setup) (s : State) (n : ℕ) (t : Stage) (e : Entry) (ticket : ℕ) → IsConsistent s.rows s.ticket t → MayCome setup s n t e → rows_of ticket (after s e).rows + tally (is_end_of ticket e) ≡ rows_of ticket s.rows + tally (is_arrival_of ticket e)
+balance_after : (setup : Setup) (s : State) (n : ℕ) (t : Stage) (e : Entry) (ticket : ℕ) → IsConsistent s.rows s.ticket t → MayCome setup s n t e → rows_of ticket (after setup s e).rows + tally (is_end_of ticket e) ≡ rows_of ticket s.rows + tally (is_arrival_of ticket e)
 balance_after setup s n t (Done m u) ticket is may = refl
 balance_after setup s n t e ticket is may =
     let w = writes_of setup s n t e is may (λ m u same. cc) in
@@ -144,11 +145,11 @@ balance_after setup s n t e ticket is may =
     let even : tally (has_ticket ticket w.old) + tally (is_arrival_of ticket e) ≡ tally (has_ticket ticket w.cell) + tally (is_end_of ticket e) = w.balanced ticket in
     subst (λ rows. rows_of ticket rows + tally (is_end_of ticket e) ≡ rows_of ticket s.rows + tally (is_arrival_of ticket e)) (sym w.written) (omega arith)
 
-balance_all : (setup : Setup) (s : State) (n : ℕ) (t : Stage) (es : List Entry) (ticket : ℕ) → IsConsistent s.rows s.ticket t → AllMayCome setup s n t es → rows_of ticket (after_all s es).rows + ends_of ticket es ≡ rows_of ticket s.rows + arrivals_of ticket es
+balance_all : (setup : Setup) (s : State) (n : ℕ) (t : Stage) (es : List Entry) (ticket : ℕ) → IsConsistent s.rows s.ticket t → AllMayCome setup s n t es → rows_of ticket (after_all setup s es).rows + ends_of ticket es ≡ rows_of ticket s.rows + arrivals_of ticket es
 balance_all setup s n t [] ticket is all = refl
 balance_all setup s n t (e ∷ es) ticket is all =
     let one = balance_after setup s n t e ticket is all.0 in
-    let rest : rows_of ticket (after_all (after s e) es).rows + ends_of ticket es ≡ rows_of ticket (after s e).rows + arrivals_of ticket es = balance_all setup (after s e) (n + 1) (next_stage t e) es ticket (consistent_after setup s n t e is all.0) all.1 in
+    let rest : rows_of ticket (after_all setup (after setup s e) es).rows + ends_of ticket es ≡ rows_of ticket (after setup s e).rows + arrivals_of ticket es = balance_all setup (after setup s e) (n + 1) (next_stage t e) es ticket (consistent_after setup s n t e is all.0) all.1 in
     let ends : ends_of ticket (e ∷ es) ≡ tally (is_end_of ticket e) + ends_of ticket es = sum_by-cons (λ x. tally (is_end_of ticket x)) e es in
     let arrivals : arrivals_of ticket (e ∷ es) ≡ tally (is_arrival_of ticket e) + arrivals_of ticket es = sum_by-cons (λ x. tally (is_arrival_of ticket x)) e es in
     omega arith
@@ -157,7 +158,7 @@ balance_all setup s n t (e ∷ es) ticket is all =
 given : ℕ → ℕ → ℕ
 given last ticket = cond (nat_le 1 ticket && nat_le ticket last) 1 0
 
-given_after : (setup : Setup) (s : State) (n : ℕ) (t : Stage) (e : Entry) (ticket : ℕ) → MayCome setup s n t e → given s.ticket ticket + tally (is_arrival_of ticket e) ≡ given (after s e).ticket ticket
+given_after : (setup : Setup) (s : State) (n : ℕ) (t : Stage) (e : Entry) (ticket : ℕ) → MayCome setup s n t e → given s.ticket ticket + tally (is_arrival_of ticket e) ≡ given (after setup s e).ticket ticket
 unfolding given
 given_after setup s n granting (Arrive m a) ticket may = let next : a.ticket ≡ s.ticket + 1 = may.1.numbered in grind (arith, nat_tests)
 given_after setup s n t (Arrive m a) ticket may = absurd may
@@ -166,13 +167,14 @@ given_after setup s n t (Direct u v) ticket may = omega arith
 given_after setup s n t (Joined u q) ticket may = omega arith
 given_after setup s n t (Granted u q v) ticket may = omega arith
 given_after setup s n t (Freed u v) ticket may = omega arith
+given_after setup s n t (Left u c) ticket may = omega arith
 given_after setup s n t (Ended u) ticket may = omega arith
 
-given_all : (setup : Setup) (s : State) (n : ℕ) (t : Stage) (es : List Entry) (ticket : ℕ) → AllMayCome setup s n t es → given s.ticket ticket + arrivals_of ticket es ≡ given (after_all s es).ticket ticket
+given_all : (setup : Setup) (s : State) (n : ℕ) (t : Stage) (es : List Entry) (ticket : ℕ) → AllMayCome setup s n t es → given s.ticket ticket + arrivals_of ticket es ≡ given (after_all setup s es).ticket ticket
 given_all setup s n t [] ticket all = omega arith
 given_all setup s n t (e ∷ es) ticket all =
     let one = given_after setup s n t e ticket all.0 in
-    let rest = given_all setup (after s e) (n + 1) (next_stage t e) es ticket all.1 in
+    let rest = given_all setup (after setup s e) (n + 1) (next_stage t e) es ticket all.1 in
     let arrivals : arrivals_of ticket (e ∷ es) ≡ tally (is_arrival_of ticket e) + arrivals_of ticket es = sum_by-cons (λ x. tally (is_arrival_of ticket x)) e es in
     omega arith
 
@@ -202,6 +204,7 @@ placed_row : (rows : Rows) (last : ℕ) (r : Row) → IsConsistent rows last gra
 placed_row rows last r is live Loose e = let h : None ≡ Some r.key.ticket = is.loose live.0 r live.1 e in cc
 placed_row rows last r is live (Waiting q m) e = refl
 placed_row rows last r is live (Serving v) e = refl
+placed_row rows last r is live (Told c) e = refl
 
 -- a ticket arrived once where it was given, and else never
 arrivals_once : (h : History) (ticket : ℕ) → IsLegal h → arrivals_of ticket h.log ≡ cond (nat_le 1 ticket && nat_le ticket (state_of h).ticket) 1 0

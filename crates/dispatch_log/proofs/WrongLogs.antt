@@ -41,10 +41,10 @@ not_first_come legal =
     not_least grant.live.0 grant.row grant.live.1 grant.named (grant.least row_3 (2, refl) refl)
 
 pub not_idle : IsLegal (worked idle_slot) → ⊥
-not_idle legal = legal.settled 0 _ refl (1, refl) refl
+not_idle legal = legal.settled 0 (refl, (_, (1, refl), refl))
 
 pub not_above_limit : IsLegal (worked grant_above_the_limit) → ⊥
-not_above_limit legal = let free = legal.judged.1.1.1.1.1.1.0.free in cc
+not_above_limit legal = let free = legal.judged.1.1.1.1.1.1.0.next.takes.0 in cc
 
 pub not_without_offset : IsLegal (worked due_date_of_no_offset) → ⊥
 not_without_offset legal =

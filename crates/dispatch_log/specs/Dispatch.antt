@@ -2,14 +2,15 @@
 use Rattle.std.specs.Prelude.{◌≡◌, ℕ, ◌+◌, ◌<◌, ◌≤◌, nat_le, ◌==◌, ◌&&◌, Bool, true, false, List, IsTrue, count_by, slice_get, if◌then◌else◌}
 use Rattle.std.specs.Option.{option_map_or}
 use Rattle.dispatch_log.specs.declared.entry.Entry.{Entry}
-use Rattle.dispatch_log.specs.declared.entry.Entry.TheVariants.{Arrive, Done, Direct, Joined, Granted, Freed, Ended}
+use Rattle.dispatch_log.specs.declared.entry.Entry.TheVariants.{Arrive, Done, Direct, Joined, Granted, Freed, Left, Ended}
 use Rattle.dispatch_log.specs.declared.row.Phase.{Phase}
-use Rattle.dispatch_log.specs.declared.row.Phase.TheVariants.{Loose, Waiting, Serving}
+use Rattle.dispatch_log.specs.declared.row.Phase.TheVariants.{Loose, Waiting, Serving, Told}
 use Rattle.dispatch_log.specs.declared.row.Row.{Row}
 use Rattle.dispatch_log.specs.declared.setup.Setup.{Setup}
 use Rattle.dispatch_log.specs.Histories.{History, state_of}
-use Rattle.dispatch_log.specs.Judgement.{IsSettled}
+use Rattle.dispatch_log.specs.Grants.{IsSettled}
 use Rattle.dispatch_log.specs.Rows.{Rows, IsRow, served, rows_of}
+use Rattle.dispatch_log.specs.States.{scene}
 
 -- a server's limit; 0 where it has none, and where no server has the number
 abbrev pub bound_of : Setup → ℕ → ℕ
@@ -26,6 +27,7 @@ is_arrival_of ticket (Direct other server) = false
 is_arrival_of ticket (Joined other queue) = false
 is_arrival_of ticket (Granted other queue server) = false
 is_arrival_of ticket (Freed other server) = false
+is_arrival_of ticket (Left other cause) = false
 is_arrival_of ticket (Ended other) = false
 
 abbrev pub is_end_of : ℕ → Entry → Bool
@@ -36,6 +38,7 @@ is_end_of ticket (Direct other server) = false
 is_end_of ticket (Joined other queue) = false
 is_end_of ticket (Granted other queue server) = false
 is_end_of ticket (Freed other server) = false
+is_end_of ticket (Left other cause) = false
 
 -- how often a ticket arrives and ends in a log
 abbrev pub arrivals_of : ℕ → List Entry → ℕ
@@ -44,11 +47,12 @@ arrivals_of ticket log = count_by (is_arrival_of ticket) log
 abbrev pub ends_of : ℕ → List Entry → ℕ
 ends_of ticket log = count_by (is_end_of ticket) log
 
--- a row waits in a queue or has a slot of a server
+-- a row waits in a queue, has a slot of a server or is told why not
 abbrev pub is_placed : Phase → Bool
 is_placed Loose = false
 is_placed (Waiting queue since) = true
 is_placed (Serving server) = true
+is_placed (Told cause) = true
 
 -- a ticket that was given arrived once, and no other did; it has one row until its one end, and none after it
 pub record IsInOnePlace (history : History) (ticket : ℕ) : Type 0 where
@@ -61,4 +65,4 @@ pub record IsDispatched (history : History) : Type 0 where
   pub limits : KeepsLimits history.setup (state_of history).rows
   pub one_place : (ticket : ℕ) → IsInOnePlace history ticket
   pub placed : (row : Row) → IsRow (state_of history).rows row → IsTrue (is_placed row.phase)
-  pub settled : IsSettled history.setup (state_of history).rows
+  pub settled : IsSettled (scene history.setup (state_of history))

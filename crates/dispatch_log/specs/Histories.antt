@@ -1,7 +1,7 @@
 -- Dispatchers, as contracts see them: what one was made for, and its log.
 use Rattle.std.specs.Prelude.{◌≡◌, ◌⊎◌, ℕ, max, Bool, true, false, List, ◌∷◌, ◌++◌, Option, None, Some, All, length}
 use Rattle.dispatch_log.specs.declared.entry.Entry.{Entry}
-use Rattle.dispatch_log.specs.declared.entry.Entry.TheVariants.{Arrive, Done, Direct, Joined, Granted, Freed, Ended}
+use Rattle.dispatch_log.specs.declared.entry.Entry.TheVariants.{Arrive, Done, Direct, Joined, Granted, Freed, Left, Ended}
 use Rattle.dispatch_log.specs.declared.refusal.Refusal.{Refusal}
 use Rattle.dispatch_log.specs.declared.refusal.Refusal.TheVariants.{NoMemory}
 use Rattle.dispatch_log.specs.declared.setup.Setup.{Setup}
@@ -16,7 +16,7 @@ pub record History : Type 0 where
 
 -- the state that the log leaves of the opening state
 abbrev pub state_of : History → State
-state_of history = after_all (opening_state history.setup) history.log
+state_of history = after_all history.setup (opening_state history.setup) history.log
 
 -- the log is legal
 abbrev pub IsLegal : History → Type 0
@@ -26,9 +26,9 @@ IsLegal history = IsLegalFrom history.setup (opening_state history.setup) histor
 abbrev pub effective : History → ℕ → ℕ
 effective history moment = max (state_of history).moment moment
 
--- what refuses an arrival, or the return of a ticket's slot, now
-abbrev pub refuses_arrival : History → Option Refusal
-refuses_arrival history = arrival_refusal history.setup (state_of history) (length history.log)
+-- what refuses an arrival with a pin, or the return of a ticket's slot, now
+abbrev pub refuses_arrival : History → Option ℕ → Option Refusal
+refuses_arrival history pin = arrival_refusal history.setup (state_of history) (length history.log) pin
 
 abbrev pub refuses_done : History → ℕ → Option Refusal
 refuses_done history ticket = done_refusal history.setup (state_of history) (length history.log) ticket
@@ -40,6 +40,7 @@ begins_event (Direct ticket server) = false
 begins_event (Joined ticket queue) = false
 begins_event (Granted ticket queue server) = false
 begins_event (Freed ticket server) = false
+begins_event (Left ticket cause) = false
 begins_event (Ended ticket) = false
 
 -- the log goes on with one event, and stays legal

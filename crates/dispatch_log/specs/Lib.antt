@@ -1,7 +1,10 @@
 pub mod Setups
 pub mod Rows
-pub mod States
 pub mod Words
+pub mod States
+pub mod Picks
+pub mod Placement
+pub mod Grants
 pub mod Refusals
 pub mod Judgement
 pub mod Logs

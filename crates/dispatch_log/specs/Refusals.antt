@@ -1,10 +1,10 @@
 -- The refusals: the first that applies is the answer.
-use Rattle.std.specs.Prelude.{ℕ, ◌+◌, ◌-◌, ◌*◌, ◌^◌, nat_lt, nat_le, Bool, true, false, List, [], ◌∷◌, Option, None, Some, count_by, is_some, is_none, if◌then◌else◌}
+use Rattle.std.specs.Prelude.{ℕ, ◌+◌, ◌-◌, ◌*◌, ◌^◌, nat_lt, nat_le, Bool, true, false, List, [], ◌∷◌, Option, None, Some, count_by, is_some, is_none, length, if◌then◌else◌}
 use Rattle.std.specs.Option.{option_map_or}
 use Rattle.dispatch_log.specs.declared.refusal.Refusal.{Refusal}
-use Rattle.dispatch_log.specs.declared.refusal.Refusal.TheVariants.{NoMemory, PlacesFull, LogFull, NoSuchTicket, WrongPhase, TicketsSpent}
+use Rattle.dispatch_log.specs.declared.refusal.Refusal.TheVariants.{NoMemory, PlacesFull, LogFull, NoSuchTicket, WrongPhase, NoSuchServer, TicketsSpent}
 use Rattle.dispatch_log.specs.declared.row.Phase.{Phase}
-use Rattle.dispatch_log.specs.declared.row.Phase.TheVariants.{Loose, Waiting, Serving}
+use Rattle.dispatch_log.specs.declared.row.Phase.TheVariants.{Loose, Waiting, Serving, Told}
 use Rattle.dispatch_log.specs.declared.setup.Setup.{Setup}
 use Rattle.dispatch_log.specs.Rows.{Rows, row_of}
 use Rattle.dispatch_log.specs.States.{State}
@@ -16,6 +16,7 @@ number_of PlacesFull = 2
 number_of LogFull = 3
 number_of NoSuchTicket = 4
 number_of WrongPhase = 5
+number_of NoSuchServer = 6
 number_of TicketsSpent = 14
 
 -- the first refusal whose test holds
@@ -39,11 +40,17 @@ abbrev pub is_waiting : Phase → Bool
 is_waiting (Waiting queue since) = true
 is_waiting Loose = false
 is_waiting (Serving server) = false
+is_waiting (Told cause) = false
 
--- what refuses an arrival, in a state that so many entries left
-abbrev pub arrival_refusal : Setup → State → ℕ → Option Refusal
-arrival_refusal setup state used =
-    first_of ((lacks_room setup used, LogFull) ∷ (tickets_are_spent state.ticket, TicketsSpent) ∷ (is_full setup state.rows, PlacesFull) ∷ [])
+-- no server has the number of a pin
+abbrev pub pins_to_none : Setup → Option ℕ → Bool
+pins_to_none setup None = false
+pins_to_none setup (Some server) = nat_le (length setup.servers) server
+
+-- what refuses an arrival with a pin, in a state that so many entries left
+abbrev pub arrival_refusal : Setup → State → ℕ → Option ℕ → Option Refusal
+arrival_refusal setup state used pin =
+    first_of ((lacks_room setup used, LogFull) ∷ (pins_to_none setup pin, NoSuchServer) ∷ (tickets_are_spent state.ticket, TicketsSpent) ∷ (is_full setup state.rows, PlacesFull) ∷ [])
 
 -- what refuses the return of a ticket's slot: no such row, or it still waits
 abbrev pub done_refusal : Setup → State → ℕ → ℕ → Option Refusal

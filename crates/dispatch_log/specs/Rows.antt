@@ -1,9 +1,10 @@
 -- The live requests: a list of places, each empty or with a row.
 use Rattle.std.specs.Prelude.{◌≡◌, ℕ, ◌==◌, Bool, false, true, List, [], ◌∷◌, Option, None, Some, map, count_by, slice_get, if◌then◌else◌}
+use Rattle.std.specs.Option.{option_and_then}
 use Rattle.dispatch_log.specs.declared.queue.Queue.{Queue}
 use Rattle.dispatch_log.specs.declared.queue.Queue.TheVariants.{Backend, Server}
 use Rattle.dispatch_log.specs.declared.row.Phase.{Phase}
-use Rattle.dispatch_log.specs.declared.row.Phase.TheVariants.{Loose, Waiting, Serving}
+use Rattle.dispatch_log.specs.declared.row.Phase.TheVariants.{Loose, Waiting, Serving, Told}
 use Rattle.dispatch_log.specs.declared.row.Row.{Row}
 
 -- the places in order
@@ -42,11 +43,19 @@ abbrev pub phase_waits_in : Queue → Phase → Bool
 phase_waits_in queue (Waiting other since) = same_queue queue other
 phase_waits_in queue Loose = false
 phase_waits_in queue (Serving server) = false
+phase_waits_in queue (Told cause) = false
 
 abbrev pub phase_is_served_by : ℕ → Phase → Bool
 phase_is_served_by server (Serving other) = other == server
 phase_is_served_by server Loose = false
 phase_is_served_by server (Waiting queue since) = false
+phase_is_served_by server (Told cause) = false
+
+abbrev pub phase_is_told : Phase → Bool
+phase_is_told (Told cause) = true
+phase_is_told Loose = false
+phase_is_told (Waiting queue since) = false
+phase_is_told (Serving server) = false
 
 -- whether a place's row waits in a queue
 abbrev pub waits_in : Queue → Option Row → Bool
@@ -91,3 +100,8 @@ abbrev pub server_in : Phase → Option ℕ
 server_in (Serving server) = Some server
 server_in Loose = None
 server_in (Waiting queue since) = None
+server_in (Told cause) = None
+
+-- the pin of a ticket's row
+abbrev pub pin_of : ℕ → Rows → Option ℕ
+pin_of ticket rows = option_and_then (λ row. row.pin) (row_of ticket rows)

@@ -1,16 +1,22 @@
 -- What a dispatcher can be made for.
-use Rattle.std.specs.Prelude.{◌≡◌, ◌<◌, ◌≤◌, ◌^◌, ◌==◌, ◌&&◌, Bool, IsTrue, length, is_none, All}
+use Rattle.std.specs.Prelude.{◌≡◌, ℕ, ◌<◌, ◌≤◌, ◌^◌, nat_lt, nat_le, ◌&&◌, Bool, true, IsTrue, Option, None, Some, length, All}
 use Rattle.dispatch_log.specs.declared.setup.ServerSet.{ServerSet}
 use Rattle.dispatch_log.specs.declared.setup.Setup.{Setup}
 
--- a server of maxconn 1, without a queue of its own, of weight 1 and unchecked
-abbrev pub is_plain : ServerSet → Bool
-is_plain server = (server.limit == 1) && (server.maxqueue == 0) && (server.weight == 1) && is_none server.rise_fall
+-- where a server is checked, rise and fall are at least 1
+abbrev pub checks_count : Option (ℕ × ℕ) → Bool
+checks_count None = true
+checks_count (Some it) = nat_lt 0 it.0 && nat_lt 0 it.1
+
+-- a server within its limits
+abbrev pub is_within : ServerSet → Bool
+is_within server = nat_le server.weight 256 && checks_count server.rise_fall
 
 -- a setup within its limits
 pub record IsSound (setup : Setup) : Type 0 where
-  pub one_server : length setup.servers ≡ 1
-  pub plain : All (λ server. IsTrue (is_plain server)) setup.servers
+  pub some_server : 0 < length setup.servers
+  pub servers : length setup.servers ≤ 64
+  pub within : All (λ server. IsTrue (is_within server)) setup.servers
   pub some_place : 0 < setup.places
   pub places : setup.places ≤ 4096
   pub some_log : 0 < setup.log

@@ -1,23 +1,33 @@
 -- What a log leaves.
-use Rattle.std.specs.Prelude.{ℕ, List, [], ◌∷◌, None, Some, replicate, slice_set}
+use Rattle.std.specs.Prelude.{◌≡◌, ℕ, ◌-◌, ◌==◌, Bool, true, false, List, [], ◌∷◌, Option, None, Some, length, replicate, slice_get, slice_set, if◌then◌else◌}
+use Rattle.std.specs.Option.{option_map_or}
 use Rattle.due_key.specs.declared.key.Key.{Key}
 use Rattle.dispatch_log.specs.declared.entry.Arrival.{Arrival}
 use Rattle.dispatch_log.specs.declared.entry.Entry.{Entry}
-use Rattle.dispatch_log.specs.declared.entry.Entry.TheVariants.{Arrive, Done, Direct, Joined, Granted, Freed, Ended}
-use Rattle.dispatch_log.specs.declared.row.Phase.TheVariants.{Loose, Waiting, Serving}
+use Rattle.dispatch_log.specs.declared.entry.Entry.TheVariants.{Arrive, Done, Direct, Joined, Granted, Freed, Left, Ended}
+use Rattle.dispatch_log.specs.declared.queue.Queue.{Queue}
+use Rattle.dispatch_log.specs.declared.queue.Queue.TheVariants.{Backend, Server}
+use Rattle.dispatch_log.specs.declared.row.Phase.TheVariants.{Loose, Waiting, Serving, Told}
 use Rattle.dispatch_log.specs.declared.row.Row.{Row}
 use Rattle.dispatch_log.specs.declared.setup.Setup.{Setup}
-use Rattle.dispatch_log.specs.Rows.{Rows, changed, in_phase, gone}
+use Rattle.dispatch_log.specs.Rows.{Rows, changed, in_phase, gone, pin_of}
+use Rattle.dispatch_log.specs.Words.{Scene}
 
--- the live requests, the moment of the last event, and the last ticket that was given
+-- the live requests, the moment of the last event, the last ticket that was given, and the server that balancing
+-- picked last
 pub record State : Type 0 where
   pub rows : Rows
   pub moment : ℕ
   pub ticket : ℕ
+  pub cursor : ℕ
 
--- no request, no event yet
+-- no request, no event yet; the last server counts as picked
 abbrev pub opening_state : Setup → State
-opening_state setup = record { rows = replicate setup.places None; moment = 0; ticket = 0 }
+opening_state setup = record { rows = replicate setup.places None; moment = 0; ticket = 0; cursor = length setup.servers - 1 }
+
+-- what a decision looks at
+abbrev pub scene : Setup → State → Scene
+scene setup state = record { servers = setup.servers; rows = state.rows }
 
 -- the key of an arrival
 abbrev pub key_of : Arrival → Key
@@ -27,21 +37,46 @@ key_of arrival = record { class = arrival.class; due = arrival.due; ticket = arr
 abbrev pub arrived : Arrival → Row
 arrived arrival = record { key = key_of arrival; pin = arrival.pin; failures = 0; phase = Loose }
 
+-- the server that balancing picked last, where a request of this pin was put on a server: its pin is no pick
+abbrev pub put_on : ℕ → Option ℕ → ℕ → ℕ
+put_on server None cursor = server
+put_on server (Some pin) cursor = if pin == server then cursor else server
+
+-- the same where a ticket joined a queue
+abbrev pub put_in : Queue → Option ℕ → ℕ → ℕ
+put_in Backend pin cursor = cursor
+put_in (Server server) pin cursor = put_on server pin cursor
+
+-- the same where a server took a request: one of weight 0 is no pick
+abbrev pub granted_by : Setup → ℕ → ℕ → ℕ
+granted_by setup server cursor = if option_map_or (λ it. it.weight == 0) (slice_get setup.servers server) true then cursor else server
+
 -- what an entry leaves: an arrival's row stands at its place, under the next ticket
-abbrev pub after : State → Entry → State
-after state (Arrive moment arrival) = record {
+abbrev pub after : Setup → State → Entry → State
+after setup state (Arrive moment arrival) = record {
   rows = slice_set state.rows arrival.place (Some (arrived arrival));
   moment = moment;
   ticket = arrival.ticket;
+  cursor = state.cursor;
 }
-after state (Done moment ticket) = record state { moment = moment }
-after state (Direct ticket server) = record state { rows = changed ticket (in_phase (Serving server)) state.rows }
-after state (Joined ticket queue) = record state { rows = changed ticket (in_phase (Waiting queue state.moment)) state.rows }
-after state (Granted ticket queue server) = record state { rows = changed ticket (in_phase (Serving server)) state.rows }
-after state (Freed ticket server) = record state { rows = changed ticket (in_phase Loose) state.rows }
-after state (Ended ticket) = record state { rows = changed ticket gone state.rows }
+after setup state (Done moment ticket) = record state { moment = moment }
+after setup state (Direct ticket server) = record state {
+  rows = changed ticket (in_phase (Serving server)) state.rows;
+  cursor = put_on server (pin_of ticket state.rows) state.cursor;
+}
+after setup state (Joined ticket queue) = record state {
+  rows = changed ticket (in_phase (Waiting queue state.moment)) state.rows;
+  cursor = put_in queue (pin_of ticket state.rows) state.cursor;
+}
+after setup state (Granted ticket queue server) = record state {
+  rows = changed ticket (in_phase (Serving server)) state.rows;
+  cursor = granted_by setup server state.cursor;
+}
+after setup state (Freed ticket server) = record state { rows = changed ticket (in_phase Loose) state.rows }
+after setup state (Left ticket cause) = record state { rows = changed ticket (in_phase (Told cause)) state.rows }
+after setup state (Ended ticket) = record state { rows = changed ticket gone state.rows }
 
 -- what a log leaves of a state
-abbrev pub after_all : State → List Entry → State
-after_all state [] = state
-after_all state (entry ∷ entries) = after_all (after state entry) entries
+abbrev pub after_all : Setup → State → List Entry → State
+after_all setup state [] = state
+after_all setup state (entry ∷ entries) = after_all setup (after setup state entry) entries

@@ -1,39 +1,55 @@
 -- What a server can take.
-use Rattle.std.specs.Prelude.{ℕ, ◌+◌, ◌==◌, nat_lt, ◌&&◌, ◌||◌, Bool, false, slice_get}
+use Rattle.std.specs.Prelude.{◌≡◌, ℕ, ◌+◌, ◌==◌, nat_lt, ◌&&◌, ◌||◌, Bool, false, List, Option, None, Some, slice_get, if◌then◌else◌}
 use Rattle.std.specs.Option.{option_map_or}
 use Rattle.dispatch_log.specs.declared.queue.Queue.{Queue}
 use Rattle.dispatch_log.specs.declared.queue.Queue.TheVariants.{Backend, Server}
 use Rattle.dispatch_log.specs.declared.row.Phase.{Phase}
-use Rattle.dispatch_log.specs.declared.row.Phase.TheVariants.{Loose, Waiting, Serving}
+use Rattle.dispatch_log.specs.declared.row.Phase.TheVariants.{Loose, Waiting, Serving, Told}
 use Rattle.dispatch_log.specs.declared.setup.ServerSet.{ServerSet}
-use Rattle.dispatch_log.specs.declared.setup.Setup.{Setup}
 use Rattle.dispatch_log.specs.Rows.{Rows, served, queued}
 
+-- the scene of a decision: what the servers may take, and where the live requests stand
+pub record Scene : Type 0 where
+  pub servers : List ServerSet
+  pub rows : Rows
+
 -- a test of the server with a number; a number that is no server's fails it
-abbrev pub of_server : Setup → ℕ → (ServerSet → Bool) → Bool
-of_server setup server test = option_map_or test (slice_get setup.servers server) false
+abbrev pub of_server : Scene → ℕ → (ServerSet → Bool) → Bool
+of_server scene server test = option_map_or test (slice_get scene.servers server) false
 
 -- usable: the server takes part in balancing
-abbrev pub is_usable : Setup → ℕ → Bool
-is_usable setup server = of_server setup server (λ it. nat_lt 0 it.weight)
+abbrev pub is_usable : Scene → ℕ → Bool
+is_usable scene server = of_server scene server (λ it. nat_lt 0 it.weight)
 
 -- free: the server serves fewer than its limit, or has none
-abbrev pub is_free : Setup → Rows → ℕ → Bool
-is_free setup rows server = of_server setup server (λ it. (it.limit == 0) || nat_lt (served server rows) it.limit)
+abbrev pub is_free : Scene → ℕ → Bool
+is_free scene server = of_server scene server (λ it. (it.limit == 0) || nat_lt (served server scene.rows) it.limit)
 
 -- room: a balanced request may be put on the server, to be served or to wait in its queue
-abbrev pub has_room : Setup → Rows → ℕ → Bool
-has_room setup rows server =
-    is_usable setup server
-    && of_server setup server (λ it. (it.limit == 0) || nat_lt (served server rows + queued (Server server) rows) (it.limit + it.maxqueue))
+abbrev pub has_room : Scene → ℕ → Bool
+has_room scene server =
+    is_usable scene server
+    && of_server scene server (λ it. (it.limit == 0) || nat_lt (served server scene.rows + queued (Server server) scene.rows) (it.limit + it.maxqueue))
+
+-- whether a server takes a request that is bound to it: into a slot where it is free, and else into its queue, which
+-- may be as long as maxqueue, or of any length where that is 0
+abbrev pub takes_pinned : Scene → ℕ → Bool
+takes_pinned scene server =
+    is_free scene server || of_server scene server (λ it. (it.maxqueue == 0) || nat_lt (queued (Server server) scene.rows) it.maxqueue)
+
+-- a pin whose server takes the request
+abbrev pub working_pin : Scene → Option ℕ → Option ℕ
+working_pin scene None = None
+working_pin scene (Some server) = if takes_pinned scene server then Some server else None
 
 -- whether a slot of a server may go to a queue: to its own, and where it is usable to the backend's
-abbrev pub may_take : Setup → ℕ → Queue → Bool
-may_take setup server Backend = is_usable setup server
-may_take setup server (Server own) = own == server
+abbrev pub may_take : Scene → ℕ → Queue → Bool
+may_take scene server Backend = is_usable scene server
+may_take scene server (Server own) = own == server
 
 -- whether a slot of a server may go to a row in a phase
-abbrev pub may_go_to : Setup → ℕ → Phase → Bool
-may_go_to setup server (Waiting queue since) = may_take setup server queue
-may_go_to setup server Loose = false
-may_go_to setup server (Serving other) = false
+abbrev pub may_go_to : Scene → ℕ → Phase → Bool
+may_go_to scene server (Waiting queue since) = may_take scene server queue
+may_go_to scene server Loose = false
+may_go_to scene server (Serving other) = false
+may_go_to scene server (Told cause) = false

@@ -1,5 +1,6 @@
 use crate::queue::Queue;
 use due_key::{Class, Due, Moment};
+use verdict::Cause;
 
 /// An accepted arrival.
 #[derive(Clone, Copy, Debug, PartialEq, Eq)]
@@ -30,6 +31,8 @@ pub enum Entry {
     Granted(u64, Queue, usize),
     /// The ticket's slot at the server is given back.
     Freed(u64, usize),
+    /// The ticket is told that it isn't served, and why.
+    Left(u64, Cause),
     /// The ticket's row is gone, and its place is free.
     Ended(u64),
 }

@@ -21,6 +21,9 @@ pub enum Refusal {
     /// The request isn't where the call needs it.
     #[error("the request is not in the phase that this call needs")]
     WrongPhase,
+    /// No server has the number or name.
+    #[error("no such server")]
+    NoSuchServer,
     /// The next ticket would be 2^40.
     #[error("the tickets are spent")]
     TicketsSpent,
@@ -37,6 +40,7 @@ impl Refusal {
             Refusal::LogFull => 3,
             Refusal::NoSuchTicket => 4,
             Refusal::WrongPhase => 5,
+            Refusal::NoSuchServer => 6,
             Refusal::TicketsSpent => 14,
         }
     }

@@ -1,5 +1,6 @@
 use crate::queue::Queue;
 use due_key::{Key, Moment};
+use verdict::Cause;
 
 /// Where a live request stands.
 #[derive(Clone, Copy, Debug, PartialEq, Eq)]
@@ -10,6 +11,8 @@ pub enum Phase {
     Waiting(Queue, Moment),
     /// A slot of this server is its own.
     Serving(usize),
+    /// It is told that it isn't served, and why; its place is free once that is done.
+    Told(Cause),
 }
 
 /// A live request.
@@ -34,7 +37,7 @@ impl Phase {
     {
         match self {
             Phase::Serving(server) => Some(server),
-            Phase::Loose | Phase::Waiting(_, _) => None,
+            Phase::Loose | Phase::Waiting(_, _) | Phase::Told(_) => None,
         }
     }
 }

@@ -76,17 +76,14 @@ pub struct Setup {
 impl Setup {
     ghost use Rattle.dispatch_log.specs.Setups.{IsSound};
 
-    /// Whether a dispatcher can be made for it: for now exactly one server, which takes one
-    /// request at a time, and the limits above.
+    /// Whether a dispatcher can be made for it: 1 to 64 servers with weights of at most 256 and
+    /// with `rise` and `fall` of at least 1 where they are checked, and the limits above.
     pub fn sound(&self) -> bool
         ensures { IsTrue result ↔ IsSound self.now }
     {
-        self.servers.len() == 1
-            && self
-                .servers
-                .as_slice()
-                .iter()
-                .all(|server| server.is_plain())
+        !self.servers.is_empty()
+            && self.servers.len() <= 64
+            && self.servers.as_slice().iter().all(|server| server.sound())
             && 0 < self.places
             && self.places <= 4096
             && 0 < self.log
@@ -96,11 +93,20 @@ impl Setup {
 }
 
 impl ServerSet {
-    ghost use Rattle.dispatch_log.specs.Setups.{is_plain};
+    ghost use Rattle.dispatch_log.specs.Setups.{is_within, checks_count};
 
-    fn is_plain(&self) -> bool
-        ensures { result ≡ is_plain self.now }
+    fn sound(&self) -> bool
+        ensures { result ≡ is_within self.now }
     {
-        self.limit == 1 && self.maxqueue == 0 && self.weight == 1 && self.rise_fall.is_none()
+        self.weight <= 256 && self.checks_count()
+    }
+
+    fn checks_count(&self) -> bool
+        ensures { result ≡ checks_count self.now.rise_fall }
+    {
+        match self.rise_fall {
+            None => true,
+            Some((rise, fall)) => 0 < rise && 0 < fall,
+        }
     }
 }

@@ -6,7 +6,7 @@ use Rattle.std.specs.declared.cmp.Reverse.{Reverse}
 use Rattle.pend_queue.specs.Held.{Held}
 use Rattle.pend_queue.specs.Pairs.{IsAbsent, pair_at}
 use Rattle.pend_queue.proofs.Ascending.{pair_at-Some, pair_at-None, absent_at_member, absent_from_members}
-use Rattle.slot_ledger.specs.declared.ledger.Slot.{Slot}
+use Rattle.slot_ledger.specs.declared.places.Slot.{Slot}
 use Rattle.slot_ledger.specs.Places.{IsKept, reversed}
 use Rattle.slot_ledger.specs.Slots.{StandsIn, HasRow, HasTicketAt, HasNoTicket, AreBelow}
 

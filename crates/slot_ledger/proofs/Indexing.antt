@@ -12,7 +12,7 @@ use Rattle.pend_queue.proofs.Ascending.{pair_at-None, absent_at_member}
 use Rattle.pend_queue.proofs.Members.{Contains-nil, Contains-head, Contains-tail, Contains-cases}
 use Rattle.dispatch_log.proofs.Places.{same_or_other}
 use Rattle.pend_queue.proofs.Without.{Contains-without, Contains-without_other}
-use Rattle.slot_ledger.specs.declared.ledger.Slot.{Slot}
+use Rattle.slot_ledger.specs.declared.places.Slot.{Slot}
 use Rattle.slot_ledger.specs.Places.{IsKept, reversed}
 use Rattle.slot_ledger.specs.Slots.{StandsIn, AreBelow}
 use Rattle.slot_ledger.proofs.Finding.{reverse_cmp}

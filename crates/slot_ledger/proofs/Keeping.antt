@@ -5,7 +5,7 @@ use Rattle.std.proofs.lemmas.Option.{same_Some, slice_get_within}
 use Rattle.std.specs.declared.cmp.Reverse.{Reverse}
 use Rattle.dispatch_log.proofs.Places.{get-set_same, get-set_other, get-set_cases, count-set, same_or_other}
 use Rattle.pend_queue.specs.Held.{Held}
-use Rattle.slot_ledger.specs.declared.ledger.Slot.{Slot}
+use Rattle.slot_ledger.specs.declared.places.Slot.{Slot}
 use Rattle.slot_ledger.specs.Places.{IsKept, reversed}
 use Rattle.slot_ledger.specs.Slots.{StandsIn, HasTicketAt, AreBelow}
 

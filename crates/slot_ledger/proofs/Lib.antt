@@ -2,3 +2,4 @@ pub mod Standing
 pub mod Keeping
 pub mod Finding
 pub mod Indexing
+pub mod Counting

@@ -4,7 +4,7 @@ use Rattle.std.proofs.Math.ListN.{set}
 use Rattle.std.proofs.lemmas.Option.{get_or_from_slice_get}
 use Rattle.dispatch_log.proofs.Places.{get-set_same}
 use Rattle.dispatch_log.specs.declared.row.Row.{Row}
-use Rattle.slot_ledger.specs.declared.ledger.Slot.{Slot}
+use Rattle.slot_ledger.specs.declared.places.Slot.{Slot}
 use Rattle.slot_ledger.specs.Slots.{StandsIn, HasRow, HasNode, with_slot}
 
 module _ {H : Type 0} where

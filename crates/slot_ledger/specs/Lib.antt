@@ -1,2 +1,4 @@
 pub mod Slots
 pub mod Places
+pub mod Counts
+pub mod Ledgers

@@ -2,7 +2,7 @@
 use Rattle.std.specs.Prelude.{◌≡◌, ℕ, ◌+◌, ◌≤◌, List, Option, None, Some, length, count_by, is_some, slice_get, Contains}
 use Rattle.std.specs.declared.cmp.Reverse.{Reverse}
 use Rattle.pend_queue.specs.Held.{Held}
-use Rattle.slot_ledger.specs.declared.ledger.Slot.{Slot}
+use Rattle.slot_ledger.specs.declared.places.Slot.{Slot}
 use Rattle.slot_ledger.specs.Slots.{StandsIn, HasTicketAt}
 
 -- a ticket as the index orders it

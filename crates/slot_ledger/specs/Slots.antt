@@ -1,11 +1,16 @@
 -- Places with live requests.
-use Rattle.std.specs.Prelude.{◌≡◌, ◌≢◌, ℕ, ◌<◌, List, Option, None, Some, option_map, slice_get, slice_set, slice_index_or}
+use Rattle.std.specs.Prelude.{◌≡◌, ◌≢◌, ℕ, ◌<◌, List, Option, None, Some, option_map, map, slice_get, slice_set, slice_index_or}
 use Rattle.dispatch_log.specs.declared.queue.Queue.{Queue}
 use Rattle.dispatch_log.specs.declared.row.Phase.{Phase}
 use Rattle.dispatch_log.specs.declared.row.Phase.TheVariants.{Loose, Waiting}
-use Rattle.slot_ledger.specs.declared.ledger.Slot.{Slot}
+use Rattle.dispatch_log.specs.Rows.{Rows}
+use Rattle.slot_ledger.specs.declared.places.Slot.{Slot}
 
 module _ {H : Type 0} where
+  -- the rows of the live requests
+  abbrev pub rows_in : List (Option (Slot H)) → Rows
+  rows_in slots = map (option_map (λ slot. slot.row)) slots
+
   -- a live request stands at a place
   abbrev pub StandsIn : List (Option (Slot H)) → ℕ → Slot H → Type 0
   StandsIn slots place slot = slice_get slots place ≡ Some (Some slot)

@@ -1,179 +1,183 @@
 ghost use Rattle.std.specs.Prelude.{◌≡◌, ◌<◌, Some, None, IfOk, length, count_by, is_some, slice_get, slice_set, replicate, MatchOption};
 ghost use Rattle.dispatch_log.specs.declared.row.Phase.{Phase};
+ghost use Rattle.dispatch_log.specs.Rows.{served, queued};
+ghost use Rattle.dispatch_log.specs.Setups.{IsSound};
+ghost use Rattle.slot_ledger.specs.Ledgers.{with_slots};
+ghost use Rattle.slot_ledger.specs.Slots.{rows_in, HasRow, HasNode, HasTicketAt, HasNoTicket, AreBelow, with_phase, waiting, loosened};
+ghost use Rattle.slot_ledger.specs.Counts.{IsQueueOf, IsPhaseOf};
 
-use dispatch_log::{Phase, Queue, Row};
+use crate::counts::Counts;
+use crate::places::Places;
+use dispatch_log::{Phase, Queue, Row, Setup};
 use due_key::Moment;
-use pend_queue::{ListQueue, PendQueue};
 use std::alloc::{AllocError, Global};
-use std::cmp::Reverse;
 use std::marker::Model;
+use verdict::Cause;
 
-/// A live request.
-#[derive(Drop)]
-pub struct Slot<H> {
-    pub row: Row,
-    /// What it takes to wait in a queue, while it doesn't wait in one.
-    pub node: Option<H>,
-}
-
-/// The live requests by place.
+/// The live requests by place. Each call changes only the row that it names. How many requests a
+/// server serves and how many wait in a queue are counts of rows, which no call counts anew.
 #[derive(Drop)]
 pub struct Ledger<H> {
-    slots: Vec<Option<Slot<H>>>,
-    vacant: Vec<usize>,
-    // The places of the tickets. A new ticket is the highest, and goes in at the cheap end.
-    index: ListQueue<Reverse<u64>, usize>,
+    setup: Setup,
+    places: Places<H>,
+    counts: Counts,
 }
 
 impl<H> Model for Ledger<H> {
-    ghost use Rattle.std.specs.Prelude.{List, Option, vec_capacity};
-    ghost use Rattle.slot_ledger.specs.declared.ledger.Slot.{Slot};
-    ghost use Rattle.slot_ledger.specs.Places.{IsKept};
+    ghost use Rattle.slot_ledger.specs.Ledgers.{Kept, IsLedger};
 
-    ghost Value = { List (Option (Slot H)) };
+    ghost Value = { Kept H };
 
-    ghost view = { λ ledger. ledger.slots.items };
+    ghost view = { λ ledger. record { setup = ledger.setup; slots = ledger.places } };
 
-    ghost invariant = { λ ledger. IsKept ledger.slots.items ledger.vacant.items (vec_capacity ledger.vacant) ledger.index };
+    ghost invariant = { λ ledger. IsLedger ledger.setup ledger.places ledger.counts };
 }
 
 impl<H: Drop> Ledger<H> {
-    ghost use Rattle.slot_ledger.specs.declared.ledger.Slot.{Slot};
-    ghost use Rattle.slot_ledger.specs.Slots.{HasRow, HasNode, HasTicketAt, HasNoTicket, AreBelow, with_phase, waiting, loosened};
+    ghost use Rattle.slot_ledger.specs.declared.places.Slot.{Slot};
 
-    /// A ledger of so many places, all free. `O(n)`.
-    pub fn new(alloc: Global, places: usize) -> Result<Ledger<H>, AllocError>
-        ensures { IfOk result (λ ledger. ledger ≡ replicate places None) }
+    /// A ledger without a request. All its memory is taken here. `O(n)` in the places.
+    pub fn new(alloc: Global, setup: Setup) -> Result<Ledger<H>, AllocError>
+        requires { IsSound setup }
+        ensures { IfOk result (λ ledger. ledger ≡ record { setup = setup; slots = replicate setup.places None }) }
     {
-        let mut slots = Vec::with_capacity(alloc, places)?;
-        let mut vacant = Vec::with_capacity(alloc, places)?;
-        for place in 0..places {
-            slots.push_reserved(None);
-            vacant.push_reserved(places - 1 - place);
-        }
+        let places = Places::new(alloc, setup.places)?;
+        let counts = Counts::new(alloc, setup.servers.len())?;
         Ok(Ledger {
-            slots,
-            vacant,
-            index: ListQueue::with_room(alloc, places)?,
+            setup,
+            places,
+            counts,
         })
+    }
+
+    /// What it was made for.
+    pub fn setup(&self) -> &Setup
+        ensures { result.now ≡ self.now.setup }
+    {
+        &self.setup
     }
 
     /// How many places it has.
     pub fn places(&self) -> usize
-        ensures { result ≡ length self.now }
+        ensures { result ≡ length self.now.slots }
     {
-        self.slots.len()
+        self.places.places()
     }
 
     /// How many requests live. `O(1)`.
     pub fn len(&self) -> usize
-        ensures { result ≡ count_by is_some self.now }
+        ensures { result ≡ count_by is_some self.now.slots }
     {
-        self.index.len()
+        self.places.len()
+    }
+
+    /// How many requests a server serves. `O(1)`.
+    pub fn served(&self, server: usize) -> usize
+        ensures { result ≡ served server (rows_in self.now.slots) }
+    {
+        self.counts.served(server)
+    }
+
+    /// How many requests wait in a queue. `O(1)`.
+    pub fn queued(&self, queue: Queue) -> usize
+        ensures { result ≡ queued queue (rows_in self.now.slots) }
+    {
+        self.counts.queued(queue)
     }
 
     /// Puts a row at a free place, which is the answer. Its ticket is above all others. `O(1)`.
     pub fn admit(&mut self, row: Row, node: H) -> usize
-        requires room { count_by is_some self.old < length self.old }
-        requires highest { AreBelow row.key.ticket self.old }
-        ensures vacant { slice_get self.old result ≡ Some None }
-        ensures admitted { self.new ≡ slice_set self.old result (Some (record { row = row; node = Some node })) }
+        requires room { count_by is_some self.old.slots < length self.old.slots }
+        requires highest { AreBelow row.key.ticket self.old.slots }
+        requires within { IsPhaseOf (length self.old.setup.servers) row.phase }
+        ensures vacant { slice_get self.old.slots result ≡ Some None }
+        ensures admitted { self.new ≡ with_slots self.old (slice_set self.old.slots result (Some (record { row = row; node = Some node }))) }
     {
-        let Some(place) = self.vacant.pop() else {
-            unreachable!()
-        };
-        self.index.push((Reverse(row.key.ticket), place));
-        self.slots[place] = Some(Slot {
-            row,
-            node: Some(node),
-        });
-        place
+        self.counts.pass(Phase::Loose, row.phase);
+        self.places.admit(row, node)
     }
 
     /// The place of a ticket's row. `O(log n)`.
     pub fn find(&self, ticket: u64) -> Option<usize>
-        ensures { MatchOption result (HasNoTicket ticket self.now) (λ place. HasTicketAt ticket self.now place) }
+        ensures { MatchOption result (HasNoTicket ticket self.now.slots) (λ place. HasTicketAt ticket self.now.slots place) }
     {
-        self.index.get(&Reverse(ticket)).copied()
+        self.places.find(ticket)
     }
 
     /// The row at a place.
     pub fn row(&self, place: usize) -> Row
-        requires { HasRow self.now place }
-        ensures { (slot : Slot H) × (slice_get self.now place ≡ Some (Some slot)) × (slot.row ≡ result) }
+        requires { HasRow self.now.slots place }
+        ensures { (slot : Slot H) × (slice_get self.now.slots place ≡ Some (Some slot)) × (slot.row ≡ result) }
     {
-        match &self.slots[place] {
-            Some(slot) => slot.row,
-            None => unreachable!(),
-        }
+        self.places.row(place)
     }
 
     /// The row has a slot of a server from now on.
     pub fn serve(&mut self, place: usize, server: usize)
-        requires { HasRow self.old place }
-        ensures { self.new ≡ with_phase (Phase.Serving server) self.old place }
+        requires row { HasRow self.old.slots place }
+        requires within { server < length self.old.setup.servers }
+        ensures { self.new ≡ with_slots self.old (with_phase (Phase.Serving server) self.old.slots place) }
     {
         self.set_phase(place, Phase::Serving(server));
     }
 
     /// The row loses its slot.
     pub fn free(&mut self, place: usize)
-        requires { HasRow self.old place }
-        ensures { self.new ≡ with_phase Phase.Loose self.old place }
+        requires { HasRow self.old.slots place }
+        ensures { self.new ≡ with_slots self.old (with_phase Phase.Loose self.old.slots place) }
     {
         self.set_phase(place, Phase::Loose);
     }
 
-    fn set_phase(&mut self, place: usize, phase: Phase)
-        requires { HasRow self.old place }
-        ensures { self.new ≡ with_phase phase self.old place }
+    /// The row is told that it isn't served.
+    pub fn tell(&mut self, place: usize, cause: Cause)
+        requires { HasRow self.old.slots place }
+        ensures { self.new ≡ with_slots self.old (with_phase (Phase.Told cause) self.old.slots place) }
     {
-        let Some(slot) = &mut self.slots[place] else {
-            unreachable!()
-        };
-        slot.row.phase = phase;
+        self.set_phase(place, Phase::Told(cause));
+    }
+
+    fn set_phase(&mut self, place: usize, phase: Phase)
+        requires row { HasRow self.old.slots place }
+        requires within { IsPhaseOf (length self.old.setup.servers) phase }
+        ensures { self.new ≡ with_slots self.old (with_phase phase self.old.slots place) }
+    {
+        let from = self.places.row(place).phase;
+        let to = phase;
+        self.counts.pass(from, phase);
+        self.places.set_phase(place, to);
     }
 
     /// The row waits in a queue from this moment on; its node is handed out.
     pub fn wait(&mut self, place: usize, queue: Queue, since: Moment) -> H
-        requires { HasNode self.old place }
-        ensures node { (slot : Slot H) × (slice_get self.old place ≡ Some (Some slot)) × (slot.node ≡ Some result) }
-        ensures waiting { self.new ≡ waiting queue since self.old place }
+        requires row { HasNode self.old.slots place }
+        requires within { IsQueueOf (length self.old.setup.servers) queue }
+        ensures node { (slot : Slot H) × (slice_get self.old.slots place ≡ Some (Some slot)) × (slot.node ≡ Some result) }
+        ensures waiting { self.new ≡ with_slots self.old (waiting queue since self.old.slots place) }
     {
-        match &mut self.slots[place] {
-            Some(slot) => {
-                slot.row.phase = Phase::Waiting(queue, since);
-                match slot.node.take() {
-                    Some(node) => node,
-                    None => unreachable!(),
-                }
-            }
-            None => unreachable!(),
-        }
+        let from = self.places.row(place).phase;
+        self.counts.pass(from, Phase::Waiting(queue, since));
+        self.places.wait(place, queue, since)
     }
 
     /// The row waits no more; its node is taken back.
     pub fn loosen(&mut self, place: usize, node: H)
-        requires { HasRow self.old place }
-        ensures { self.new ≡ loosened node self.old place }
+        requires { HasRow self.old.slots place }
+        ensures { self.new ≡ with_slots self.old (loosened node self.old.slots place) }
     {
-        let Some(slot) = &mut self.slots[place] else {
-            unreachable!()
-        };
-        slot.row.phase = Phase::Loose;
-        slot.node = Some(node);
+        let from = self.places.row(place).phase;
+        self.counts.pass(from, Phase::Loose);
+        self.places.loosen(place, node);
     }
 
     /// The row is gone, and its place is free. `O(log n)` to find the ticket; what the index has
     /// after it moves up.
     pub fn end(&mut self, place: usize)
-        requires { HasRow self.old place }
-        ensures { self.new ≡ slice_set self.old place None }
+        requires { HasRow self.old.slots place }
+        ensures { self.new ≡ with_slots self.old (slice_set self.old.slots place None) }
     {
-        let Some(slot) = self.slots[place].take() else {
-            unreachable!()
-        };
-        let _ = self.index.remove(&Reverse(slot.row.key.ticket));
-        self.vacant.push_reserved(place);
+        let from = self.places.row(place).phase;
+        self.counts.pass(from, Phase::Loose);
+        self.places.end(place);
     }
 }

@@ -1,10 +1,13 @@
-//! The live requests by place: a row for each, an index of their tickets, and the free places.
-//! All memory is taken when the ledger is made.
+//! The live requests by place: a row for each, an index of their tickets, the free places, and how
+//! many stand where. All memory is taken when the ledger is made.
 #![tactic(auto)]
 
+mod counts;
 mod ledger;
+mod places;
 
-pub use ledger::{Ledger, Slot};
+pub use ledger::Ledger;
+pub use places::Slot;
 
 #[cfg(test)]
 mod tests;

@@ -1,9 +1,11 @@
-use Rattle.std.proofs.Common.{sym, ◌∙◌}
-use Rattle.slot_ledger.proofs.Finding.{stands_read}
-use Rattle.slot_ledger.proofs.Indexing.{kept_remove}
+use Rattle.std.proofs.Common.{refl, ap}
+use Rattle.dispatch_log.specs.declared.row.Row.{Row}
+use Rattle.slot_ledger.proofs.Counting.{ledger_includes, ledger_passed}
 use Rattle.slot_ledger.proofs.ledger.Ledger.end.Goals as goal
+
+pub pass-requires-clause-counted : goal.pass-requires-clause-counted
+pass-requires-clause-counted g c = ledger_includes c.self.inside.setup _ _ c.args.place c.row-from.result c.self.invariant c.row-from.ensures
 
 pub invariant_of-self : goal.invariant_of-self
 invariant_of-self g c =
-    let stands = stands_read _ _ _ _ _ c.self.view_is c.requires c.index_mut.ensures.value (sym c.take.ensures.value ∙ c.in-Some.is) in
-    kept_remove _ _ _ _ _ _ _ _ _ _ _ c.self.invariant c.take.ensures.after stands c.push_reserved.ensures.items c.push_reserved.ensures.capacity c.remove.ensures.pairs c.remove.ensures.value c.remove.ensures.permutation c.remove.ensures.room
+    ledger_passed _ _ _ _ _ c.args.place _ _ _ _ c.self.invariant c.row-from.ensures.1 (ap (λ (r : Row). r.phase) c.row-from.ensures.2) refl c.end.ensures c.pass.ensures.passed c.pass.ensures.served c.pass.ensures.own

@@ -1,25 +1,5 @@
-use Rattle.std.proofs.Common.{rules, ◌≡◌, ◌-◌, [], ◌∷◌, ◌++◌, None, length, ap, ◌∙◌, replicate, slice_get, arith, length-append}
-use Rattle.std.proofs.lemmas.List.{replicate_more}
-use Rattle.slot_ledger.proofs.Indexing.{kept_new, each_push}
+use Rattle.slot_ledger.proofs.Counting.{ledger_new}
 use Rattle.slot_ledger.proofs.ledger.Ledger.new.Goals as goal
 
-pub loop-place-preserved : goal.loop-place-preserved
-loop-place-preserved g c =
-    let before = c.loop-place.invariant in
-    let pushed = c.push_reserved-in-loop-place.ensures.items in
-    record {
-      slots = c.push_reserved.ensures.items ∙ ap (λ l. l ++ None ∷ []) before.slots ∙ replicate_more c.loop-place.place None;
-      room = search rules;
-      vacant = let e = ap length pushed in let l = length-append c.loop-place.vacant.items ((c.args.places - 1 - c.loop-place.place) ∷ []) in omega arith;
-      each = λ at h. ap (λ l. slice_get l at) pushed ∙ each_push (λ k. c.args.places - 1 - k) c.loop-place.vacant.items c.loop-place.place before.vacant before.each at h;
-      vacant_room = search rules;
-    }
-
 pub invariant_of-result : goal.invariant_of-result
-invariant_of-result g c =
-    let inv = c.loop-place.invariant in
-    let all : c.loop-place.place ≡ c.args.places = omega arith in
-    kept_new _ _ _ c.args.places c.loop-place.place _ all inv.slots inv.vacant inv.each inv.vacant_room c.in_ok-with_room.ensures.empty c.in_ok-with_room.ensures.room
-
-pub returns : goal.returns
-returns g c = let all : c.loop-place.place ≡ c.args.places = omega arith in c.loop-place.invariant.slots ∙ ap (λ n. replicate n None) all
+invariant_of-result g c = ledger_new c.args.setup c.len.result _ _ c.requires c.in_ok-places.ensures c.in_ok-counts.ensures c.len.ensures

@@ -1,7 +1,9 @@
 use Rattle.std.proofs.Common.{refl}
-use Rattle.slot_ledger.proofs.Finding.{stands_read}
-use Rattle.slot_ledger.proofs.Keeping.{kept_change}
+use Rattle.slot_ledger.proofs.Counting.{ledger_includes, ledger_changed}
 use Rattle.slot_ledger.proofs.ledger.Ledger.set_phase.Goals as goal
 
+pub pass-requires-clause-counted : goal.pass-requires-clause-counted
+pass-requires-clause-counted g c = ledger_includes c.self.inside.setup _ _ c.args.place c.row.result c.self.invariant c.row.ensures
+
 pub invariant_of-self : goal.invariant_of-self
-invariant_of-self g c = kept_change _ _ _ _ c.args.place c.in-Some.slot _ c.self.invariant (stands_read _ _ _ _ _ c.self.view_is c.requires c.index_mut.ensures.value c.in-Some.is) refl
+invariant_of-self g c = ledger_changed _ _ _ _ _ _ _ c.args.place c.row.result c.self.invariant c.row.ensures (λ s. refl) c.set_phase.ensures c.pass.ensures.passed c.pass.ensures.served c.pass.ensures.own

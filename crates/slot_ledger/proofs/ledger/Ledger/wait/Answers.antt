@@ -1,12 +1,9 @@
-use Rattle.std.proofs.Common.{refl, ap, slice_get, sym, ◌∙◌}
-use Rattle.slot_ledger.proofs.Finding.{stands_read}
-use Rattle.slot_ledger.proofs.Keeping.{kept_change}
+use Rattle.std.proofs.Common.{refl}
+use Rattle.slot_ledger.proofs.Counting.{ledger_includes, ledger_changed}
 use Rattle.slot_ledger.proofs.ledger.Ledger.wait.Goals as goal
 
-pub invariant_of-self : goal.invariant_of-self
-invariant_of-self g c = kept_change _ _ _ _ c.args.place c.in-Some.slot _ c.self.invariant (stands_read _ _ _ _ _ c.self.view_is (c.requires.0, c.requires.2) c.index_mut.ensures.value c.in-Some.is) refl
+pub pass-requires-clause-counted : goal.pass-requires-clause-counted
+pass-requires-clause-counted g c = ledger_includes c.self.inside.setup _ _ c.args.place c.row-from.result c.self.invariant c.row-from.ensures
 
-pub returns-clause-node : goal.returns-clause-node
-returns-clause-node g c =
-    let stands = stands_read _ _ _ _ _ c.self.view_is (c.requires.0, c.requires.2) c.index_mut.ensures.value c.in-Some.is in
-    (c.in-Some.slot, ap (λ l. slice_get l c.args.place) (sym c.self.view_is) ∙ stands, sym c.take.ensures.value ∙ c.in-Some-take.is)
+pub invariant_of-self : goal.invariant_of-self
+invariant_of-self g c = ledger_changed _ _ _ _ _ _ _ c.args.place c.row-from.result c.self.invariant c.row-from.ensures (λ s. refl) c.wait.ensures.waiting c.pass.ensures.passed c.pass.ensures.served c.pass.ensures.own

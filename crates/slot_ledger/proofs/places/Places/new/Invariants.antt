@@ -1,5 +1,5 @@
 use Rattle.std.proofs.Common.{◌≡◌, ◌<◌, ◌-◌, ℕ, None, Some, length, replicate, slice_get, vec_capacity}
-use Rattle.slot_ledger.proofs.ledger.Ledger.new.Given as goal
+use Rattle.slot_ledger.proofs.places.Places.new.Given as goal
 
 -- so many free places so far, the lowest last
 abbrev pub invariant-loop-place : goal.invariant-loop-place

@@ -1,0 +1,35 @@
+-- Which request a slot goes to.
+use Rattle.std.specs.Prelude.{◌≡◌, ◌≢◌, ℕ, ◌<◌, ◌≤◌, IsTrue}
+use Rattle.std.specs.declared.cmp.Ordering.TheVariants.{Greater}
+use Rattle.due_key.specs.Order.{key_cmp}
+use Rattle.dispatch_log.specs.declared.queue.Queue.{Queue}
+use Rattle.dispatch_log.specs.declared.row.Row.{Row}
+use Rattle.dispatch_log.specs.Picks.{weight_of, IsPick}
+use Rattle.dispatch_log.specs.Rows.{IsRow, phase_waits_in}
+use Rattle.dispatch_log.specs.Words.{Scene, is_free, may_take, may_go_to}
+
+-- a server can take: it is free, and a request waits that its slot may go to
+abbrev pub CanTake : Scene → ℕ → Type 0
+CanTake scene server = IsTrue (is_free scene server) × ((row : Row) × IsRow scene.rows row × IsTrue (may_go_to scene server row.phase))
+
+-- settled: no free server faces a request that its slot may go to
+abbrev pub IsSettled : Scene → Type 0
+IsSettled scene = (server : ℕ) → CanTake scene server → ⊥
+
+-- the server that takes next: of those of weight 0 that can take the first in file order, and where there is none the
+-- pick of those that can
+pub record IsNextTaker (scene : Scene) (cursor server : ℕ) : Type 0 where
+  pub takes : CanTake scene server
+  pub weightless_first : (other : ℕ) → weight_of scene other ≡ 0 → CanTake scene other → (weight_of scene server ≡ 0) × (server ≤ other)
+  pub picked : 0 < weight_of scene server → IsPick scene cursor (CanTake scene) server
+
+-- lawful grant: the ticket waits in a queue that the next server may take from, and of all that the server may take its
+-- key is the least
+pub record IsLawfulGrant (scene : Scene) (cursor ticket : ℕ) (queue : Queue) (server : ℕ) : Type 0 where
+  pub row : Row
+  pub live : IsRow scene.rows row
+  pub named : row.key.ticket ≡ ticket
+  pub waits : IsTrue (phase_waits_in queue row.phase)
+  pub taken : IsTrue (may_take scene server queue)
+  pub next : IsNextTaker scene cursor server
+  pub least : (other : Row) → IsRow scene.rows other → IsTrue (may_go_to scene server other.phase) → key_cmp row.key other.key ≢ Greater

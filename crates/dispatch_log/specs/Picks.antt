@@ -1,0 +1,28 @@
+-- Balancing: which of several servers comes next.
+use Rattle.std.specs.Prelude.{◌≡◌, ℕ, ◌+◌, ◌-◌, ◌*◌, ◌≤◌, nat_lt, Option, length, slice_get, if◌then◌else◌}
+use Rattle.std.specs.Option.{option_map_or}
+use Rattle.dispatch_log.specs.declared.queue.Queue.TheVariants.{Server}
+use Rattle.dispatch_log.specs.Rows.{served, queued}
+use Rattle.dispatch_log.specs.Words.{Scene}
+
+-- a server's weight; 0 where no server has the number
+abbrev pub weight_of : Scene → ℕ → ℕ
+weight_of scene server = option_map_or (λ it. it.weight) (slice_get scene.servers server) 0
+
+-- load: the requests that a server serves and those in its own queue
+abbrev pub load : Scene → ℕ → ℕ
+load scene server = served server scene.rows + queued (Server server) scene.rows
+
+-- a server is no more loaded than another: its load is no greater a fraction of its weight
+abbrev pub IsNoMoreLoaded : Scene → ℕ → ℕ → Type 0
+IsNoMoreLoaded scene server other = load scene server * weight_of scene other ≤ load scene other * weight_of scene server
+
+-- how far a server stands after the cursor in file order, where the first follows the last; the cursor's own server is the farthest
+abbrev pub steps_after : Scene → ℕ → ℕ → ℕ
+steps_after scene cursor server = if nat_lt cursor server then server - cursor else (server + length scene.servers) - cursor
+
+-- pick: of a set of servers one that is no more loaded than any, and of several such the nearest after the cursor
+pub record IsPick (scene : Scene) (cursor : ℕ) (among : ℕ → Type 0) (server : ℕ) : Type 0 where
+  pub member : among server
+  pub least : (other : ℕ) → among other → IsNoMoreLoaded scene server other
+  pub nearest : (other : ℕ) → among other → ((third : ℕ) → among third → IsNoMoreLoaded scene other third) → steps_after scene cursor server ≤ steps_after scene cursor other

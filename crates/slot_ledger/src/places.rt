@@ -1,0 +1,164 @@
+ghost use Rattle.std.specs.Prelude.{◌≡◌, ◌<◌, Some, None, IfOk, length, count_by, is_some, slice_get, slice_set, replicate, MatchOption};
+ghost use Rattle.dispatch_log.specs.declared.row.Phase.{Phase};
+
+use dispatch_log::{Phase, Queue, Row};
+use due_key::Moment;
+use pend_queue::{ListQueue, PendQueue};
+use std::alloc::{AllocError, Global};
+use std::cmp::Reverse;
+use std::marker::Model;
+
+/// A live request.
+#[derive(Drop)]
+pub struct Slot<H> {
+    pub row: Row,
+    /// What it takes to wait in a queue, while it doesn't wait in one.
+    pub node: Option<H>,
+}
+
+/// The requests by place, and where each ticket is.
+#[derive(Drop)]
+pub(crate) struct Places<H> {
+    slots: Vec<Option<Slot<H>>>,
+    vacant: Vec<usize>,
+    // The places of the tickets. A new ticket is the highest, and goes in at the cheap end.
+    index: ListQueue<Reverse<u64>, usize>,
+}
+
+impl<H> Model for Places<H> {
+    ghost use Rattle.std.specs.Prelude.{List, Option, vec_capacity};
+    ghost use Rattle.slot_ledger.specs.declared.places.Slot.{Slot};
+    ghost use Rattle.slot_ledger.specs.Places.{IsKept};
+
+    ghost Value = { List (Option (Slot H)) };
+
+    ghost view = { λ places. places.slots.items };
+
+    ghost invariant = { λ places. IsKept places.slots.items places.vacant.items (vec_capacity places.vacant) places.index };
+}
+
+impl<H: Drop> Places<H> {
+    ghost use Rattle.slot_ledger.specs.declared.places.Slot.{Slot};
+    ghost use Rattle.slot_ledger.specs.Slots.{HasRow, HasNode, HasTicketAt, HasNoTicket, AreBelow, with_phase, waiting, loosened};
+
+    /// So many places, all free. `O(n)`.
+    pub(crate) fn new(alloc: Global, places: usize) -> Result<Places<H>, AllocError>
+        ensures { IfOk result (λ made. made ≡ replicate places None) }
+    {
+        let mut slots = Vec::with_capacity(alloc, places)?;
+        let mut vacant = Vec::with_capacity(alloc, places)?;
+        for place in 0..places {
+            slots.push_reserved(None);
+            vacant.push_reserved(places - 1 - place);
+        }
+        Ok(Places {
+            slots,
+            vacant,
+            index: ListQueue::with_room(alloc, places)?,
+        })
+    }
+
+    /// How many places it has.
+    pub(crate) fn places(&self) -> usize
+        ensures { result ≡ length self.now }
+    {
+        self.slots.len()
+    }
+
+    /// How many requests live. `O(1)`.
+    pub(crate) fn len(&self) -> usize
+        ensures { result ≡ count_by is_some self.now }
+    {
+        self.index.len()
+    }
+
+    /// Puts a row at a free place, which is the answer. Its ticket is above all others. `O(1)`.
+    pub(crate) fn admit(&mut self, row: Row, node: H) -> usize
+        requires room { count_by is_some self.old < length self.old }
+        requires highest { AreBelow row.key.ticket self.old }
+        ensures vacant { slice_get self.old result ≡ Some None }
+        ensures admitted { self.new ≡ slice_set self.old result (Some (record { row = row; node = Some node })) }
+    {
+        let Some(place) = self.vacant.pop() else {
+            unreachable!()
+        };
+        self.index.push((Reverse(row.key.ticket), place));
+        self.slots[place] = Some(Slot {
+            row,
+            node: Some(node),
+        });
+        place
+    }
+
+    /// The place of a ticket's row. `O(log n)`.
+    pub(crate) fn find(&self, ticket: u64) -> Option<usize>
+        ensures { MatchOption result (HasNoTicket ticket self.now) (λ place. HasTicketAt ticket self.now place) }
+    {
+        self.index.get(&Reverse(ticket)).copied()
+    }
+
+    /// The row at a place.
+    pub(crate) fn row(&self, place: usize) -> Row
+        requires { HasRow self.now place }
+        ensures { (slot : Slot H) × (slice_get self.now place ≡ Some (Some slot)) × (slot.row ≡ result) }
+    {
+        match &self.slots[place] {
+            Some(slot) => slot.row,
+            None => unreachable!(),
+        }
+    }
+
+    /// The row is in another phase from now on.
+    pub(crate) fn set_phase(&mut self, place: usize, phase: Phase)
+        requires { HasRow self.old place }
+        ensures { self.new ≡ with_phase phase self.old place }
+    {
+        let Some(slot) = &mut self.slots[place] else {
+            unreachable!()
+        };
+        slot.row.phase = phase;
+    }
+
+    /// The row waits in a queue from this moment on; its node is handed out.
+    pub(crate) fn wait(&mut self, place: usize, queue: Queue, since: Moment) -> H
+        requires { HasNode self.old place }
+        ensures node { (slot : Slot H) × (slice_get self.old place ≡ Some (Some slot)) × (slot.node ≡ Some result) }
+        ensures waiting { self.new ≡ waiting queue since self.old place }
+    {
+        match &mut self.slots[place] {
+            Some(slot) => {
+                slot.row.phase = Phase::Waiting(queue, since);
+                match slot.node.take() {
+                    Some(node) => node,
+                    None => unreachable!(),
+                }
+            }
+            None => unreachable!(),
+        }
+    }
+
+    /// The row waits no more; its node is taken back.
+    pub(crate) fn loosen(&mut self, place: usize, node: H)
+        requires { HasRow self.old place }
+        ensures { self.new ≡ loosened node self.old place }
+    {
+        let Some(slot) = &mut self.slots[place] else {
+            unreachable!()
+        };
+        slot.row.phase = Phase::Loose;
+        slot.node = Some(node);
+    }
+
+    /// The row is gone, and its place is free. `O(log n)` to find the ticket; what the index has
+    /// after it moves up.
+    pub(crate) fn end(&mut self, place: usize)
+        requires { HasRow self.old place }
+        ensures { self.new ≡ slice_set self.old place None }
+    {
+        let Some(slot) = self.slots[place].take() else {
+            unreachable!()
+        };
+        let _ = self.index.remove(&Reverse(slot.row.key.ticket));
+        self.vacant.push_reserved(place);
+    }
+}

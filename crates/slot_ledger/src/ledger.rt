@@ -1,4 +1,4 @@
-ghost use Rattle.std.specs.Prelude.{◌≡◌, ◌<◌, Some, None, IfOk, length, count_by, is_some, slice_get, slice_set, replicate, MatchOption};
+ghost use Rattle.std.specs.Prelude.{◌≡◌, ◌<◌, ◌≤◌, Some, None, IfOk, length, count_by, is_some, slice_get, slice_set, replicate, MatchOption};
 ghost use Rattle.dispatch_log.specs.declared.row.Phase.{Phase};
 ghost use Rattle.dispatch_log.specs.Rows.{served, queued};
 ghost use Rattle.dispatch_log.specs.Setups.{IsSound};
@@ -52,7 +52,9 @@ impl<H: Drop> Ledger<H> {
 
     /// What it was made for.
     pub fn setup(&self) -> &Setup
-        ensures { result.now ≡ self.now.setup }
+        ensures setup { result.now ≡ self.now.setup }
+        ensures sound { IsSound self.now.setup }
+        ensures places { length self.now.slots ≡ self.now.setup.places }
     {
         &self.setup
     }
@@ -73,14 +75,16 @@ impl<H: Drop> Ledger<H> {
 
     /// How many requests a server serves. `O(1)`.
     pub fn served(&self, server: usize) -> usize
-        ensures { result ≡ served server (rows_in self.now.slots) }
+        ensures served { result ≡ served server (rows_in self.now.slots) }
+        ensures fits { result ≤ 4096 }
     {
         self.counts.served(server)
     }
 
     /// How many requests wait in a queue. `O(1)`.
     pub fn queued(&self, queue: Queue) -> usize
-        ensures { result ≡ queued queue (rows_in self.now.slots) }
+        ensures queued { result ≡ queued queue (rows_in self.now.slots) }
+        ensures fits { result ≤ 4096 }
     {
         self.counts.queued(queue)
     }

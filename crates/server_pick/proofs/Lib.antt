@@ -1,0 +1,4 @@
+pub mod Preferred
+pub mod Filled
+pub mod Chosen
+pub mod Taking

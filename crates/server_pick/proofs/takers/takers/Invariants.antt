@@ -1,0 +1,8 @@
+use Rattle.dispatch_log.specs.Grants.{CanTake}
+use Rattle.slot_ledger.specs.Ledgers.{scene_of}
+use Rattle.server_pick.proofs.Filled.{IsFilled}
+use Rattle.server_pick.proofs.takers.takers.Given as goal
+
+-- the servers so far that can take
+abbrev pub invariant-filling : goal.invariant-filling
+invariant-filling g l = IsFilled (CanTake (scene_of l.ledger)) l.server l.set

@@ -1,0 +1,43 @@
+-- Answers of balancing.
+use Rattle.std.specs.Prelude.{◌≡◌, ℕ, ◌<◌, ◌≤◌, Option, MatchOption, if◌then◌else◌}
+use Rattle.dispatch_log.specs.declared.queue.Queue.TheVariants.{Server, Backend}
+use Rattle.dispatch_log.specs.Placement.{IsDirect, IsJoining, IsTurnedAway}
+use Rattle.dispatch_log.specs.declared.queue.Queue.{Queue}
+use Rattle.dispatch_log.specs.declared.setup.Setup.{Setup}
+use Rattle.dispatch_log.specs.Picks.{weight_of}
+use Rattle.dispatch_log.specs.States.{put_on, granted_by}
+use Rattle.dispatch_log.specs.Words.{Scene, is_free}
+use Rattle.server_pick.specs.declared.placement.Placement.{Placement}
+use Rattle.server_pick.specs.declared.placement.Placement.TheVariants.{Slot, OwnQueue, BackendQueue, Nowhere}
+
+-- a request with a pin, and a server to avoid, goes to a placement
+abbrev pub IsPlacement : Scene → ℕ → Option ℕ → Option ℕ → Placement → Type 0
+IsPlacement scene cursor pin avoid (Slot server) = IsDirect scene cursor pin avoid server
+IsPlacement scene cursor pin avoid (OwnQueue server) = IsJoining scene cursor pin avoid (Server server)
+IsPlacement scene cursor pin avoid BackendQueue = IsJoining scene cursor pin avoid Backend
+IsPlacement scene cursor pin avoid Nowhere = IsTurnedAway scene pin
+
+-- the cursor after it: a server that was put on by its pin is no pick
+abbrev pub cursor_placed : Option ℕ → Placement → ℕ → ℕ
+cursor_placed pin (Slot server) cursor = put_on server pin cursor
+cursor_placed pin (OwnQueue server) cursor = put_on server pin cursor
+cursor_placed pin BackendQueue cursor = cursor
+cursor_placed pin Nowhere cursor = cursor
+
+-- the cursor after a pick, or none
+abbrev pub IsMoved : ℕ → ℕ → Option ℕ → Type 0
+IsMoved cursor now picked = MatchOption picked (now ≡ cursor) (λ server. now ≡ server)
+
+-- a slot of a server where one is free, and else its queue
+abbrev pub placed_on : Scene → ℕ → Placement
+placed_on scene server = if is_free scene server then Slot server else OwnQueue server
+
+-- the cursor after a server took a request, or none did
+abbrev pub IsTaken : Setup → ℕ → ℕ → Option (ℕ × Queue) → Type 0
+IsTaken setup cursor now taken = MatchOption taken (now ≡ cursor) (λ it. now ≡ granted_by setup it.0 cursor)
+
+-- the first server of weight 0 in a set, where it has one
+abbrev pub IsFirstWeightless : Scene → (ℕ → Type 0) → Option ℕ → Type 0
+IsFirstWeightless scene among found =
+    MatchOption found ((server : ℕ) → among server → 0 < weight_of scene server)
+    (λ server. among server × (weight_of scene server ≡ 0) × ((other : ℕ) → among other → weight_of scene other ≡ 0 → server ≤ other))

@@ -1,0 +1,22 @@
+//! Which server comes next: balancing by least load (`balance leastconn`), the placement of a
+//! request, and the server that takes from the queues. No memory, no handle; each call is `O(n)`
+//! in the servers.
+#![tactic(auto)]
+
+mod balance;
+mod cursor;
+mod heads;
+mod placement;
+mod server_set;
+mod takers;
+mod words;
+
+pub use balance::{candidates, pick};
+pub use cursor::Cursor;
+pub use placement::{place, Placement};
+pub use server_set::Set64;
+pub use heads::Heads;
+pub use takers::next_take;
+
+#[cfg(test)]
+mod tests;

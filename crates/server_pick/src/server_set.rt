@@ -1,0 +1,70 @@
+ghost use Rattle.std.specs.Prelude.{◌≡◌, ℕ, ◌<◌, ◌⊎◌, ◌↔◌, IsTrue};
+
+use std::marker::Model;
+
+/// A set of servers, by number from 0 to 63.
+#[derive(Clone, Debug, Drop)]
+pub struct Set64 {
+    has: [bool; 64],
+}
+
+impl Model for Set64 {
+    ghost use Rattle.std.specs.Prelude.{List, Bool};
+
+    ghost Value = { List Bool };
+
+    ghost view = { λ set. set.has };
+}
+
+impl Set64 {
+    ghost use Rattle.server_pick.specs.Sets.{has, IsMore};
+
+    /// No server.
+    pub fn new() -> Set64
+        ensures { (server : ℕ) → IsTrue (has result server) → ⊥ }
+    {
+        Set64 { has: [false; 64] }
+    }
+
+    /// This server alone.
+    pub fn of(server: usize) -> Set64
+        requires { server < 64 }
+        ensures { (other : ℕ) → IsTrue (has result other) ↔ (other ≡ server) }
+    {
+        let mut set = Set64::new();
+        set.insert(server);
+        set
+    }
+
+    /// Whether it has no server.
+    pub fn is_empty(&self) -> bool
+        ensures { IsTrue result ↔ ((server : ℕ) → IsTrue (has self.now server) → ⊥) }
+    {
+        !self.has.contains(&true)
+    }
+
+    /// Whether it has a server.
+    pub fn contains(&self, server: usize) -> bool
+        ensures { result ≡ has self.now server }
+    {
+        self.has.get(server).copied().unwrap_or(false)
+    }
+
+    /// One server more where it is wanted.
+    pub(crate) fn insert_if(&mut self, server: usize, wanted: bool)
+        requires { server < 64 }
+        ensures { IsMore server wanted self.old self.new }
+    {
+        if wanted {
+            self.insert(server);
+        }
+    }
+
+    /// One server more.
+    pub fn insert(&mut self, server: usize)
+        requires { server < 64 }
+        ensures { (other : ℕ) → IsTrue (has self.new other) ↔ (IsTrue (has self.old other) ⊎ (other ≡ server)) }
+    {
+        self.has[server] = true;
+    }
+}

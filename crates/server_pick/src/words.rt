@@ -1,0 +1,80 @@
+ghost use Rattle.std.specs.Prelude.{◌≡◌, ◌≤◌, All, IsTrue, length};
+ghost use Rattle.dispatch_log.specs.Setups.{is_within};
+ghost use Rattle.dispatch_log.specs.Picks.{weight_of, load};
+ghost use Rattle.dispatch_log.specs.Words.{is_usable, is_free, has_room, takes_pinned};
+ghost use Rattle.slot_ledger.specs.Ledgers.{scene_of};
+
+use dispatch_log::{Queue, ServerSet};
+use slot_ledger::Ledger;
+
+/// The weight of a server; 0 where no server has the number.
+pub(crate) fn weight<H: Drop>(ledger: &Ledger<H>, server: usize) -> u64
+    ensures weight { result ≡ weight_of (scene_of ledger.now) server }
+    ensures limit { result ≤ 256 }
+{
+    match settings(ledger).get(server) {
+        None => 0,
+        Some(it) => u64::from(it.weight),
+    }
+}
+
+/// How many requests a server serves and how many are in its own queue.
+pub(crate) fn load<H: Drop>(ledger: &Ledger<H>, server: usize) -> u64
+    ensures load { result ≡ load (scene_of ledger.now) server }
+    ensures limit { result ≤ 8192 }
+{
+    ledger.served(server) as u64 + ledger.queued(Queue::Server(server)) as u64
+}
+
+pub(crate) fn is_usable<H: Drop>(ledger: &Ledger<H>, server: usize) -> bool
+    ensures { result ≡ is_usable (scene_of ledger.now) server }
+{
+    match settings(ledger).get(server) {
+        None => false,
+        Some(it) => 0 < it.weight,
+    }
+}
+
+pub(crate) fn is_free<H: Drop>(ledger: &Ledger<H>, server: usize) -> bool
+    ensures { result ≡ is_free (scene_of ledger.now) server }
+{
+    match settings(ledger).get(server) {
+        None => false,
+        Some(it) => it.limit == 0 || (ledger.served(server) as u64) < u64::from(it.limit),
+    }
+}
+
+pub(crate) fn has_room<H: Drop>(ledger: &Ledger<H>, server: usize) -> bool
+    ensures room { result ≡ has_room (scene_of ledger.now) server }
+    ensures few { length ledger.now.setup.servers ≤ 64 }
+{
+    match settings(ledger).get(server) {
+        None => false,
+        Some(it) => {
+            let (limit, load) = (u64::from(it.limit), load(ledger, server));
+            0 < it.weight
+                && (limit == 0 || load < limit || load - limit < u64::from(it.maxqueue))
+        }
+    }
+}
+
+pub(crate) fn takes_pinned<H: Drop>(ledger: &Ledger<H>, server: usize) -> bool
+    ensures { result ≡ takes_pinned (scene_of ledger.now) server }
+{
+    match settings(ledger).get(server) {
+        None => false,
+        Some(it) => {
+            let queued = ledger.queued(Queue::Server(server)) as u64;
+            is_free(ledger, server) || it.maxqueue == 0 || queued < u64::from(it.maxqueue)
+        }
+    }
+}
+
+/// What each server may take.
+fn settings<H: Drop>(ledger: &Ledger<H>) -> &[ServerSet]
+    ensures servers { result.now ≡ ledger.now.setup.servers }
+    ensures few { length ledger.now.setup.servers ≤ 64 }
+    ensures within { All (λ server. IsTrue (is_within server)) ledger.now.setup.servers }
+{
+    ledger.setup().servers.as_slice()
+}

@@ -1,33 +1,35 @@
 -- What a trace holds, while one slot of its ledger changes.
-use Rattle.std.proofs.Common.{◌≡◌, ℕ, ◌+◌, List, [], ◌∷◌, ◌++◌, Option, None, Some, option_map, slice_get, length, refl, ap, sym, ◌∙◌, subst, arith, inl, inr}
-use Rattle.std.proofs.Math.ListN.{set}
+use Rattle.std.proofs.Common.{◌≡◌, ℕ, ◌+◌, false, List, [], ◌∷◌, ◌++◌, Option, None, Some, option_map, slice_get, length, refl, ap, sym, ◌∙◌, subst, arith, inl, inr}
+use Rattle.std.proofs.Math.ListN.{set, length-replicate}
 use Rattle.std.proofs.lemmas.List.{map-set}
 use Rattle.std.proofs.lemmas.Option.{same_Some, slice_get-map}
 use Rattle.due_key.specs.declared.key.Key.{Key}
 use Rattle.dispatch_log.specs.declared.entry.Entry.{Entry}
-use Rattle.dispatch_log.specs.declared.row.Phase.TheVariants.{Serving}
+use Rattle.dispatch_log.specs.declared.row.Phase.{Phase}
+use Rattle.dispatch_log.specs.declared.row.Phase.TheVariants.{Loose, Waiting, Serving, Told}
 use Rattle.dispatch_log.specs.declared.row.Row.{Row}
 use Rattle.dispatch_log.specs.Histories.{History, state_of}
-use Rattle.dispatch_log.specs.declared.setup.Setup.{Setup}
 use Rattle.dispatch_log.specs.Logs.{Recorded}
-use Rattle.dispatch_log.specs.Judgement.{granting}
-use Rattle.dispatch_log.specs.Rows.{Rows, StandsAt, is_served_by, served, changed}
+use Rattle.dispatch_log.specs.Judgement.{granting, MayCome}
+use Rattle.dispatch_log.specs.Refusals.{is_waiting}
+use Rattle.dispatch_log.specs.Rows.{Rows, StandsAt, changed, in_phase}
 use Rattle.dispatch_log.specs.States.{State, after, opening_state}
 use Rattle.dispatch_log.proofs.Consistency.{IsConsistent}
 use Rattle.dispatch_log.proofs.Dispatched.{opening_consistent}
-use Rattle.dispatch_log.proofs.Judged.{after_all-push, judged_push, consistent_all}
-use Rattle.dispatch_log.proofs.Places.{tally, get-set_cases, count-set}
+use Rattle.dispatch_log.proofs.Judged.{after_all-push, judged_push, consistent_all, places_all}
+use Rattle.dispatch_log.proofs.Places.{get-set_cases}
 use Rattle.dispatch_log.proofs.RowLemmas.{HaveOwnTickets, changed_at}
-use Rattle.slot_ledger.specs.declared.ledger.Slot.{Slot}
-use Rattle.slot_ledger.specs.Slots.{StandsIn, HasTicketAt, HasNoTicket}
+use Rattle.slot_ledger.specs.declared.places.Slot.{Slot}
+use Rattle.slot_ledger.specs.Ledgers.{Kept, with_slots}
+use Rattle.slot_ledger.specs.Slots.{rows_in, StandsIn, HasTicketAt, HasNoTicket, with_phase}
+use Rattle.slot_ledger.proofs.Counting.{row_in}
+use Rattle.slot_ledger.proofs.Standing.{with_slot_at}
+use Rattle.dispatch_core.specs.Lines.{Waits, Lined, waits_at}
 use Rattle.dispatch_core.specs.Steps.{with_entry, stage_of, MayComeNext}
-use Rattle.dispatch_core.specs.Traces.{Waits, rows_in, HasItsNode, HoldsWaiting, Holds, IsTrace}
+use Rattle.dispatch_core.specs.Traces.{HasItsNode, HoldsQueue, Holds, history_of, noted, IsTrace}
+use Rattle.dispatch_core.proofs.Waiting.{HoldAll, NoneWaits, rests, all_kept}
 
 module _ {N : Type 0} where
-  -- the row of a slot
-  abbrev pub row_in : Option (Slot N) → Option Row
-  row_in cell = option_map (λ slot. slot.row) cell
-
   pub stands_row : (slots : List (Option (Slot N))) (rows : Rows) (p : ℕ) (s : Slot N) → rows_in slots ≡ rows → StandsIn slots p s → StandsAt rows p s.row
   stands_row slots rows p s same stands = ap (λ (l : Rows). slice_get l p) (sym same) ∙ slice_get-map row_in slots p ∙ ap (option_map row_in) stands
 
@@ -54,62 +56,92 @@ module _ {N : Type 0} where
       let s = stands_slot slots rows p r same stands in
       missed p s.0 s.1 (ap (λ (x : Row). x.key.ticket) s.2 ∙ named)
 
+  -- the node of a slot, for its key
+  abbrev pub NodeOf : (N → Key × Unit {0}) → Slot N → Type 0
+  NodeOf pair_of slot = (node : N) × (slot.node ≡ Some node) × (pair_of node ≡ (slot.row.key, tt))
+
+  -- a row that doesn't wait has its node
+  pub node_of : (pair_of : N → Key × Unit {0}) (s : Slot N) (phase : Phase) → s.row.phase ≡ phase → is_waiting phase ≡ false → HasItsNode pair_of s.row.phase s → NodeOf pair_of s
+  node_of pair_of s phase same idle has = by_phase phase idle (subst (λ (p : Phase). HasItsNode pair_of p s) same has)
+    where
+      by_phase : (p : Phase) → is_waiting p ≡ false → HasItsNode pair_of p s → NodeOf pair_of s
+      by_phase Loose e h = h
+      by_phase (Serving v) e h = h
+      by_phase (Told c) e h = h
+      by_phase (Waiting q m) e h = cc
+
+  pub its_node : (pair_of : N → Key × Unit {0}) (s : Slot N) (phase : Phase) → NodeOf pair_of s → HasItsNode pair_of phase s
+  its_node pair_of s Loose has = has
+  its_node pair_of s (Serving v) has = has
+  its_node pair_of s (Told c) has = has
+  its_node pair_of s (Waiting q m) has = tt
+
   -- what is held after the row of a ticket changed
-  pub held_change : (pair_of : N → Key × Unit {0}) (state : State) (slots next : List (Option (Slot N))) (waits left : Waits) (serving now last ticket u p : ℕ) (s : Slot N) (cell : Option (Slot N)) (f : Row → Option Row)
-      → Holds pair_of state slots waits serving last ticket → HaveOwnTickets state.rows → StandsIn slots p s → s.row.key.ticket ≡ u
-      → next ≡ set slots p cell → row_in cell ≡ f s.row
+  pub held_change : (pair_of : N → Key × Unit {0}) (state : State) (slots : List (Option (Slot N))) (lined left : Lined) (cursor now last ticket u p : ℕ) (s : Slot N) (cell : Option (Slot N)) (f : Row → Option Row)
+      → Holds pair_of state slots lined cursor last ticket → HaveOwnTickets state.rows → StandsIn slots p s → s.row.key.ticket ≡ u
+      → row_in cell ≡ f s.row
       → ((x : Slot N) → cell ≡ Some x → HasItsNode pair_of x.row.phase x)
-      → HoldsWaiting left (set state.rows p (f s.row))
-      → now + tally (is_served_by 0 (Some s.row)) ≡ serving + tally (is_served_by 0 (f s.row))
-      → ((r : Row) (server : ℕ) → f s.row ≡ Some r → r.phase ≡ Serving server → server ≡ 0)
-      → Holds pair_of (record state { rows = changed u f state.rows }) next left now last ticket
-  held_change pair_of state slots next waits left serving now last ticket u p s cell f is own stands named written row node waiting count one =
+      → HoldAll left (set state.rows p (f s.row))
+      → Holds pair_of (record { rows = changed u f state.rows; moment = state.moment; ticket = state.ticket; cursor = now }) (set slots p cell) left now last ticket
+  held_change pair_of state slots lined left cursor now last ticket u p s cell f is own stands named row node waiting =
       let there = stands_row slots state.rows p s is.rows stands in
       let change : changed u f state.rows ≡ set state.rows p (f s.row) = changed_at state.rows u p s.row f own there named in
       record {
-        rows = ap rows_in written ∙ map-set row_in slots p cell ∙ ap (λ (c : Option Row). set (rows_in slots) p c) row ∙ ap (λ (l : Rows). set l p (f s.row)) is.rows ∙ sym change;
+        rows = map-set row_in slots p cell ∙ ap (λ (c : Option Row). set (rows_in slots) p c) row ∙ ap (λ (l : Rows). set l p (f s.row)) is.rows ∙ sym change;
         nodes = λ k x there.
-            elim (get-set_cases slots p k (Some s) cell (Some x) stands (subst (λ (l : List (Option (Slot N))). StandsIn l k x) written there)) [
+            elim (get-set_cases slots p k (Some s) cell (Some x) stands there) [
               | inl e ↦ node x e.1
               | inr e ↦ is.nodes k x e.1
             ];
-        waiting = subst (HoldsWaiting left) (sym change) waiting;
-        served_is =
-            let counted : served 0 (set state.rows p (f s.row)) + tally (is_served_by 0 (Some s.row)) ≡ served 0 state.rows + tally (is_served_by 0 (f s.row)) = count-set (is_served_by 0) state.rows p (Some s.row) (f s.row) there in
-            let before = is.served_is in
-            let after : served 0 (changed u f state.rows) ≡ served 0 (set state.rows p (f s.row)) = ap (served 0) change in
-            omega arith;
-        one_server = λ k r server at phase.
-            elim (get-set_cases state.rows p k (Some s.row) (f s.row) (Some r) there (subst (λ (l : Rows). StandsAt l k r) change at)) [
-              | inl e ↦ one r server e.1 phase
-              | inr e ↦ is.one_server k r server e.1 phase
-            ];
+        waiting = λ queue. subst (λ (l : Rows). HoldsQueue queue (waits_at left queue) l) (sym change) (waiting queue);
+        cursor_is = refl;
         last_is = is.last_is;
         ticket_is = is.ticket_is;
       }
 
+  -- the states of a trace's log are consistent
+  pub trace_consistent : (pair_of : N → Key × Unit {0}) (kept : Kept N) (log : Recorded) (lined : Lined) (cursor last ticket : ℕ) → IsTrace pair_of kept log lined cursor last ticket → IsConsistent (state_of (history_of kept log)).rows (state_of (history_of kept log)).ticket (stage_of (history_of kept log))
+  trace_consistent pair_of kept log lined cursor last ticket is = consistent_all kept.setup (opening_state kept.setup) 0 granting log.entries (opening_consistent kept.setup) is.judged
+
+  -- there are as many places as the setup says
+  pub trace_places : (kept : Kept N) (log : Recorded) → length (state_of (history_of kept log)).rows ≡ kept.setup.places
+  trace_places kept log = places_all kept.setup (opening_state kept.setup) log.entries ∙ length-replicate kept.setup.places None
+
   -- a trace that holds what one entry more leaves
-  pub trace_step : (pair_of : N → Key × Unit {0}) (h : History) (e : Entry) (log_room : ℕ) (slots next : List (Option (Slot N))) (waits left : Waits) (room serving now last later ticket given : ℕ)
-      → IsTrace pair_of h log_room slots waits room serving last ticket → MayComeNext h e → Holds pair_of (after (state_of h) e) next left now later given → IsTrace pair_of (with_entry h e) log_room next left room now later given
-  trace_step pair_of h e log_room slots next waits left room serving now last later ticket given is may holds = record {
+  pub trace_step : (pair_of : N → Key × Unit {0}) (kept : Kept N) (log : Recorded) (lined left : Lined) (e : Entry) (slots : List (Option (Slot N))) (cursor last ticket now later given : ℕ)
+      → IsTrace pair_of kept log lined cursor last ticket → MayComeNext (history_of kept log) e → length left.own ≡ length lined.own → left.room ≡ lined.room
+      → Holds pair_of (after kept.setup (state_of (history_of kept log)) e) slots left now later given → IsTrace pair_of (with_slots kept slots) (noted log e) left now later given
+  trace_step pair_of kept log lined left e slots cursor last ticket now later given is may lines room holds = record {
     sound = is.sound;
-    judged = judged_push h.setup (opening_state h.setup) 0 granting h.log e is.judged (let count : 0 + length h.log ≡ length h.log = omega arith in subst (λ n. Rattle.dispatch_log.specs.Judgement.MayCome h.setup (state_of h) n (stage_of h) e) (sym count) may);
-    held = subst (λ (s : State). Holds pair_of s next left now later given) (sym (after_all-push (opening_state h.setup) h.log e)) holds;
-    room_for_all = is.room_for_all;
-    log_room_is = is.log_room_is;
+    judged = judged_push kept.setup (opening_state kept.setup) 0 granting log.entries e is.judged (let count : 0 + length log.entries ≡ length log.entries = omega arith in subst (λ n. MayCome kept.setup (state_of (history_of kept log)) n (stage_of (history_of kept log)) e) (sym count) may);
+    held = subst (λ (s : State). Holds pair_of s slots left now later given) (sym (after_all-push kept.setup (opening_state kept.setup) log.entries e)) holds;
+    lines = lines ∙ is.lines;
+    room = room ∙ is.room;
+    log_room = is.log_room;
   }
 
-  -- the states of a trace's log are consistent
-  pub trace_consistent : (pair_of : N → Key × Unit {0}) (h : History) (log_room : ℕ) (slots : List (Option (Slot N))) (waits : Waits) (room serving last ticket : ℕ) → IsTrace pair_of h log_room slots waits room serving last ticket → IsConsistent (state_of h).rows (state_of h).ticket (stage_of h)
-  trace_consistent pair_of h log_room slots waits room serving last ticket is = consistent_all h.setup (opening_state h.setup) 0 granting h.log (opening_consistent h.setup) is.judged
+  -- a trace whose ledger, log and queues are known by equations
+  pub closed : (pair_of : N → Key × Unit {0}) (kept next : Kept N) (log now : Recorded) (lined left : Lined) (cursor last ticket : ℕ) → next ≡ kept → now ≡ log → left ≡ lined → IsTrace pair_of kept log lined cursor last ticket → IsTrace pair_of next now left cursor last ticket
+  closed pair_of kept next log now lined left cursor last ticket same logged lines is =
+      subst (λ (k : Kept N). IsTrace pair_of k now left cursor last ticket) (sym same)
+      (subst (λ (r : Recorded). IsTrace pair_of kept r left cursor last ticket) (sym logged)
+      (subst (λ (l : Lined). IsTrace pair_of kept log l cursor last ticket) (sym lines) is))
 
-  -- a trace whose log, ledger and queue are known by equations
-  pub closed : (pair_of : N → Key × Unit {0}) (setup : Setup) (entries : List Entry) (e : Entry) (log_room : ℕ) (now : Recorded) (slots next : List (Option (Slot N))) (waits left : Waits) (room space serving last ticket : ℕ)
-      → now ≡ record { entries = entries ++ e ∷ []; room = log_room } → next ≡ slots → left ≡ waits → space ≡ room
-      → IsTrace pair_of (with_entry (record { setup = setup; log = entries }) e) log_room slots waits room serving last ticket
-      → IsTrace pair_of (record { setup = setup; log = now.entries }) now.room next left space serving last ticket
-  closed pair_of setup entries e log_room now slots next waits left room space serving last ticket noted written queued kept is =
-      subst (λ (r : Recorded). IsTrace pair_of (record { setup = setup; log = r.entries }) r.room next left space serving last ticket) (sym noted)
-      (subst (λ (l : List (Option (Slot N))). IsTrace pair_of (record { setup = setup; log = entries ++ e ∷ [] }) log_room l left space serving last ticket) (sym written)
-      (subst (λ (w : Waits). IsTrace pair_of (record { setup = setup; log = entries ++ e ∷ [] }) log_room slots w space serving last ticket) (sym queued)
-      (subst (λ n. IsTrace pair_of (record { setup = setup; log = entries ++ e ∷ [] }) log_room slots waits n serving last ticket) (sym kept) is)))
+  -- a row goes from one phase in which it doesn't wait into another
+  pub phase_kept : (pair_of : N → Key × Unit {0}) (kept : Kept N) (log : Recorded) (lined : Lined) (cursor last ticket now u q : ℕ) (phase : Phase) (e : Entry)
+      → IsTrace pair_of kept log lined cursor last ticket → MayComeNext (history_of kept log) e → (has : HasTicketAt u kept.slots q) → is_waiting has.0.row.phase ≡ false → is_waiting phase ≡ false
+      → after kept.setup (state_of (history_of kept log)) e ≡ record { rows = changed u (in_phase phase) (state_of (history_of kept log)).rows; moment = (state_of (history_of kept log)).moment; ticket = (state_of (history_of kept log)).ticket; cursor = now }
+      → IsTrace pair_of (with_slots kept (with_phase phase kept.slots q)) (noted log e) lined now last ticket
+  phase_kept pair_of kept log lined cursor last ticket now u q phase e is may has idle stays leaves =
+      let state = state_of (history_of kept log) in
+      let consistent = trace_consistent pair_of kept log lined cursor last ticket is in
+      let there = stands_row kept.slots state.rows q has.0 is.held.rows has.1 in
+      let next : Slot N = record { row = record has.0.row { phase = phase }; node = has.0.node } in
+      let written = with_slot_at (λ (s : Slot N). record { row = record s.row { phase = phase }; node = s.node }) kept.slots q has.0 has.1 in
+      let node = node_of pair_of has.0 has.0.row.phase refl idle (is.held.nodes q has.0 has.1) in
+      subst (λ (l : List (Option (Slot N))). IsTrace pair_of (with_slots kept l) (noted log e) lined now last ticket) (sym written)
+      (trace_step pair_of kept log lined lined e (set kept.slots q (Some next)) cursor last ticket now last ticket is may refl refl
+      (subst (λ (s : State). Holds pair_of s (set kept.slots q (Some next)) lined now last ticket) (sym leaves)
+      (held_change pair_of state kept.slots lined lined cursor now last ticket u q has.0 (Some next) (in_phase phase) is.held consistent.tickets has.1 has.2 refl
+      (λ x same. subst (λ (y : Slot N). HasItsNode pair_of y.row.phase y) (same_Some next x same) (its_node pair_of next phase node))
+      (all_kept lined state.rows q (Some has.0.row) (Some next.row) is.held.waiting there (λ queue. rests queue has.0.row idle) (λ queue. rests queue next.row stays)))))

@@ -1,8 +1,9 @@
+pub mod Lining
 pub mod Waiting
 pub mod Holding
 pub mod Entries
-pub mod Plain
-pub mod Events
 pub mod Grants
+pub mod Queueing
+pub mod Events
 pub mod Settling
 pub mod Calls

@@ -1,5 +1,5 @@
--- The queue's keys while one row changes.
-use Rattle.std.proofs.Common.{◌≡◌, ℕ, ◌+◌, false, ◌∷◌, Option, None, Some, slice_get, length, Contains, refl, ap, sym, ◌∙◌, subst, arith, inl, inr, Less, Equal}
+-- The keys in a queue while one row changes.
+use Rattle.std.proofs.Common.{◌≡◌, ◌≢◌, ℕ, ◌+◌, Bool, true, false, [], ◌∷◌, List, Option, None, Some, MatchOption, option_map, slice_get, drop, length, Contains, refl, ap, sym, ◌∙◌, subst, arith, inl, inr, Less, Equal, Greater}
 use Rattle.std.proofs.Math.ListN.{set}
 use Rattle.std.proofs.lemmas.Option.{same_Some}
 use Rattle.std.proofs.lemmas.Cmp.{tied_itself}
@@ -7,69 +7,93 @@ use Rattle.due_key.specs.declared.key.Key.{Key}
 use Rattle.due_key.specs.Order.{key_cmp}
 use Rattle.due_key.proofs.KeyOrder.{key_cmp_total, key_cmp_exact}
 use Rattle.dispatch_log.specs.declared.queue.Queue.{Queue}
-use Rattle.dispatch_log.specs.declared.queue.Queue.TheVariants.{Backend}
 use Rattle.dispatch_log.specs.declared.row.Phase.{Phase}
-use Rattle.dispatch_log.specs.declared.row.Phase.TheVariants.{Loose, Waiting, Serving}
+use Rattle.dispatch_log.specs.declared.row.Phase.TheVariants.{Loose, Waiting, Serving, Told}
 use Rattle.dispatch_log.specs.declared.row.Row.{Row}
-use Rattle.dispatch_log.specs.Rows.{Rows, StandsAt, waits_in, queued}
+use Rattle.dispatch_log.specs.Refusals.{is_waiting}
+use Rattle.dispatch_log.specs.Rows.{Rows, IsRow, StandsAt, same_queue, phase_waits_in, waits_in, queued}
 use Rattle.dispatch_log.proofs.Places.{tally, get-set_same, get-set_other, get-set_cases, count-set}
 use Rattle.dispatch_log.proofs.RowLemmas.{HaveOwnTickets}
-use Rattle.pend_queue.specs.Pairs.{IsAbsent, inserted}
-use Rattle.pend_queue.proofs.Ascending.{absent_from_members}
+use Rattle.pend_queue.specs.Pairs.{IsAscending, IsAbsent, inserted}
+use Rattle.pend_queue.proofs.Ascending.{absent_from_members, least_first}
 use Rattle.pend_queue.proofs.Inserted.{Contains-inserted, Contains-inserted_new, Contains-inserted_old, length-inserted, IsAscending-inserted}
-use Rattle.pend_queue.proofs.Members.{Contains-tail, Contains-cases, each_at_member}
-use Rattle.dispatch_core.specs.Traces.{Waits, HoldsWaiting}
+use Rattle.pend_queue.proofs.Members.{Contains-nil, Contains-head, Contains-tail, Contains-cases, each_at_member}
+use Rattle.slot_ledger.specs.Counts.{IsQueueOf}
+use Rattle.server_pick.specs.Heads.{IsEmptyQueue, IsLeastIn}
+use Rattle.server_pick.proofs.Taking.{same_queues, own_queue}
+use Rattle.dispatch_core.specs.Lines.{Waits, Lined, waits_at, with_waits}
+use Rattle.dispatch_core.specs.Traces.{HoldsQueue}
+use Rattle.dispatch_core.proofs.Lining.{one_or_other, waits_own, waits_other}
 
 queue_is : (a b : Phase) → a ≡ b → (q r : Queue) (m n : ℕ) → a ≡ Waiting q m → b ≡ Waiting r n → q ≡ r
 queue_is a b e q r m n x y = let w : Waiting q m ≡ Waiting r n = sym x ∙ e ∙ y in cc
 
--- a place has no row that waits
-abbrev pub NoneWaits : Option Row → Type 0
-NoneWaits cell = (row : Row) (queue : Queue) (since : ℕ) → cell ≡ Some row → row.phase ≡ Waiting queue since → ⊥
+-- a place has no row that waits in a queue
+abbrev pub NoneWaits : Queue → Option Row → Type 0
+NoneWaits queue cell = (row : Row) (since : ℕ) → cell ≡ Some row → row.phase ≡ Waiting queue since → ⊥
 
-none_counted : (cell : Option Row) → NoneWaits cell → waits_in Backend cell ≡ false
-none_counted None none = refl
-none_counted (Some row) none = by_phase row.phase refl
+-- a phase that waits in a queue
+pub waits_phase : (queue : Queue) (phase : Phase) → phase_waits_in queue phase ≡ true → (since : ℕ) × (phase ≡ Waiting queue since)
+waits_phase queue Loose e = cc
+waits_phase queue (Serving s) e = cc
+waits_phase queue (Told c) e = cc
+waits_phase queue (Waiting other since) e = (since, ap (λ (q : Queue). Waiting q since) (sym (same_queues queue other e)))
+
+none_counted : (queue : Queue) (cell : Option Row) → NoneWaits queue cell → waits_in queue cell ≡ false
+none_counted queue None none = refl
+none_counted queue (Some row) none = by_test (phase_waits_in queue row.phase) refl
   where
-    by_phase : (phase : Phase) → row.phase ≡ phase → waits_in Backend (Some row) ≡ false
-    by_phase Loose e = rw e refl
-    by_phase (Serving server) e = rw e refl
-    by_phase (Waiting queue since) e = absurd (none row queue since refl e)
+    by_test : (b : Bool) → phase_waits_in queue row.phase ≡ b → phase_waits_in queue row.phase ≡ false
+    by_test false e = e
+    by_test true e = let w = waits_phase queue row.phase e in absurd (none row w.0 refl w.1)
 
--- a row that doesn't wait becomes one that doesn't
-pub waiting_kept : (waits : Waits) (rows : Rows) (p : ℕ) (old cell : Option Row) → HoldsWaiting waits rows → slice_get rows p ≡ Some old → NoneWaits old → NoneWaits cell → HoldsWaiting waits (set rows p cell)
-waiting_kept waits rows p old cell is stood before after = record {
+one_counted : (queue : Queue) (row : Row) (since : ℕ) → row.phase ≡ Waiting queue since → waits_in queue (Some row) ≡ true
+one_counted queue row since waits = ap (phase_waits_in queue) waits ∙ own_queue queue
+
+-- a row that doesn't wait, waits in no queue
+pub rests : (queue : Queue) (row : Row) → is_waiting row.phase ≡ false → NoneWaits queue (Some row)
+rests queue row idle other since same waits =
+    let e : is_waiting row.phase ≡ true = ap (λ (r : Row). is_waiting r.phase) (same_Some row other same) ∙ ap is_waiting waits in
+    let no : false ≡ true = sym idle ∙ e in
+    cc
+
+pub none_rests : (queue : Queue) → NoneWaits queue None
+none_rests queue row since same waits = cc
+
+-- a row that doesn't wait in a queue becomes one that doesn't
+pub queue_kept : (queue : Queue) (waits : Waits) (rows : Rows) (p : ℕ) (old cell : Option Row) → HoldsQueue queue waits rows → slice_get rows p ≡ Some old → NoneWaits queue old → NoneWaits queue cell → HoldsQueue queue waits (set rows p cell)
+queue_kept queue waits rows p old cell is stood before after = record {
   ascending = is.ascending;
   backed = λ key among.
       let b = is.backed key among in
-      (b.0, b.1, b.2, get-set_other rows p b.0 cell (λ e. before b.1 Backend b.2 (same_Some old (Some b.1) (sym stood ∙ subst (λ k. StandsAt rows k b.1) e b.3)) b.4) ∙ b.3, b.4, b.5);
-  held = λ k row queue since there waits_so.
+      (b.0, b.1, b.2, get-set_other rows p b.0 cell (λ e. before b.1 b.2 (same_Some old (Some b.1) (sym stood ∙ subst (λ k. StandsAt rows k b.1) e b.3)) b.4) ∙ b.3, b.4, b.5);
+  held = λ k row since there waits_so.
       elim (get-set_cases rows p k old cell (Some row) stood there) [
-        | inl e ↦ absurd (after row queue since e.1 waits_so)
-        | inr e ↦ is.held k row queue since e.1 waits_so
+        | inl e ↦ absurd (after row since e.1 waits_so)
+        | inr e ↦ is.held k row since e.1 waits_so
       ];
   counted =
-      let count : queued Backend (set rows p cell) + tally (waits_in Backend old) ≡ queued Backend rows + tally (waits_in Backend cell) = count-set (waits_in Backend) rows p old cell stood in
-      let a : tally (waits_in Backend old) ≡ 0 = ap tally (none_counted old before) in
-      let b : tally (waits_in Backend cell) ≡ 0 = ap tally (none_counted cell after) in
+      let count : queued queue (set rows p cell) + tally (waits_in queue old) ≡ queued queue rows + tally (waits_in queue cell) = count-set (waits_in queue) rows p old cell stood in
+      let a : tally (waits_in queue old) ≡ 0 = ap tally (none_counted queue old before) in
+      let b : tally (waits_in queue cell) ≡ 0 = ap tally (none_counted queue cell after) in
       let c = is.counted in
       omega arith;
 }
 
--- the key of a row that doesn't wait isn't in the queue
-pub absent_key : (waits : Waits) (rows : Rows) (p : ℕ) (row : Row) → HoldsWaiting waits rows → HaveOwnTickets rows → StandsAt rows p row → NoneWaits (Some row) → IsAbsent key_cmp row.key waits
-absent_key waits rows p row is own stands none =
+-- the key of a row that doesn't wait in a queue isn't there
+pub absent_key : (queue : Queue) (waits : Waits) (rows : Rows) (p : ℕ) (row : Row) → HoldsQueue queue waits rows → HaveOwnTickets rows → StandsAt rows p row → NoneWaits queue (Some row) → IsAbsent key_cmp row.key waits
+absent_key queue waits rows p row is own stands none =
     absent_from_members key_cmp row.key waits (λ pair among tied.
     let b = is.backed pair.0 among in
     let same : pair.0 ≡ row.key = key_cmp_exact pair.0 row.key tied in
     let at : b.0 ≡ p = own.own b.0 p b.1 row b.3 stands (ap (λ (k : Key). k.ticket) (b.5 ∙ same)) in
     let it : b.1 ≡ row = same_Some b.1 row (same_Some (Some b.1) (Some row) (sym (subst (λ k. StandsAt rows k b.1) at b.3) ∙ stands)) in
-    none row Backend b.2 refl (sym (ap (λ (r : Row). r.phase) it) ∙ b.4))
+    none row b.2 refl (sym (ap (λ (r : Row). r.phase) it) ∙ b.4))
 
 -- a row begins to wait
-pub waiting_joined : (waits : Waits) (rows : Rows) (p : ℕ) (row next : Row) (since : ℕ) → HoldsWaiting waits rows → HaveOwnTickets rows → StandsAt rows p row → NoneWaits (Some row) → next.key ≡ row.key → next.phase ≡ Waiting Backend since → HoldsWaiting (inserted key_cmp (row.key, tt) waits) (set rows p (Some next))
-waiting_joined waits rows p row next since is own stands none same phase =
-    let absent = absent_key waits rows p row is own stands none in
+queue_joined : (queue : Queue) (waits : Waits) (rows : Rows) (p : ℕ) (row next : Row) (since : ℕ) → HoldsQueue queue waits rows → HaveOwnTickets rows → StandsAt rows p row → NoneWaits queue (Some row) → next.key ≡ row.key → next.phase ≡ Waiting queue since → HoldsQueue queue (inserted key_cmp (row.key, tt) waits) (set rows p (Some next))
+queue_joined queue waits rows p row next since is own stands none same phase =
+    let absent = absent_key queue waits rows p row is own stands none in
     let new : Key × Unit {0} = (row.key, tt) in
     record {
       ascending = IsAscending-inserted key_cmp_total new waits is.ascending;
@@ -78,30 +102,27 @@ waiting_joined waits rows p row next since is own stands none same phase =
             | inl e ↦ (p, next, since, get-set_same rows p (Some row) (Some next) stands, phase, same ∙ ap (λ (x : Key × Unit {0}). x.0) e)
             | inr e ↦
                 let b = is.backed key e in
-                (b.0, b.1, b.2, get-set_other rows p b.0 (Some next) (λ at. none b.1 Backend b.2 (same_Some (Some row) (Some b.1) (sym stands ∙ subst (λ k. StandsAt rows k b.1) at b.3)) b.4) ∙ b.3, b.4, b.5)
+                (b.0, b.1, b.2, get-set_other rows p b.0 (Some next) (λ at. none b.1 b.2 (same_Some (Some row) (Some b.1) (sym stands ∙ subst (λ k. StandsAt rows k b.1) at b.3)) b.4) ∙ b.3, b.4, b.5)
           ];
-      held = λ k other queue since' there waits_so.
+      held = λ k other since' there waits_so.
           elim (get-set_cases rows p k (Some row) (Some next) (Some other) stands there) [
             | inl e ↦
                 let it : next ≡ other = same_Some next other e.1 in
-                let q : queue ≡ Backend = queue_is other.phase next.phase (ap (λ (r : Row). r.phase) (sym it)) queue Backend since' since waits_so phase in
-                (q, subst (λ (k : Key). Contains (inserted key_cmp new waits) (k, tt)) (sym same ∙ ap (λ (r : Row). r.key) it) (Contains-inserted_new key_cmp new waits absent))
-            | inr e ↦
-                let h = is.held k other queue since' e.1 waits_so in
-                (h.0, Contains-inserted_old key_cmp new waits (other.key, tt) absent h.1)
+                subst (λ (k : Key). Contains (inserted key_cmp new waits) (k, tt)) (sym same ∙ ap (λ (r : Row). r.key) it) (Contains-inserted_new key_cmp new waits absent)
+            | inr e ↦ Contains-inserted_old key_cmp new waits (other.key, tt) absent (is.held k other since' e.1 waits_so)
           ];
       counted =
-          let count : queued Backend (set rows p (Some next)) + tally (waits_in Backend (Some row)) ≡ queued Backend rows + tally (waits_in Backend (Some next)) = count-set (waits_in Backend) rows p (Some row) (Some next) stands in
-          let a : tally (waits_in Backend (Some row)) ≡ 0 = ap tally (none_counted (Some row) none) in
-          let b : tally (waits_in Backend (Some next)) ≡ 1 = rw phase refl in
+          let count : queued queue (set rows p (Some next)) + tally (waits_in queue (Some row)) ≡ queued queue rows + tally (waits_in queue (Some next)) = count-set (waits_in queue) rows p (Some row) (Some next) stands in
+          let a : tally (waits_in queue (Some row)) ≡ 0 = ap tally (none_counted queue (Some row) none) in
+          let b : tally (waits_in queue (Some next)) ≡ 1 = ap tally (one_counted queue next since phase) in
           let c = is.counted in
           let l = length-inserted key_cmp new waits absent in
           omega arith;
     }
 
 -- the row of the least key waits no more
-pub waiting_granted : (head : Key × Unit {0}) (rest : Waits) (rows : Rows) (p : ℕ) (row next : Row) (since : ℕ) → HoldsWaiting (head ∷ rest) rows → HaveOwnTickets rows → StandsAt rows p row → row.phase ≡ Waiting Backend since → row.key ≡ head.0 → NoneWaits (Some next) → HoldsWaiting rest (set rows p (Some next))
-waiting_granted head rest rows p row next since is own stands phase same none = record {
+queue_granted : (queue : Queue) (head : Key × Unit {0}) (rest : Waits) (rows : Rows) (p : ℕ) (row next : Row) (since : ℕ) → HoldsQueue queue (head ∷ rest) rows → HaveOwnTickets rows → StandsAt rows p row → row.phase ≡ Waiting queue since → row.key ≡ head.0 → NoneWaits queue (Some next) → HoldsQueue queue rest (set rows p (Some next))
+queue_granted queue head rest rows p row next since is own stands phase same none = record {
   ascending = is.ascending.1;
   backed = λ key among.
       let b = is.backed key (Contains-tail head rest (key, tt) among) in
@@ -118,22 +139,69 @@ waiting_granted head rest rows p row next since is own stands phase same none = 
         b.4,
         b.5,
       );
-  held = λ k other queue since' there waits_so.
+  held = λ k other since' there waits_so.
       elim (get-set_cases rows p k (Some row) (Some next) (Some other) stands there) [
-        | inl e ↦ absurd (none other queue since' e.1 waits_so)
-        | inr e ↦
-            let h = is.held k other queue since' e.1 waits_so in (
-              h.0,
-              elim (Contains-cases head rest (other.key, tt) h.1) [
-                | inl x ↦ absurd (e.0 (own.own k p other row e.1 stands (ap (λ (k : Key). k.ticket) (sym (ap (λ (q : Key × Unit {0}). q.0) x) ∙ sym same))))
-                | inr x ↦ x
-              ],
-            )
+        | inl e ↦ absurd (none other since' e.1 waits_so)
+        | inr e ↦ elim (Contains-cases head rest (other.key, tt) (is.held k other since' e.1 waits_so)) [
+          | inl x ↦ absurd (e.0 (own.own k p other row e.1 stands (ap (λ (k : Key). k.ticket) (sym (ap (λ (q : Key × Unit {0}). q.0) x) ∙ sym same))))
+          | inr x ↦ x
+        ]
       ];
   counted =
-      let count : queued Backend (set rows p (Some next)) + tally (waits_in Backend (Some row)) ≡ queued Backend rows + tally (waits_in Backend (Some next)) = count-set (waits_in Backend) rows p (Some row) (Some next) stands in
-      let a : tally (waits_in Backend (Some next)) ≡ 0 = ap tally (none_counted (Some next) none) in
-      let b : tally (waits_in Backend (Some row)) ≡ 1 = rw phase refl in
-      let c : length (head ∷ rest) ≡ queued Backend rows = is.counted in
+      let count : queued queue (set rows p (Some next)) + tally (waits_in queue (Some row)) ≡ queued queue rows + tally (waits_in queue (Some next)) = count-set (waits_in queue) rows p (Some row) (Some next) stands in
+      let a : tally (waits_in queue (Some next)) ≡ 0 = ap tally (none_counted queue (Some next) none) in
+      let b : tally (waits_in queue (Some row)) ≡ 1 = ap tally (one_counted queue row since phase) in
+      let c : length (head ∷ rest) ≡ queued queue rows = is.counted in
       omega arith;
 }
+
+-- each queue holds its keys
+abbrev pub HoldAll : Lined → Rows → Type 0
+HoldAll lined rows = (queue : Queue) → HoldsQueue queue (waits_at lined queue) rows
+
+-- a row that waits in a queue waits in no other
+other_rests : (queue other : Queue) (row : Row) (since : ℕ) → other ≢ queue → row.phase ≡ Waiting queue since → NoneWaits other (Some row)
+other_rests queue other row since differs waits it since' same waits' =
+    differs (queue_is it.phase row.phase (ap (λ (r : Row). r.phase) (sym (same_Some row it same))) other queue since' since waits' waits)
+
+pub all_kept : (lined : Lined) (rows : Rows) (p : ℕ) (old cell : Option Row) → HoldAll lined rows → slice_get rows p ≡ Some old → ((queue : Queue) → NoneWaits queue old) → ((queue : Queue) → NoneWaits queue cell) → HoldAll lined (set rows p cell)
+all_kept lined rows p old cell all stood before after = λ queue. queue_kept queue (waits_at lined queue) rows p old cell (all queue) stood (before queue) (after queue)
+
+pub all_joined : (lined : Lined) (queue : Queue) (rows : Rows) (p : ℕ) (row next : Row) (since : ℕ) → HoldAll lined rows → IsQueueOf (length lined.own) queue → HaveOwnTickets rows → StandsAt rows p row → ((other : Queue) → NoneWaits other (Some row)) → next.key ≡ row.key → next.phase ≡ Waiting queue since → HoldAll (with_waits lined queue (inserted key_cmp (row.key, tt) (waits_at lined queue))) (set rows p (Some next))
+all_joined lined queue rows p row next since all within own stands none same phase = λ other.
+    elim (one_or_other other queue) [
+      | inl e ↦
+          subst (λ (q : Queue). HoldsQueue q (waits_at (with_waits lined queue (inserted key_cmp (row.key, tt) (waits_at lined queue))) q) (set rows p (Some next))) (sym e)
+          (subst (λ (w : Waits). HoldsQueue queue w (set rows p (Some next))) (sym (waits_own lined queue (inserted key_cmp (row.key, tt) (waits_at lined queue)) within))
+          (queue_joined queue (waits_at lined queue) rows p row next since (all queue) own stands (none queue) same phase))
+      | inr e ↦
+          subst (λ (w : Waits). HoldsQueue other w (set rows p (Some next))) (sym (waits_other lined queue other (inserted key_cmp (row.key, tt) (waits_at lined queue)) e))
+          (queue_kept other (waits_at lined other) rows p (Some row) (Some next) (all other) stands (none other) (other_rests queue other next since e phase))
+    ]
+
+pub all_granted : (lined : Lined) (queue : Queue) (head : Key × Unit {0}) (rest : Waits) (rows : Rows) (p : ℕ) (row next : Row) (since : ℕ) → HoldAll lined rows → IsQueueOf (length lined.own) queue → waits_at lined queue ≡ head ∷ rest → HaveOwnTickets rows → StandsAt rows p row → row.phase ≡ Waiting queue since → row.key ≡ head.0 → ((other : Queue) → NoneWaits other (Some next)) → HoldAll (with_waits lined queue rest) (set rows p (Some next))
+all_granted lined queue head rest rows p row next since all within first own stands phase same none = λ other.
+    elim (one_or_other other queue) [
+      | inl e ↦
+          subst (λ (q : Queue). HoldsQueue q (waits_at (with_waits lined queue rest) q) (set rows p (Some next))) (sym e)
+          (subst (λ (w : Waits). HoldsQueue queue w (set rows p (Some next))) (sym (waits_own lined queue rest within))
+          (queue_granted queue head rest rows p row next since (subst (λ (w : Waits). HoldsQueue queue w rows) first (all queue)) own stands phase same (none queue)))
+      | inr e ↦
+          subst (λ (w : Waits). HoldsQueue other w (set rows p (Some next))) (sym (waits_other lined queue other rest e))
+          (queue_kept other (waits_at lined other) rows p (Some row) (Some next) (all other) stands (other_rests queue other row since e phase) (none other))
+    ]
+
+-- a queue's first key is the least that waits in it
+pub head_is : (queue : Queue) (waits : Waits) (rows : Rows) → HoldsQueue queue waits rows → MatchOption (option_map (λ (p : Key × Unit {0}). p.0) (slice_get waits 0)) (IsEmptyQueue queue rows) (IsLeastIn queue rows)
+head_is queue [] rows is = λ row live waits_so. let w = waits_phase queue row.phase waits_so in Contains-nil (row.key, tt) (is.held live.0 row w.0 live.1 w.1)
+head_is queue (head ∷ rest) rows is =
+    let b = is.backed head.0 (Contains-head head rest) in
+    record {
+      row = b.1;
+      live = (b.0, b.3);
+      waits = one_counted queue b.1 b.2 b.4;
+      own = b.5;
+      least = λ other live waits_so.
+          let w = waits_phase queue other.phase waits_so in
+          least_first key_cmp_total head rest (other.key, tt) is.ascending (is.held live.0 other w.0 live.1 w.1);
+    }

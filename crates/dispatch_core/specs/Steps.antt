@@ -1,13 +1,18 @@
 -- A history that goes on by one entry.
-use Rattle.std.specs.Prelude.{◌≡◌, ℕ, ◌+◌, ◌-◌, ◌*◌, ◌≤◌, List, [], ◌∷◌, ◌++◌, Option, length, All, false}
+use Rattle.std.specs.Prelude.{◌≡◌, ℕ, ◌+◌, ◌-◌, ◌*◌, ◌≤◌, List, [], ◌∷◌, ◌++◌, Option, None, Some, Bool, length, count_by, All, false}
 use Rattle.dispatch_log.specs.declared.entry.Entry.{Entry}
 use Rattle.dispatch_log.specs.declared.entry.Entry.TheVariants.{Granted}
-use Rattle.dispatch_log.specs.declared.queue.Queue.TheVariants.{Backend}
+use Rattle.dispatch_log.specs.declared.queue.Queue.{Queue}
+use Rattle.dispatch_log.specs.declared.row.Phase.{Phase}
 use Rattle.dispatch_log.specs.declared.refusal.Refusal.{Refusal}
 use Rattle.dispatch_log.specs.Histories.{History, state_of, effective, begins_event}
-use Rattle.dispatch_log.specs.Rows.{queued}
-use Rattle.dispatch_log.specs.Judgement.{Stage, granting, next_stage, stage_after, MayCome, AllMayCome, MayBegin, IsSettled}
-use Rattle.dispatch_log.specs.States.{opening_state}
+use Rattle.dispatch_log.specs.declared.row.Row.{Row}
+use Rattle.dispatch_log.specs.Grants.{IsSettled}
+use Rattle.dispatch_log.specs.Refusals.{is_waiting}
+use Rattle.dispatch_log.specs.Rows.{Rows, IsRow}
+use Rattle.dispatch_log.specs.Judgement.{HasSlot, IsTold, Stage, granting, next_stage, stage_after, MayCome, AllMayCome, MayBegin}
+use Rattle.dispatch_log.specs.States.{State, scene, after, opening_state}
+use Rattle.dispatch_log.specs.Words.{Scene}
 
 -- a history with an entry more
 abbrev pub with_entry : History → Entry → History
@@ -30,12 +35,30 @@ pub record MayBeginNext (history : History) (moment : ℕ) (refused : Option Ref
 abbrev pub HasEntryRoom : History → Type 0
 HasEntryRoom history = 2 * history.setup.places + 8 ≤ history.setup.log - length history.log
 
+-- whether a place's row waits, and how many do
+abbrev pub waits : Option Row → Bool
+waits None = false
+waits (Some row) = is_waiting row.phase
+
+abbrev pub waiting_of : History → ℕ
+waiting_of history = count_by waits (state_of history).rows
+
+-- what a decision at a history's end looks at
+abbrev pub scene_of : History → Scene
+scene_of history = scene history.setup (state_of history)
+
+-- the cursor that an entry at a history's end leaves
+abbrev pub cursor_after : History → Entry → ℕ
+cursor_after history entry = (after history.setup (state_of history) entry).cursor
+
 -- a history goes on by one lawful grant, and one request less waits
 pub record IsGrant (old new : History) : Type 0 where
   pub ticket : ℕ
-  pub grants : new ≡ with_entry old (Granted ticket Backend 0)
-  pub lawful : MayComeNext old (Granted ticket Backend 0)
-  pub fewer : queued Backend (state_of new).rows + 1 ≡ queued Backend (state_of old).rows
+  pub queue : Queue
+  pub server : ℕ
+  pub grants : new ≡ with_entry old (Granted ticket queue server)
+  pub lawful : MayComeNext old (Granted ticket queue server)
+  pub fewer : waiting_of new + 1 ≡ waiting_of old
 
 -- each entry may come where it stands
 abbrev pub IsJudged : History → Type 0
@@ -49,7 +72,16 @@ pub record Settles (old new : History) : Type 0 where
   pub one_event : All (λ entry. begins_event entry ≡ false) grants
   pub between : stage_of new ≡ granting
   pub judged : IsJudged new
-  pub settled : IsSettled new.setup (state_of new).rows
+  pub settled : IsSettled (scene_of new)
+
+-- a history goes on by what ends the return of a ticket's slot
+pub record Leaves (old new : History) : Type 0 where
+  pub closing : List Entry
+  pub log : new.log ≡ old.log ++ closing
+  pub setup : new.setup ≡ old.setup
+  pub few : length closing ≤ 2
+  pub one_event : All (λ entry. begins_event entry ≡ false) closing
+  pub over : stage_of new ≡ granting
 
 -- a history goes on by the entry that ends a newcomer's placement
 pub record Places (old new : History) : Type 0 where
@@ -57,3 +89,12 @@ pub record Places (old new : History) : Type 0 where
   pub placed : new ≡ with_entry old placement
   pub over : (stage : Stage) → next_stage stage placement ≡ granting
   pub one_event : begins_event placement ≡ false
+
+-- a ticket has a row
+abbrev pub HasRowOf : Rows → ℕ → Type 0
+HasRowOf rows ticket = (row : Row) × IsRow rows row × (row.key.ticket ≡ ticket)
+
+-- a ticket's slot at a server comes back, or where it has none it was told that it isn't served
+abbrev pub IsReturn : Rows → ℕ → Option ℕ → Type 0
+IsReturn rows ticket (Some server) = HasSlot rows ticket server
+IsReturn rows ticket None = IsTold rows ticket

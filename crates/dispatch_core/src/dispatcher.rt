@@ -1,17 +1,17 @@
 ghost use Rattle.std.specs.Prelude.{◌≡◌, ◌+◌, ◌<◌, ◌≤◌, ◌↔◌, [], ◌∷◌, ◌++◌, length, IfOk, IfErr, OnOk, OnErr, IsTrue, Some, None, option_map, pos, ◌+ℤ◌};
 ghost use Rattle.dispatch_log.specs.declared.entry.Entry.TheVariants.{Arrive, Done};
-ghost use Rattle.dispatch_log.specs.declared.queue.Queue.TheVariants.{Backend};
 ghost use Rattle.dispatch_log.specs.Dispatch.{IsDispatched};
 ghost use Rattle.dispatch_log.specs.Histories.{History, IsLegal, state_of, effective, refuses_arrival, refuses_done, AddsEvent, RefusedOrNoMemory};
-ghost use Rattle.dispatch_log.specs.Judgement.{granting, placing};
+ghost use Rattle.dispatch_log.specs.Judgement.{granting, placing, returning, HasSlot};
 ghost use Rattle.dispatch_log.specs.Rows.{row_of, served, queued};
 ghost use Rattle.dispatch_log.specs.Setups.{IsSound};
-ghost use Rattle.dispatch_core.specs.Steps.{stage_of, HasEntryRoom, Places, Settles};
+ghost use Rattle.dispatch_core.specs.Steps.{stage_of, waiting_of, HasRowOf, IsReturn, HasEntryRoom, Places, Leaves, Settles};
 
 use crate::trace::{Ticketed, Trace};
 use dispatch_log::{Log, Phase, Queue, Refusal, Setup};
 use due_key::{Class, Key, Moment, Offset};
 use pend_queue::PendQueue;
+use server_pick::Placement;
 use std::alloc::{AllocError, Global};
 use std::marker::Model;
 
@@ -44,9 +44,10 @@ impl<Q: PendQueue<Key, ()>> Core<Q> {
         })
     }
 
-    /// A request arrives. Refused, in this order, where the log is full, the tickets are spent, the
-    /// places are full, or memory is refused. `O(log n)` in the live requests beside the queue's
-    /// own cost.
+    /// A request arrives, bound to a server where it has a pin (`use-server`). Refused, in this
+    /// order, where the log is full, no server has the pin's number, the tickets are spent, the
+    /// places are full, or memory is refused. `O(log n)` in the live requests and `O(s)` in the
+    /// servers beside the queue's own cost.
     pub fn arrive(
         &mut self,
         alloc: Global,
@@ -55,13 +56,12 @@ impl<Q: PendQueue<Key, ()>> Core<Q> {
         offset: Offset,
         pin: Option<usize>,
     ) -> Result<Ticketed, Refusal>
-        requires { pin ≡ None }
         ensures ok { IfOk result (λ it. AddsEvent self.old self.new (Arrive (effective self.old moment) (record { ticket = it.ticket; class = class; due = pos (effective self.old moment) +ℤ offset; pin = pin; place = it.place }))) }
-        ensures err { IfErr result (RefusedOrNoMemory (refuses_arrival self.old)) }
+        ensures err { IfErr result (RefusedOrNoMemory (refuses_arrival self.old pin)) }
         ensures unchanged { OnErr result (self.new ≡ self.old) }
         ensures dispatched { IsDispatched self.new }
     {
-        if let Some(refusal) = self.trace.refuses_arrival() {
+        if let Some(refusal) = self.trace.refuses_arrival(pin) {
             return Err(refusal);
         }
         let Ok(it) = self.trace.arrive(alloc, moment, class, offset, pin) else {
@@ -72,9 +72,9 @@ impl<Q: PendQueue<Key, ()>> Core<Q> {
         Ok(it)
     }
 
-    /// The request with this ticket is over, and its slot comes back. Refused, in this order, where
+    /// The request with this ticket is over, and its slot comes back where it has one. Refused, in this order, where
     /// the log is full, no live request has the ticket, or it still waits. Takes no memory, and
-    /// `O(log n)` in the live requests beside the queue's own cost.
+    /// `O(log n)` in the live requests and `O(s)` in the servers beside the queue's own cost.
     pub fn done(&mut self, moment: Moment, ticket: u64) -> Result<(), Refusal>
         ensures ok { OnOk result (AddsEvent self.old self.new (Done (effective self.old moment) ticket)) }
         ensures err { IfErr result (λ refusal. refuses_done self.old ticket ≡ Some refusal) }
@@ -85,12 +85,9 @@ impl<Q: PendQueue<Key, ()>> Core<Q> {
         if let Some(refusal) = self.trace.refuses_done(ticket) {
             return Err(refusal);
         }
-        let Some(server) = self.trace.server_of(ticket) else {
-            unreachable!()
-        };
+        let server = self.trace.server_of(ticket);
         self.trace.done(moment, ticket);
-        self.trace.free(ticket, server);
-        self.trace.end(ticket);
+        leave(&mut self.trace, ticket, server);
         settle(&mut self.trace);
         Ok(())
     }
@@ -113,7 +110,6 @@ impl<Q: PendQueue<Key, ()>> Core<Q> {
 
     /// How many requests a server serves. `O(1)`.
     pub fn served(&self, server: usize) -> usize
-        requires { server < length self.now.setup.servers }
         ensures { result ≡ served server (state_of self.now).rows }
     {
         self.trace.served(server)
@@ -134,23 +130,50 @@ impl<Q: PendQueue<Key, ()>> Core<Q> {
     }
 }
 
-/// Puts a newcomer on the server or into the backend's queue.
+/// Puts a newcomer on a server or into a queue, or tells it that no server could take it.
 fn place<Q: PendQueue<Key, ()>>(trace: &mut Trace<Q>, ticket: u64)
     requires placing { stage_of trace.old ≡ placing ticket }
+    requires row { HasRowOf (state_of trace.old).rows ticket }
     requires room { length trace.old.log < trace.old.setup.log }
     ensures { Places trace.old trace.new }
 {
-    if trace.can_serve() {
-        trace.direct(ticket);
-    } else {
-        trace.join(ticket);
+    let (placement, cursor) = trace.placement(ticket);
+    match placement {
+        Placement::Slot(server) => trace.direct(ticket, server, cursor),
+        Placement::OwnQueue(server) => trace.join(ticket, Queue::Server(server), cursor),
+        Placement::BackendQueue => trace.join(ticket, Queue::Backend, cursor),
+        Placement::Nowhere => trace.turn_away(ticket),
     }
+}
+
+/// Ends a request, and gives its slot back where it has one.
+fn leave<Q: PendQueue<Key, ()>>(trace: &mut Trace<Q>, ticket: u64, server: Option<usize>)
+    requires returning { stage_of trace.old ≡ returning ticket }
+    requires row { IsReturn (state_of trace.old).rows ticket server }
+    requires room { length trace.old.log + 2 ≤ trace.old.setup.log }
+    ensures { Leaves trace.old trace.new }
+{
+    match server {
+        Some(server) => give_back(trace, ticket, server),
+        None => trace.end(ticket),
+    }
+}
+
+/// Gives a request's slot back, and ends the request.
+fn give_back<Q: PendQueue<Key, ()>>(trace: &mut Trace<Q>, ticket: u64, server: usize)
+    requires returning { stage_of trace.old ≡ returning ticket }
+    requires slot { HasSlot (state_of trace.old).rows ticket server }
+    requires room { length trace.old.log + 2 ≤ trace.old.setup.log }
+    ensures { Leaves trace.old trace.new }
+{
+    trace.free(ticket, server);
+    trace.end(ticket);
 }
 
 /// Grants slots until all is settled.
 fn settle<Q: PendQueue<Key, ()>>(trace: &mut Trace<Q>)
     requires between { stage_of trace.old ≡ granting }
-    requires room { length trace.old.log + queued Backend (state_of trace.old).rows ≤ trace.old.setup.log }
+    requires room { length trace.old.log + waiting_of trace.old ≤ trace.old.setup.log }
     ensures { Settles trace.old trace.new }
 {
     'granting: while trace.grant() {}

@@ -4,6 +4,7 @@
 #![tactic(auto)]
 
 mod dispatcher;
+mod queues;
 mod trace;
 
 pub use crate::dispatcher::Core;

@@ -1,20 +1,26 @@
-ghost use Rattle.std.specs.Prelude.{◌≡◌, ◌+◌, ◌<◌, ◌≤◌, ◌↔◌, ◌∷◌, [], ◌++◌, length, IfOk, OnErr, IsTrue, None, option_map, pos, ◌+ℤ◌};
+ghost use Rattle.std.specs.Prelude.{◌≡◌, ◌+◌, ◌<◌, ◌≤◌, ◌↔◌, ◌∷◌, [], ◌++◌, length, IfOk, OnErr, IsTrue, None, option_map, MatchOption, pos, ◌+ℤ◌};
 ghost use Rattle.std.specs.Option.{option_and_then};
 ghost use Rattle.std.specs.Bool.{OnTrue, OnFalse};
-ghost use Rattle.dispatch_log.specs.declared.entry.Entry.TheVariants.{Arrive, Done, Direct, Joined, Granted, Freed, Ended};
-ghost use Rattle.dispatch_log.specs.declared.queue.Queue.TheVariants.{Backend};
+ghost use Rattle.dispatch_log.specs.declared.entry.Entry.TheVariants.{Arrive, Done, Direct, Joined, Granted, Freed, Left, Ended};
+ghost use Rattle.verdict.specs.declared.cause.Cause.TheVariants.{NoServer};
 ghost use Rattle.dispatch_log.specs.Histories.{History, state_of, effective, refuses_arrival, refuses_done};
-ghost use Rattle.dispatch_log.specs.Judgement.{IsSettled, IsDirect, IsJoining, granting};
-ghost use Rattle.dispatch_log.specs.Rows.{row_of, server_in, served, queued};
+ghost use Rattle.dispatch_log.specs.Grants.{IsSettled};
+ghost use Rattle.dispatch_log.specs.Judgement.{granting};
+ghost use Rattle.dispatch_log.specs.Refusals.{pins_to_none};
+ghost use Rattle.dispatch_log.specs.Rows.{row_of, pin_of, server_in, served, queued};
 ghost use Rattle.dispatch_log.specs.Setups.{IsSound};
-ghost use Rattle.dispatch_core.specs.Steps.{with_entry, stage_of, MayComeNext, MayBeginNext, HasEntryRoom, IsGrant, IsJudged};
+ghost use Rattle.server_pick.specs.Picked.{IsPlacement, cursor_placed};
+ghost use Rattle.dispatch_core.specs.Steps.{with_entry, stage_of, scene_of, cursor_after, waiting_of, HasRowOf, MayComeNext, MayBeginNext, HasEntryRoom, IsGrant, IsJudged};
 
+use crate::queues::Queues;
 use dispatch_log::{Arrival, Entry, Log, Phase, Queue, Refusal, Row, Setup};
 use due_key::{Class, Due, Key, Moment, Offset};
 use pend_queue::PendQueue;
+use server_pick::{next_take, Cursor, Placement};
 use slot_ledger::Ledger;
 use std::alloc::{AllocError, Global};
 use std::marker::Model;
+use verdict::Cause;
 
 /// Where an accepted arrival stands, and its ticket.
 #[derive(Clone, Copy, Debug, PartialEq, Eq)]
@@ -23,16 +29,14 @@ pub struct Ticketed {
     pub ticket: u64,
 }
 
-/// A log that goes on entry by entry, with the rows and the queue that it leaves.
+/// A log that goes on entry by entry, with the rows and the queues that it leaves.
 #[derive(Drop)]
 pub(crate) struct Trace<Q: PendQueue<Key, ()>> {
-    setup: Setup,
     log: Log,
     ledger: Ledger<Q::Node>,
-    // The backend's queue.
-    queue: Q,
-    // How many requests the server serves.
-    serving: usize,
+    queues: Queues<Q>,
+    // The server that balancing picked last.
+    cursor: Cursor,
     // The moment of the last event.
     last: Moment,
     // The last ticket that was given.
@@ -44,33 +48,47 @@ impl<Q: PendQueue<Key, ()>> Model for Trace<Q> {
 
     ghost Value = { History };
 
-    ghost use Rattle.dispatch_core.specs.Traces.{IsTrace};
+    ghost use Rattle.dispatch_core.specs.Traces.{history_of, IsTrace};
 
-    ghost view = { λ trace. record { setup = trace.setup; log = trace.log.entries } };
+    ghost view = { λ trace. history_of trace.ledger trace.log };
 
-    ghost invariant = { λ trace. IsTrace Q.pair_of (record { setup = trace.setup; log = trace.log.entries }) trace.log.room trace.ledger (Q.pairs trace.queue) (Q.room trace.queue) trace.serving trace.last trace.ticket };
+    ghost invariant = { λ trace. IsTrace Q.pair_of trace.ledger trace.log trace.queues trace.cursor trace.last trace.ticket };
 }
 
 impl<Q: PendQueue<Key, ()>> Trace<Q> {
     pub(crate) fn has_room(&self) -> bool
         ensures { IsTrue result ↔ HasEntryRoom self.now }
     {
-        self.setup.log.saturating_sub(self.log.len()) >= 2 * self.setup.places + 8
+        let setup = self.ledger.setup();
+        setup.log.saturating_sub(self.log.len()) >= 2 * setup.places + 8
     }
 
-    pub(crate) fn refuses_arrival(&self) -> Option<Refusal>
-        ensures { result ≡ refuses_arrival self.now }
+    pub(crate) fn refuses_arrival(&self, pin: Option<usize>) -> Option<Refusal>
+        ensures { result ≡ refuses_arrival self.now pin }
     {
         if !self.has_room() {
             return Some(Refusal::LogFull);
         }
+        if self.pins_to_none(pin) {
+            return Some(Refusal::NoSuchServer);
+        }
         if self.ticket >= (1 << 40) - 1 {
             return Some(Refusal::TicketsSpent);
         }
-        if self.ledger.len() >= self.setup.places {
+        if self.ledger.len() >= self.ledger.setup().places {
             return Some(Refusal::PlacesFull);
         }
         None
+    }
+
+    /// Whether no server has the number of a pin.
+    fn pins_to_none(&self, pin: Option<usize>) -> bool
+        ensures { result ≡ pins_to_none self.now.setup pin }
+    {
+        match pin {
+            None => false,
+            Some(server) => self.ledger.setup().servers.len() <= server,
+        }
     }
 
     pub(crate) fn refuses_done(&self, ticket: u64) -> Option<Refusal>
@@ -116,9 +134,8 @@ impl<Q: PendQueue<Key, ()>> Trace<Q> {
         offset: Offset,
         pin: Option<usize>,
     ) -> Result<Ticketed, AllocError>
-        requires begins { MayBeginNext self.old moment (refuses_arrival self.old) }
+        requires begins { MayBeginNext self.old moment (refuses_arrival self.old pin) }
         requires room { length self.old.log < self.old.setup.log }
-        requires unpinned { pin ≡ None }
         ensures ok { IfOk result (λ it. self.new ≡ with_entry self.old (Arrive (effective self.old moment) (record { ticket = it.ticket; class = class; due = pos (effective self.old moment) +ℤ offset; pin = pin; place = it.place }))) }
         ensures err { OnErr result (self.new ≡ self.old) }
     {
@@ -160,40 +177,63 @@ impl<Q: PendQueue<Key, ()>> Trace<Q> {
         self.last = now;
     }
 
-    /// Whether a newcomer goes to the server; if not, it joins the backend's queue.
-    pub(crate) fn can_serve(&self) -> bool
-        ensures direct { OnTrue result (IsDirect self.now.setup (state_of self.now).rows 0) }
-        ensures joining { OnFalse result (IsJoining self.now.setup (state_of self.now).rows Backend) }
-    {
-        self.serving == 0
-    }
-
-    /// The newcomer takes a slot of the server.
-    pub(crate) fn direct(&mut self, ticket: u64)
-        requires lawful { MayComeNext self.old (Direct ticket 0) }
-        requires room { length self.old.log < self.old.setup.log }
-        ensures { self.new ≡ with_entry self.old (Direct ticket 0) }
+    /// Where a request goes that is in no place yet, and the cursor that this leaves.
+    pub(crate) fn placement(&self, ticket: u64) -> (Placement, Cursor)
+        requires { HasRowOf (state_of self.now).rows ticket }
+        ensures placed { IsPlacement (scene_of self.now) (state_of self.now).cursor (pin_of ticket (state_of self.now).rows) None result.0 }
+        ensures cursor { result.1 ≡ cursor_placed (pin_of ticket (state_of self.now).rows) result.0 (state_of self.now).cursor }
     {
         let Some(place) = self.ledger.find(ticket) else {
             unreachable!()
         };
-        self.ledger.serve(place, 0);
-        self.serving += 1;
-        self.log.note(Entry::Direct(ticket, 0));
+        let pin = self.ledger.row(place).pin;
+        let mut cursor = self.cursor;
+        let placement = server_pick::place(&self.ledger, &mut cursor, pin, None);
+        (placement, cursor)
     }
 
-    /// The newcomer begins to wait.
-    pub(crate) fn join(&mut self, ticket: u64)
-        requires lawful { MayComeNext self.old (Joined ticket Backend) }
+    /// The newcomer takes a slot of a server.
+    pub(crate) fn direct(&mut self, ticket: u64, server: usize, cursor: Cursor)
+        requires lawful { MayComeNext self.old (Direct ticket server) }
+        requires cursor { cursor ≡ cursor_after self.old (Direct ticket server) }
         requires room { length self.old.log < self.old.setup.log }
-        ensures { self.new ≡ with_entry self.old (Joined ticket Backend) }
+        ensures { self.new ≡ with_entry self.old (Direct ticket server) }
     {
         let Some(place) = self.ledger.find(ticket) else {
             unreachable!()
         };
-        let node = self.ledger.wait(place, Queue::Backend, self.last);
-        self.queue.push(node);
-        self.log.note(Entry::Joined(ticket, Queue::Backend));
+        self.ledger.serve(place, server);
+        self.cursor = cursor;
+        self.log.note(Entry::Direct(ticket, server));
+    }
+
+    /// The newcomer begins to wait in a queue.
+    pub(crate) fn join(&mut self, ticket: u64, queue: Queue, cursor: Cursor)
+        requires lawful { MayComeNext self.old (Joined ticket queue) }
+        requires cursor { cursor ≡ cursor_after self.old (Joined ticket queue) }
+        requires room { length self.old.log < self.old.setup.log }
+        ensures { self.new ≡ with_entry self.old (Joined ticket queue) }
+    {
+        let Some(place) = self.ledger.find(ticket) else {
+            unreachable!()
+        };
+        let node = self.ledger.wait(place, queue, self.last);
+        self.queues.push(queue, node);
+        self.cursor = cursor;
+        self.log.note(Entry::Joined(ticket, queue));
+    }
+
+    /// The newcomer is told that no server could ever take it.
+    pub(crate) fn turn_away(&mut self, ticket: u64)
+        requires lawful { MayComeNext self.old (Left ticket NoServer) }
+        requires room { length self.old.log < self.old.setup.log }
+        ensures { self.new ≡ with_entry self.old (Left ticket NoServer) }
+    {
+        let Some(place) = self.ledger.find(ticket) else {
+            unreachable!()
+        };
+        self.ledger.tell(place, Cause::NoServer);
+        self.log.note(Entry::Left(ticket, Cause::NoServer));
     }
 
     /// The ticket's slot is given back.
@@ -206,7 +246,6 @@ impl<Q: PendQueue<Key, ()>> Trace<Q> {
             unreachable!()
         };
         self.ledger.free(place);
-        self.serving -= 1;
         self.log.note(Entry::Freed(ticket, server));
     }
 
@@ -223,53 +262,47 @@ impl<Q: PendQueue<Key, ()>> Trace<Q> {
         self.log.note(Entry::Ended(ticket));
     }
 
-    /// Grants a slot where one is free and a request waits, to the least key. Answers whether it
-    /// did; where it didn't, all is settled.
+    /// Grants a slot where one is free and a request waits that it may go to. Answers whether it
+    /// did; where it didn't, all is settled. `O(n)` in the servers beside the queue's own cost.
     pub(crate) fn grant(&mut self) -> bool
         requires between { stage_of self.old ≡ granting }
-        requires room { length self.old.log + queued Backend (state_of self.old).rows ≤ self.old.setup.log }
+        requires room { length self.old.log + waiting_of self.old ≤ self.old.setup.log }
         ensures granted { OnTrue result (IsGrant self.old self.new) }
-        ensures settled { OnFalse result (IsSettled self.old.setup (state_of self.old).rows) }
+        ensures settled { OnFalse result (IsSettled (scene_of self.old)) }
         ensures unchanged { OnFalse result (self.new ≡ self.old) }
         ensures judged { IsJudged self.new }
     {
-        if self.serving > 0 {
+        let heads = self.queues.heads();
+        let mut cursor = self.cursor;
+        let Some((server, queue)) = next_take(&self.ledger, &mut cursor, &heads) else {
             return false;
-        }
-        let ticket = match self.queue.first() {
-            Some(key) => key.ticket,
-            None => return false,
         };
-        let Some(node) = self.queue.pop() else {
+        let Some(node) = self.queues.pop(queue) else {
             unreachable!()
         };
+        let ticket = Q::pair(&node).0.ticket;
         let Some(place) = self.ledger.find(ticket) else {
             unreachable!()
         };
         self.ledger.loosen(place, node);
-        self.ledger.serve(place, 0);
-        self.serving += 1;
-        self.log.note(Entry::Granted(ticket, Queue::Backend, 0));
+        self.ledger.serve(place, server);
+        self.cursor = cursor;
+        self.log.note(Entry::Granted(ticket, queue, server));
         true
     }
 
     /// How many requests a server serves.
     pub(crate) fn served(&self, server: usize) -> usize
-        requires { server < length self.now.setup.servers }
         ensures { result ≡ served server (state_of self.now).rows }
     {
-        self.serving
+        self.ledger.served(server)
     }
 
     /// How many requests wait in a queue.
     pub(crate) fn queued(&self, queue: Queue) -> usize
         ensures { result ≡ queued queue (state_of self.now).rows }
     {
-        let waiting = self.queue.len();
-        match queue {
-            Queue::Backend => waiting,
-            Queue::Server(_) => 0,
-        }
+        self.ledger.queued(queue)
     }
 
     /// A trace without an entry.
@@ -277,15 +310,15 @@ impl<Q: PendQueue<Key, ()>> Trace<Q> {
         requires { IsSound setup }
         ensures { IfOk result (λ trace. trace ≡ record { setup = setup; log = [] }) }
     {
+        let servers = setup.servers.len();
         let log = Log::with_room(alloc, setup.log)?;
-        let ledger = Ledger::new(alloc, setup.places)?;
-        let queue = Q::with_room(alloc, setup.places)?;
+        let queues = Queues::new(alloc, servers, setup.places)?;
+        let ledger = Ledger::new(alloc, setup)?;
         Ok(Trace {
-            setup,
             log,
             ledger,
-            queue,
-            serving: 0,
+            queues,
+            cursor: Cursor::new(servers),
             last: Moment::zero(),
             ticket: 0,
         })

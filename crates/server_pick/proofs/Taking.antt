@@ -31,13 +31,13 @@ no_greater a b c one two = by_order (key_cmp a b) refl
         let far : key_cmp c b ≡ Less = key_cmp_total.trans c a b back e in
         two (greater_from_less key_cmp_total c b far)
 
-same_queues : (a b : Queue) → same_queue a b ≡ true → a ≡ b
+pub same_queues : (a b : Queue) → same_queue a b ≡ true → a ≡ b
 same_queues Backend Backend e = refl
 same_queues (Server s) (Server t) e = ap Server ((Decides-eqb s t).0 e)
 same_queues Backend (Server t) e = cc
 same_queues (Server s) Backend e = cc
 
-own_queue : (q : Queue) → same_queue q q ≡ true
+pub own_queue : (q : Queue) → same_queue q q ≡ true
 own_queue Backend = refl
 own_queue (Server s) = (Decides-eqb s s).1 refl
 

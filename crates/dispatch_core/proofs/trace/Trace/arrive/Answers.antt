@@ -9,15 +9,15 @@ use Rattle.dispatch_core.proofs.trace.Trace.arrive.Goals as goal
 
 pub admit-place-requires-clause-room : goal.admit-place-requires-clause-room
 admit-place-requires-clause-room g c =
-    let begins = subst (λ (h : History). MayBeginNext h c.args.moment (refuses_arrival h)) (sym c.self.view_is) c.requires.begins in
-    arrival_fits g.Q.PendQueue.pair_of _ _ _ _ _ _ _ _ c.self.invariant begins.begins.accepted
+    let begins = subst (λ (h : History). MayBeginNext h c.args.moment (refuses_arrival h c.args.pin)) (sym c.self.view_is) c.requires.begins in
+    arrival_fits g.Q.PendQueue.pair_of _ _ _ _ _ _ c.args.pin c.self.invariant begins.begins.accepted
 
 pub admit-place-requires-clause-highest : goal.admit-place-requires-clause-highest
-admit-place-requires-clause-highest g c = next_is_highest g.Q.PendQueue.pair_of _ _ _ _ _ _ _ _ c.self.invariant
+admit-place-requires-clause-highest g c = next_is_highest g.Q.PendQueue.pair_of _ _ _ _ _ _ c.self.invariant
 
 pub invariant_of-self : goal.invariant_of-self
 invariant_of-self g c =
-    let begins = subst (λ (h : History). MayBeginNext h c.args.moment (refuses_arrival h)) (sym c.self.view_is) c.requires.begins in
+    let begins = subst (λ (h : History). MayBeginNext h c.args.moment (refuses_arrival h c.args.pin)) (sym c.self.view_is) c.requires.begins in
     let arrival : Arrival = record { ticket = c.self.inside.ticket + 1; class = c.args.class; due = c.of-due.result; pin = c.args.pin; place = c.admit-place.result } in
-    closed g.Q.PendQueue.pair_of c.self.inside.setup c.self.inside.log.entries (Arrive c.later-now.result arrival) _ _ _ _ _ _ _ _ _ _ _ c.note.ensures c.admit-place.ensures.admitted refl refl
-    (arrive_kept g.Q.PendQueue.pair_of _ _ _ _ _ _ _ _ c.args.moment c.later-now.result c.admit-place.result c.args.offset arrival c.in_ok-node.node c.self.invariant begins c.later-now.ensures refl refl c.requires.unpinned c.of-due.ensures.sum c.of-due.ensures.range c.admit-place.ensures.vacant c.in_ok-node.ensures.ok)
+    closed g.Q.PendQueue.pair_of _ _ _ _ _ _ _ _ _ c.admit-place.ensures.admitted c.note.ensures refl
+    (arrive_kept g.Q.PendQueue.pair_of _ _ _ _ _ _ c.args.moment c.later-now.result c.admit-place.result c.args.offset arrival c.in_ok-node.node c.self.invariant begins c.later-now.ensures refl refl c.of-due.ensures.sum c.of-due.ensures.range c.admit-place.ensures.vacant c.in_ok-node.ensures.ok)

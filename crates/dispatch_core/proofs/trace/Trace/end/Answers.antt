@@ -10,10 +10,10 @@ use Rattle.dispatch_core.proofs.trace.Trace.end.Goals as goal
 pub unreachable-requires : goal.unreachable-requires
 unreachable-requires g c =
     let may = subst (λ (h : History). MayComeNext h (Ended c.args.ticket)) (sym c.self.view_is) c.requires.lawful in
-    end_found g.Q.PendQueue.pair_of _ _ _ _ _ _ _ _ c.args.ticket c.self.invariant may (MatchOption-at_none _ _ c.in_default.is c.find.ensures)
+    end_found g.Q.PendQueue.pair_of _ _ _ _ _ _ c.args.ticket c.self.invariant may (MatchOption-at_none _ _ c.in_default.is c.find.ensures)
 
 pub invariant_of-self : goal.invariant_of-self
 invariant_of-self g c =
     let may = subst (λ (h : History). MayComeNext h (Ended c.args.ticket)) (sym c.self.view_is) c.requires.lawful in
-    closed g.Q.PendQueue.pair_of c.self.inside.setup c.self.inside.log.entries (Ended c.args.ticket) _ _ _ _ _ _ _ _ _ _ _ c.note.ensures c.end.ensures refl refl
-    (end_kept g.Q.PendQueue.pair_of _ _ _ _ _ _ _ _ c.args.ticket c.in-Some.place c.self.invariant may c.in-Some.ensures)
+    closed g.Q.PendQueue.pair_of _ _ _ _ _ _ _ _ _ c.end.ensures c.note.ensures refl
+    (end_kept g.Q.PendQueue.pair_of _ _ _ _ _ _ c.args.ticket c.in-Some.place c.self.invariant may c.in-Some.ensures)

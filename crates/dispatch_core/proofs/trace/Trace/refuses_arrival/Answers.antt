@@ -1,5 +1,6 @@
-use Rattle.std.proofs.Common.{◌≡◌, ◌+◌, ◌^◌, ◌<◌, None, is_some, count_by, sym, subst, arith}
+use Rattle.std.proofs.Common.{◌≡◌, ◌+◌, ◌^◌, ◌<◌, ◌≤◌, None, false, count_by, is_some, ap, sym, ◌∙◌, subst, arith}
 use Rattle.dispatch_log.specs.Histories.{History, refuses_arrival}
+use Rattle.dispatch_log.specs.Refusals.{pins_to_none}
 use Rattle.dispatch_core.specs.Steps.{HasEntryRoom}
 use Rattle.dispatch_core.proofs.Events.{none_refuses}
 use Rattle.dispatch_core.proofs.trace.Trace.refuses_arrival.Goals as goal
@@ -7,6 +8,7 @@ use Rattle.dispatch_core.proofs.trace.Trace.refuses_arrival.Goals as goal
 pub returns : goal.returns
 returns g c =
     let room = subst (λ (h : History). HasEntryRoom h) (sym c.self.view_is) (c.has_room.ensures.0 c.if-not-has_room.false) in
+    let known = ap (λ (h : History). pins_to_none h.setup c.args.pin) c.self.view_is ∙ sym c.pins_to_none.ensures ∙ c.if-pins_to_none.false in
     let few : c.self.inside.ticket + 1 < 2 ^ 40 = omega arith in
-    let some : count_by is_some c.self.inside.ledger < c.self.inside.setup.places = omega arith in
-    subst (λ (h : History). None ≡ refuses_arrival h) c.self.view_is (none_refuses g.Q.PendQueue.pair_of _ _ _ _ _ _ _ _ c.self.invariant room few some)
+    let some : count_by is_some c.self.inside.ledger.slots < c.self.inside.ledger.setup.places = ? in
+    subst (λ (h : History). None ≡ refuses_arrival h c.args.pin) c.self.view_is (none_refuses g.Q.PendQueue.pair_of _ _ _ _ _ _ c.args.pin c.self.invariant room known few some)

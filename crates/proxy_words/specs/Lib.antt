@@ -1,3 +1,4 @@
 pub mod Text
 pub mod Numerals
 pub mod Times
+pub mod Parts

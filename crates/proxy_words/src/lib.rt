@@ -6,9 +6,11 @@
 #![tactic(auto)]
 
 pub mod numerals;
+pub mod parts;
 pub mod text;
 pub mod times;
 
 pub use numerals::{long_number, number, signed_long_number};
+pub use parts::Parts;
 pub use text::{Lines, Words, without_comment};
 pub use times::milliseconds;

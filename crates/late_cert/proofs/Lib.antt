@@ -1,0 +1,10 @@
+pub mod Exchange
+pub mod Least
+pub mod Sound
+pub mod Order
+pub mod Lists
+pub mod Sorted
+pub mod Grouped
+pub mod Fair
+pub mod Chosen
+pub mod Legal

@@ -1,0 +1,41 @@
+-- How late slots are, and how else they could have been given.
+use Rattle.std.specs.Prelude.{ℕ, ◌<◌, ℤ, pos, ◌-ℤ◌, List, [], ◌∷◌, map}
+use Rattle.std.specs.Int.{int_max}
+use Rattle.std.specs.List.Sorted.{IsPermutation}
+use Rattle.dispatch_log.specs.declared.entry.Entry.{Entry}
+use Rattle.readable_log.specs.Grants.{moment_at}
+use Rattle.readable_log.specs.declared.grant.Stay.{Stay}
+
+-- how late a stay is whose slot is the one at a position: the moment there minus its due date
+abbrev pub lateness : List Entry → ℕ → Stay → ℤ
+lateness log slot stay = pos (moment_at log slot) -ℤ stay.due
+
+-- how late a stay is with the slot that it got
+abbrev pub own_lateness : List Entry → Stay → ℤ
+own_lateness log stay = lateness log stay.slot stay
+
+-- the slots that stays got, in order
+abbrev pub own_slots : List Stay → List ℕ
+own_slots stays = map (λ stay. stay.slot) stays
+
+-- one slot to each stay, and each after that stay's joining
+abbrev pub AreAfterJoining : List Stay → List ℕ → Type 0
+AreAfterJoining [] [] = Unit {0}
+AreAfterJoining (stay ∷ stays) (slot ∷ slots) = (stay.joined < slot) × AreAfterJoining stays slots
+AreAfterJoining stays slots = ⊥
+
+-- an assignment of slots to stays: their own slots in any order, one to a stay, each after that stay's joining
+pub record IsAssignment (stays : List Stay) (slots : List ℕ) : Type 0 where
+  pub rearranged : IsPermutation (own_slots stays) slots
+  pub after_joining : AreAfterJoining stays slots
+
+-- how late each stay is with the slot that it is assigned
+abbrev pub latenesses : List Entry → List Stay → List ℕ → List ℤ
+latenesses log (stay ∷ stays) (slot ∷ slots) = lateness log slot stay ∷ latenesses log stays slots
+latenesses log stays slots = []
+
+-- the greatest of some numbers; 0 of none
+abbrev pub greatest : List ℤ → ℤ
+greatest [] = pos 0
+greatest (number ∷ []) = number
+greatest (number ∷ next ∷ numbers) = int_max number (greatest (next ∷ numbers))

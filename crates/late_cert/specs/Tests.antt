@@ -1,0 +1,47 @@
+-- A sound report, by tests of one grant after the other.
+use Rattle.std.specs.Prelude.{◌≡◌, ◌<◌, ◌==◌, nat_lt, ◌&&◌, not, Bool, true, ℤ, pos, ◌-ℤ◌, int_lt, List, count_by, map}
+use Rattle.std.specs.List.{filter, list_all, list_any}
+use Rattle.std.specs.Ordering.{int_eq}
+use Rattle.readable_log.specs.Grants.{is_of}
+use Rattle.readable_log.specs.declared.grant.Grant.{Grant}
+use Rattle.readable_log.specs.declared.grant.Stay.{Stay}
+use Rattle.late_cert.specs.Reports.{is_within}
+use Rattle.late_cert.specs.declared.report.Report.{Report}
+
+-- whether a report is about a grant
+abbrev pub is_about : Report → Grant → Bool
+is_about report grant = is_of report.queue report.class grant
+
+-- how late a grant's slot is
+abbrev pub late_by : Grant → ℤ
+late_by grant = pos grant.moment -ℤ grant.stay.due
+
+-- whether a grant is no later than the worst, where the report is about it
+abbrev pub keeps_worst : Report → Grant → Bool
+keeps_worst report grant = not (is_about report grant && int_lt report.worst (late_by grant))
+
+-- whether a grant is the worst one
+abbrev pub is_worst : Report → Grant → Bool
+is_worst report grant = is_about report grant && (grant.stay.slot == report.to) && int_eq grant.stay.due report.due && int_eq (late_by grant) report.worst
+
+-- whether a grant's stay is to be listed as critical
+abbrev pub is_listed : Report → Grant → Bool
+is_listed report grant = is_about report grant && is_within report.after report.to grant.stay
+
+-- the stays to be listed
+abbrev pub listed_of : Report → List Grant → List Stay
+listed_of report grants = map (λ grant. grant.stay) (filter (is_listed report) grants)
+
+-- whether a stay is due no later than the worst one and joined after the cut
+abbrev pub is_urgent : Report → Stay → Bool
+is_urgent report stay = not (int_lt report.due stay.due) && nat_lt report.after stay.joined
+
+-- each test of a sound report
+pub record Passes (report : Report) (grants : List Grant) : Type 0 where
+  pub granted : report.granted ≡ count_by (is_about report) grants
+  pub some : 0 < report.granted
+  pub bounded : list_all (keeps_worst report) grants ≡ true
+  pub worst : list_any (is_worst report) grants ≡ true
+  pub before : report.after < report.to
+  pub listed : report.critical ≡ listed_of report grants
+  pub urgent : list_all (is_urgent report) report.critical ≡ true

@@ -1,0 +1,107 @@
+ghost use Rattle.std.specs.Prelude.{◌≡◌, ◌↔◌, IsTrue, pos, ◌-ℤ◌, count_by};
+ghost use Rattle.std.specs.List.{list_all, list_any};
+ghost use Rattle.late_cert.specs.Reports.{IsSound, IsLeast};
+ghost use Rattle.late_cert.specs.Tests.{is_about, late_by, keeps_worst, is_worst, is_listed, listed_of, is_urgent, Passes};
+
+use crate::report::Report;
+use readable_log::{Grant, Log, Stay};
+
+/// Whether a report is sound, whoever made it: it counts the stays of its queue and class, none of
+/// them is later than its worst, one of them is just so late with its slot and due date, and its
+/// critical stays are those with slots after its cut up to there, each due no later and joined
+/// after the cut. Then no assignment of the slots has a smaller greatest lateness. Linear in the
+/// log's grants, and takes no memory.
+pub fn audit(log: &Log, report: &Report) -> bool
+    ensures exact { IsTrue result ↔ IsSound log.now.entries report.now }
+    ensures least { IsTrue result → IsLeast log.now.entries report.now }
+{
+    passes(log.grants(), report)
+}
+
+fn passes(grants: &[Grant], report: &Report) -> bool
+    ensures { IsTrue result ↔ Passes report.now grants.now }
+{
+    if report.granted == 0 || report.to <= report.after {
+        return false;
+    }
+    if report.granted != count(grants, report) {
+        return false;
+    }
+    if !are_bounded(grants, report) || !has_worst(grants, report) {
+        return false;
+    }
+    lists(grants, report.critical.as_slice(), report)
+        && are_urgent(report.critical.as_slice(), report)
+}
+
+/// How many grants the report is about.
+fn count(grants: &[Grant], report: &Report) -> usize
+    ensures { result ≡ count_by (is_about report.now) grants.now }
+{
+    grants
+        .iter()
+        .filter(|grant| is_about(grant, report))
+        .count()
+}
+
+fn are_bounded(grants: &[Grant], report: &Report) -> bool
+    ensures { result ≡ list_all (keeps_worst report.now) grants.now }
+{
+    grants.iter().all(|grant| !(is_about(grant, report) && lateness(grant) > report.worst))
+}
+
+fn has_worst(grants: &[Grant], report: &Report) -> bool
+    ensures { result ≡ list_any (is_worst report.now) grants.now }
+{
+    grants.iter().any(|grant| is_worst(grant, report))
+}
+
+/// Whether these are the stays that the report has to list.
+fn lists(grants: &[Grant], stays: &[Stay], report: &Report) -> bool
+    ensures { IsTrue result ↔ (stays.now ≡ listed_of report.now grants.now) }
+{
+    let mut next = 0;
+    for grant in grants {
+        if is_listed(grant, report) {
+            if next == stays.len() || stays[next] != grant.stay {
+                return false;
+            }
+            next += 1;
+        }
+    }
+    next == stays.len()
+}
+
+fn are_urgent(stays: &[Stay], report: &Report) -> bool
+    ensures { result ≡ list_all (is_urgent report.now) stays.now }
+{
+    stays.iter().all(|stay| stay.due <= report.due && report.after < stay.joined)
+}
+
+fn is_about(grant: &Grant, report: &Report) -> bool
+    ensures { result ≡ is_about report.now grant.now }
+{
+    report.queue == grant.queue && report.class == grant.class
+}
+
+fn is_worst(grant: &Grant, report: &Report) -> bool
+    ensures { result ≡ is_worst report.now grant.now }
+{
+    is_about(grant, report)
+        && grant.stay.slot == report.to
+        && grant.stay.due == report.due
+        && lateness(grant) == report.worst
+}
+
+fn is_listed(grant: &Grant, report: &Report) -> bool
+    ensures { result ≡ is_listed report.now grant.now }
+{
+    is_about(grant, report) && report.after < grant.stay.slot && grant.stay.slot <= report.to
+}
+
+/// By how many milliseconds a grant's slot is late.
+pub(crate) fn lateness(grant: &Grant) -> i64
+    ensures { result ≡ late_by grant.now }
+{
+    grant.stay.due.lateness(grant.moment)
+}

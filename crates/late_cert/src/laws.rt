@@ -1,0 +1,49 @@
+ghost use Rattle.std.specs.Prelude.{◌≡◌, pos, List, [], ◌∷◌};
+ghost use Rattle.readable_log.specs.Grants.{stays};
+ghost use Rattle.dispatch_log.specs.declared.queue.Queue.TheVariants.{Backend};
+ghost use Rattle.late_cert.specs.Lateness.{latenesses, IsAssignment};
+ghost use Rattle.late_cert.specs.Worked.{overtaking, stay_2, stay_3, chosen, one_is_missing, joined_before_the_cut, worst_is_too_small};
+ghost use Rattle.dispatch_log.specs.declared.entry.Entry.{Entry};
+ghost use Rattle.readable_log.specs.Readable.{IsReadable};
+ghost use Rattle.late_cert.specs.declared.report.Report.{Report};
+ghost use Rattle.late_cert.specs.Reports.{IsChosen, IsSound, IsLeast, AreReports};
+ghost use Rattle.std.specs.List.{AllByRecursion};
+ghost use Rattle.dispatch_log.specs.Histories.{History, IsLegal};
+ghost use Rattle.dispatch_log.specs.declared.setup.Setup.{Setup};
+ghost use Rattle.dispatch_log.specs.States.{State};
+ghost use Rattle.readable_log.specs.Ordered.{AllKeepOrder, HaveNone};
+
+/// The law of least lateness: for every readable log and sound report, each assignment of the
+/// queue's and class's slots to their stays, each slot after its stay's joining, has a greatest
+/// lateness of at least the report's worst, and the log's own assignment has exactly that.
+pub fn sound_is_least()
+    ensures { (log : List Entry) (report : Report) → IsReadable log → IsSound log report → IsLeast log report }
+{}
+
+/// The law of chosen reports: where a log begins without a request, the tickets of its arrivals
+/// are fresh and each of its grants takes the least key of its queue, the chosen report of each
+/// queue and class is sound.
+pub fn chosen_is_sound()
+    ensures { (setup : Setup) (start : State) (log : List Entry) (report : Report) → HaveNone start.rows → IsReadable log → AllKeepOrder setup start log → IsChosen log report → IsSound log report }
+{}
+
+/// The law of legal logs' reports: each of them is sound, so that it shows that no assignment has a
+/// smaller greatest lateness than the log's own.
+pub fn reports_of_legal_logs_are_sound()
+    ensures sound { (history : History) (reports : List Report) → IsLegal history → AreReports history.log reports → AllByRecursion (IsSound history.log) reports }
+    ensures least { (history : History) (reports : List Report) → IsLegal history → AreReports history.log reports → AllByRecursion (IsLeast history.log) reports }
+{}
+
+/// The law of a worked log: its stays, the other assignment of their slots, one list that is none,
+/// the chosen report, and reports that are not sound, each for one reason.
+pub fn worked_reports()
+    ensures stays { stays overtaking Backend (pos 0) ≡ stay_3 ∷ stay_2 ∷ [] }
+    ensures swapped { IsAssignment (stay_3 ∷ stay_2 ∷ []) (14 ∷ 10 ∷ []) }
+    ensures swapped_is_late { latenesses overtaking (stay_3 ∷ stay_2 ∷ []) (14 ∷ 10 ∷ []) ≡ pos 23 ∷ pos 9 ∷ [] }
+    ensures joined_later { IsAssignment (stay_3 ∷ stay_2 ∷ []) (5 ∷ 10 ∷ []) → ⊥ }
+    ensures chosen { IsChosen overtaking chosen }
+    ensures sound { IsSound overtaking chosen }
+    ensures one_is_missing { IsSound overtaking one_is_missing → ⊥ }
+    ensures joined_before_the_cut { IsSound overtaking joined_before_the_cut → ⊥ }
+    ensures worst_is_too_small { IsSound overtaking worst_is_too_small → ⊥ }
+{}

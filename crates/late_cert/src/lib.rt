@@ -1,0 +1,18 @@
+//! The certificate of least lateness: for each queue and class of a log a report that names the
+//! greatest lateness and shows, by its critical stays, that no other assignment of the same slots
+//! has a smaller one.
+#![tactic(auto)]
+
+mod check;
+mod laws;
+mod making;
+mod report;
+
+pub use check::audit;
+pub use laws::{chosen_is_sound, reports_of_legal_logs_are_sound, sound_is_least, worked_reports};
+pub use making::certify;
+pub use readable_log::Stay;
+pub use report::{Report, Reports, Stays};
+
+#[cfg(test)]
+mod tests;

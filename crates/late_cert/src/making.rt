@@ -1,0 +1,136 @@
+ghost use Rattle.std.specs.Prelude.{◌≡◌, ◌<◌, IfOk, length, map, ℤ, ℕ, Option};
+ghost use Rattle.std.specs.List.{filter, prefix_len, IsFirstBest};
+ghost use Rattle.std.specs.List.Sorted.{IsPermutation, IsSortedBy, IsStableBy};
+ghost use Rattle.readable_log.specs.Grants.{is_of};
+ghost use Rattle.late_cert.specs.Reports.{AreReports, is_within, last_cut};
+ghost use Rattle.late_cert.specs.Groups.{is_before, is_later, IsReportOf, AreGroups};
+
+use crate::check::lateness;
+use crate::report::{Report, Reports, Stays};
+use dispatch_log::Queue;
+use due_key::{Class, Due};
+use readable_log::{Grant, Log, Stay, server_of};
+use std::alloc::{AllocError, Global};
+
+/// The reports of a log: one for each queue and class that has a grant, the backend's queue first,
+/// then the servers' in order, and in a queue by rising class. Of the latest stays each names the
+/// first, and of the cuts the last one. `O(n log n)` in the log's grants; fails only where memory
+/// is refused.
+pub fn certify(alloc: Global, log: &Log) -> Result<Reports, AllocError>
+    ensures { IfOk result (AreReports log.now.entries) }
+{
+    let sorted = sorted_grants(alloc, log.grants())?;
+    Ok(Reports::new(reports_of(alloc, sorted.as_slice())?))
+}
+
+/// The grants queue by queue and class by class, else in their order.
+fn sorted_grants(alloc: Global, grants: &[Grant]) -> Result<Vec<Grant>, AllocError>
+    ensures permutation { IfOk result (λ sorted. IsPermutation grants.now sorted.items) }
+    ensures sorted { IfOk result (λ sorted. IsSortedBy is_before sorted.items) }
+    ensures stable { IfOk result (λ sorted. IsStableBy is_before grants.now sorted.items) }
+{
+    let mut sorted = Vec::from_slice(alloc, grants)?;
+    sorted.sort_by_key(|grant| (server_of(grant.queue), grant.class))?;
+    Ok(sorted)
+}
+
+/// A report for each group of grants of one queue and class.
+fn reports_of(alloc: Global, grants: &[Grant]) -> Result<Vec<Report>, AllocError>
+    ensures { IfOk result (λ reports. AreGroups grants.now reports.items) }
+{
+    let mut reports = Vec::new(alloc);
+    let mut rest = grants;
+    'groups: while let Some(first) = rest.first() {
+        let (group, more) = rest.split_at(group_len(rest, first.queue, first.class));
+        reports.push(report_of(alloc, first.queue, first.class, group)?)?;
+        rest = more;
+    }
+    Ok(reports)
+}
+
+/// How many of the grants at the front are from a queue and of a class.
+fn group_len(grants: &[Grant], queue: Queue, class: Class) -> usize
+    ensures { result ≡ prefix_len (is_of queue class) grants.now }
+{
+    grants
+        .iter()
+        .take_while(|grant| queue == grant.queue && class == grant.class)
+        .count()
+}
+
+/// The report on all of some grants.
+fn report_of(
+    alloc: Global,
+    queue: Queue,
+    class: Class,
+    group: &[Grant],
+) -> Result<Report, AllocError>
+    requires { 0 < length group.now }
+    ensures report { IfOk result (IsReportOf group.now) }
+    ensures queue { IfOk result (λ it. it.queue ≡ queue) }
+    ensures class { IfOk result (λ it. it.class ≡ class) }
+{
+    let at = first_latest(group);
+    let grant = &group[at];
+    let (earlier, _) = group.split_at(at);
+    let after = last_cut(earlier, grant.stay.due);
+    let critical = Stays::new(critical(alloc, group, after, grant.stay.slot)?);
+    let worst = lateness(grant);
+    let granted = group.len();
+    Ok(Report {
+        queue,
+        class,
+        granted,
+        worst,
+        due: grant.stay.due,
+        after,
+        to: grant.stay.slot,
+        critical,
+    })
+}
+
+/// Where the first of the latest grants stands.
+fn first_latest(group: &[Grant]) -> usize
+    requires { 0 < length group.now }
+    ensures { IsFirstBest is_later group.now (length group.now) result }
+{
+    let mut best = 0;
+    for i in 1..group.len() {
+        if is_later(&group[i], &group[best]) {
+            best = i;
+        }
+    }
+    best
+}
+
+fn is_later(grant: &Grant, other: &Grant) -> bool
+    ensures { result ≡ is_later grant.now other.now }
+{
+    lateness(grant) > lateness(other)
+}
+
+/// The slot of the last grant that is due after a date; 0 where none is.
+fn last_cut(earlier: &[Grant], due: Due) -> usize
+    ensures { result ≡ last_cut due (map (λ it. it.stay) earlier.now) }
+{
+    earlier.iter().map(|grant| grant.stay).fold(
+        0,
+        |cut, stay| if due < stay.due { stay.slot } else { cut },
+    )
+}
+
+/// The stays whose slots lie after the cut, up to the end.
+fn critical(
+    alloc: Global,
+    group: &[Grant],
+    after: usize,
+    to: usize,
+) -> Result<Vec<Stay>, AllocError>
+    ensures { IfOk result (λ stays. stays.items ≡ map (λ it. it.stay) (filter (λ it. is_within after to it.stay) group.now)) }
+{
+    group
+        .iter()
+        .filter(|grant| after < grant.stay.slot && grant.stay.slot <= to)
+        .map(|grant| grant.stay)
+        .collect(alloc)
+}

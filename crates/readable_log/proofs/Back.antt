@@ -1,0 +1,169 @@
+-- Where rows come from: what an entry makes of them, looked at backwards.
+use Rattle.std.proofs.Common.{◌≡◌, ◌≢◌, ℕ, zero, suc, ◌==◌, ◌&&◌, Bool, true, false, cond, List, [], ◌∷◌, ◌++◌, Option, None, Some, slice_get, option_map, IsTrue, refl, ap, sym, ◌∙◌, subst, ◌⊎◌, inl, inr}
+use Rattle.std.proofs.Math.ListN.{set}
+use Rattle.std.specs.List.{AllByRecursion}
+use Rattle.std.specs.Option.{option_map_or, IfSome, IsSomeAnd}
+use Rattle.std.proofs.lemmas.Bool.{false≢true}
+use Rattle.std.proofs.lemmas.Bool.Decides.{Decides-eqb}
+use Rattle.std.proofs.lemmas.List.Sums.{fold_push}
+use Rattle.std.proofs.lemmas.Option.{same_Some, slice_get-map}
+use Rattle.due_key.specs.declared.key.Key.{Key}
+use Rattle.dispatch_log.specs.declared.entry.Arrival.{Arrival}
+use Rattle.dispatch_log.specs.declared.entry.Entry.{Entry}
+use Rattle.dispatch_log.specs.declared.entry.Entry.TheVariants.{Left, Arrive, Done, Direct, Joined, Granted, Freed, Ended}
+use Rattle.dispatch_log.specs.declared.queue.Queue.{Queue}
+use Rattle.dispatch_log.specs.declared.row.Phase.{Phase}
+use Rattle.dispatch_log.specs.declared.row.Phase.TheVariants.{Loose, Waiting, Serving, Told}
+use Rattle.verdict.specs.declared.cause.Cause.{Cause}
+use Rattle.dispatch_log.specs.declared.row.Row.{Row}
+use Rattle.dispatch_log.specs.declared.setup.Setup.{Setup}
+use Rattle.dispatch_log.specs.Rows.{Rows, StandsAt, IsRow, phase_waits_in, same_queue, with_change, changed, in_phase, gone}
+use Rattle.dispatch_log.specs.States.{State, after, after_all, arrived}
+use Rattle.readable_log.specs.Grants.{arrival_in, joins, newer_arrival, arrival_of}
+use Rattle.readable_log.specs.Readable.{HasArrived}
+use Rattle.readable_log.specs.Ordered.{KeepsOrder, IsFresh, HaveArrived}
+
+-- a row comes with an arrival
+pub record IsArrival (e : Entry) (r : Row) : Type 0 where
+  pub arrival : Arrival
+  pub is : arrival_in e ≡ Some arrival
+  pub row : r ≡ arrived arrival
+
+-- a row was there before an entry, with its key, and waited where it waits, unless the entry put it there
+pub record WasThere (rows : Rows) (e : Entry) (r : Row) : Type 0 where
+  pub row : Row
+  pub live : IsRow rows row
+  pub key : row.key ≡ r.key
+  pub waited : (q : Queue) → IsTrue (phase_waits_in q r.phase) → joins r.key.ticket q e ≡ false → IsTrue (phase_waits_in q row.phase)
+
+-- what stands at a place of which one may have been written
+get-set : {X : Type 0} (xs : List X) (i j : ℕ) (y z : X) → slice_get (set xs i y) j ≡ Some z → (y ≡ z) ⊎ (slice_get xs j ≡ Some z)
+get-set [] i j y z e = inr e
+get-set (x ∷ xs) zero zero y z e = inl (same_Some y z e)
+get-set (x ∷ xs) zero (suc j) y z e = inr e
+get-set (x ∷ xs) (suc i) zero y z e = inr e
+get-set (x ∷ xs) (suc i) (suc j) y z e = get-set xs i j y z e
+
+-- a change of a ticket's row keeps what it leaves in the row: its key, and where it waits, unless the entry put it there
+abbrev Keeps : Entry → ℕ → (Row → Option Row) → Type 0
+Keeps e t f = (b r : Row) → b.key.ticket ≡ t → f b ≡ Some r → (b.key ≡ r.key) × ((q : Queue) → IsTrue (phase_waits_in q r.phase) → joins r.key.ticket q e ≡ false → IsTrue (phase_waits_in q b.phase))
+
+unchanged : (rows : Rows) (e : Entry) (r : Row) → IsRow rows r → WasThere rows e r
+unchanged rows e r live = record { row = r; live = live; key = refl; waited = λ q waits none. waits }
+
+change_back : (rows : Rows) (e : Entry) (t p : ℕ) (f : Row → Option Row) (r : Row) → Keeps e t f → StandsAt (changed t f rows) p r → WasThere rows e r
+change_back rows e t p f r keeps at = by_cell (slice_get rows p) refl (sym (slice_get-map (with_change t f) rows p) ∙ at)
+  where
+    by_name : (b : Row) → slice_get rows p ≡ Some (Some b) → (named : Bool) → (b.key.ticket == t) ≡ named → cond named (f b) (Some b) ≡ Some r → WasThere rows e r
+    by_name b stood true same made = let k = keeps b r ((Decides-eqb b.key.ticket t).0 same) made in record { row = b; live = (p, stood); key = k.0; waited = k.1 }
+    by_name b stood false same made = unchanged rows e r (p, stood ∙ ap Some made)
+
+    by_cell : (cell : Option (Option Row)) → slice_get rows p ≡ cell → option_map (with_change t f) cell ≡ Some (Some r) → WasThere rows e r
+    by_cell None stood made = cc
+    by_cell (Some None) stood made = cc
+    by_cell (Some (Some b)) stood made = by_name b stood (b.key.ticket == t) refl (same_Some _ _ made)
+
+-- a phase in which no row waits
+abbrev WaitsNowhere : Phase → Type 0
+WaitsNowhere phase = (q : Queue) → IsTrue (phase_waits_in q phase) → ⊥
+
+keeps_phase : (e : Entry) (t : ℕ) (phase : Phase) → WaitsNowhere phase → Keeps e t (in_phase phase)
+keeps_phase e t phase nowhere b r named made =
+    let it : record b { phase = phase } ≡ r = same_Some (record b { phase = phase }) r made in
+    (ap (λ (x : Row). x.key) it, λ q waits none. absurd (nowhere q (subst (λ (x : Row). IsTrue (phase_waits_in q x.phase)) (sym it) waits)))
+
+keeps_joined : (t : ℕ) (queue : Queue) (since : ℕ) → Keeps (Joined t queue) t (in_phase (Waiting queue since))
+keeps_joined t queue since b r named made =
+    let it : record b { phase = Waiting queue since } ≡ r = same_Some (record b { phase = Waiting queue since }) r made in (
+      ap (λ (x : Row). x.key) it,
+      λ q waits none.
+          let own : (t == r.key.ticket) ≡ true = (Decides-eqb t r.key.ticket).1 (sym named ∙ ap (λ (x : Row). x.key.ticket) it) in
+          let into : same_queue q queue ≡ true = subst (λ (x : Row). IsTrue (phase_waits_in q x.phase)) (sym it) waits in
+          absurd (false≢true (sym none ∙ joined_is own into)),
+    )
+  where
+    joined_is : {a b : Bool} → a ≡ true → b ≡ true → (a && b) ≡ true
+    joined_is e f = rw (e, f) refl
+
+serving_nowhere : (v : ℕ) → WaitsNowhere (Serving v)
+serving_nowhere v q e = false≢true e
+
+told_nowhere : (c : Cause) → WaitsNowhere (Told c)
+told_nowhere c q e = false≢true e
+
+pub loose_nowhere : WaitsNowhere Loose
+loose_nowhere q e = false≢true e
+
+keeps_gone : (e : Entry) (t : ℕ) → Keeps e t gone
+keeps_gone e t b r named made = let none : None ≡ Some r = made in cc
+
+-- where each row comes from that an entry leaves
+pub origin : (setup : Setup) (s : State) (e : Entry) (p : ℕ) (r : Row) → StandsAt (after setup s e).rows p r → IsArrival e r ⊎ WasThere s.rows e r
+origin setup s (Arrive m a) p r at =
+    elim (get-set s.rows a.place p (Some (arrived a)) (Some r) at) [
+      | inl here ↦ inl (record { arrival = a; is = refl; row = sym (same_Some (arrived a) r here) })
+      | inr there ↦ inr (unchanged s.rows (Arrive m a) r (p, there))
+    ]
+origin setup s (Done m u) p r at = inr (unchanged s.rows (Done m u) r (p, at))
+origin setup s (Direct u v) p r at = inr (change_back s.rows (Direct u v) u p (in_phase (Serving v)) r (keeps_phase (Direct u v) u (Serving v) (serving_nowhere v)) at)
+origin setup s (Joined u q) p r at = inr (change_back s.rows (Joined u q) u p (in_phase (Waiting q s.moment)) r (keeps_joined u q s.moment) at)
+origin setup s (Granted u q v) p r at = inr (change_back s.rows (Granted u q v) u p (in_phase (Serving v)) r (keeps_phase (Granted u q v) u (Serving v) (serving_nowhere v)) at)
+origin setup s (Freed u v) p r at = inr (change_back s.rows (Freed u v) u p (in_phase Loose) r (keeps_phase (Freed u v) u Loose loose_nowhere) at)
+origin setup s (Left u c) p r at = inr (change_back s.rows (Left u c) u p (in_phase (Told c)) r (keeps_phase (Left u c) u (Told c) (told_nowhere c)) at)
+origin setup s (Ended u) p r at = inr (change_back s.rows (Ended u) u p gone r (keeps_gone (Ended u) u) at)
+
+-- a row that waited before, with the same key
+pub record Waited (rows : Rows) (q : Queue) (key : Key) : Type 0 where
+  pub row : Row
+  pub live : IsRow rows row
+  pub same : row.key ≡ key
+  pub waits : IsTrue (phase_waits_in q row.phase)
+
+-- a row that waits waited before entries that don't put its ticket there
+pub step_back : (setup : Setup) (s : State) (e : Entry) (q : Queue) (key : Key) → Waited (after setup s e).rows q key → joins key.ticket q e ≡ false → Waited s.rows q key
+step_back setup s e q key w none =
+    elim (origin setup s e w.live.0 w.row w.live.1) [
+      | inl came ↦ absurd (loose_nowhere q (subst (λ (x : Row). IsTrue (phase_waits_in q x.phase)) came.row w.waits))
+      | inr was ↦ record { row = was.row; live = was.live; same = was.key ∙ w.same; waits = was.waited q w.waits (subst (λ (k : Key). joins k.ticket q e ≡ false) (sym w.same) none) }
+    ]
+
+pub steps_back : (setup : Setup) (s : State) (es : List Entry) (q : Queue) (key : Key) → Waited (after_all setup s es).rows q key → AllByRecursion (λ e. joins key.ticket q e ≡ false) es → Waited s.rows q key
+steps_back setup s [] q key w none = w
+steps_back setup s (e ∷ es) q key w none = step_back setup s e q key (steps_back setup (after setup s e) es q key w none.1) none.0
+
+pub arrival_of-push : (t : ℕ) (past : List Entry) (e : Entry) → arrival_of t (past ++ e ∷ []) ≡ newer_arrival t (arrival_of t past) e
+arrival_of-push t past e = fold_push (newer_arrival t) None past e
+
+-- an arrival is the last one of its ticket; that of another ticket changes nothing
+newest : (t : ℕ) (before : Option Arrival) (e : Entry) (a : Arrival) → arrival_in e ≡ Some a → a.ticket ≡ t → newer_arrival t before e ≡ Some a
+newest t before e a is named = ap (λ (o : Option Arrival). option_map_or (λ it. cond (it.ticket == t) (Some it) before) o before) is ∙ ap (λ b. cond b (Some a) before) ((Decides-eqb a.ticket t).1 named)
+
+other_newest : (t : ℕ) (before : Option Arrival) (e : Entry) → IfSome (arrival_in e) (λ a. a.ticket ≢ t) → newer_arrival t before e ≡ before
+other_newest t before e others = go (arrival_in e) others
+  where
+    differs : (a : Arrival) → a.ticket ≢ t → (b : Bool) → (a.ticket == t) ≡ b → cond b (Some a) before ≡ before
+    differs a other true same = absurd (other ((Decides-eqb a.ticket t).0 same))
+    differs a other false same = refl
+
+    go : (o : Option Arrival) → IfSome o (λ a. a.ticket ≢ t) → option_map_or (λ it. cond (it.ticket == t) (Some it) before) o before ≡ before
+    go None h = refl
+    go (Some a) h = differs a h (a.ticket == t) refl
+
+pub have_arrived_after : (setup : Setup) (past : List Entry) (s : State) (e : Entry) → HaveArrived past s.rows → KeepsOrder s.rows e → HaveArrived (past ++ e ∷ []) (after setup s e).rows
+have_arrived_after setup past s e have keeps r live =
+    elim (origin setup s e live.0 r live.1) [
+      | inl came ↦
+          let a = came.arrival in
+          let last : arrival_of a.ticket (past ++ e ∷ []) ≡ Some a = arrival_of-push a.ticket past e ∙ newest a.ticket (arrival_of a.ticket past) e a came.is refl in
+          subst (λ (x : Row). HasArrived (past ++ e ∷ []) x.key.ticket x.key.class x.key.due) (sym came.row)
+          (subst (λ (o : Option Arrival). IsSomeAnd o (λ it. (it.class ≡ a.class) × (it.due ≡ a.due))) (sym last) (refl, refl))
+      | inr was ↦
+          let b = was.row in
+          let last : arrival_of b.key.ticket (past ++ e ∷ []) ≡ arrival_of b.key.ticket past = arrival_of-push b.key.ticket past e ∙ other_newest b.key.ticket (arrival_of b.key.ticket past) e (others (arrival_in e) b was.live keeps.fresh) in
+          subst (λ (k : Key). HasArrived (past ++ e ∷ []) k.ticket k.class k.due) was.key
+          (subst (λ (o : Option Arrival). IsSomeAnd o (λ it. (it.class ≡ b.key.class) × (it.due ≡ b.key.due))) (sym last) (have b was.live))
+    ]
+  where
+    others : (o : Option Arrival) (b : Row) → IsRow s.rows b → IfSome o (λ a. IsFresh s.rows a.ticket) → IfSome o (λ a. a.ticket ≢ b.key.ticket)
+    others None b live fresh = tt
+    others (Some a) b live fresh = λ same. fresh b live (sym same)

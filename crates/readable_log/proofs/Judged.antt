@@ -1,0 +1,157 @@
+-- Logs that are judged entry by entry keep the order of their queues, and are readable.
+use Rattle.std.proofs.Common.{◌≡◌, ℕ, ◌+◌, ◌<◌, ◌≤◌, true, List, [], ◌∷◌, ◌++◌, Option, None, Some, IsSome, is_some, length, IsTrue, refl, ap, sym, subst, arith, inl, inr, length-append}
+use Rattle.std.specs.Option.{unwrap_or, IsSomeAnd}
+use Rattle.std.proofs.lemmas.Bool.{false≢true}
+use Rattle.std.proofs.lemmas.Option.{same_Some}
+use Rattle.std.proofs.lemmas.Bool.Decides.{Decides-eqb}
+use Rattle.due_key.specs.declared.key.Key.{Key}
+use Rattle.dispatch_log.specs.declared.entry.Arrival.{Arrival}
+use Rattle.dispatch_log.specs.declared.entry.Entry.{Entry}
+use Rattle.dispatch_log.specs.declared.entry.Entry.TheVariants.{Arrive, Done, Granted}
+use Rattle.dispatch_log.specs.declared.queue.Queue.{Queue}
+use Rattle.dispatch_log.specs.declared.queue.Queue.TheVariants.{Backend, Server}
+use Rattle.dispatch_log.specs.declared.row.Phase.{Phase}
+use Rattle.dispatch_log.specs.declared.row.Phase.TheVariants.{Loose, Waiting, Serving, Told}
+use Rattle.dispatch_log.specs.declared.row.Row.{Row}
+use Rattle.dispatch_log.specs.declared.setup.Setup.{Setup}
+use Rattle.dispatch_log.specs.Judgement.{Stage, granting, MayCome, next_stage, AllMayCome}
+use Rattle.dispatch_log.specs.Grants.{IsLawfulGrant}
+use Rattle.dispatch_log.specs.Rows.{Rows, IsRow, phase_waits_in}
+use Rattle.dispatch_log.specs.States.{State, scene, after}
+use Rattle.dispatch_log.specs.Words.{Scene, may_take, may_go_to}
+use Rattle.readable_log.specs.Grants.{arrival_in, moment_in, moment_of, arrival_of, joining_of}
+use Rattle.readable_log.specs.Ordered.{TakesLeast, KeepsOrder, AllKeepOrder, HaveNone, HaveArrived, HaveJoined}
+use Rattle.readable_log.specs.Readable.{MayFollow, AllFollow, IsReadable, HasArrived}
+use Rattle.readable_log.proofs.Back.{origin, have_arrived_after}
+use Rattle.readable_log.proofs.Moments.{moment_of-push}
+use Rattle.readable_log.proofs.Rows.{have_joined_after}
+
+-- no row has a ticket past the last one
+abbrev pub AreBelow : State → Type 0
+AreBelow s = (row : Row) → IsRow s.rows row → row.key.ticket ≤ s.ticket
+
+-- the last ticket never falls
+ticket_rises : (setup : Setup) (s : State) (n : ℕ) (t : Stage) (e : Entry) → MayCome setup s n t e → s.ticket ≤ (after setup s e).ticket
+ticket_rises setup s n granting (Arrive m a) may = let next : a.ticket ≡ s.ticket + 1 = may.1.numbered in omega arith
+ticket_rises setup s n t (Arrive m a) may = absurd may
+ticket_rises setup s n t e may = omega arith
+
+arrived_ticket : (setup : Setup) (s : State) (e : Entry) (a : Arrival) → arrival_in e ≡ Some a → (after setup s e).ticket ≡ a.ticket
+arrived_ticket setup s (Arrive m b) a is = ap (λ (x : Arrival). x.ticket) (same_Some b a is)
+arrived_ticket setup s e a is = cc
+
+below_after : (setup : Setup) (s : State) (n : ℕ) (t : Stage) (e : Entry) → AreBelow s → MayCome setup s n t e → AreBelow (after setup s e)
+below_after setup s n t e below may row live =
+    elim (origin setup s e live.0 row live.1) [
+      | inl came ↦ let h : row.key.ticket ≡ came.arrival.ticket = ap (λ (r : Row). r.key.ticket) came.row in let k : (after setup s e).ticket ≡ came.arrival.ticket = arrived_ticket setup s e came.arrival came.is in omega arith
+      | inr was ↦ let h : was.row.key.ticket ≤ s.ticket = below was.row was.live in let k : s.ticket ≤ (after setup s e).ticket = ticket_rises setup s n t e may in let same : was.row.key.ticket ≡ row.key.ticket = ap (λ (x : Key). x.ticket) was.key in omega arith
+    ]
+
+-- a slot may go to whoever waits in a queue that it may go to
+takes_own : (here : Scene) (server : ℕ) (q : Queue) (phase : Phase) → IsTrue (may_take here server q) → IsTrue (phase_waits_in q phase) → IsTrue (may_go_to here server phase)
+takes_own here server q Loose take waits = absurd (false≢true waits)
+takes_own here server q (Serving v) take waits = absurd (false≢true waits)
+takes_own here server q (Told c) take waits = absurd (false≢true waits)
+takes_own here server Backend (Waiting Backend m) take waits = take
+takes_own here server Backend (Waiting (Server v) m) take waits = absurd (false≢true waits)
+takes_own here server (Server w) (Waiting Backend m) take waits = absurd (false≢true waits)
+takes_own here server (Server w) (Waiting (Server v) m) take waits = subst (λ k. IsTrue (may_take here server (Server k))) ((Decides-eqb w v).0 waits) take
+
+takes_least : (here : Scene) (cursor u : ℕ) (q : Queue) (v : ℕ) → IsLawfulGrant here cursor u q v → TakesLeast here.rows (record { ticket = u; queue = q })
+takes_least here cursor u q v grant = record {
+  row = grant.row;
+  live = grant.live;
+  named = grant.named;
+  waits = grant.waits;
+  least = λ other live waits. grant.least other live (takes_own here v q other.phase grant.taken waits);
+}
+
+-- what is judged keeps the order of the queues
+keeps : (setup : Setup) (s : State) (n : ℕ) (t : Stage) (e : Entry) → AreBelow s → MayCome setup s n t e → KeepsOrder s.rows e
+keeps setup s n granting (Arrive m a) below may = record {
+  fresh = λ row live same. let h : row.key.ticket ≤ s.ticket = below row live in let next : a.ticket ≡ s.ticket + 1 = may.1.numbered in absurd (omega arith);
+  least = tt;
+}
+keeps setup s n granting (Granted u q v) below may = record { fresh = tt; least = takes_least (scene setup s) s.cursor u q v may }
+keeps setup s n t (Arrive m a) below may = absurd may
+keeps setup s n t (Granted u q v) below may = absurd may
+keeps setup s n t e below may = record { fresh = tt; least = tt }
+
+all_keep : (setup : Setup) (s : State) (n : ℕ) (t : Stage) (es : List Entry) → AreBelow s → AllMayCome setup s n t es → AllKeepOrder setup s es
+all_keep setup s n t [] below all = tt
+all_keep setup s n t (e ∷ es) below all = (keeps setup s n t e below all.0, all_keep setup (after setup s e) (n + 1) (next_stage t e) es (below_after setup s n t e below all.0) all.1)
+
+pub judged_keep_order : (setup : Setup) (base : State) (log : List Entry) → HaveNone base.rows → AllMayCome setup base 0 granting log → AllKeepOrder setup base log
+judged_keep_order setup base log none all = all_keep setup base 0 granting log (λ row live. absurd (none row live)) all
+
+-- ---- readable
+
+-- the moments of a state and of the log that left it rise together
+moment_after : (setup : Setup) (past : List Entry) (s : State) (e : Entry) → moment_of past ≤ s.moment → moment_of (past ++ e ∷ []) ≤ (after setup s e).moment
+moment_after setup past s e low = subst (λ m. m ≤ (after setup s e).moment) (sym (moment_of-push past e)) (by_entry e)
+  where
+    by_entry : (x : Entry) → unwrap_or (moment_in x) (moment_of past) ≤ (after setup s x).moment
+    by_entry (Arrive m a) = omega arith
+    by_entry (Done m u) = omega arith
+    by_entry x = low
+
+-- what is known of a log where more follows
+record IsRead (past : List Entry) (s : State) (t : Stage) : Type 0 where
+  below : AreBelow s
+  arrived : HaveArrived past s.rows
+  joined : HaveJoined past s.rows
+  moment : moment_of past ≤ s.moment
+  begun : length past ≡ 0 → t ≡ granting
+
+has_come : (past : List Entry) (u : ℕ) (row : Row) → HasArrived past row.key.ticket row.key.class row.key.due → row.key.ticket ≡ u → IsSome (arrival_of u past)
+has_come past u row has named = subst (λ n. IsSome (arrival_of n past)) named (go (arrival_of row.key.ticket past) has)
+  where
+    go : (o : Option Arrival) → IsSomeAnd o (λ it. (it.class ≡ row.key.class) × (it.due ≡ row.key.due)) → is_some o ≡ true
+    go None h = absurd h
+    go (Some a) h = refl
+
+granted_past : (past : List Entry) (u : ℕ) → IsSome (arrival_of u past) → length past ≡ 0 → ⊥
+granted_past [] u some none = absurd (false≢true some)
+granted_past (x ∷ past) u some none = absurd (omega arith)
+
+may_follow : (setup : Setup) (past : List Entry) (s : State) (n : ℕ) (t : Stage) (e : Entry) → IsRead past s t → MayCome setup s n t e → MayFollow past e
+may_follow setup past s n granting (Arrive m a) is may = record { begins = λ h. refl; later = (let low = is.moment in let next = may.0.later in omega arith); arrived = tt; joined = tt }
+may_follow setup past s n granting (Done m u) is may = record { begins = λ h. refl; later = (let low = is.moment in let next = may.later in omega arith); arrived = tt; joined = tt }
+may_follow setup past s n granting (Granted u q v) is may =
+    let come : IsSome (arrival_of u past) = has_come past u may.row (is.arrived may.row may.live) may.named in
+    record {
+      begins = λ h. absurd (granted_past past u come h);
+      later = tt;
+      arrived = come;
+      joined = subst (λ k. 0 < joining_of k q past) may.named (is.joined may.row q may.live may.waits);
+    }
+may_follow setup past s n granting e is may = absurd may
+may_follow setup past s n t (Arrive m a) is may = absurd may
+may_follow setup past s n t (Done m u) is may = absurd may
+may_follow setup past s n t (Granted u q v) is may = absurd may
+may_follow setup past s n t e is may = record { begins = λ h. (let b = is.begun h in cc); later = tt; arrived = tt; joined = tt }
+
+read_after : (setup : Setup) (past : List Entry) (s : State) (n : ℕ) (t : Stage) (e : Entry) → IsRead past s t → MayCome setup s n t e → IsRead (past ++ e ∷ []) (after setup s e) (next_stage t e)
+read_after setup past s n t e is may = record {
+  below = below_after setup s n t e is.below may;
+  arrived = have_arrived_after setup past s e is.arrived (keeps setup s n t e is.below may);
+  joined = have_joined_after setup past s e is.joined;
+  moment = moment_after setup past s e is.moment;
+  begun = λ h. absurd (omega (arith, length-append past (e ∷ [])));
+}
+
+all_follow : (setup : Setup) (past : List Entry) (s : State) (n : ℕ) (t : Stage) (es : List Entry) → IsRead past s t → AllMayCome setup s n t es → AllFollow past es
+all_follow setup past s n t [] is all = tt
+all_follow setup past s n t (e ∷ es) is all = (may_follow setup past s n t e is all.0, all_follow setup (past ++ e ∷ []) (after setup s e) (n + 1) (next_stage t e) es (read_after setup past s n t e is all.0) all.1)
+
+pub judged_readable : (setup : Setup) (base : State) (log : List Entry) → HaveNone base.rows → AllMayCome setup base 0 granting log → IsReadable log
+judged_readable setup base log none all = all_follow setup [] base 0 granting log opened all
+  where
+    opened : IsRead [] base granting
+    opened = record {
+      below = λ row live. absurd (none row live);
+      arrived = λ row live. absurd (none row live);
+      joined = λ row queue live waits. absurd (none row live);
+      moment = omega arith;
+      begun = λ h. refl;
+    }

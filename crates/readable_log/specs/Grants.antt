@@ -1,0 +1,105 @@
+-- What a log says of the requests that leave a queue for a slot. Positions count its entries from 1, events included.
+use Rattle.std.specs.Prelude.{ℕ, ◌+◌, ◌==◌, ◌&&◌, Bool, false, ℤ, List, [], ◌∷◌, ◌++◌, Option, None, Some, map, take, length, if◌then◌else◌}
+use Rattle.std.specs.List.{fold, filter}
+use Rattle.std.specs.Option.{unwrap_or, option_map_or}
+use Rattle.std.specs.Ordering.{int_eq}
+use Rattle.dispatch_log.specs.declared.entry.Arrival.{Arrival}
+use Rattle.dispatch_log.specs.declared.entry.Entry.{Entry}
+use Rattle.dispatch_log.specs.declared.entry.Entry.TheVariants.{Arrive, Done, Joined, Granted}
+use Rattle.dispatch_log.specs.declared.queue.Queue.{Queue}
+use Rattle.dispatch_log.specs.declared.queue.Queue.TheVariants.{Backend, Server}
+use Rattle.dispatch_log.specs.Rows.{same_queue}
+use Rattle.readable_log.specs.declared.grant.Grant.{Grant}
+use Rattle.readable_log.specs.declared.grant.Stay.{Stay}
+
+-- a ticket in a queue
+pub record Wait : Type 0 where
+  pub ticket : ℕ
+  pub queue : Queue
+
+-- the moment of an event; an entry that begins none has none
+abbrev pub moment_in : Entry → Option ℕ
+moment_in (Arrive moment arrival) = Some moment
+moment_in (Done moment ticket) = Some moment
+moment_in entry = None
+
+-- the arrival that an entry is
+abbrev pub arrival_in : Entry → Option Arrival
+arrival_in (Arrive moment arrival) = Some arrival
+arrival_in entry = None
+
+-- the wait that begins with an entry
+abbrev pub joining_in : Entry → Option Wait
+joining_in (Joined ticket queue) = Some (record { ticket = ticket; queue = queue })
+joining_in entry = None
+
+-- the wait that ends with an entry, by the grant of a slot
+abbrev pub grant_in : Entry → Option Wait
+grant_in (Granted ticket queue server) = Some (record { ticket = ticket; queue = queue })
+grant_in entry = None
+
+-- the moment of the last event; 0 before the first one
+abbrev pub moment_of : List Entry → ℕ
+moment_of log = fold (λ moment entry. unwrap_or (moment_in entry) moment) 0 log
+
+-- the moment at a position: that of the event that its entry belongs to
+abbrev pub moment_at : List Entry → ℕ → ℕ
+moment_at log position = moment_of (take position log)
+
+-- the last arrival of a ticket, where an entry brings one or else as before
+abbrev pub newer_arrival : ℕ → Option Arrival → Entry → Option Arrival
+newer_arrival ticket before entry =
+    option_map_or (λ it. if it.ticket == ticket then Some it else before) (arrival_in entry) before
+
+-- the last arrival of a ticket
+abbrev pub arrival_of : ℕ → List Entry → Option Arrival
+arrival_of ticket log = fold (newer_arrival ticket) None log
+
+-- the last position whose entry passes a test, of a list's entries that follow so many; else a given one
+abbrev pub last_from : (Entry → Bool) → ℕ → ℕ → List Entry → ℕ
+last_from test count found [] = found
+last_from test count found (entry ∷ entries) = last_from test (count + 1) (if test entry then count + 1 else found) entries
+
+-- whether an entry puts a ticket into a queue
+abbrev pub joins : ℕ → Queue → Entry → Bool
+joins ticket queue entry = option_map_or (λ it. (it.ticket == ticket) && same_queue queue it.queue) (joining_in entry) false
+
+-- the position of the last entry that put a ticket into a queue; 0 where none did
+abbrev pub joining_of : ℕ → Queue → List Entry → ℕ
+joining_of ticket queue log = last_from (joins ticket queue) 0 0 log
+
+-- the grant of an arrival's ticket, which follows the entries of a log
+abbrev pub grant_of : List Entry → Wait → Arrival → Grant
+grant_of past wait arrival = record {
+  queue = wait.queue;
+  class = arrival.class;
+  moment = moment_of past;
+  stay = record { ticket = wait.ticket; joined = joining_of wait.ticket wait.queue past; slot = length past + 1; due = arrival.due };
+}
+
+-- the grant that an entry is, where it follows the entries of a log; none where the ticket never arrived
+abbrev pub grant_after : List Entry → Entry → Option Grant
+grant_after past entry =
+    option_map_or (λ wait. option_map_or (λ arrival. Some (grant_of past wait arrival)) (arrival_of wait.ticket past) None) (grant_in entry) None
+
+-- the grants of entries that follow the entries of a log
+abbrev pub grants_after : List Entry → List Entry → List Grant
+grants_after past [] = []
+grants_after past (entry ∷ entries) = option_map_or (λ grant. grant ∷ []) (grant_after past entry) [] ++ grants_after (past ++ entry ∷ []) entries
+
+-- the grants of a log, in order
+abbrev pub grants : List Entry → List Grant
+grants log = grants_after [] log
+
+-- whether a grant is from a queue and of a class
+abbrev pub is_of : Queue → ℤ → Grant → Bool
+is_of queue class grant = same_queue queue grant.queue && int_eq class grant.class
+
+-- the stays of a queue and class that ended with the grant of a slot, in order
+abbrev pub stays : List Entry → Queue → ℤ → List Stay
+stays log queue class = map (λ grant. grant.stay) (filter (is_of queue class) (grants log))
+
+-- the server whose queue it is; None for the backend's
+abbrev pub server_of : Queue → Option ℕ
+server_of Backend = None
+server_of (Server server) = Some server

@@ -1,0 +1,47 @@
+-- Logs that keep the order of their queues, and what they leave.
+use Rattle.std.specs.Prelude.{◌≡◌, ◌≢◌, ℕ, ◌<◌, List, [], ◌∷◌, IsTrue}
+use Rattle.std.specs.Option.{IfSome}
+use Rattle.std.specs.declared.cmp.Ordering.TheVariants.{Greater}
+use Rattle.due_key.specs.Order.{key_cmp}
+use Rattle.dispatch_log.specs.declared.entry.Entry.{Entry}
+use Rattle.dispatch_log.specs.declared.row.Row.{Row}
+use Rattle.dispatch_log.specs.declared.setup.Setup.{Setup}
+use Rattle.dispatch_log.specs.Rows.{Rows, IsRow, phase_waits_in}
+use Rattle.dispatch_log.specs.States.{State, after}
+use Rattle.readable_log.specs.Grants.{Wait, arrival_in, grant_in, joining_of}
+use Rattle.readable_log.specs.Readable.{HasArrived}
+use Rattle.dispatch_log.specs.declared.queue.Queue.{Queue}
+
+-- no row has the ticket
+abbrev pub IsFresh : Rows → ℕ → Type 0
+IsFresh rows ticket = (row : Row) → IsRow rows row → row.key.ticket ≢ ticket
+
+-- the ticket waits in the queue, and no key that waits there is smaller than its own
+pub record TakesLeast (rows : Rows) (wait : Wait) : Type 0 where
+  pub row : Row
+  pub live : IsRow rows row
+  pub named : row.key.ticket ≡ wait.ticket
+  pub waits : IsTrue (phase_waits_in wait.queue row.phase)
+  pub least : (other : Row) → IsRow rows other → IsTrue (phase_waits_in wait.queue other.phase) → key_cmp row.key other.key ≢ Greater
+
+-- an entry keeps the order of the queues: the ticket of an arrival is fresh, and a grant takes the least key of its queue
+pub record KeepsOrder (rows : Rows) (entry : Entry) : Type 0 where
+  pub fresh : IfSome (arrival_in entry) (λ arrival. IsFresh rows arrival.ticket)
+  pub least : IfSome (grant_in entry) (TakesLeast rows)
+
+-- each entry does, in the state that those before it left
+abbrev pub AllKeepOrder : Setup → State → List Entry → Type 0
+AllKeepOrder setup state [] = Unit {0}
+AllKeepOrder setup state (entry ∷ entries) = KeepsOrder state.rows entry × AllKeepOrder setup (after setup state entry) entries
+
+-- there is no row
+abbrev pub HaveNone : Rows → Type 0
+HaveNone rows = (row : Row) → IsRow rows row → ⊥
+
+-- each row has the class and the due date of its ticket's last arrival
+abbrev pub HaveArrived : List Entry → Rows → Type 0
+HaveArrived log rows = (row : Row) → IsRow rows row → HasArrived log row.key.ticket row.key.class row.key.due
+
+-- each row that waits was put into its queue by an entry
+abbrev pub HaveJoined : List Entry → Rows → Type 0
+HaveJoined log rows = (row : Row) (queue : Queue) → IsRow rows row → IsTrue (phase_waits_in queue row.phase) → 0 < joining_of row.key.ticket queue log

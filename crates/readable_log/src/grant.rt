@@ -1,0 +1,27 @@
+use dispatch_log::Queue;
+use due_key::{Class, Due, Moment};
+
+/// A wait in a queue that ended with the grant of a slot. Positions count the entries of a log
+/// from 1, events included. A ticket that was granted twice has two stays.
+#[derive(Clone, Copy, Debug, PartialEq, Eq)]
+pub struct Stay {
+    pub ticket: u64,
+    /// The position of the last entry that put the ticket into the queue.
+    pub joined: usize,
+    /// The position of the grant.
+    pub slot: usize,
+    /// The due date of the ticket's last arrival.
+    pub due: Due,
+}
+
+/// A grant of a slot to a waiting request.
+#[derive(Clone, Copy, Debug, PartialEq, Eq)]
+pub struct Grant {
+    /// The queue that the request left.
+    pub queue: Queue,
+    /// The class of the ticket's last arrival.
+    pub class: Class,
+    /// The moment of the event that the slot was granted in.
+    pub moment: Moment,
+    pub stay: Stay,
+}

@@ -1,0 +1,19 @@
+//! A log that can be read back: beside its entries it keeps the grants of slots that they tell of,
+//! each with its class, its due date and where its wait began.
+#![tactic(auto)]
+
+mod grant;
+mod laws;
+mod log;
+mod read;
+
+pub use grant::{Grant, Stay};
+pub use laws::{
+    entries_add_up, judged_logs_are_readable, readable_logs_are_timely, rows_have_arrived,
+    worked_logs,
+};
+pub use log::Log;
+pub use read::{ReadError, server_of};
+
+#[cfg(test)]
+mod tests;

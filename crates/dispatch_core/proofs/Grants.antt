@@ -118,9 +118,9 @@ module _ {N : Type 0} (pair_of : N → Key × Unit {0}) where
         let key : calls.take.0.ticket ≡ u = ap (λ (k : Key). k.ticket) same_key ∙ calls.named in
         let state = state_of (history_of kept log) in
         let lawful : IsLawfulGrant (scene_of (history_of kept log)) state.cursor u queue server =
-            subst (λ n. IsLawfulGrant (scene_of (history_of kept log)) state.cursor n queue server) key
-            (subst (λ n. IsLawfulGrant (scene_of (history_of kept log)) n calls.take.0.ticket queue server) calls.before.held.cursor_is
-            (subst (λ (s : Scene). IsLawfulGrant s cursor calls.take.0.ticket queue server) (scene_is kept log lined cursor last ticket calls.before) calls.take.2)) in
+        subst (λ n. IsLawfulGrant (scene_of (history_of kept log)) state.cursor n queue server) key
+        (subst (λ n. IsLawfulGrant (scene_of (history_of kept log)) n calls.take.0.ticket queue server) calls.before.held.cursor_is
+        (subst (λ (s : Scene). IsLawfulGrant s cursor calls.take.0.ticket queue server) (scene_is kept log lined cursor last ticket calls.before) calls.take.2)) in
         subst (λ (t : Stage). MayCome kept.setup state (length log.entries) t (Granted u queue server)) (sym calls.between) lawful
 
     backed : (place : ℕ) × (row : Row) × (since : ℕ) × StandsAt (state_of (history_of kept log)).rows place row × (row.phase ≡ Waiting queue since) × (row.key ≡ head)
@@ -165,8 +165,8 @@ module _ {N : Type 0} (pair_of : N → Key × Unit {0}) where
         let named : b.1.key.ticket ≡ u = ap (λ (k : Key). k.ticket) b.5 ∙ calls.named in
         let next : Row = record b.1 { phase = Serving server } in
         let rows : (state_of (with_entry h (Granted u queue server))).rows ≡ set state.rows b.0 (Some next) =
-            ap (λ (s : State). s.rows) (after_all-push kept.setup (opening_state kept.setup) log.entries (Granted u queue server))
-            ∙ changed_at state.rows u b.0 b.1 (in_phase (Serving server)) (trace_consistent pair_of kept log lined cursor last ticket calls.before).tickets b.3 named in
+        ap (λ (s : State). s.rows) (after_all-push kept.setup (opening_state kept.setup) log.entries (Granted u queue server))
+        ∙ changed_at state.rows u b.0 b.1 (in_phase (Serving server)) (trace_consistent pair_of kept log lined cursor last ticket calls.before).tickets b.3 named in
         let count : count_by waits (set state.rows b.0 (Some next)) + tally (waits (Some b.1)) ≡ count_by waits state.rows + 0 = count-set waits state.rows b.0 (Some b.1) (Some next) b.3 in
         let one : tally (waits (Some b.1)) ≡ 1 = ap (λ (p : Phase). tally (is_waiting p)) b.4 in
         let now : waiting_of (with_entry h (Granted u queue server)) ≡ count_by waits (set state.rows b.0 (Some next)) = ap (count_by waits) rows in

@@ -3,8 +3,8 @@ use dispatch_log::{Arrival, Entry};
 use due_key::{Class, Due, Key, Moment, Offset};
 use pend_queue::ListQueue;
 use std::alloc::Global;
-use verdict::Cause;
 use std::test::Fail;
+use verdict::Cause;
 
 fn server(limit: u32, maxqueue: u32, weight: u32) -> ServerSet {
     ServerSet {
@@ -294,7 +294,10 @@ fn a_request_that_no_server_takes_is_told_so(rt: HostRuntime) -> Result<(), Fail
     let alloc = rt.alloc();
     let mut core = core_of(vec![in alloc; server(1, 0, 0)]?, alloc, 8, 64)?;
     let placed = placements(&mut core, alloc, &[None])?;
-    assert_eq!(rt; placed.as_slice(), [Entry::Left(1, Cause::NoServer)].as_slice());
+    assert_eq!(rt;
+        placed.as_slice(),
+        [Entry::Left(1, Cause::NoServer)].as_slice()
+    );
     assert_eq!(rt; core.phase(1), Some(Phase::Told(Cause::NoServer)));
     core.done(moment(1)?, 1)?;
     assert_eq!(rt; core.log().entries().last(), Some(&Entry::Ended(1)));

@@ -16,7 +16,7 @@ use crate::queues::Queues;
 use dispatch_log::{Arrival, Entry, Log, Phase, Queue, Refusal, Row, Setup};
 use due_key::{Class, Due, Key, Moment, Offset};
 use pend_queue::PendQueue;
-use server_pick::{next_take, Cursor, Placement};
+use server_pick::{Cursor, Placement, next_take};
 use slot_ledger::Ledger;
 use std::alloc::{AllocError, Global};
 use std::marker::Model;

@@ -39,18 +39,24 @@ room_takes scene server room = by_server (slice_get scene.servers server) room
 
 -- where no server is a candidate, none has room
 pub none_has_room : (scene : Scene) (avoid : Option ℕ) → ((server : ℕ) → IsCandidate scene avoid server → ⊥) → (server : ℕ) → has_room scene server ≡ true → ⊥
-none_has_room scene avoid none server room = none server (room, λ avoids other its. elim (same_or_other other server) [
-  | inl e ↦ e
-  | inr e ↦ absurd (none other (its, λ avoided. absurd (e (same_Some other server (sym avoided ∙ avoids)))))
-])
+none_has_room scene avoid none server room = none server (
+  room,
+  λ avoids other its. elim (same_or_other other server) [
+    | inl e ↦ e
+    | inr e ↦ absurd (none other (its, λ avoided. absurd (e (same_Some other server (sym avoided ∙ avoids)))))
+  ],
+)
 
 -- the candidates are those with room but the avoided one, and where there are none of these the avoided one
 pub candidate_others : (scene : Scene) (avoid : Option ℕ) (server : ℕ) → ((other : ℕ) × HasRoomBut scene avoid other) → HasRoomBut scene avoid server ↔ IsCandidate scene avoid server
 candidate_others scene avoid server some = (
   (λ has. (has.0, λ avoids. absurd (has.1 avoids))),
-  (λ candidate. (candidate.0, λ avoids.
-      let same : some.0 ≡ server = candidate.1 avoids some.0 some.1.0 in
-      some.1.1 (subst (λ k. avoid ≡ Some k) (sym same) avoids))),
+  (λ candidate. (
+    candidate.0,
+    λ avoids.
+        let same : some.0 ≡ server = candidate.1 avoids some.0 some.1.0 in
+        some.1.1 (subst (λ k. avoid ≡ Some k) (sym same) avoids),
+  )),
 )
 
 pub candidate_left : (scene : Scene) (avoid : Option ℕ) (own server : ℕ) → avoid ≡ Some own → has_room scene own ≡ true → ((other : ℕ) → HasRoomBut scene avoid other → ⊥) → (server ≡ own) ↔ IsCandidate scene avoid server

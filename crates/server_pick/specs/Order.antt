@@ -12,7 +12,7 @@ abbrev pub goes_before : Scene → ℕ → ℕ → ℕ → Bool
 goes_before scene cursor server other =
     nat_lt (load scene server * weight_of scene other) (load scene other * weight_of scene server)
     || ((load scene server * weight_of scene other == load scene other * weight_of scene server)
-        && nat_lt (steps_after scene cursor server) (steps_after scene cursor other))
+    && nat_lt (steps_after scene cursor server) (steps_after scene cursor other))
 
 -- a server goes before the best so far
 abbrev pub beats : Scene → ℕ → ℕ → Option ℕ → Bool

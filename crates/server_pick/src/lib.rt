@@ -13,9 +13,9 @@ mod words;
 
 pub use balance::{candidates, pick};
 pub use cursor::Cursor;
-pub use placement::{place, Placement};
-pub use server_set::Set64;
 pub use heads::Heads;
+pub use placement::{Placement, place};
+pub use server_set::Set64;
 pub use takers::next_take;
 
 #[cfg(test)]

@@ -19,7 +19,11 @@ use slot_ledger::Ledger;
 
 /// The server that takes next, and the queue whose head it takes: of weight 0 first, and else the
 /// pick of those that can take. `None` only where all is settled.
-pub fn next_take<H: Drop>(ledger: &Ledger<H>, cursor: &mut Cursor, heads: &Heads) -> Option<(usize, Queue)>
+pub fn next_take<H: Drop>(
+    ledger: &Ledger<H>,
+    cursor: &mut Cursor,
+    heads: &Heads,
+) -> Option<(usize, Queue)>
     requires heads { AreHeads heads.now (length ledger.now.setup.servers) (rows_in ledger.now.slots) }
     ensures taken { MatchOption result (IsSettled (scene_of ledger.now)) (λ it. IsLawfulTake (scene_of ledger.now) cursor.old heads.now it.0 it.1) }
     ensures cursor { IsTaken ledger.now.setup cursor.old cursor.new result }

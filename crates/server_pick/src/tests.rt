@@ -1,4 +1,4 @@
-use crate::{candidates, place, Cursor, Heads, Placement, Set64};
+use crate::{Cursor, Heads, Placement, Set64, candidates, place};
 use dispatch_log::{Queue, ServerSet, Servers, Setup};
 use due_key::{Class, Due, Key, Moment, Offset};
 use slot_ledger::Ledger;
@@ -58,9 +58,15 @@ fn idle_servers_are_picked_in_turn(rt: HostRuntime) -> Result<(), Fail> {
     let mut cursor = Cursor::new(3);
     assert_eq!(rt; cursor.server(), 2);
     assert_eq!(rt; place(&ledger, &mut cursor, None, None), Placement::Slot(0));
-    assert_eq!(rt; place(&ledger, &mut cursor, Some(2), None), Placement::Slot(2));
+    assert_eq!(rt;
+        place(&ledger, &mut cursor, Some(2), None),
+        Placement::Slot(2)
+    );
     assert_eq!(rt; cursor.server(), 0);
-    assert_eq!(rt; place(&ledger, &mut cursor, None, Some(1)), Placement::Slot(2));
+    assert_eq!(rt;
+        place(&ledger, &mut cursor, None, Some(1)),
+        Placement::Slot(2)
+    );
     let others = candidates(&ledger, Some(1));
     assert!(rt; others.contains(0) && !others.contains(1));
     Ok(())

@@ -52,8 +52,7 @@ pub(crate) fn has_room<H: Drop>(ledger: &Ledger<H>, server: usize) -> bool
         None => false,
         Some(it) => {
             let (limit, load) = (u64::from(it.limit), load(ledger, server));
-            0 < it.weight
-                && (limit == 0 || load < limit || load - limit < u64::from(it.maxqueue))
+            0 < it.weight && (limit == 0 || load < limit || load - limit < u64::from(it.maxqueue))
         }
     }
 }

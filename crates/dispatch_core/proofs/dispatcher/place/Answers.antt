@@ -16,4 +16,3 @@ pub direct-requires-clause-cursor : goal.direct-requires-clause-cursor
 direct-requires-clause-cursor g c =
     let h = c.args.trace.now in
     c.placement-placement.ensures.cursor ∙ ap (λ (p : Placement). cursor_placed (pin_of c.args.ticket (state_of h).rows) p (state_of h).cursor) c.in-Slot.is
-

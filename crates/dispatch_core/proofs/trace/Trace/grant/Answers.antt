@@ -73,7 +73,7 @@ returns-clause-granted g c =
     let old = history_of c.self.inside.ledger c.self.inside.log in
     let setup = ap (λ (k : Kept _). k.setup) (c.serve.ensures ∙ ap (λ (k : Kept _). with_slots k (with_phase (Serving c.in-Some.server) k.slots c.in-Some-find.place)) c.loosen.ensures) in
     let goes : history_of c.serve.new.self c.note.new.self ≡ with_entry old (Granted c.pair.result.0.now.ticket c.in-Some.queue c.in-Some.server) =
-        ap (λ (s : Setup). record { setup = s; log = c.note.new.self.entries }) setup ∙ ap (λ (r : Recorded). record { setup = c.self.inside.ledger.setup; log = r.entries }) c.note.ensures in
+    ap (λ (s : Setup). record { setup = s; log = c.note.new.self.entries }) setup ∙ ap (λ (r : Recorded). record { setup = c.self.inside.ledger.setup; log = r.entries }) c.note.ensures in
     subst (λ (h : History). IsGrant h (history_of c.serve.new.self c.note.new.self)) c.self.view_is
     (is_grant g.Q.PendQueue.pair_of c.self.inside.ledger c.self.inside.log c.self.inside.queues c.self.inside.cursor c.self.inside.last c.self.inside.ticket c.in-Some.server c.in-Some.queue c.heads-heads.result c.in-Some-pop.node c.pair.result.0.now.ticket (record {
       before = c.self.invariant;

@@ -41,24 +41,6 @@ fn core(alloc: Global, places: usize, log: usize) -> Result<Core<ListQueue<Key, 
     core_of(vec![in alloc; server(1, 0, 1)]?, alloc, places, log)
 }
 
-/// Requests of class 0 without an offset, bound to these servers, come at moment 0. The last entry
-/// of each is its placement.
-fn placements(
-    core: &mut Core<ListQueue<Key, ()>>,
-    alloc: Global,
-    pins: &[Option<usize>],
-) -> Result<Vec<Entry>, Fail> {
-    let mut placed = Vec::with_capacity(alloc, pins.len())?;
-    for pin in pins {
-        core.arrive(alloc, moment(0)?, Class::clamp(0), Offset::clamp(0), *pin)?;
-        match core.log().entries().last() {
-            Some(entry) => placed.push(*entry)?,
-            None => return Err(Fail::from("no entry")),
-        }
-    }
-    Ok(placed)
-}
-
 fn moment(number: u64) -> Result<Moment, Fail> {
     Ok(Moment::new(number).ok_or("a moment out of range")?)
 }
@@ -193,99 +175,16 @@ fn a_new_core_serves_nothing(rt: HostRuntime) -> Result<(), Fail> {
 }
 
 #[test]
-fn loads_are_compared_by_weight(rt: HostRuntime) -> Result<(), Fail> {
+fn idle_servers_are_picked_in_turn(rt: HostRuntime) -> Result<(), Fail> {
     let alloc = rt.alloc();
-    let servers = vec![in alloc; server(0, 0, 2), server(0, 0, 1)]?;
-    let mut core = core_of(servers, alloc, 8, 64)?;
-    let placed = placements(&mut core, alloc, &[None; 7])?;
-    let expected = [
-        Entry::Direct(1, 0),
-        Entry::Direct(2, 1),
-        Entry::Direct(3, 0),
-        Entry::Direct(4, 1),
-        Entry::Direct(5, 0),
-        Entry::Direct(6, 0),
-        Entry::Direct(7, 1),
-    ];
-    assert_eq!(rt; placed.as_slice(), expected.as_slice());
-    Ok(())
-}
-
-#[test]
-fn queued_requests_count_as_load(rt: HostRuntime) -> Result<(), Fail> {
-    let alloc = rt.alloc();
-    let servers = vec![in alloc; server(1, 5, 2), server(5, 0, 1)]?;
-    let mut core = core_of(servers, alloc, 8, 64)?;
-    let placed = placements(&mut core, alloc, &[None; 4])?;
-    let expected = [
-        Entry::Direct(1, 0),
-        Entry::Direct(2, 1),
-        Entry::Joined(3, Queue::Server(0)),
-        Entry::Direct(4, 1),
-    ];
-    assert_eq!(rt; placed.as_slice(), expected.as_slice());
-    Ok(())
-}
-
-#[test]
-fn a_pin_is_ignored_where_the_queue_is_full(rt: HostRuntime) -> Result<(), Fail> {
-    let alloc = rt.alloc();
-    let servers = vec![in alloc; server(1, 1, 1), server(1, 0, 1)]?;
-    let mut core = core_of(servers, alloc, 8, 64)?;
-    let placed = placements(&mut core, alloc, &[Some(0); 3])?;
-    let expected = [
-        Entry::Direct(1, 0),
-        Entry::Joined(2, Queue::Server(0)),
-        Entry::Direct(3, 1),
-    ];
-    assert_eq!(rt; placed.as_slice(), expected.as_slice());
-    Ok(())
-}
-
-#[test]
-fn a_slot_goes_to_the_smaller_head(rt: HostRuntime) -> Result<(), Fail> {
-    let alloc = rt.alloc();
-    let mut core = core_of(vec![in alloc; server(1, 1, 1)]?, alloc, 8, 64)?;
-    let placed = placements(&mut core, alloc, &[None; 3])?;
-    let expected = [
-        Entry::Direct(1, 0),
-        Entry::Joined(2, Queue::Server(0)),
-        Entry::Joined(3, Queue::Backend),
-    ];
-    assert_eq!(rt; placed.as_slice(), expected.as_slice());
-    core.done(moment(6)?, 1)?;
-    assert_eq!(rt;
-        core.log().entries().last(),
-        Some(&Entry::Granted(2, Queue::Server(0), 0))
-    );
-    core.done(moment(7)?, 2)?;
-    assert_eq!(rt;
-        core.log().entries().last(),
-        Some(&Entry::Granted(3, Queue::Backend, 0))
-    );
-    Ok(())
-}
-
-#[test]
-fn weight_zero_takes_pinned_requests(rt: HostRuntime) -> Result<(), Fail> {
-    let alloc = rt.alloc();
-    let servers = vec![in alloc; server(1, 0, 0), server(1, 0, 1)]?;
-    let mut core = core_of(servers, alloc, 8, 64)?;
-    let placed = placements(&mut core, alloc, &[Some(0), None, None, Some(0)])?;
-    let expected = [
-        Entry::Direct(1, 0),
-        Entry::Direct(2, 1),
-        Entry::Joined(3, Queue::Backend),
-        Entry::Joined(4, Queue::Server(0)),
-    ];
-    assert_eq!(rt; placed.as_slice(), expected.as_slice());
-    core.done(moment(2)?, 1)?;
-    assert_eq!(rt;
-        core.log().entries().last(),
-        Some(&Entry::Granted(4, Queue::Server(0), 0))
-    );
-    core.done(moment(3)?, 4)?;
-    assert_eq!(rt; core.log().entries().last(), Some(&Entry::Ended(4)));
+    let mut core = core_of(vec![in alloc; server(2, 0, 1); 2]?, alloc, 8, 64)?;
+    let (at, class, none) = (moment(0)?, Class::clamp(0), Offset::clamp(0));
+    core.arrive(alloc, at, class, none, None)?;
+    assert_eq!(rt; core.log().entries().last(), Some(&Entry::Direct(1, 0)));
+    core.arrive(alloc, at, class, none, None)?;
+    assert_eq!(rt; core.log().entries().last(), Some(&Entry::Direct(2, 1)));
+    core.arrive(alloc, at, class, none, Some(1))?;
+    assert_eq!(rt; core.log().entries().last(), Some(&Entry::Direct(3, 1)));
     Ok(())
 }
 
@@ -293,15 +192,14 @@ fn weight_zero_takes_pinned_requests(rt: HostRuntime) -> Result<(), Fail> {
 fn a_request_that_no_server_takes_is_told_so(rt: HostRuntime) -> Result<(), Fail> {
     let alloc = rt.alloc();
     let mut core = core_of(vec![in alloc; server(1, 0, 0)]?, alloc, 8, 64)?;
-    let placed = placements(&mut core, alloc, &[None])?;
+    core.arrive(alloc, moment(0)?, Class::clamp(0), Offset::clamp(0), None)?;
     assert_eq!(rt;
-        placed.as_slice(),
-        [Entry::Left(1, Cause::NoServer)].as_slice()
+        core.log().entries().last(),
+        Some(&Entry::Left(1, Cause::NoServer))
     );
     assert_eq!(rt; core.phase(1), Some(Phase::Told(Cause::NoServer)));
     core.done(moment(1)?, 1)?;
     assert_eq!(rt; core.log().entries().last(), Some(&Entry::Ended(1)));
-    assert_eq!(rt; core.phase(1), None);
     Ok(())
 }
 

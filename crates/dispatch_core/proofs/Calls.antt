@@ -1,5 +1,5 @@
 -- The calls of a core as compositions of entries.
-use Rattle.std.proofs.Common.{◌≡◌, ℕ, suc, ◌==◌, ◌+◌, ◌-◌, ◌*◌, ◌<◌, ◌≤◌, Bool, true, false, List, [], ◌∷◌, ◌++◌, Option, None, Some, is_none, option_map, All, length, refl, ap, sym, ◌∙◌, subst, arith, append_assoc, length-append}
+use Rattle.std.proofs.Common.{◌≡◌, ℕ, suc, ◌+◌, ◌-◌, ◌*◌, ◌<◌, ◌≤◌, Bool, true, false, List, [], ◌∷◌, ◌++◌, Option, None, Some, is_none, option_map, All, length, refl, ap, sym, ◌∙◌, subst, arith, append_assoc, length-append}
 use Rattle.std.specs.Option.{option_map_or, option_and_then}
 use Rattle.std.proofs.Math.ListN.{length-replicate}
 use Rattle.std.proofs.lemmas.Bool.Decides.{nat_tests, Decides-eqb}
@@ -9,12 +9,10 @@ use Rattle.std.proofs.lemmas.Option.{same_Some}
 use Rattle.dispatch_log.specs.declared.entry.Arrival.{Arrival}
 use Rattle.dispatch_log.specs.declared.entry.Entry.{Entry}
 use Rattle.dispatch_log.specs.declared.entry.Entry.TheVariants.{Arrive, Done, Direct, Joined, Freed, Left, Ended}
-use Rattle.dispatch_log.specs.declared.queue.Queue.{Queue}
 use Rattle.dispatch_log.specs.declared.queue.Queue.TheVariants.{Backend, Server}
 use Rattle.verdict.specs.declared.cause.Cause.TheVariants.{NoServer}
-use Rattle.server_pick.specs.declared.placement.Placement.{Placement}
 use Rattle.server_pick.specs.declared.placement.Placement.TheVariants.{Slot, OwnQueue, BackendQueue, Nowhere}
-use Rattle.server_pick.specs.Picked.{IsPlacement, cursor_placed}
+use Rattle.server_pick.specs.Picked.{IsPlacement}
 use Rattle.dispatch_log.specs.declared.refusal.Refusal.{Refusal}
 use Rattle.dispatch_log.specs.declared.refusal.Refusal.TheVariants.{PlacesFull, LogFull, NoSuchTicket, NoSuchServer, WrongPhase, TicketsSpent}
 use Rattle.dispatch_log.specs.declared.row.Phase.{Phase}
@@ -24,14 +22,13 @@ use Rattle.dispatch_log.specs.declared.setup.Setup.{Setup}
 use Rattle.dispatch_log.specs.Dispatch.{IsDispatched}
 use Rattle.dispatch_log.specs.Histories.{History, IsLegal, state_of, begins_event, refuses_arrival, refuses_done, AddsEvent}
 use Rattle.dispatch_log.specs.Judgement.{Stage, placing, returning, ending, granting, MayCome, next_stage, HasSlot, IsTold}
-use Rattle.dispatch_log.specs.Placement.{IsDirect, IsJoining, IsTurnedAway}
 use Rattle.dispatch_log.specs.Refusals.{first_of, is_waiting, lacks_room}
 use Rattle.dispatch_log.specs.Rows.{Rows, StandsAt, row_of, server_in, has_ticket, phase_is_served_by, phase_is_told, pin_of}
 use Rattle.dispatch_log.specs.States.{State, after, opening_state}
 use Rattle.dispatch_log.proofs.Consistency.{IsConsistent}
-use Rattle.dispatch_log.proofs.Dispatched.{dispatched, opening_consistent}
+use Rattle.dispatch_log.proofs.Dispatched.{dispatched, opening_consistent, none_stands}
 use Rattle.dispatch_log.proofs.Judged.{after_all-push, stage_after-push, places_all, consistent_all}
-use Rattle.dispatch_core.specs.Steps.{with_entry, stage_of, scene_of, cursor_after, waits, waiting_of, HasRowOf, IsReturn, MayComeNext, MayBeginNext, Places, Leaves, Settles}
+use Rattle.dispatch_core.specs.Steps.{with_entry, stage_of, scene_of, waits, waiting_of, IsReturn, MayComeNext, MayBeginNext, Places, Leaves, Settles}
 
 -- an entry may come after another
 may_next : (h : History) (e next : Entry) (t : Stage) → next_stage (stage_of h) e ≡ t → MayCome h.setup (after h.setup (state_of h) e) (length (h.log ++ e ∷ [])) t next → MayComeNext (with_entry h e) next
@@ -199,12 +196,6 @@ done_adds h one two now m t begun is settled =
 pub arrival_places : (h one : History) (m : ℕ) (a : Arrival) → one ≡ with_entry h (Arrive m a) → stage_of one ≡ placing a.ticket
 arrival_places h one m a begun = ap stage_of begun ∙ stage_after-push granting h.log (Arrive m a)
 
--- the newcomer has a row
-pub arrival_row : (h one : History) (m : ℕ) (a : Arrival) → IsLegal h → one ≡ with_entry h (Arrive m a) → MayComeNext h (Arrive m a) → HasRowOf (state_of one).rows a.ticket
-arrival_row h one m a legal begun may =
-    subst (λ (x : History). HasRowOf (state_of x).rows a.ticket) (sym begun)
-    (subst (λ (s : State). HasRowOf s.rows a.ticket) (sym (after_all-push h.setup (opening_state h.setup) h.log (Arrive m a))) ?)
-
 -- a newcomer's placement may come
 pub may_direct : (h : History) (t server : ℕ) → stage_of h ≡ placing t → IsPlacement (scene_of h) (state_of h).cursor (pin_of t (state_of h).rows) None (Slot server) → MayComeNext h (Direct t server)
 may_direct h t server stage placed = subst (λ (x : Stage). MayCome h.setup (state_of h) (length h.log) x (Direct t server)) (sym stage) (refl, placed)
@@ -250,3 +241,7 @@ arrive_adds h one two now m a begun is settled =
 -- what is legal after an event is dispatched
 pub added_dispatched : (h now : History) (event : Entry) → AddsEvent h now event → IsDispatched now
 added_dispatched h now event added = dispatched now added.legal
+
+-- a core without an entry is legal
+pub new_legal : (h : History) (setup : Setup) → h ≡ record { setup = setup; log = [] } → IsLegal h
+new_legal h setup new = subst IsLegal (sym new) (record { judged = tt; whole = refl; settled = λ server can. none_stands setup.places can.1.1.0 can.1.0 can.1.1.1 })

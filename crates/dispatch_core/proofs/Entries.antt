@@ -1,15 +1,13 @@
 -- The entries of a trace, one by one.
-use Rattle.std.proofs.Common.{◌≡◌, ℕ, ◌+◌, ◌<◌, ◌≤◌, true, false, List, ◌∷◌, Option, None, Some, length, refl, ap, sym, ◌∙◌, subst, arith, ◌⊎◌, inl, inr}
+use Rattle.std.proofs.Common.{◌≡◌, ℕ, ◌+◌, ◌<◌, ◌≤◌, true, false, List, Option, None, Some, length, refl, ap, sym, ◌∙◌, subst, arith, ◌⊎◌, inl, inr}
 use Rattle.std.proofs.Math.ListN.{set, length-set}
 use Rattle.std.proofs.lemmas.Bool.Decides.{Decides-eqb}
 use Rattle.std.proofs.lemmas.List.Sums.{count_by-le-length}
 use Rattle.std.proofs.lemmas.Option.{same_Some}
 use Rattle.due_key.specs.declared.key.Key.{Key}
 use Rattle.due_key.specs.Order.{key_cmp}
-use Rattle.dispatch_log.specs.declared.entry.Entry.{Entry}
 use Rattle.dispatch_log.specs.declared.entry.Entry.TheVariants.{Direct, Joined, Freed, Left, Ended}
 use Rattle.dispatch_log.specs.declared.queue.Queue.{Queue}
-use Rattle.dispatch_log.specs.declared.queue.Queue.TheVariants.{Backend, Server}
 use Rattle.dispatch_log.specs.declared.row.Phase.{Phase}
 use Rattle.dispatch_log.specs.declared.row.Phase.TheVariants.{Loose, Waiting, Serving, Told}
 use Rattle.dispatch_log.specs.declared.row.Row.{Row}
@@ -17,9 +15,8 @@ use Rattle.dispatch_log.specs.Histories.{History, state_of}
 use Rattle.dispatch_log.specs.Judgement.{Stage, placing, granting, returning, ending, MayCome, IsTold}
 use Rattle.dispatch_log.specs.Logs.{Recorded}
 use Rattle.dispatch_log.specs.Refusals.{is_waiting}
-use Rattle.dispatch_log.specs.Rows.{Rows, StandsAt, phase_waits_in, phase_is_served_by, phase_is_told, waits_in, queued, in_phase, gone, pin_of}
-use Rattle.dispatch_log.specs.States.{State, scene, after, put_on, put_in}
-use Rattle.dispatch_log.specs.Words.{is_free}
+use Rattle.dispatch_log.specs.Rows.{phase_waits_in, phase_is_served_by, phase_is_told, waits_in, queued, in_phase, gone}
+use Rattle.dispatch_log.specs.States.{scene}
 use Rattle.dispatch_log.proofs.Consistency.{IsLoose}
 use Rattle.dispatch_log.proofs.Judged.{direct_row, joined_row, left_row, ended_row, freed_slot}
 use Rattle.dispatch_log.proofs.Places.{tally, count-set}
@@ -28,16 +25,15 @@ use Rattle.slot_ledger.specs.declared.places.Slot.{Slot}
 use Rattle.slot_ledger.specs.Counts.{IsQueueOf}
 use Rattle.slot_ledger.specs.Ledgers.{Kept, with_slots}
 use Rattle.slot_ledger.specs.Slots.{StandsIn, HasNode, HasTicketAt, HasNoTicket, with_phase, waiting}
-use Rattle.slot_ledger.proofs.Counting.{row_in}
 use Rattle.slot_ledger.proofs.Standing.{with_slot_at}
 use Rattle.server_pick.proofs.Filled.{free_within}
 use Rattle.server_pick.proofs.Taking.{own_queue}
 use Rattle.verdict.specs.declared.cause.Cause.{Cause}
 use Rattle.verdict.specs.declared.cause.Cause.TheVariants.{NoServer}
-use Rattle.dispatch_core.specs.Lines.{Waits, Lined, waits_at, with_waits}
+use Rattle.dispatch_core.specs.Lines.{Lined, waits_at, with_waits}
 use Rattle.dispatch_core.specs.Steps.{stage_of, cursor_after, MayComeNext}
-use Rattle.dispatch_core.specs.Traces.{HasItsNode, HoldsQueue, Holds, history_of, noted, IsTrace}
-use Rattle.dispatch_core.proofs.Holding.{stands_row, found_row, not_missed, NodeOf, node_of, held_change, trace_consistent, trace_places, trace_step, phase_kept}
+use Rattle.dispatch_core.specs.Traces.{HasItsNode, history_of, noted, IsTrace}
+use Rattle.dispatch_core.proofs.Holding.{stands_row, found_row, not_missed, node_of, held_change, trace_consistent, trace_places, trace_step, phase_kept}
 use Rattle.dispatch_core.proofs.Lining.{lines_kept, room_kept}
 use Rattle.dispatch_core.proofs.Waiting.{HoldAll, rests, none_rests, absent_key, all_kept, all_joined}
 

@@ -1,5 +1,5 @@
 -- How events begin on a trace, and what a trace tells.
-use Rattle.std.proofs.Common.{◌≡◌, ℕ, zero, suc, ◌+◌, ◌-◌, ◌^◌, ◌==◌, ◌||◌, nat_lt, if◌then◌else◌, MatchOption, ◌<◌, ◌≤◌, max, Bool, true, false, List, [], ◌∷◌, Option, None, Some, is_some, option_map, slice_get, slice_index_or, count_by, length, replicate, ℤ, pos, ◌+ℤ◌, refl, ap, sym, ◌∙◌, subst, arith, inl, inr}
+use Rattle.std.proofs.Common.{◌≡◌, ℕ, zero, suc, ◌+◌, ◌-◌, ◌^◌, ◌==◌, ◌||◌, nat_lt, if◌then◌else◌, MatchOption, ◌<◌, max, Bool, true, false, List, [], ◌∷◌, Option, None, Some, is_some, option_map, slice_get, count_by, length, replicate, ℤ, pos, ◌+ℤ◌, refl, ap, sym, ◌∙◌, subst, arith, inl, inr}
 use Rattle.std.specs.Option.{option_and_then}
 use Rattle.std.proofs.Math.ListN.{set, length-replicate}
 use Rattle.std.proofs.lemmas.Bool.Decides.{nat_tests}
@@ -15,7 +15,6 @@ use Rattle.dispatch_log.specs.declared.queue.Queue.{Queue}
 use Rattle.dispatch_log.specs.declared.queue.Queue.TheVariants.{Backend, Server}
 use Rattle.dispatch_log.specs.declared.refusal.Refusal.TheVariants.{PlacesFull, LogFull, NoSuchServer, TicketsSpent}
 use Rattle.dispatch_log.specs.declared.row.Row.{Row}
-use Rattle.dispatch_log.specs.declared.setup.ServerSet.{ServerSet}
 use Rattle.dispatch_log.specs.declared.setup.Setup.{Setup}
 use Rattle.dispatch_log.specs.Histories.{History, state_of, effective, refuses_arrival, refuses_done}
 use Rattle.dispatch_log.specs.Judgement.{Stage, placing, granting, returning, ending, MayCome, IsNewcomer}
@@ -23,12 +22,12 @@ use Rattle.dispatch_log.specs.Logs.{Recorded}
 use Rattle.dispatch_log.specs.Picks.{IsPick}
 use Rattle.dispatch_log.specs.Placement.{IsCandidate, IsChosen}
 use Rattle.dispatch_log.specs.Refusals.{first_of, is_full, pins_to_none}
-use Rattle.dispatch_log.specs.Rows.{Rows, StandsAt, waits_in, queued, row_of, pin_of}
+use Rattle.dispatch_log.specs.Rows.{Rows, waits_in, queued, row_of, pin_of}
 use Rattle.dispatch_log.specs.Setups.{IsSound}
-use Rattle.dispatch_log.specs.States.{State, scene, arrived}
-use Rattle.dispatch_log.specs.Words.{Scene, of_server, is_free, has_room, takes_pinned, working_pin}
+use Rattle.dispatch_log.specs.States.{scene, arrived}
+use Rattle.dispatch_log.specs.Words.{Scene, of_server, is_free, takes_pinned, working_pin}
 use Rattle.dispatch_log.proofs.Dispatched.{none_stands}
-use Rattle.dispatch_log.proofs.Places.{tally, get-set_cases, count_none}
+use Rattle.dispatch_log.proofs.Places.{tally, get-set_same, get-set_cases, count_none}
 use Rattle.dispatch_log.proofs.RowLemmas.{row_of_at, row_of_none}
 use Rattle.pend_queue.proofs.Members.{Contains-nil}
 use Rattle.slot_ledger.specs.declared.places.Slot.{Slot}
@@ -42,7 +41,7 @@ use Rattle.server_pick.proofs.Chosen.{room_within}
 use Rattle.server_pick.proofs.Filled.{free_within, server_within}
 use Rattle.dispatch_core.specs.Lines.{Waits, Lined, waits_at}
 use Rattle.dispatch_core.specs.Steps.{scene_of, stage_of, HasRowOf, MayComeNext, MayBeginNext, HasEntryRoom}
-use Rattle.dispatch_core.specs.Traces.{HasItsNode, HoldsQueue, Holds, history_of, noted, IsTrace}
+use Rattle.dispatch_core.specs.Traces.{HasItsNode, HoldsQueue, history_of, noted, IsTrace}
 use Rattle.dispatch_core.proofs.Holding.{stands_row, stands_slot, not_missed, trace_step, trace_consistent, trace_places}
 use Rattle.dispatch_core.proofs.Lining.{index-replicate}
 use Rattle.dispatch_core.proofs.Waiting.{none_rests, rests, all_kept}
@@ -164,6 +163,12 @@ module _ {N : Type 0} (pair_of : N → Key × Unit {0}) where
         last_is = refl;
         ticket_is = refl;
       })
+
+  -- a row that stands in the ledger is the state's
+  pub stands_live : (kept next : Kept N) (log : Recorded) (lined : Lined) (cursor last ticket q : ℕ) (s : Slot N) → IsTrace pair_of next log lined cursor last ticket → next ≡ with_slots kept (set kept.slots q (Some s)) → slice_get kept.slots q ≡ Some None → HasRowOf (state_of (history_of next log)).rows s.row.key.ticket
+  stands_live kept next log lined cursor last ticket q s is written vacant =
+      let stands : StandsIn next.slots q s = ap (λ (k : Kept N). slice_get k.slots q) written ∙ get-set_same kept.slots q None (Some s) vacant in
+      (s.row, (q, stands_row next.slots (state_of (history_of next log)).rows q s is.held.rows stands), refl)
 
   -- the return of a slot begins
   pub done_kept : (kept : Kept N) (log : Recorded) (lined : Lined) (cursor last ticket moment now u : ℕ) → IsTrace pair_of kept log lined cursor last ticket → MayBeginNext (history_of kept log) moment (refuses_done (history_of kept log) u) → now ≡ max last moment → IsTrace pair_of kept (noted log (Done now u)) lined cursor now ticket

@@ -1,5 +1,5 @@
 -- Grants of a trace.
-use Rattle.std.proofs.Common.{◌≡◌, ℕ, ◌+◌, ◌<◌, ◌≤◌, true, false, List, [], ◌∷◌, ◌++◌, Option, None, Some, MatchOption, option_map, slice_get, drop, length, count_by, Contains, refl, ap, sym, ◌∙◌, subst, arith}
+use Rattle.std.proofs.Common.{◌≡◌, ℕ, ◌+◌, ◌<◌, ◌≤◌, true, List, [], ◌∷◌, Option, None, Some, MatchOption, option_map, slice_get, drop, length, count_by, Contains, refl, ap, sym, ◌∙◌, subst, arith}
 use Rattle.std.proofs.Math.ListN.{set}
 use Rattle.std.proofs.lemmas.List.{set-set}
 use Rattle.std.proofs.lemmas.Bool.Decides.{Decides-eqb}
@@ -18,7 +18,7 @@ use Rattle.dispatch_log.specs.Judgement.{Stage, granting, MayCome}
 use Rattle.dispatch_log.specs.Logs.{Recorded}
 use Rattle.dispatch_log.specs.Refusals.{is_waiting}
 use Rattle.dispatch_log.specs.Rows.{Rows, StandsAt, in_phase}
-use Rattle.dispatch_log.specs.States.{State, opening_state, scene, granted_by}
+use Rattle.dispatch_log.specs.States.{State, opening_state, granted_by}
 use Rattle.dispatch_log.specs.Words.{Scene, may_take}
 use Rattle.dispatch_log.proofs.Places.{tally, get-set_same, count-set}
 use Rattle.dispatch_log.proofs.RowLemmas.{changed_at}
@@ -32,9 +32,9 @@ use Rattle.slot_ledger.proofs.Standing.{with_slot_at}
 use Rattle.server_pick.specs.Heads.{Held, head_at, AreHeads, IsLawfulTake, IsEmptyQueue, IsLeastIn}
 use Rattle.server_pick.proofs.Filled.{free_within}
 use Rattle.dispatch_core.specs.Lines.{Waits, Lined, waits_at, with_waits}
-use Rattle.dispatch_core.specs.Steps.{with_entry, stage_of, scene_of, cursor_after, waits, waiting_of, MayComeNext, IsGrant}
-use Rattle.dispatch_core.specs.Traces.{HasItsNode, HoldsQueue, Holds, history_of, noted, IsTrace}
-use Rattle.dispatch_core.proofs.Holding.{closed, stands_row, found_row, not_missed, held_change, trace_step, trace_consistent}
+use Rattle.dispatch_core.specs.Steps.{with_entry, stage_of, scene_of, waits, waiting_of, MayComeNext, IsGrant}
+use Rattle.dispatch_core.specs.Traces.{HasItsNode, history_of, noted, IsTrace}
+use Rattle.dispatch_core.proofs.Holding.{stands_row, found_row, not_missed, held_change, trace_step, trace_consistent}
 use Rattle.dispatch_core.proofs.Lining.{lines_kept, room_kept}
 use Rattle.dispatch_core.proofs.Waiting.{rests, all_granted, head_is}
 
@@ -46,6 +46,10 @@ kept_scene kept = record { servers = kept.setup.servers; rows = rows_in kept.slo
 head_of : {X : Type 0} (xs : List X) (x : X) → Some x ≡ slice_get xs 0 → xs ≡ x ∷ drop 1 xs
 head_of [] x e = cc
 head_of (y ∷ ys) x e = ap (λ z. z ∷ ys) (same_Some y x (sym e))
+
+no_first : {X Y : Type 0} (f : X → Y) (xs : List X) (y : Y) (P : Type 0) → None ≡ slice_get xs 0 → option_map f (slice_get xs 0) ≡ Some y → P
+no_first f [] y P e g = cc
+no_first f (x ∷ xs) y P e g = cc
 
 -- what the heads of a trace's queues are
 abbrev pub ShowsHeads : Held → Lined → Type 0
@@ -86,6 +90,12 @@ module _ {N : Type 0} (pair_of : N → Key × Unit {0}) where
       by_queue : (q : Queue) → may_take (kept_scene kept) server q ≡ true → server < length kept.setup.servers → IsQueueOf (length kept.setup.servers) q
       by_queue Backend taken within = tt
       by_queue (Server own) taken within = subst (λ n. n < length kept.setup.servers) (sym ((Decides-eqb own server).0 taken)) within
+
+  -- a queue whose head is taken isn't empty
+  pub take_first : (kept : Kept N) (log : Recorded) (lined : Lined) (cursor last ticket server : ℕ) (queue : Queue) (heads : Held) → IsTrace pair_of kept log lined cursor last ticket → ShowsHeads heads lined → IsLawfulTake (kept_scene kept) cursor heads server queue → None ≡ slice_get (waits_at lined queue) 0 → ⊥
+  take_first kept log lined cursor last ticket server queue heads is shows take none =
+      let within = take_within kept log lined cursor last ticket server queue heads is take in
+      no_first (λ (p : Key × Unit {0}). p.0) (waits_at lined queue) take.0 ⊥ none (sym (shows queue within.1) ∙ take.1)
 
   module _ (kept : Kept N) (log : Recorded) (lined : Lined) (cursor last ticket server : ℕ) (queue : Queue) (heads : Held) (node : N) (u : ℕ) (calls : GrantCalls kept log lined cursor last ticket server queue heads node u) where
     pub grant_within : (server < length kept.setup.servers) × IsQueueOf (length lined.own) queue
@@ -171,3 +181,7 @@ module _ {N : Type 0} (pair_of : N → Key × Unit {0}) where
       lawful = grant_may;
       fewer = subst (λ (h : History). waiting_of h + 1 ≡ waiting_of (history_of kept log)) (sym goes) grant_fewer;
     }
+
+    -- the log has room for it
+    pub grant_room : length log.entries + waiting_of (history_of kept log) ≤ kept.setup.log → length log.entries < log.room
+    grant_room room = let fewer = grant_fewer in let most = calls.before.log_room in omega arith

@@ -1,5 +1,5 @@
 -- What a trace holds, while one slot of its ledger changes.
-use Rattle.std.proofs.Common.{◌≡◌, ℕ, ◌+◌, false, List, [], ◌∷◌, ◌++◌, Option, None, Some, option_map, slice_get, length, refl, ap, sym, ◌∙◌, subst, arith, inl, inr}
+use Rattle.std.proofs.Common.{◌≡◌, ℕ, ◌+◌, false, List, Option, None, Some, option_map, slice_get, length, refl, ap, sym, ◌∙◌, subst, arith, inl, inr}
 use Rattle.std.proofs.Math.ListN.{set, length-replicate}
 use Rattle.std.proofs.lemmas.List.{map-set}
 use Rattle.std.proofs.lemmas.Option.{same_Some, slice_get-map}
@@ -8,7 +8,7 @@ use Rattle.dispatch_log.specs.declared.entry.Entry.{Entry}
 use Rattle.dispatch_log.specs.declared.row.Phase.{Phase}
 use Rattle.dispatch_log.specs.declared.row.Phase.TheVariants.{Loose, Waiting, Serving, Told}
 use Rattle.dispatch_log.specs.declared.row.Row.{Row}
-use Rattle.dispatch_log.specs.Histories.{History, state_of}
+use Rattle.dispatch_log.specs.Histories.{state_of}
 use Rattle.dispatch_log.specs.Logs.{Recorded}
 use Rattle.dispatch_log.specs.Judgement.{granting, MayCome}
 use Rattle.dispatch_log.specs.Refusals.{is_waiting}
@@ -24,10 +24,10 @@ use Rattle.slot_ledger.specs.Ledgers.{Kept, with_slots}
 use Rattle.slot_ledger.specs.Slots.{rows_in, StandsIn, HasTicketAt, HasNoTicket, with_phase}
 use Rattle.slot_ledger.proofs.Counting.{row_in}
 use Rattle.slot_ledger.proofs.Standing.{with_slot_at}
-use Rattle.dispatch_core.specs.Lines.{Waits, Lined, waits_at}
-use Rattle.dispatch_core.specs.Steps.{with_entry, stage_of, MayComeNext}
+use Rattle.dispatch_core.specs.Lines.{Lined, waits_at}
+use Rattle.dispatch_core.specs.Steps.{stage_of, MayComeNext}
 use Rattle.dispatch_core.specs.Traces.{HasItsNode, HoldsQueue, Holds, history_of, noted, IsTrace}
-use Rattle.dispatch_core.proofs.Waiting.{HoldAll, NoneWaits, rests, all_kept}
+use Rattle.dispatch_core.proofs.Waiting.{HoldAll, rests, all_kept}
 
 module _ {N : Type 0} where
   pub stands_row : (slots : List (Option (Slot N))) (rows : Rows) (p : ℕ) (s : Slot N) → rows_in slots ≡ rows → StandsIn slots p s → StandsAt rows p s.row

@@ -1,13 +1,13 @@
 -- Queues of a list of queues.
-use Rattle.std.proofs.Common.{◌≡◌, ◌≢◌, ℕ, zero, suc, ◌+◌, ◌<◌, ◌≤◌, nat_lt, Bool, true, false, List, [], ◌∷◌, ◌++◌, Option, None, Some, option_map, get_or, slice_get, slice_index_or, map, replicate, length, refl, ap, sym, ◌∙◌, subst, arith, ◌⊎◌, inl, inr}
-use Rattle.std.proofs.Math.ListN.{set, length-replicate}
-use Rattle.std.proofs.lemmas.Bool.Decides.{nat_tests}
-use Rattle.std.proofs.lemmas.List.{map-set, length-map}
-use Rattle.std.proofs.lemmas.Option.{same_Some, slice_get-map, slice_get_read, get_or_from_slice_get}
+use Rattle.std.proofs.Common.{◌≡◌, ◌≢◌, ℕ, ◌+◌, ◌<◌, List, [], ◌∷◌, ◌++◌, Option, Some, option_map, get_or, slice_get, slice_index_or, map, replicate, length, refl, ap, sym, ◌∙◌, subst, arith, inl, inr, length-append}
+use Rattle.std.proofs.Math.ListN.{set}
+use Rattle.std.proofs.lemmas.List.{map-set, map-append, length-map, replicate_more}
+use Rattle.std.proofs.lemmas.Option.{slice_get-map, slice_get_read, get_or_from_slice_get}
 use Rattle.due_key.specs.declared.key.Key.{Key}
 use Rattle.dispatch_log.specs.declared.queue.Queue.{Queue}
 use Rattle.dispatch_log.specs.declared.queue.Queue.TheVariants.{Backend, Server}
 use Rattle.dispatch_log.proofs.Places.{get-set_cases}
+use Rattle.slot_ledger.proofs.Keeping.{get-push_cases}
 use Rattle.slot_ledger.specs.Counts.{IsQueueOf}
 use Rattle.server_pick.specs.Heads.{Held, head_at}
 use Rattle.server_pick.proofs.Preferred.{below_cases}
@@ -83,3 +83,16 @@ own_within pairs items backend places now queue server same of within =
 pub heads_start : (heads next : Held) (first : Queue → Option Key) (head : Option Key) → head ≡ first Backend → head_at next Backend ≡ head → (queue : Queue) → IsQueueOf 0 queue → head_at next queue ≡ first queue
 heads_start heads next first head is at Backend within = at ∙ is
 heads_start heads next first head is at (Server k) within = absurd (omega (arith, within))
+
+-- one empty queue more
+pub record AreNew {Q : Type 0} (pairs : Q → Waits) (room : Q → ℕ) (items : List Q) (server places : ℕ) : Type 0 where
+  pub empty : map pairs items ≡ replicate server []
+  pub rooms : (k its : ℕ) → slice_get (map room items) k ≡ Some its → its ≡ places
+  pub count : length items ≡ server
+
+pub new_more : (Q : Type 0) (pairs : Q → Waits) (room : Q → ℕ) (items next : List Q) (server places : ℕ) (new : Q) → AreNew pairs room items server places → next ≡ items ++ new ∷ [] → pairs new ≡ [] → room new ≡ places → AreNew pairs room next (server + 1) places
+new_more Q pairs room items next server places new are written empty full = subst (λ (l : List Q). AreNew pairs room l (server + 1) places) (sym written) (record {
+  empty = map-append pairs items (new ∷ []) ∙ ap (λ (w : Waits). map pairs items ++ w ∷ []) empty ∙ ap (λ (l : List Waits). l ++ [] ∷ []) are.empty ∙ replicate_more server [];
+  rooms = λ k its at. elim (get-push_cases (map room items) (room new) k its (ap (λ (l : List ℕ). slice_get l k) (sym (map-append room items (new ∷ []))) ∙ at)) [ inl e ↦ are.rooms k its e | inr e ↦ sym e.1 ∙ full ];
+  count = length-append items (new ∷ []) ∙ ap (λ n. n + 1) are.count;
+})

@@ -1,5 +1,5 @@
 -- The keys in a queue while one row changes.
-use Rattle.std.proofs.Common.{◌≡◌, ◌≢◌, ℕ, ◌+◌, Bool, true, false, [], ◌∷◌, List, Option, None, Some, MatchOption, option_map, slice_get, drop, length, Contains, refl, ap, sym, ◌∙◌, subst, arith, inl, inr, Less, Equal, Greater}
+use Rattle.std.proofs.Common.{◌≡◌, ◌≢◌, ℕ, ◌+◌, Bool, true, false, [], ◌∷◌, Option, None, Some, MatchOption, option_map, slice_get, length, Contains, refl, ap, sym, ◌∙◌, subst, arith, inl, inr, Less, Equal}
 use Rattle.std.proofs.Math.ListN.{set}
 use Rattle.std.proofs.lemmas.Option.{same_Some}
 use Rattle.std.proofs.lemmas.Cmp.{tied_itself}
@@ -11,10 +11,10 @@ use Rattle.dispatch_log.specs.declared.row.Phase.{Phase}
 use Rattle.dispatch_log.specs.declared.row.Phase.TheVariants.{Loose, Waiting, Serving, Told}
 use Rattle.dispatch_log.specs.declared.row.Row.{Row}
 use Rattle.dispatch_log.specs.Refusals.{is_waiting}
-use Rattle.dispatch_log.specs.Rows.{Rows, IsRow, StandsAt, same_queue, phase_waits_in, waits_in, queued}
+use Rattle.dispatch_log.specs.Rows.{Rows, StandsAt, phase_waits_in, waits_in, queued}
 use Rattle.dispatch_log.proofs.Places.{tally, get-set_same, get-set_other, get-set_cases, count-set}
 use Rattle.dispatch_log.proofs.RowLemmas.{HaveOwnTickets}
-use Rattle.pend_queue.specs.Pairs.{IsAscending, IsAbsent, inserted}
+use Rattle.pend_queue.specs.Pairs.{IsAbsent, inserted}
 use Rattle.pend_queue.proofs.Ascending.{absent_from_members, least_first}
 use Rattle.pend_queue.proofs.Inserted.{Contains-inserted, Contains-inserted_new, Contains-inserted_old, length-inserted, IsAscending-inserted}
 use Rattle.pend_queue.proofs.Members.{Contains-nil, Contains-head, Contains-tail, Contains-cases, each_at_member}

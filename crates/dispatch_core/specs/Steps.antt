@@ -3,7 +3,6 @@ use Rattle.std.specs.Prelude.{◌≡◌, ℕ, ◌+◌, ◌-◌, ◌*◌, ◌≤�
 use Rattle.dispatch_log.specs.declared.entry.Entry.{Entry}
 use Rattle.dispatch_log.specs.declared.entry.Entry.TheVariants.{Granted}
 use Rattle.dispatch_log.specs.declared.queue.Queue.{Queue}
-use Rattle.dispatch_log.specs.declared.row.Phase.{Phase}
 use Rattle.dispatch_log.specs.declared.refusal.Refusal.{Refusal}
 use Rattle.dispatch_log.specs.Histories.{History, state_of, effective, begins_event}
 use Rattle.dispatch_log.specs.declared.row.Row.{Row}
@@ -11,7 +10,7 @@ use Rattle.dispatch_log.specs.Grants.{IsSettled}
 use Rattle.dispatch_log.specs.Refusals.{is_waiting}
 use Rattle.dispatch_log.specs.Rows.{Rows, IsRow}
 use Rattle.dispatch_log.specs.Judgement.{HasSlot, IsTold, Stage, granting, next_stage, stage_after, MayCome, AllMayCome, MayBegin}
-use Rattle.dispatch_log.specs.States.{State, scene, after, opening_state}
+use Rattle.dispatch_log.specs.States.{scene, after, opening_state}
 use Rattle.dispatch_log.specs.Words.{Scene}
 
 -- a history with an entry more

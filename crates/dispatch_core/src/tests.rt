@@ -2,33 +2,61 @@ use crate::{Core, Phase, Queue, Refusal, ServerSet, Servers, Setup};
 use dispatch_log::{Arrival, Entry};
 use due_key::{Class, Due, Key, Moment, Offset};
 use pend_queue::ListQueue;
-use std::alloc::{AllocError, Global};
+use std::alloc::Global;
+use verdict::Cause;
 use std::test::Fail;
 
-/// One server that takes one request at a time.
-fn setup(alloc: Global, places: usize, log: usize) -> Result<Setup, AllocError> {
-    let server = ServerSet {
-        limit: 1,
-        maxqueue: 0,
-        weight: 1,
+fn server(limit: u32, maxqueue: u32, weight: u32) -> ServerSet {
+    ServerSet {
+        limit,
+        maxqueue,
+        weight,
         rise_fall: None,
-    };
-    Ok(Setup {
-        servers: Servers::new(vec![in alloc; server]?),
+    }
+}
+
+/// A dispatcher for these servers.
+fn core_of(
+    servers: Vec<ServerSet>,
+    alloc: Global,
+    places: usize,
+    log: usize,
+) -> Result<Core<ListQueue<Key, ()>>, Fail> {
+    let setup = Setup {
+        servers: Servers::new(servers),
         places,
         log,
         retries: 3,
         redispatch: false,
         queue_timeout: 0,
-    })
-}
-
-fn core(alloc: Global, places: usize, log: usize) -> Result<Core<ListQueue<Key, ()>>, Fail> {
-    let setup = setup(alloc, places, log)?;
+    };
     if !setup.sound() {
         return Err(Fail::from("not a sound setup"));
     }
     Ok(Core::new(alloc, setup)?)
+}
+
+/// One server that takes one request at a time.
+fn core(alloc: Global, places: usize, log: usize) -> Result<Core<ListQueue<Key, ()>>, Fail> {
+    core_of(vec![in alloc; server(1, 0, 1)]?, alloc, places, log)
+}
+
+/// Requests of class 0 without an offset, bound to these servers, come at moment 0. The last entry
+/// of each is its placement.
+fn placements(
+    core: &mut Core<ListQueue<Key, ()>>,
+    alloc: Global,
+    pins: &[Option<usize>],
+) -> Result<Vec<Entry>, Fail> {
+    let mut placed = Vec::with_capacity(alloc, pins.len())?;
+    for pin in pins {
+        core.arrive(alloc, moment(0)?, Class::clamp(0), Offset::clamp(0), *pin)?;
+        match core.log().entries().last() {
+            Some(entry) => placed.push(*entry)?,
+            None => return Err(Fail::from("no entry")),
+        }
+    }
+    Ok(placed)
 }
 
 fn moment(number: u64) -> Result<Moment, Fail> {
@@ -158,13 +186,133 @@ fn refusals_come_in_order(rt: HostRuntime) -> Result<(), Fail> {
 
 #[test]
 fn a_new_core_serves_nothing(rt: HostRuntime) -> Result<(), Fail> {
-    let alloc = rt.alloc();
-    let setup = setup(alloc, 4, 64)?;
-    if !setup.sound() {
-        return Err(Fail::from("not a sound setup"));
-    }
-    let core: Core<ListQueue<Key, ()>> = Core::new(alloc, setup)?;
+    let core = core(rt.alloc(), 4, 64)?;
     assert_eq!(rt; core.served(0), 0);
     assert!(rt; core.log().is_empty());
+    Ok(())
+}
+
+#[test]
+fn loads_are_compared_by_weight(rt: HostRuntime) -> Result<(), Fail> {
+    let alloc = rt.alloc();
+    let servers = vec![in alloc; server(0, 0, 2), server(0, 0, 1)]?;
+    let mut core = core_of(servers, alloc, 8, 64)?;
+    let placed = placements(&mut core, alloc, &[None; 7])?;
+    let expected = [
+        Entry::Direct(1, 0),
+        Entry::Direct(2, 1),
+        Entry::Direct(3, 0),
+        Entry::Direct(4, 1),
+        Entry::Direct(5, 0),
+        Entry::Direct(6, 0),
+        Entry::Direct(7, 1),
+    ];
+    assert_eq!(rt; placed.as_slice(), expected.as_slice());
+    Ok(())
+}
+
+#[test]
+fn queued_requests_count_as_load(rt: HostRuntime) -> Result<(), Fail> {
+    let alloc = rt.alloc();
+    let servers = vec![in alloc; server(1, 5, 2), server(5, 0, 1)]?;
+    let mut core = core_of(servers, alloc, 8, 64)?;
+    let placed = placements(&mut core, alloc, &[None; 4])?;
+    let expected = [
+        Entry::Direct(1, 0),
+        Entry::Direct(2, 1),
+        Entry::Joined(3, Queue::Server(0)),
+        Entry::Direct(4, 1),
+    ];
+    assert_eq!(rt; placed.as_slice(), expected.as_slice());
+    Ok(())
+}
+
+#[test]
+fn a_pin_is_ignored_where_the_queue_is_full(rt: HostRuntime) -> Result<(), Fail> {
+    let alloc = rt.alloc();
+    let servers = vec![in alloc; server(1, 1, 1), server(1, 0, 1)]?;
+    let mut core = core_of(servers, alloc, 8, 64)?;
+    let placed = placements(&mut core, alloc, &[Some(0); 3])?;
+    let expected = [
+        Entry::Direct(1, 0),
+        Entry::Joined(2, Queue::Server(0)),
+        Entry::Direct(3, 1),
+    ];
+    assert_eq!(rt; placed.as_slice(), expected.as_slice());
+    Ok(())
+}
+
+#[test]
+fn a_slot_goes_to_the_smaller_head(rt: HostRuntime) -> Result<(), Fail> {
+    let alloc = rt.alloc();
+    let mut core = core_of(vec![in alloc; server(1, 1, 1)]?, alloc, 8, 64)?;
+    let placed = placements(&mut core, alloc, &[None; 3])?;
+    let expected = [
+        Entry::Direct(1, 0),
+        Entry::Joined(2, Queue::Server(0)),
+        Entry::Joined(3, Queue::Backend),
+    ];
+    assert_eq!(rt; placed.as_slice(), expected.as_slice());
+    core.done(moment(6)?, 1)?;
+    assert_eq!(rt;
+        core.log().entries().last(),
+        Some(&Entry::Granted(2, Queue::Server(0), 0))
+    );
+    core.done(moment(7)?, 2)?;
+    assert_eq!(rt;
+        core.log().entries().last(),
+        Some(&Entry::Granted(3, Queue::Backend, 0))
+    );
+    Ok(())
+}
+
+#[test]
+fn weight_zero_takes_pinned_requests(rt: HostRuntime) -> Result<(), Fail> {
+    let alloc = rt.alloc();
+    let servers = vec![in alloc; server(1, 0, 0), server(1, 0, 1)]?;
+    let mut core = core_of(servers, alloc, 8, 64)?;
+    let placed = placements(&mut core, alloc, &[Some(0), None, None, Some(0)])?;
+    let expected = [
+        Entry::Direct(1, 0),
+        Entry::Direct(2, 1),
+        Entry::Joined(3, Queue::Backend),
+        Entry::Joined(4, Queue::Server(0)),
+    ];
+    assert_eq!(rt; placed.as_slice(), expected.as_slice());
+    core.done(moment(2)?, 1)?;
+    assert_eq!(rt;
+        core.log().entries().last(),
+        Some(&Entry::Granted(4, Queue::Server(0), 0))
+    );
+    core.done(moment(3)?, 4)?;
+    assert_eq!(rt; core.log().entries().last(), Some(&Entry::Ended(4)));
+    Ok(())
+}
+
+#[test]
+fn a_request_that_no_server_takes_is_told_so(rt: HostRuntime) -> Result<(), Fail> {
+    let alloc = rt.alloc();
+    let mut core = core_of(vec![in alloc; server(1, 0, 0)]?, alloc, 8, 64)?;
+    let placed = placements(&mut core, alloc, &[None])?;
+    assert_eq!(rt; placed.as_slice(), [Entry::Left(1, Cause::NoServer)].as_slice());
+    assert_eq!(rt; core.phase(1), Some(Phase::Told(Cause::NoServer)));
+    core.done(moment(1)?, 1)?;
+    assert_eq!(rt; core.log().entries().last(), Some(&Entry::Ended(1)));
+    assert_eq!(rt; core.phase(1), None);
+    Ok(())
+}
+
+#[test]
+fn a_pin_to_no_server_is_refused(rt: HostRuntime) -> Result<(), Fail> {
+    let alloc = rt.alloc();
+    let mut core = core(alloc, 4, 64)?;
+    let (at, class, none) = (moment(0)?, Class::clamp(0), Offset::clamp(0));
+    assert_eq!(rt;
+        core.arrive(alloc, at, class, none, Some(1)),
+        Err(Refusal::NoSuchServer)
+    );
+    assert!(rt; core.log().is_empty());
+    core.arrive(alloc, at, class, none, Some(0))?;
+    assert_eq!(rt; core.log().len(), 2);
     Ok(())
 }

@@ -137,6 +137,7 @@ impl<Q: PendQueue<Key, ()>> Trace<Q> {
         requires begins { MayBeginNext self.old moment (refuses_arrival self.old pin) }
         requires room { length self.old.log < self.old.setup.log }
         ensures ok { IfOk result (λ it. self.new ≡ with_entry self.old (Arrive (effective self.old moment) (record { ticket = it.ticket; class = class; due = pos (effective self.old moment) +ℤ offset; pin = pin; place = it.place }))) }
+        ensures row { IfOk result (λ it. HasRowOf (state_of self.new).rows it.ticket) }
         ensures err { OnErr result (self.new ≡ self.old) }
     {
         let now = self.last.later(moment);

@@ -17,8 +17,7 @@ use Rattle.dispatch_log.specs.Histories.{History, IsLegal, state_of}
 use Rattle.dispatch_log.specs.Judgement.{Stage, placing, returning, ending, granting, MayCome, next_stage, AllMayCome}
 use Rattle.dispatch_log.specs.Rows.{Rows, StandsAt, IsRow, changed, in_phase, gone, has_ticket, is_served_by, served, rows_of}
 use Rattle.dispatch_log.specs.States.{State, after, after_all, arrived, opening_state}
-use Rattle.dispatch_log.specs.States.{scene}
-use Rattle.dispatch_log.specs.Words.{Scene, is_free}
+use Rattle.dispatch_log.specs.Words.{is_free}
 use Rattle.dispatch_log.proofs.Consistency.{IsConsistent}
 use Rattle.dispatch_log.proofs.Judged.{consistent_after, consistent_all}
 use Rattle.dispatch_log.proofs.Places.{tally, count-set}

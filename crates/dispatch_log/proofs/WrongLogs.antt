@@ -1,5 +1,5 @@
 -- Why the worked logs are not legal.
-use Rattle.std.proofs.Common.{◌≡◌, ◌≢◌, ℕ, zero, suc, ◌+◌, pos, negsuc, [], ◌∷◌, None, Some, refl, ap, sym, ◌∙◌, arith, Greater}
+use Rattle.std.proofs.Common.{◌≡◌, ◌≢◌, ℕ, zero, suc, ◌+◌, ◌≤◌, pos, negsuc, [], ◌∷◌, None, Some, refl, ap, sym, ◌∙◌, arith, Greater}
 use Rattle.std.proofs.lemmas.Int.{ints}
 use Rattle.std.proofs.lemmas.Option.{same_Some}
 use Rattle.due_key.specs.Order.{key_cmp}
@@ -8,7 +8,7 @@ use Rattle.dispatch_log.specs.declared.queue.Queue.TheVariants.{Backend}
 use Rattle.dispatch_log.specs.declared.row.Row.{Row}
 use Rattle.dispatch_log.specs.Histories.{IsLegal}
 use Rattle.dispatch_log.specs.Rows.{Rows, StandsAt}
-use Rattle.dispatch_log.specs.Worked.{worked, first_come_first_served, idle_slot, grant_above_the_limit, due_date_of_no_offset, end_is_missing, ticket_twice}
+use Rattle.dispatch_log.specs.Worked.{worked, worked_by_two, first_come_first_served, idle_slot, grant_above_the_limit, due_date_of_no_offset, end_is_missing, ticket_twice, more_loaded_server, tie_against_the_cursor, waits_beside_room}
 
 -- what waits once ticket 1 is gone
 abbrev row_2 : Row
@@ -58,3 +58,16 @@ not_without_end legal = legal.judged.1.1.1.1.1.1.1.1.0
 
 pub not_twice : IsLegal (worked ticket_twice) → ⊥
 not_twice legal = let next : 1 ≡ 1 + 1 = legal.judged.1.1.0.1.numbered in absurd (omega arith)
+
+pub not_more_loaded : IsLegal (worked_by_two more_loaded_server) → ⊥
+not_more_loaded legal =
+    let no_more : 1 ≤ 0 = legal.judged.1.1.1.0.1.0.least 1 (refl, λ avoids. let e : None ≡ Some 1 = avoids in cc) in
+    absurd (omega arith)
+
+pub not_against_cursor : IsLegal (worked_by_two tie_against_the_cursor) → ⊥
+not_against_cursor legal =
+    let nearer : 2 ≤ 1 = legal.judged.1.0.1.0.nearest 0 (refl, λ avoids. let e : None ≡ Some 0 = avoids in cc) (λ third own. omega arith) in
+    absurd (omega arith)
+
+pub not_beside_room : IsLegal (worked_by_two waits_beside_room) → ⊥
+not_beside_room legal = legal.judged.1.0.1.2 0 refl

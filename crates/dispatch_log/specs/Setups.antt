@@ -1,5 +1,5 @@
 -- What a dispatcher can be made for.
-use Rattle.std.specs.Prelude.{◌≡◌, ℕ, ◌<◌, ◌≤◌, ◌^◌, nat_lt, nat_le, ◌&&◌, Bool, true, IsTrue, Option, None, Some, length, All}
+use Rattle.std.specs.Prelude.{ℕ, ◌<◌, ◌≤◌, ◌^◌, nat_lt, nat_le, ◌&&◌, Bool, true, IsTrue, Option, None, Some, length, All}
 use Rattle.dispatch_log.specs.declared.setup.ServerSet.{ServerSet}
 use Rattle.dispatch_log.specs.declared.setup.Setup.{Setup}
 

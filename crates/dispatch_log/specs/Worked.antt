@@ -52,3 +52,25 @@ end_is_missing = two_wait ++ Done 10 1 ∷ Freed 1 0 ∷ Granted 3 Backend 0 ∷
 -- a ticket is given twice
 abbrev pub ticket_twice : List Entry
 ticket_twice = Arrive 0 (arrival 1 (pos 0) 0) ∷ Direct 1 0 ∷ Arrive 1 (arrival 1 (pos 1) 1) ∷ Joined 1 Backend ∷ []
+
+-- two servers without limits, of weight 1
+abbrev pub open_server : ServerSet
+open_server = record { limit = 0; maxqueue = 0; weight = 1; rise_fall = None }
+
+abbrev pub worked_by_two : List Entry → History
+worked_by_two log = record {
+  setup = record { servers = open_server ∷ open_server ∷ []; places = 4; log = 64; retries = 3; redispatch = false; queue_timeout = 0 };
+  log = log;
+}
+
+-- the second request goes to the server that has the first one
+abbrev pub more_loaded_server : List Entry
+more_loaded_server = Arrive 0 (arrival 1 (pos 0) 0) ∷ Direct 1 0 ∷ Arrive 0 (arrival 2 (pos 0) 1) ∷ Direct 2 0 ∷ []
+
+-- of equal servers the second one is picked first
+abbrev pub tie_against_the_cursor : List Entry
+tie_against_the_cursor = Arrive 0 (arrival 1 (pos 0) 0) ∷ Direct 1 1 ∷ []
+
+-- a request waits while a server has room
+abbrev pub waits_beside_room : List Entry
+waits_beside_room = Arrive 0 (arrival 1 (pos 0) 0) ∷ Joined 1 Backend ∷ []

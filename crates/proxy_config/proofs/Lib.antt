@@ -9,9 +9,13 @@ pub mod TestWords
 pub mod ConditionWords
 pub mod Causes
 pub mod CauseRows
+pub mod GuardRanges
 pub mod Soundness
 pub mod LeftReaders
 pub mod LeftTests
 pub mod LeftLines
+pub mod Granted
+pub mod Wished
+pub mod OnePass
 pub mod Surveys
 pub mod WorkedRows

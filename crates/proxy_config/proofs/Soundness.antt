@@ -1,5 +1,5 @@
 -- Each line that is taken in keeps what holds of accepted configurations.
-use Rattle.std.proofs.Common.{◌≡◌, inl, inr, ◌+◌, ◌<◌, ◌≤◌, ◌==◌, ◌++◌, ℕ, Bool, true, false, cond, not, List, [], ◌∷◌, length, Option, Some, None, Result, Ok, Err, refl, sym, subst, arith, length-append, ap}
+use Rattle.std.proofs.Common.{◌≡◌, inl, inr, ◌+◌, ◌<◌, ◌≤◌, ◌==◌, ◌++◌, ℕ, Bool, true, false, cond, not, List, [], ◌∷◌, length, Option, Some, None, Result, Ok, Err, refl, sym, subst, arith, length-append}
 use Rattle.std.specs.Option.{ok_or, is_some, option_and_then, IfSome}
 use Rattle.std.specs.List.{AllByRecursion, list_any}
 use Rattle.std.specs.Str.Lines.{lines}
@@ -24,8 +24,6 @@ use Rattle.proxy_config.specs.declared.draft.Section.TheVariants as sections
 use Rattle.proxy_config.specs.declared.keywords.Keyword.{Keyword}
 use Rattle.proxy_config.specs.declared.keywords.Keyword.TheVariants as keywords
 use Rattle.proxy_config.specs.declared.parts.Address.{Address}
-use Rattle.proxy_config.specs.declared.parts.Acl.{Acl}
-use Rattle.proxy_config.specs.declared.parts.Pin.{Pin}
 use Rattle.proxy_config.specs.declared.parts.Server.{Server}
 use Rattle.proxy_config.specs.declared.settings.Settings.{Settings}
 use Rattle.proxy_config.specs.declared.settings.Setting.{Setting}
@@ -37,19 +35,16 @@ use Rattle.proxy_config.specs.Pieces.{word_at, end_at, number_in, number_from, t
 use Rattle.proxy_config.specs.Names.{is_name}
 use Rattle.proxy_config.specs.Addresses.{bind_of, address_of}
 use Rattle.proxy_config.specs.Keywords.{keyword_of}
-use Rattle.std.specs.Str.{bytes_eq}
-use Rattle.std.specs.List.{position}
-use Rattle.std.proofs.lemmas.List.Quantifiers.{position-Some}
-use Rattle.proxy_config.specs.Conditions.{guard_at}
 use Rattle.proxy_config.specs.Settings as server
 use Rattle.proxy_config.specs.Values as values
 use Rattle.proxy_config.specs.Rules.{acl_line, rule_line, pin_line, server_index}
 use Rattle.proxy_config.specs.Draft as draft
 use Rattle.proxy_config.specs.File.{Answers, declared_servers, is_line, long_line, reading, whole}
 use Rattle.proxy_config.specs.Laws.{TakenIn, Says}
-use Rattle.proxy_config.specs.Sound.{IsSoundCheck, IsSoundServer, IsSound}
+use Rattle.proxy_config.specs.Sound.{IsSoundCheck, IsSoundGuard, IsSoundServer, IsSound}
 use Rattle.proxy_config.proofs.Outcomes.{bind_ok, chosen, from_ok, ok_or_ok, unless_ok}
 use Rattle.proxy_config.proofs.FirstFaults.{reading-ok}
+use Rattle.proxy_config.proofs.GuardRanges.{acls_longer, more_pins, more_rules, pin_sound, rule_sound}
 use Rattle.proxy_config.proofs.Surveys.{survey-taken}
 
 -- what a number or a time within ends is
@@ -127,9 +122,9 @@ checks_sound false s sound = tt
 server_sound : (name : List ℕ) (address : Address) (s : Settings) → SoundSettings s → IsSoundServer (draft.server_of name address s)
 server_sound name address s sound = record { weight = sound.weight; check = checks_sound s.check s sound }
 
-all_push : (servers : List Server) (one : Server) → AllByRecursion IsSoundServer servers → IsSoundServer one → AllByRecursion IsSoundServer (servers ++ one ∷ [])
-all_push [] one all is = (is, tt)
-all_push (first ∷ servers) one all is = (all.0, all_push servers one all.1 is)
+all_push : {A : Type 0} (P : A → Type 0) (all : List A) (one : A) → AllByRecursion P all → P one → AllByRecursion P (all ++ one ∷ [])
+all_push P [] one each is = (is, tt)
+all_push P (first ∷ all) one each is = (each.0, all_push P all one each.1 is)
 
 -- what holds of each draft
 record SoundDraft (known : List Server) (d : Draft) : Type 0 where
@@ -137,38 +132,20 @@ record SoundDraft (known : List Server) (d : Draft) : Type 0 where
   servers : AllByRecursion IsSoundServer d.servers
   rules : length d.rules + length d.pins ≤ 256
   pins : AllByRecursion (λ pin. pin.server < length known) d.pins
-
-pins_push : (known : List Server) (pins : List Pin) (one : Pin) → AllByRecursion (λ pin. pin.server < length known) pins → one.server < length known → AllByRecursion (λ pin. pin.server < length known) (pins ++ one ∷ [])
-pins_push known [] one all is = (is, tt)
-pins_push known (first ∷ pins) one all is = (all.0, pins_push known pins one all.1 is)
-
--- a pin is of one of the known servers
-pin_below : (known : List Server) (acls : List Acl) (words : List (List ℕ)) (pin : Pin) → pin_line known acls words ≡ Ok pin → pin.server < length known
-unfolding pin_line
-pin_below known acls words pin is =
-    let name = bind_ok (word_at words) _ pin is in
-    let named = bind_ok (unless (not (is_name name.0.0)) causes.Name) _ pin name.2 in
-    let index = bind_ok (ok_or (server_index name.0.0 known) causes.Unknown) _ pin named.2 in
-    let first = bind_ok (word_at name.0.1) _ pin index.2 in
-    let guard = bind_ok (guard_at acls first.0.0 first.0.1) _ pin first.2 in
-    let below : index.0 < length known = position_below known (λ one. bytes_eq one.name name.0.0) index.0 (ok_or_ok _ causes.Unknown index.0 index.1) in
-    subst (λ (one : Pin). one.server < length known) (from_ok _ pin guard.2) below
-  where
-    position_below : (known : List Server) (p : Server → Bool) (i : ℕ) → position p known ≡ Some i → i < length known
-    position_below [] p i at_ = absurd (let none = at_ in cc)
-    position_below (one ∷ more) p i at_ = (position-Some p (one ∷ more) i one at_).0
+  rule_guards : AllByRecursion (λ rule. IfSome rule.guard (IsSoundGuard (length d.acls))) d.rules
+  pin_guards : AllByRecursion (λ pin. IsSoundGuard (length d.acls) pin.guard) d.pins
 
 global_keeps : (known : List Server) (d e : Draft) (words : List (List ℕ)) → draft.global_line d words ≡ Ok e → SoundDraft known d → SoundDraft known e
 unfolding draft.global_line
 global_keeps known d e words is sound =
     let end = bind_ok (end_at words) _ e is in
-    subst (SoundDraft known) (from_ok _ e end.2) (record { most = sound.most; servers = sound.servers; rules = sound.rules; pins = sound.pins })
+    subst (SoundDraft known) (from_ok _ e end.2) (record { most = sound.most; servers = sound.servers; rules = sound.rules; pins = sound.pins; rule_guards = sound.rule_guards; pin_guards = sound.pin_guards })
 
 defaults_keep : (known : List Server) (d e : Draft) (words : List (List ℕ)) → draft.defaults_line d words ≡ Ok e → SoundDraft known d → SoundDraft known e
 unfolding draft.defaults_line
 defaults_keep known d e words is sound =
     let name = bind_ok (draft.optional_name words) _ e is in
-    subst (SoundDraft known) (from_ok _ e name.2) (record { most = sound.most; servers = sound.servers; rules = sound.rules; pins = sound.pins })
+    subst (SoundDraft known) (from_ok _ e name.2) (record { most = sound.most; servers = sound.servers; rules = sound.rules; pins = sound.pins; rule_guards = sound.rule_guards; pin_guards = sound.pin_guards })
 
 listen_keeps : (known : List Server) (d e : Draft) (n : ℕ) (words : List (List ℕ)) → draft.listen_line d n words ≡ Ok e → SoundDraft known d → SoundDraft known e
 unfolding draft.listen_line
@@ -177,7 +154,7 @@ listen_keeps known d e n words is sound =
     let name = bind_ok (word_at words) _ e again.2 in
     let named = bind_ok (unless (not (is_name name.0.0)) causes.Name) _ e name.2 in
     let end = bind_ok (end_at name.0.1) _ e named.2 in
-    subst (SoundDraft known) (from_ok _ e end.2) (record { most = sound.most; servers = sound.servers; rules = sound.rules; pins = sound.pins })
+    subst (SoundDraft known) (from_ok _ e end.2) (record { most = sound.most; servers = sound.servers; rules = sound.rules; pins = sound.pins; rule_guards = sound.rule_guards; pin_guards = sound.pin_guards })
 
 value_keeps : (known : List Server) (d e : Draft) (kind : Shared) (words : List (List ℕ)) (section : Section) → d.section ≡ section → draft.value_line d kind words ≡ Ok e → SoundDraft known d → SoundDraft known e
 unfolding draft.value_line
@@ -185,10 +162,10 @@ value_keeps known d e kind words sections.Outside at_ is sound = let fault : (le
 value_keeps known d e kind words sections.Global at_ is sound = let fault : (let one : Result Draft Cause = Err causes.Place in one ≡ Ok e) = (rw at_ at is) in absurd (let none = fault in cc)
 value_keeps known d e kind words sections.Defaults at_ is sound =
     let v = bind_ok (values.shared_line kind d.defaults words) _ e (rw at_ at is) in
-    subst (SoundDraft known) (from_ok _ e v.2) (record { most = sound.most; servers = sound.servers; rules = sound.rules; pins = sound.pins })
+    subst (SoundDraft known) (from_ok _ e v.2) (record { most = sound.most; servers = sound.servers; rules = sound.rules; pins = sound.pins; rule_guards = sound.rule_guards; pin_guards = sound.pin_guards })
 value_keeps known d e kind words sections.Listen at_ is sound =
     let v = bind_ok (values.shared_line kind d.values words) _ e (rw at_ at is) in
-    subst (SoundDraft known) (from_ok _ e v.2) (record { most = sound.most; servers = sound.servers; rules = sound.rules; pins = sound.pins })
+    subst (SoundDraft known) (from_ok _ e v.2) (record { most = sound.most; servers = sound.servers; rules = sound.rules; pins = sound.pins; rule_guards = sound.rule_guards; pin_guards = sound.pin_guards })
 
 bind_keeps : (known : List Server) (d e : Draft) (words : List (List ℕ)) → draft.bind_line d words ≡ Ok e → SoundDraft known d → SoundDraft known e
 unfolding draft.bind_line
@@ -198,7 +175,7 @@ bind_keeps known d e words is sound =
     let word = bind_ok (word_at words) _ e again.2 in
     let bind = bind_ok (ok_or (bind_of word.0.0) causes.Address) _ e word.2 in
     let end = bind_ok (end_at word.0.1) _ e bind.2 in
-    subst (SoundDraft known) (from_ok _ e end.2) (record { most = sound.most; servers = sound.servers; rules = sound.rules; pins = sound.pins })
+    subst (SoundDraft known) (from_ok _ e end.2) (record { most = sound.most; servers = sound.servers; rules = sound.rules; pins = sound.pins; rule_guards = sound.rule_guards; pin_guards = sound.pin_guards })
 
 test_keeps : (known : List Server) (d e : Draft) (words : List (List ℕ)) → draft.test_line d words ≡ Ok e → SoundDraft known d → SoundDraft known e
 unfolding draft.test_line
@@ -206,7 +183,15 @@ test_keeps known d e words is sound =
     let place = bind_ok (unless (not (draft.in_listen d.section)) causes.Place) _ e is in
     let limit = bind_ok (unless (nat_le draft.most_acl_lines d.acl_lines) causes.Limit) _ e place.2 in
     let acls = bind_ok (acl_line d.acls words) _ e limit.2 in
-    subst (SoundDraft known) (from_ok _ e acls.2) (record { most = sound.most; servers = sound.servers; rules = sound.rules; pins = sound.pins })
+    let longer : length d.acls ≤ length acls.0 = acls_longer d.acls acls.0 words acls.1 in
+    subst (SoundDraft known) (from_ok _ e acls.2) (record {
+      most = sound.most;
+      servers = sound.servers;
+      rules = sound.rules;
+      pins = sound.pins;
+      rule_guards = more_rules (length d.acls) (length acls.0) longer d.rules sound.rule_guards;
+      pin_guards = more_pins (length d.acls) (length acls.0) longer d.pins sound.pin_guards;
+    })
 
 request_keeps : (known : List Server) (d e : Draft) (words : List (List ℕ)) → draft.request_line d words ≡ Ok e → SoundDraft known d → SoundDraft known e
 unfolding draft.request_line
@@ -215,7 +200,14 @@ request_keeps known d e words is sound =
     let limit = bind_ok (draft.has_room d) _ e place.2 in
     let rule = bind_ok (rule_line d.acls words) _ e limit.2 in
     let room : length d.rules + length d.pins < 256 = leb-false 256 _ (unless_ok _ causes.Limit limit.0 limit.1) in
-    subst (SoundDraft known) (from_ok _ e rule.2) (record { most = sound.most; servers = sound.servers; rules = omega (arith, length-append d.rules (rule.0 ∷ [])); pins = sound.pins })
+    subst (SoundDraft known) (from_ok _ e rule.2) (record {
+      most = sound.most;
+      servers = sound.servers;
+      rules = omega (arith, length-append d.rules (rule.0 ∷ []));
+      pins = sound.pins;
+      rule_guards = all_push (λ rule. IfSome rule.guard (IsSoundGuard (length d.acls))) d.rules rule.0 sound.rule_guards (rule_sound d.acls words rule.0 rule.1);
+      pin_guards = sound.pin_guards;
+    })
 
 use_keeps : (known : List Server) (d e : Draft) (words : List (List ℕ)) → draft.use_line known d words ≡ Ok e → SoundDraft known d → SoundDraft known e
 unfolding draft.use_line
@@ -224,7 +216,15 @@ use_keeps known d e words is sound =
     let limit = bind_ok (draft.has_room d) _ e place.2 in
     let pin = bind_ok (pin_line known d.acls words) _ e limit.2 in
     let room : length d.rules + length d.pins < 256 = leb-false 256 _ (unless_ok _ causes.Limit limit.0 limit.1) in
-    subst (SoundDraft known) (from_ok _ e pin.2) (record { most = sound.most; servers = sound.servers; rules = omega (arith, length-append d.pins (pin.0 ∷ [])); pins = pins_push known d.pins pin.0 sound.pins (pin_below known d.acls words pin.0 pin.1) })
+    let one = pin_sound known d.acls words pin.0 pin.1 in
+    subst (SoundDraft known) (from_ok _ e pin.2) (record {
+      most = sound.most;
+      servers = sound.servers;
+      rules = omega (arith, length-append d.pins (pin.0 ∷ []));
+      pins = all_push (λ pin. pin.server < length known) d.pins pin.0 sound.pins one.0;
+      rule_guards = sound.rule_guards;
+      pin_guards = all_push (λ pin. IsSoundGuard (length d.acls) pin.guard) d.pins pin.0 sound.pin_guards one.1;
+    })
 
 server_keeps : (known : List Server) (d e : Draft) (words : List (List ℕ)) → draft.server_line d words ≡ Ok e → SoundDraft known d → SoundDraft known e
 unfolding draft.server_line
@@ -242,9 +242,11 @@ server_keeps known d e words is sound =
     let one : IsSoundServer (draft.server_of name.0.0 address.0 s.0) = server_sound name.0.0 address.0 s.0 (settings_keep server.built_in second.0.1 s.0 s.1 built_in) in
     subst (SoundDraft known) (from_ok _ e s.2) (record {
       most = omega (arith, length-append d.servers (draft.server_of name.0.0 address.0 s.0 ∷ []));
-      servers = all_push d.servers (draft.server_of name.0.0 address.0 s.0) sound.servers one;
+      servers = all_push IsSoundServer d.servers (draft.server_of name.0.0 address.0 s.0) sound.servers one;
       rules = sound.rules;
       pins = sound.pins;
+      rule_guards = sound.rule_guards;
+      pin_guards = sound.pin_guards;
     })
 
 line_keeps : (known : List Server) (d e : Draft) (n : ℕ) (keyword : Keyword) (words : List (List ℕ)) → draft.keyword_line known d n keyword words ≡ Ok e → SoundDraft known d → SoundDraft known e
@@ -305,6 +307,8 @@ whole_sound (Some line) (Some bind) d config is sound = elim (chosen (length d.s
         servers = All-from_recursion IsSoundServer d.servers sound.servers;
         rules = sound.rules;
         pins = All-from_recursion (λ pin. pin.server < length d.servers) d.pins sound.pins;
+        rule_guards = All-from_recursion (λ rule. IfSome rule.guard (IsSoundGuard (length d.acls))) d.rules sound.rule_guards;
+        pin_guards = All-from_recursion (λ pin. IsSoundGuard (length d.acls) pin.guard) d.pins sound.pin_guards;
         queue_timeout = timeout_sound d.values;
       })
 ]
@@ -319,8 +323,8 @@ whole_sound (Some line) (Some bind) d config is sound = elim (chosen (length d.s
 pub says-sound : (bytes : List ℕ) (config : Config) → Says bytes config → IsSound config
 says-sound bytes config says =
     let known = declared_servers bytes in
-    let start : SoundDraft known draft.start = record { most = omega arith; servers = tt; rules = omega arith; pins = tt } in
-    let same : known ≡ says.draft.servers = ap (λ (d : Draft). d.servers) (survey-taken known (long_line bytes) draft.start says.draft 1 (lines bytes) says.taken_in) in
+    let start : SoundDraft known draft.start = record { most = omega arith; servers = tt; rules = omega arith; pins = tt; rule_guards = tt; pin_guards = tt } in
+    let same : known ≡ says.draft.servers = survey-taken known (long_line bytes) draft.start says.draft 1 (lines bytes) says.taken_in in
     whole_sound says.draft.listen says.draft.bind says.draft config says.whole
     (subst (λ (servers : List Server). SoundDraft servers says.draft) same
     (taken_keep known (long_line bytes) draft.start says.draft 1 (lines bytes) says.taken_in start))

@@ -1,172 +1,165 @@
--- The servers that a first pass finds are those of an accepted file.
-use Rattle.std.proofs.Common.{◌≡◌, ◌∙◌, ◌+◌, ◌≤◌, ℕ, Bool, true, false, not, List, [], ◌∷◌, length, Option, Result, Ok, Err, refl, sym, ap, arith}
-use Rattle.std.specs.Option.{ok_or, is_some}
+-- The servers that all lines declare, faulty lines aside, are those of the draft that one pass keeps.
+use Rattle.std.proofs.Common.{◌≡◌, ◌∙◌, ◌+◌, ◌++◌, ℕ, Bool, true, false, cond, not, List, [], ◌∷◌, length, Option, Some, None, Result, Ok, Err, refl, sym, ap}
 use Rattle.std.specs.List.{list_any}
-use Rattle.std.specs.Prelude.{nat_le}
-use Rattle.std.specs.Str.Lines.{lines}
-use Rattle.std.proofs.lemmas.Bool.Decides.{nat_tests}
+use Rattle.std.specs.Option.{ok_or}
 use Rattle.proxy_words.specs.Text.{uncommented, words}
 use Rattle.proxy_config.specs.declared.faults.Cause.{Cause}
 use Rattle.proxy_config.specs.declared.faults.Cause.TheVariants as causes
+use Rattle.proxy_config.specs.declared.faults.ConfigFault.{ConfigFault}
 use Rattle.proxy_config.specs.declared.draft.Draft.{Draft}
-use Rattle.proxy_config.specs.declared.draft.Section.{Section}
-use Rattle.proxy_config.specs.declared.draft.Section.TheVariants as sections
 use Rattle.proxy_config.specs.declared.keywords.Keyword.{Keyword}
 use Rattle.proxy_config.specs.declared.keywords.Keyword.TheVariants as keywords
-use Rattle.proxy_config.specs.declared.parts.Acl.{Acl}
 use Rattle.proxy_config.specs.declared.parts.Pin.{Pin}
 use Rattle.proxy_config.specs.declared.parts.Server.{Server}
-use Rattle.proxy_config.specs.declared.values.Shared.{Shared}
+use Rattle.proxy_config.specs.declared.progress.Progress.{Progress}
+use Rattle.proxy_config.specs.declared.wishes.Wish.{Wish}
 use Rattle.proxy_config.specs.Outcomes.{◌>>=◌, unless}
-use Rattle.proxy_config.specs.Pieces.{word_at, end_at}
-use Rattle.proxy_config.specs.Names.{is_name}
-use Rattle.proxy_config.specs.Addresses.{bind_of, address_of}
 use Rattle.proxy_config.specs.Keywords.{keyword_of}
-use Rattle.proxy_config.specs.Rules.{acl_line, pin_line, rule_line, server_index}
-use Rattle.proxy_config.specs.Settings as server
-use Rattle.proxy_config.specs.Values as values
+use Rattle.proxy_config.specs.Rules.{pin_line, rule_line}
 use Rattle.proxy_config.specs.Draft as draft
+use Rattle.proxy_config.specs.Wishes as wished
+use Rattle.proxy_config.specs.Progress.{took, take_line}
 use Rattle.proxy_config.specs.File.{is_line, survey, unless_faulty}
 use Rattle.proxy_config.specs.Laws.{TakenIn}
-use Rattle.proxy_config.proofs.Outcomes.{bind_ok, from_ok, unless_ok, same_next}
-use Rattle.proxy_config.proofs.LeftReaders.{assoc}
+use Rattle.proxy_config.proofs.Outcomes.{bind_ok, from_ok}
+use Rattle.proxy_config.proofs.Granted.{fit, granted, global_refit, defaults_refit, listen_refit, value_refit, bind_refit, server_refit, test_refit, step_granted}
+use Rattle.proxy_config.proofs.Wished.{of_line}
 
--- the draft without its pins
-abbrev cut : Draft → Draft
-cut d = record d { pins = [] }
+-- the draft without its rules and pins
+abbrev bare : Draft → Draft
+bare d = record d { rules = []; pins = [] }
 
--- what was read, without its pins
-abbrev cut_read : Result Draft Cause → Result Draft Cause
-cut_read r = r >>= λ d. Ok (cut d)
+-- the draft that a line leaves
+abbrev left : Draft → Result (Draft × Option Wish) Cause → Draft
+left d (Ok (e, wish)) = e
+left d (Err cause) = d
 
-global_cut : (d : Draft) (ws : List (List ℕ)) → draft.global_line (cut d) ws ≡ cut_read (draft.global_line d ws)
-unfolding draft.global_line
-global_cut d ws = sym (assoc (end_at ws) _ (λ x. Ok (cut x)))
+moved : (d : Draft) (r read : Result Draft Cause) → read ≡ (r >>= λ x. Ok (bare x)) → bare (unless_faulty (bare d) read) ≡ bare (left d (wished.plain r))
+moved d (Ok e) read is = ap (λ (x : Result Draft Cause). bare (unless_faulty (bare d) x)) is
+moved d (Err cause) read is = ap (λ (x : Result Draft Cause). bare (unless_faulty (bare d) x)) is
 
-defaults_cut : (d : Draft) (ws : List (List ℕ)) → draft.defaults_line (cut d) ws ≡ cut_read (draft.defaults_line d ws)
-unfolding draft.defaults_line
-defaults_cut d ws = sym (assoc (draft.optional_name ws) _ (λ x. Ok (cut x)))
+-- a line that changes rules and pins alone
+kept : (d : Draft) (r : Result Draft Cause) → ((e : Draft) → r ≡ Ok e → bare e ≡ bare d) → bare (unless_faulty d r) ≡ bare d
+kept d (Ok e) same = same e refl
+kept d (Err cause) same = refl
 
-listen_cut : (d : Draft) (n : ℕ) (ws : List (List ℕ)) → draft.listen_line (cut d) n ws ≡ cut_read (draft.listen_line d n ws)
-unfolding draft.listen_line
-listen_cut d n ws = sym (assoc (unless (is_some d.listen) causes.Section) _ (λ x. Ok (cut x)) ∙ same_next (unless (is_some d.listen) causes.Section) _ _ (λ again again_is.
-    assoc (word_at ws) _ (λ x. Ok (cut x)) ∙ same_next (word_at ws) _ _ (λ name name_is.
-    assoc (unless (not (is_name name.0)) causes.Name) _ (λ x. Ok (cut x)) ∙ same_next (unless (not (is_name name.0)) causes.Name) _ _ (λ named named_is.
-    assoc (end_at name.1) _ (λ x. Ok (cut x))))))
+left_plain : (d : Draft) (r : Result Draft Cause) → ((e : Draft) → r ≡ Ok e → bare e ≡ bare d) → bare (left d (wished.plain r)) ≡ bare d
+left_plain d (Ok e) same = same e refl
+left_plain d (Err cause) same = refl
 
-value_cut : (d : Draft) (kind : Shared) (ws : List (List ℕ)) (section : Section) → d.section ≡ section → draft.value_line (cut d) kind ws ≡ cut_read (draft.value_line d kind ws)
-unfolding draft.value_line
-value_cut d kind ws sections.Outside is = rw is refl
-value_cut d kind ws sections.Global is = rw is refl
-value_cut d kind ws sections.Defaults is = rw is (sym (assoc (values.shared_line kind d.defaults ws) _ (λ x. Ok (cut x))))
-value_cut d kind ws sections.Listen is = rw is (sym (assoc (values.shared_line kind d.values ws) _ (λ x. Ok (cut x))))
+left_wish : (d : Draft) (r : Result Wish Cause) → left d (r >>= λ wish. Ok (d, Some wish)) ≡ d
+left_wish d (Ok wish) = refl
+left_wish d (Err cause) = refl
 
-bind_cut : (d : Draft) (ws : List (List ℕ)) → draft.bind_line (cut d) ws ≡ cut_read (draft.bind_line d ws)
-unfolding draft.bind_line
-bind_cut d ws = sym (assoc (unless (not (draft.in_listen d.section)) causes.Place) _ (λ x. Ok (cut x)) ∙ same_next (unless (not (draft.in_listen d.section)) causes.Place) _ _ (λ place place_is.
-    assoc (unless (is_some d.bind) causes.Twice) _ (λ x. Ok (cut x)) ∙ same_next (unless (is_some d.bind) causes.Twice) _ _ (λ again again_is.
-    assoc (word_at ws) _ (λ x. Ok (cut x)) ∙ same_next (word_at ws) _ _ (λ word word_is.
-    assoc (ok_or (bind_of word.0) causes.Address) _ (λ x. Ok (cut x)) ∙ same_next (ok_or (bind_of word.0) causes.Address) _ _ (λ bind bind_is.
-    assoc (end_at word.1) _ (λ x. Ok (cut x)))))))
-
-server_cut : (d : Draft) (ws : List (List ℕ)) → draft.server_line (cut d) ws ≡ cut_read (draft.server_line d ws)
-unfolding draft.server_line
-server_cut d ws = sym (assoc (unless (not (draft.in_listen d.section)) causes.Place) _ (λ x. Ok (cut x)) ∙ same_next (unless (not (draft.in_listen d.section)) causes.Place) _ _ (λ place place_is.
-    assoc (unless (nat_le draft.most_servers (length d.servers)) causes.Limit) _ (λ x. Ok (cut x)) ∙ same_next (unless (nat_le draft.most_servers (length d.servers)) causes.Limit) _ _ (λ limit limit_is.
-    assoc (word_at ws) _ (λ x. Ok (cut x)) ∙ same_next (word_at ws) _ _ (λ name name_is.
-    assoc (unless (not (is_name name.0)) causes.Name) _ (λ x. Ok (cut x)) ∙ same_next (unless (not (is_name name.0)) causes.Name) _ _ (λ named named_is.
-    assoc (unless (is_some (server_index name.0 d.servers)) causes.Twice) _ (λ x. Ok (cut x)) ∙ same_next (unless (is_some (server_index name.0 d.servers)) causes.Twice) _ _ (λ again again_is.
-    assoc (word_at name.1) _ (λ x. Ok (cut x)) ∙ same_next (word_at name.1) _ _ (λ second second_is.
-    assoc (ok_or (address_of second.0) causes.Address) _ (λ x. Ok (cut x)) ∙ same_next (ok_or (address_of second.0) causes.Address) _ _ (λ address address_is.
-    assoc (server.settings server.built_in second.1) _ (λ x. Ok (cut x))))))))))
-
-test_cut : (d : Draft) (ws : List (List ℕ)) → draft.test_line (cut d) ws ≡ cut_read (draft.test_line d ws)
-unfolding draft.test_line
-test_cut d ws = sym (assoc (unless (not (draft.in_listen d.section)) causes.Place) _ (λ x. Ok (cut x)) ∙ same_next (unless (not (draft.in_listen d.section)) causes.Place) _ _ (λ place place_is.
-    assoc (unless (nat_le draft.most_acl_lines d.acl_lines) causes.Limit) _ (λ x. Ok (cut x)) ∙ same_next (unless (nat_le draft.most_acl_lines d.acl_lines) causes.Limit) _ _ (λ limit limit_is.
-    assoc (acl_line d.acls ws) _ (λ x. Ok (cut x)))))
-
--- fewer rules leave room too
-room_fewer : (k m : ℕ) → nat_le 256 m ≡ false → k ≤ m → nat_le 256 k ≡ false
-room_fewer k m full fewer = grind (arith, nat_tests)
-
-request_cut : (d e : Draft) (ws : List (List ℕ)) → draft.request_line d ws ≡ Ok e → draft.request_line (cut d) ws ≡ Ok (cut e)
+request_same : (d e : Draft) (ws : List (List ℕ)) → draft.request_line d ws ≡ Ok e → bare e ≡ bare d
 unfolding draft.request_line
-request_cut d e ws is =
+request_same d e ws is =
     let place = bind_ok (unless (not (draft.in_listen d.section)) causes.Place) _ e is in
     let limit = bind_ok (draft.has_room d) _ e place.2 in
     let rule = bind_ok (rule_line d.acls ws) _ e limit.2 in
-    let inside = unless_ok (not (draft.in_listen d.section)) causes.Place place.0 place.1 in
-    let room = room_fewer (length d.rules + 0) (length d.rules + length d.pins) (unless_ok _ causes.Limit limit.0 limit.1) (omega arith) in
-    rw (inside, room, rule.1) (ap (λ (x : Draft). Ok (cut x)) (from_ok _ e rule.2))
+    ap bare (sym (from_ok _ e rule.2))
 
--- without servers no pin is read
-pin_none : (acls : List Acl) (ws : List (List ℕ)) (pin : Pin) → pin_line [] acls ws ≡ Ok pin → ⊥
-unfolding pin_line
-pin_none acls ws pin is =
-    let name = bind_ok (word_at ws) _ pin is in
-    let named = bind_ok (unless (not (is_name name.0.0)) causes.Name) _ pin name.2 in
-    absurd (let none = named.2 in cc)
-
-use_none : (d e : Draft) (ws : List (List ℕ)) → draft.use_line [] d ws ≡ Ok e → ⊥
-unfolding draft.use_line
-use_none d e ws is =
+asked_same : (pins : ℕ) (d e : Draft) (ws : List (List ℕ)) → wished.request_line pins d ws ≡ Ok e → bare e ≡ bare d
+unfolding wished.request_line
+asked_same pins d e ws is =
     let place = bind_ok (unless (not (draft.in_listen d.section)) causes.Place) _ e is in
-    let limit = bind_ok (draft.has_room d) _ e place.2 in
-    let pin = bind_ok (pin_line [] d.acls ws) _ e limit.2 in
-    pin_none d.acls ws pin.0 pin.1
+    let limit = bind_ok (wished.has_room pins d) _ e place.2 in
+    let rule = bind_ok (rule_line d.acls ws) _ e limit.2 in
+    ap bare (sym (from_ok _ e rule.2))
 
-use_cut : (servers : List Server) (d e : Draft) (ws : List (List ℕ)) → draft.use_line servers d ws ≡ Ok e → cut d ≡ cut e
+use_same : (servers : List Server) (d e : Draft) (ws : List (List ℕ)) → draft.use_line servers d ws ≡ Ok e → bare e ≡ bare d
 unfolding draft.use_line
-use_cut servers d e ws is =
+use_same servers d e ws is =
     let place = bind_ok (unless (not (draft.in_listen d.section)) causes.Place) _ e is in
     let limit = bind_ok (draft.has_room d) _ e place.2 in
     let pin = bind_ok (pin_line servers d.acls ws) _ e limit.2 in
-    ap cut (from_ok _ e pin.2)
+    ap bare (sym (from_ok _ e pin.2))
 
--- a faulty line leaves the draft, and one that is read its own
-kept : (d : Draft) (r : Result Draft Cause) → ((e : Draft) → r ≡ Ok e → ⊥) → unless_faulty d r ≡ d
-kept d (Ok e) faulty = absurd (faulty e refl)
-kept d (Err cause) faulty = refl
+line_left : (pins : ℕ) (d : Draft) (n : ℕ) (keyword : Keyword) (ws : List (List ℕ))
+    → bare (unless_faulty (bare d) (draft.keyword_line [] (bare d) n keyword ws)) ≡ bare (left d (wished.keyword_line pins d n keyword ws))
+line_left pins d n keywords.Global ws = moved d (draft.global_line d ws) _ (global_refit (λ r. []) (λ p. []) d ws)
+line_left pins d n keywords.Defaults ws = moved d (draft.defaults_line d ws) _ (defaults_refit (λ r. []) (λ p. []) d ws)
+line_left pins d n keywords.Listen ws = moved d (draft.listen_line d n ws) _ (listen_refit (λ r. []) (λ p. []) d n ws)
+line_left pins d n keywords.Refused ws = refl
+line_left pins d n (keywords.Shared kind) ws = moved d (draft.value_line d kind ws) _ (value_refit (λ r. []) (λ p. []) d kind ws d.section refl)
+line_left pins d n keywords.Bind ws = moved d (draft.bind_line d ws) _ (bind_refit (λ r. []) (λ p. []) d ws)
+line_left pins d n keywords.Server ws = moved d (draft.server_line d ws) _ (server_refit (λ r. []) (λ p. []) d ws)
+line_left pins d n keywords.Acl ws = moved d (draft.test_line d ws) _ (test_refit (λ r. []) (λ p. []) d ws)
+line_left pins d n keywords.HttpRequest ws = kept (bare d) (draft.request_line (bare d) ws) (λ e is. request_same (bare d) e ws is) ∙ sym (left_plain d (wished.request_line pins d ws) (λ e is. asked_same pins d e ws is))
+line_left pins d n keywords.UseServer ws = kept (bare d) (draft.use_line [] (bare d) ws) (λ e is. use_same [] (bare d) e ws is) ∙ ap bare (sym (left_wish d (wished.use_line pins d n ws)))
 
--- a line that is taken in leaves the draft of the first pass as without its pins
-line_cut : (servers : List Server) (d e : Draft) (n : ℕ) (keyword : Keyword) (ws : List (List ℕ)) → draft.keyword_line servers d n keyword ws ≡ Ok e
-    → unless_faulty (cut d) (draft.keyword_line [] (cut d) n keyword ws) ≡ cut e
-line_cut servers d e n keywords.Global ws is = ap (unless_faulty (cut d)) (global_cut d ws ∙ ap cut_read is)
-line_cut servers d e n keywords.Defaults ws is = ap (unless_faulty (cut d)) (defaults_cut d ws ∙ ap cut_read is)
-line_cut servers d e n keywords.Listen ws is = ap (unless_faulty (cut d)) (listen_cut d n ws ∙ ap cut_read is)
-line_cut servers d e n keywords.Refused ws is = absurd (let none = is in cc)
-line_cut servers d e n (keywords.Shared kind) ws is = ap (unless_faulty (cut d)) (value_cut d kind ws d.section refl ∙ ap cut_read is)
-line_cut servers d e n keywords.Bind ws is = ap (unless_faulty (cut d)) (bind_cut d ws ∙ ap cut_read is)
-line_cut servers d e n keywords.Server ws is = ap (unless_faulty (cut d)) (server_cut d ws ∙ ap cut_read is)
-line_cut servers d e n keywords.Acl ws is = ap (unless_faulty (cut d)) (test_cut d ws ∙ ap cut_read is)
-line_cut servers d e n keywords.HttpRequest ws is = ap (unless_faulty (cut d)) (request_cut d e ws is)
-line_cut servers d e n keywords.UseServer ws is = kept (cut d) (draft.use_line [] (cut d) ws) (λ x fine. use_none (cut d) x ws fine) ∙ use_cut servers d e ws is
-
-words_cut : (servers : List Server) (d e : Draft) (n : ℕ) (ws : List (List ℕ)) → draft.words_line servers d n ws ≡ Ok e
-    → unless_faulty (cut d) (draft.words_line [] (cut d) n ws) ≡ cut e
-unfolding draft.words_line
-words_cut servers d e n [] is = ap cut (from_ok d e is)
-words_cut servers d e n (word ∷ ws) is =
-    let keyword = bind_ok (ok_or (keyword_of word) causes.Keyword) _ e is in
-    ap (λ (r : Result Keyword Cause). unless_faulty (cut d) (r >>= λ k. draft.keyword_line [] (cut d) n k ws)) keyword.1 ∙ line_cut servers d e n keyword.0 ws keyword.2
-
-step_cut : (servers : List Server) (too_long : Bool) (d e : Draft) (n : ℕ) (line : List ℕ) → draft.step servers too_long d n line ≡ Ok e
-    → unless_faulty (cut d) (draft.step [] too_long (cut d) n line) ≡ cut e
-unfolding draft.step
-step_cut servers too_long d e n line is = by_test (draft.is_ignored d.section (words (uncommented line))) refl
+words_left : (pins : ℕ) (d : Draft) (n : ℕ) (ws : List (List ℕ)) → bare (unless_faulty (bare d) (draft.words_line [] (bare d) n ws)) ≡ bare (left d (wished.words_line pins d n ws))
+unfolding draft.words_line wished.words_line
+words_left pins d n [] = refl
+words_left pins d n (word ∷ ws) = by_keyword (keyword_of word)
   where
-    by_test : (ignored : Bool) → draft.is_ignored d.section (words (uncommented line)) ≡ ignored → unless_faulty (cut d) (draft.step [] too_long (cut d) n line) ≡ cut e
-    by_test true ignored =
-        let short = bind_ok (unless too_long causes.Limit) _ e (rw ignored at is) in
-        rw (ignored, short.1) (ap cut (from_ok d e short.2))
-    by_test false heeded =
-        let plain = bind_ok (unless (list_any draft.is_quoting (uncommented line)) causes.Quoting) _ e (rw heeded at is) in
-        let short = bind_ok (unless too_long causes.Limit) _ e plain.2 in
-        rw (heeded, plain.1, short.1) (words_cut servers d e n (words (uncommented line)) short.2)
+    by_keyword : (known : Option Keyword) → bare (unless_faulty (bare d) (ok_or known causes.Keyword >>= λ keyword. draft.keyword_line [] (bare d) n keyword ws)) ≡ bare (left d (ok_or known causes.Keyword >>= λ keyword. wished.keyword_line pins d n keyword ws))
+    by_keyword None = refl
+    by_keyword (Some keyword) = line_left pins d n keyword ws
 
--- where all lines are taken in, the first pass finds the same servers
-pub survey-taken : (servers : List Server) (long : Option ℕ) (d e : Draft) (n : ℕ) (lines : List (List ℕ)) → TakenIn servers long d n lines e → survey long (cut d) n lines ≡ cut e
-survey-taken servers long d e n [] taken = ap cut (sym taken)
+-- what a line leaves of all but rules and pins, behind any number of pins
+step_bare : (pins : ℕ) (too_long : Bool) (d : Draft) (n : ℕ) (line : List ℕ) → bare (unless_faulty (bare d) (draft.step [] too_long (bare d) n line)) ≡ bare (left d (wished.step pins too_long d n line))
+unfolding draft.step wished.step
+step_bare pins too_long d n line = by_test (draft.is_ignored d.section (words (uncommented line))) (list_any draft.is_quoting (uncommented line)) too_long
+  where
+    by_test : (ignored quoted long : Bool)
+        → bare (unless_faulty (bare d) (cond ignored (unless long causes.Limit >>= λ short. Ok (bare d)) (unless quoted causes.Quoting >>= λ plain. unless long causes.Limit >>= λ short. draft.words_line [] (bare d) n (words (uncommented line)))))
+        ≡ bare (left d (cond ignored (unless long causes.Limit >>= λ short. Ok (d, None)) (unless quoted causes.Quoting >>= λ plain. unless long causes.Limit >>= λ short. wished.words_line pins d n (words (uncommented line)))))
+    by_test true quoted true = refl
+    by_test true quoted false = refl
+    by_test false true long = refl
+    by_test false false true = refl
+    by_test false false false = words_left pins d n (words (uncommented line))
+
+pin_kept : (d e : Draft) (ps : List Pin) (r : Result Pin Cause) → e ≡ d → bare (unless_faulty d (r >>= λ pin. Ok (fit (ps ++ pin ∷ []) e))) ≡ bare e
+pin_kept d e ps (Ok pin) own = refl
+pin_kept d e ps (Err cause) own = ap bare (sym own)
+
+-- a draft with its own pins: a pin that is asked for leaves it but for them
+granted_left : (servers : List Server) (d : Draft) (r : Result (Draft × Option Wish) Cause) → ((e : Draft) (wish : Wish) → r ≡ Ok (e, Some wish) → e ≡ d)
+    → bare (unless_faulty d (r >>= granted servers d.pins)) ≡ bare (left d r)
+granted_left servers d (Ok (e, None)) own = refl
+granted_left servers d (Ok (e, Some wish)) own = pin_kept d e d.pins (wished.pin_of servers wish) (own e wish refl)
+granted_left servers d (Err cause) own = refl
+
+step_left : (servers : List Server) (too_long : Bool) (d : Draft) (n : ℕ) (line : List ℕ) → bare (unless_faulty d (draft.step servers too_long d n line)) ≡ bare (left d (wished.step (length d.pins) too_long d n line))
+step_left servers too_long d n line = ap (λ (r : Result Draft Cause). bare (unless_faulty d r)) (step_granted servers d.pins too_long d n line)
+    ∙ granted_left servers d (wished.step (length d.pins) too_long d n line) (λ e wish is. (of_line (length d.pins) too_long d e n line wish is).1)
+
+-- the survey goes by all but rules and pins
+step_same : (too_long : Bool) (d e : Draft) (n : ℕ) (line : List ℕ) → bare d ≡ bare e → bare (unless_faulty d (draft.step [] too_long d n line)) ≡ bare (unless_faulty e (draft.step [] too_long e n line))
+step_same too_long d e n line same =
+    step_left [] too_long d n line ∙ sym (step_bare (length d.pins) too_long d n line)
+    ∙ ap (λ (x : Draft). bare (unless_faulty x (draft.step [] too_long x n line))) same
+    ∙ step_bare (length e.pins) too_long e n line ∙ sym (step_left [] too_long e n line)
+
+-- the draft of the survey after a line
+abbrev next : Option ℕ → Draft → ℕ → List ℕ → Draft
+next long d n line = unless_faulty d (draft.step [] (is_line long n) d n line)
+
+survey_same : (long : Option ℕ) (d e : Draft) (n : ℕ) (lines : List (List ℕ)) → bare d ≡ bare e → (survey long d n lines).servers ≡ (survey long e n lines).servers
+survey_same long d e n [] same = ap (λ (x : Draft). x.servers) same
+survey_same long d e n (line ∷ lines) same =
+    survey_same long (next long d n line) (next long e n line) (n + 1) lines (step_same (is_line long n) d e n line same)
+
+took_left : (known : Option ConfigFault) (p : Progress) (n : ℕ) (r : Result (Draft × Option Wish) Cause) → (took known p n r).draft ≡ left p.draft r
+took_left None p n (Ok (d, None)) = refl
+took_left None p n (Ok (d, Some wish)) = refl
+took_left None p n (Err cause) = refl
+took_left (Some fault) p n (Ok (d, wish)) = refl
+took_left (Some fault) p n (Err cause) = refl
+
+-- a line that is read makes no difference to the servers that the lines declare
+pub survey-take : (long : Option ℕ) (p : Progress) (n : ℕ) (line : List ℕ) (lines : List (List ℕ))
+    → (survey long p.draft n (line ∷ lines)).servers ≡ (survey long (take_line (is_line long n) p n line).draft (n + 1) lines).servers
+survey-take long p n line lines = survey_same long (next long p.draft n line) (take_line (is_line long n) p n line).draft (n + 1) lines
+    (step_left [] (is_line long n) p.draft n line ∙ sym (step_bare (length p.draft.pins) (is_line long n) p.draft n line)
+    ∙ step_bare (length p.wishes) (is_line long n) p.draft n line
+    ∙ ap bare (sym (took_left p.fault p n (wished.step (length p.wishes) (is_line long n) p.draft n line))))
+
+-- where all lines are taken in, the survey finds the same servers
+pub survey-taken : (servers : List Server) (long : Option ℕ) (d e : Draft) (n : ℕ) (lines : List (List ℕ)) → TakenIn servers long d n lines e → (survey long d n lines).servers ≡ e.servers
+survey-taken servers long d e n [] taken = ap (λ (x : Draft). x.servers) (sym taken)
 survey-taken servers long d e n (line ∷ lines) taken =
-    ap (λ (x : Draft). survey long x (n + 1) lines) (step_cut servers (is_line long n) d taken.0 n line taken.1) ∙ survey-taken servers long taken.0 e (n + 1) lines taken.2
+    survey_same long (next long d n line) taken.0 (n + 1) lines (step_left [] (is_line long n) d n line ∙ sym (step_left servers (is_line long n) d n line) ∙ ap (λ (r : Result Draft Cause). bare (unless_faulty d r)) taken.1)
+    ∙ survey-taken servers long taken.0 e (n + 1) lines taken.2

@@ -1,5 +1,5 @@
 -- The definitions at worked examples: what must hold, and wrong words that must not be taken.
-use Rattle.std.proofs.Common.{◌≡◌, ◌++◌, true, false, [], ◌∷◌, Some, None, Ok, Err, negsuc, codes, refl}
+use Rattle.std.proofs.Common.{◌≡◌, ◌++◌, ℕ, true, false, List, [], ◌∷◌, Some, None, Ok, Err, negsuc, codes, refl}
 use Rattle.proxy_words.specs.Text.{words}
 use Rattle.proxy_config.specs.declared.faults.Cause.TheVariants as causes
 use Rattle.proxy_config.specs.declared.parts.Expression.TheVariants.{Int, HeaderValue}
@@ -8,8 +8,12 @@ use Rattle.proxy_config.specs.Addresses.{ip, bind_of, address_of}
 use Rattle.proxy_config.specs.Samples.{expression_of, head_at, test_in_braces}
 use Rattle.proxy_config.specs.Conditions.{alternatives, condition, operand_at, term_at}
 use Rattle.proxy_config.specs.Settings.{built_in, settings}
-use Rattle.proxy_config.specs.Draft.{step, words_line, optional_name, defaults_line, listen_line, bind_line}
+use Rattle.proxy_config.specs.Draft.{step, words_line, optional_name, defaults_line, listen_line, bind_line, server_of}
 use Rattle.proxy_config.specs.File.{reading}
+use Rattle.proxy_config.specs.Wishes.{pin_of, with_pins, wish_line}
+use Rattle.proxy_config.specs.declared.parts.Host.TheVariants as hosts
+use Rattle.proxy_config.specs.declared.parts.Server.{Server}
+use Rattle.proxy_config.specs.declared.wishes.Wish.{Wish}
 
 name_row : is_name (codes "web-1.a:b_c") ≡ true
 name_row = refl
@@ -64,6 +68,27 @@ unclosed = refl
 no_value : condition [] (words (codes "{ path }")) ≡ Err causes.Condition
 unfolding alternatives term_at operand_at test_in_braces head_at
 no_value = refl
+
+-- pins whose servers may stand later
+abbrev one_server : List Server
+one_server = server_of (codes "a") (record { host = hosts.Name (codes "h"); port = 80 }) built_in ∷ []
+
+-- a wish for a server of this name, in line 4, without a condition
+abbrev unguarded : List ℕ → Wish
+unguarded name = record { line = 4; server = name; guard = Err causes.Words }
+
+wish_row : wish_line 4 [] (words (codes "a")) ≡ Ok (unguarded (codes "a"))
+unfolding wish_line
+wish_row = refl
+
+guard_counts : pin_of one_server (unguarded (codes "a")) ≡ Err causes.Words
+guard_counts = refl
+
+unknown_first : pin_of one_server (unguarded (codes "b")) ≡ Err causes.Unknown
+unknown_first = refl
+
+named_with_its_line : with_pins one_server (unguarded (codes "b") ∷ unguarded (codes "a") ∷ []) Ok ≡ Err (record { line = 4; cause = causes.Unknown })
+named_with_its_line = refl
 
 -- whole files
 empty_file : reading [] ≡ Err (record { line = 0; cause = causes.Missing })

@@ -7,8 +7,6 @@ use Rattle.proxy_config.specs.declared.faults.Cause.TheVariants as causes
 use Rattle.proxy_config.specs.declared.faults.ConfigFault.{ConfigFault}
 use Rattle.proxy_config.specs.declared.faults.ReadError.{ReadError}
 use Rattle.proxy_config.specs.declared.faults.ReadError.TheVariants as errors
-use Rattle.proxy_config.specs.declared.faults.LineError.{LineError}
-use Rattle.proxy_config.specs.declared.faults.LineError.TheVariants as line_errors
 use Rattle.proxy_config.specs.declared.draft.Draft.{Draft}
 use Rattle.proxy_config.specs.declared.parts.Bind.{Bind}
 use Rattle.proxy_config.specs.declared.parts.Config.{Config}
@@ -29,8 +27,8 @@ is_line None n = false
 is_line (Some line) n = line == n
 
 -- a line's outcome, with its number beside the cause, and what comes after it
-abbrev pub then_lines : {A : Type 0} → ℕ → Result Draft Cause → (Draft → Result A ConfigFault) → Result A ConfigFault
-then_lines n (Ok d) more = more d
+abbrev pub then_lines : {A B : Type 0} → ℕ → Result B Cause → (B → Result A ConfigFault) → Result A ConfigFault
+then_lines n (Ok made) more = more made
 then_lines n (Err cause) more = Err (record { line = n; cause = cause })
 
 -- the lines from this number on, each by the draft that those before it left: the first faulty one is named
@@ -83,8 +81,3 @@ abbrev pub Answers : {X : Type 0} → Result X ReadError → Result X ConfigFaul
 Answers (Ok x) read = read ≡ Ok x
 Answers (Err errors.NoMemory) read = Unit {0}
 Answers (Err (errors.Fault fault)) read = read ≡ Err fault
-
--- a line's error, with its number
-abbrev pub at_line : ℕ → LineError → ReadError
-at_line line line_errors.NoMemory = errors.NoMemory
-at_line line (line_errors.Fault cause) = errors.Fault (record { line = line; cause = cause })

@@ -10,6 +10,8 @@ pub mod Values
 pub mod Keywords
 pub mod Draft
 pub mod File
+pub mod Wishes
+pub mod Progress
 pub mod Laws
 pub mod ConditionGrammar
 pub mod Rows

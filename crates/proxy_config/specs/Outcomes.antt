@@ -33,3 +33,8 @@ Gives view (Err e) read = Fails e read
 abbrev pub Becomes : {X : Type 0} → Result (Unit {0}) LineError → X → X → Result X Cause → Type 0
 Becomes (Ok _) old new read = read ≡ Ok new
 Becomes (Err e) old new read = (new ≡ old) × Fails e read
+
+-- the same of a value that was changed in place and of one that was returned
+abbrev pub Leaves : {X Y : Type 0} → Result Y LineError → X → X → Result (X × Y) Cause → Type 0
+Leaves (Ok y) old new read = read ≡ Ok (new, y)
+Leaves (Err e) old new read = (new ≡ old) × Fails e read

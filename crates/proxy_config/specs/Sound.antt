@@ -1,7 +1,12 @@
 -- What holds of each configuration that is accepted.
-use Rattle.std.specs.Prelude.{◌+◌, ◌<◌, ◌≤◌, length, All, IfSome}
+use Rattle.std.specs.Prelude.{ℕ, ◌+◌, ◌<◌, ◌≤◌, length, All, IfSome}
 use Rattle.proxy_config.specs.declared.parts.Checks.{Checks}
+use Rattle.proxy_config.specs.declared.parts.Condition.{Condition}
 use Rattle.proxy_config.specs.declared.parts.Config.{Config}
+use Rattle.proxy_config.specs.declared.parts.Guard.{Guard}
+use Rattle.proxy_config.specs.declared.parts.Guard.TheVariants as guards
+use Rattle.proxy_config.specs.declared.parts.Operand.{Operand}
+use Rattle.proxy_config.specs.declared.parts.Operand.TheVariants as operands
 use Rattle.proxy_config.specs.declared.parts.Server.{Server}
 
 -- no time and no count of a server's checks is 0
@@ -14,10 +19,24 @@ pub record IsSoundServer (server : Server) : Type 0 where
   pub weight : server.weight ≤ 256
   pub check : IfSome server.check IsSoundCheck
 
+-- of so many ACLs, each index is that of one
+abbrev pub IsSoundOperand : ℕ → Operand → Type 0
+IsSoundOperand acls (operands.Acl index) = index < acls
+IsSoundOperand acls (operands.Test test) = Unit {0}
+
+abbrev pub IsSoundCondition : ℕ → Condition → Type 0
+IsSoundCondition acls condition = All (λ terms. All (λ term. IsSoundOperand acls term.operand) terms) condition.alternatives
+
+abbrev pub IsSoundGuard : ℕ → Guard → Type 0
+IsSoundGuard acls (guards.If condition) = IsSoundCondition acls condition
+IsSoundGuard acls (guards.Unless condition) = IsSoundCondition acls condition
+
 pub record IsSound (config : Config) : Type 0 where
   pub some : 0 < length config.servers
   pub most : length config.servers ≤ 64
   pub servers : All IsSoundServer config.servers
   pub rules : length config.rules + length config.pins ≤ 256
   pub pins : All (λ pin. pin.server < length config.servers) config.pins
+  pub rule_guards : All (λ rule. IfSome rule.guard (IsSoundGuard (length config.acls))) config.rules
+  pub pin_guards : All (λ pin. IsSoundGuard (length config.acls) pin.guard) config.pins
   pub queue_timeout : IfSome config.queue_timeout (λ t. 0 < t)

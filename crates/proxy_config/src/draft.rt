@@ -3,8 +3,9 @@
 ghost use Rattle.std.specs.Prelude.{◌≡◌, length};
 ghost use Rattle.std.specs.List.{list_any};
 ghost use Rattle.proxy_words.specs.Text.{words as words_of, uncommented};
-ghost use Rattle.proxy_config.specs.Outcomes.{Becomes, Sees};
+ghost use Rattle.proxy_config.specs.Outcomes.{Becomes, Gives, Leaves, Sees};
 ghost use Rattle.proxy_config.specs.Draft as grammar;
+ghost use Rattle.proxy_config.specs.Wishes as wished;
 
 use crate::addresses::{address, bind};
 use crate::faults::{Cause, LineError};
@@ -13,9 +14,10 @@ use crate::lists::Items;
 use crate::names::is_name;
 use crate::parts::{Acl, Bind, Pin, Rule, Server};
 use crate::pieces::{end, word};
-use crate::rules::{acl_line, pin_line, rule_line, server_index};
+use crate::rules::{acl_line, rule_line, server_index};
 use crate::settings::{Settings, settings_to_end};
 use crate::values::{Shared, Values, shared_line};
+use crate::wishes::{Wish, wish_line};
 use proxy_words::{Words, without_comment};
 use std::alloc::Global;
 
@@ -70,18 +72,19 @@ impl Draft {
         }
     }
 
-    /// Takes a line in, by its number and whether the file is too long in it. An error changes nothing.
-    #[tactic(auto, unfolding(crate::specs::Draft::step))]
+    /// Takes a line in, by its number and whether the file is too long in it, behind so many pins. The pin of a
+    /// `use-server` line is returned as its wish. An error changes nothing.
+    #[tactic(auto, unfolding(crate::specs::Wishes::step))]
     pub(crate) fn step(
         &mut self,
         alloc: Global,
-        servers: &Items<Server>,
+        pins: usize,
         too_long: bool,
         number: u64,
         line: &[u8],
-    ) -> Result<(), LineError>
-        ensures { Becomes result self.old self.new
-            (grammar.step servers.now too_long self.old number line.now) }
+    ) -> Result<Option<Wish>, LineError>
+        ensures { Leaves result self.old self.new
+            (wished.step pins too_long self.old number line.now) }
     {
         let text = without_comment(line);
         let ignored = is_ignored(self.section, Words::new(text));
@@ -92,39 +95,40 @@ impl Draft {
             return Err(Cause::Limit.into());
         }
         if ignored {
-            return Ok(());
+            return Ok(None);
         }
-        self.take_words(alloc, servers, number, Words::new(text))
+        self.take_words(alloc, pins, number, Words::new(text))
     }
 
-    #[tactic(auto, unfolding(crate::specs::Draft::words_line))]
+    #[tactic(auto, unfolding(crate::specs::Wishes::words_line))]
     fn take_words(
         &mut self,
         alloc: Global,
-        servers: &Items<Server>,
+        pins: usize,
         number: u64,
         words: Words,
-    ) -> Result<(), LineError>
-        ensures { Becomes result self.old self.new
-            (grammar.words_line servers.now self.old number words.entry) }
+    ) -> Result<Option<Wish>, LineError>
+        ensures { Leaves result self.old self.new
+            (wished.words_line pins self.old number words.entry) }
     {
         let mut words = words;
         let Some(word) = words.next() else {
-            return Ok(());
+            return Ok(None);
         };
         let keyword = keyword_of(word).ok_or(Cause::Keyword)?;
         match keyword {
-            Keyword::Global => self.global(words),
-            Keyword::Defaults => self.defaults(words),
-            Keyword::Listen => self.listen(number, words),
-            Keyword::Refused => Err(Cause::Section.into()),
-            Keyword::Shared(shared) => self.value(shared, words),
-            Keyword::Bind => self.bind(words),
-            Keyword::Server => self.server(alloc, words),
-            Keyword::Acl => self.test(alloc, words),
-            Keyword::HttpRequest => self.request(alloc, words),
-            Keyword::UseServer => self.use_server(alloc, servers, words),
+            Keyword::Global => self.global(words)?,
+            Keyword::Defaults => self.defaults(words)?,
+            Keyword::Listen => self.listen(number, words)?,
+            Keyword::Refused => return Err(Cause::Section.into()),
+            Keyword::Shared(shared) => self.value(shared, words)?,
+            Keyword::Bind => self.bind(words)?,
+            Keyword::Server => self.server(alloc, words)?,
+            Keyword::Acl => self.test(alloc, words)?,
+            Keyword::HttpRequest => self.request(alloc, pins, words)?,
+            Keyword::UseServer => return Ok(Some(self.use_server(alloc, pins, number, words)?)),
         }
+        Ok(None)
     }
 
     #[tactic(auto, unfolding(crate::specs::Draft::global_line))]
@@ -245,42 +249,41 @@ impl Draft {
         Ok(())
     }
 
-    #[tactic(auto, unfolding(crate::specs::Draft::request_line))]
-    fn request(&mut self, alloc: Global, words: Words) -> Result<(), LineError>
-        ensures { Becomes result self.old self.new (grammar.request_line self.old words.entry) }
+    #[tactic(auto, unfolding(crate::specs::Wishes::request_line))]
+    fn request(&mut self, alloc: Global, pins: usize, words: Words) -> Result<(), LineError>
+        ensures { Becomes result self.old self.new (wished.request_line pins self.old words.entry) }
     {
         if !in_listen(self.section) {
             return Err(Cause::Place.into());
         }
-        self.has_room()?;
+        self.has_room(pins)?;
         let rule = rule_line(alloc, &self.acls, words)?;
         self.rules.push(rule)?;
         Ok(())
     }
 
-    #[tactic(auto, unfolding(crate::specs::Draft::use_line))]
+    #[tactic(auto, unfolding(crate::specs::Wishes::use_line))]
     fn use_server(
-        &mut self,
+        &self,
         alloc: Global,
-        servers: &Items<Server>,
+        pins: usize,
+        number: u64,
         words: Words,
-    ) -> Result<(), LineError>
-        ensures { Becomes result self.old self.new (grammar.use_line servers.now self.old words.entry) }
+    ) -> Result<Wish, LineError>
+        ensures { Gives (λ x. x) result (wished.use_line pins self.now number words.entry) }
     {
         if !in_listen(self.section) {
             return Err(Cause::Place.into());
         }
-        self.has_room()?;
-        let pin = pin_line(alloc, servers, &self.acls, words)?;
-        self.pins.push(pin)?;
-        Ok(())
+        self.has_room(pins)?;
+        wish_line(alloc, number, &self.acls, words)
     }
 
-    fn has_room(&self) -> Result<(), Cause>
-        ensures { Sees (λ x. x) result (grammar.has_room self.now) }
+    fn has_room(&self, pins: usize) -> Result<(), Cause>
+        ensures { Sees (λ x. x) result (wished.has_room pins self.now) }
     {
         let rules = self.rules.len();
-        if rules >= MOST_RULES || self.pins.len() >= MOST_RULES - rules {
+        if rules >= MOST_RULES || pins >= MOST_RULES - rules {
             return Err(Cause::Limit);
         }
         Ok(())

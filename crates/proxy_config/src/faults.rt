@@ -75,6 +75,16 @@ pub(crate) enum LineError {
     Fault(Cause),
 }
 
+impl From<AllocError> for ReadError {
+    ghost use Rattle.proxy_config.specs.declared.faults.ReadError.TheVariants.{NoMemory};
+
+    ghost from_gives = { λ _ e. e ≡ NoMemory };
+
+    fn from(_: AllocError) -> ReadError {
+        ReadError::NoMemory
+    }
+}
+
 impl From<Cause> for LineError {
     ghost use Rattle.proxy_config.specs.declared.faults.LineError.TheVariants.{Fault};
 

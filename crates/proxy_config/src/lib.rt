@@ -11,6 +11,7 @@ mod lists;
 mod names;
 mod parts;
 mod pieces;
+mod progress;
 mod reading;
 mod rules;
 mod samples;
@@ -18,6 +19,7 @@ mod settings;
 #[cfg(test)]
 mod tests;
 mod values;
+mod wishes;
 
 pub use faults::{Cause, ConfigFault, ReadError};
 pub use lists::Items;

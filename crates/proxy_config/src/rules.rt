@@ -5,11 +5,11 @@ ghost use Rattle.std.specs.Str.{bytes_eq};
 ghost use Rattle.proxy_config.specs.Outcomes.{Gives, Becomes};
 ghost use Rattle.proxy_config.specs.Rules as grammar;
 
-use crate::conditions::{acl_index, guard, optional_guard};
+use crate::conditions::{acl_index, optional_guard};
 use crate::faults::{Cause, LineError};
 use crate::lists::Items;
-use crate::names::{is_acl_name, is_name};
-use crate::parts::{Acl, Action, Pin, Rule, Server, Test};
+use crate::names::is_acl_name;
+use crate::parts::{Acl, Action, Rule, Server, Test};
 use crate::pieces::{is, word};
 use crate::samples::{expression, test_to_end};
 use proxy_words::Words;
@@ -43,26 +43,6 @@ pub(crate) fn rule_line(alloc: Global, acls: &Items<Acl>, words: Words) -> Resul
         value,
         guard,
     })
-}
-
-/// `use-server NAME` and a guard.
-#[tactic(auto, unfolding(crate::specs::Rules::pin_line))]
-pub(crate) fn pin_line(
-    alloc: Global,
-    servers: &Items<Server>,
-    acls: &Items<Acl>,
-    words: Words,
-) -> Result<Pin, LineError>
-    ensures { Gives (λ x. x) result (grammar.pin_line servers.now acls.now words.entry) }
-{
-    let (name, words) = word(words)?;
-    if !is_name(name) {
-        return Err(Cause::Name.into());
-    }
-    let server = server_index(name, servers).ok_or(Cause::Unknown)?;
-    let (first, words) = word(words)?;
-    let guard = guard(alloc, acls, first, words)?;
-    Ok(Pin { server, guard })
 }
 
 // One alternative more of an ACL, or a new one.

@@ -4,6 +4,7 @@ mod faults;
 mod limits;
 mod meanings;
 mod memory;
+mod pins;
 mod sample;
 
 use super::*;

@@ -4,6 +4,7 @@ use Rattle.std.specs.Str.Lines.{lines}
 use Rattle.proxy_words.specs.Text.{words, uncommented}
 use Rattle.proxy_words.specs.Numerals.{numeral, signed_numeral}
 use Rattle.proxy_words.specs.Times.{time}
+use Rattle.proxy_words.specs.Parts.{parts}
 
 -- the carriage return before a line feed is dropped, that at the end stays
 lines_row : lines (codes "a" ++ (13 ∷ 10 ∷ 10 ∷ codes "b") ++ (13 ∷ [])) ≡ codes "a" ∷ [] ∷ (codes "b" ++ (13 ∷ [])) ∷ []
@@ -50,3 +51,17 @@ unknown_unit = refl
 
 unit_alone : time (codes "ms") ≡ None
 unit_alone = refl
+
+parts_row : parts (codes "fast , slow" ++ (9 ∷ codes ",, a b")) ≡ codes "fast" ∷ codes "slow" ∷ [] ∷ codes "a b" ∷ []
+parts_row = refl
+
+-- an empty text is one part
+one_empty_part : parts (codes "") ≡ [] ∷ []
+one_empty_part = refl
+
+-- a blank within a part stays
+not_cut_at_blanks : parts (codes "a b") ≡ codes "a" ∷ codes "b" ∷ [] → ⊥
+not_cut_at_blanks same = cc
+
+blanks_kept : parts (codes "a , b") ≡ codes "a " ∷ codes " b" ∷ [] → ⊥
+blanks_kept same = cc

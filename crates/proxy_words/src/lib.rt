@@ -7,10 +7,12 @@
 
 pub mod names;
 pub mod numerals;
+pub mod parts;
 pub mod text;
 pub mod times;
 
 pub use names::is_name;
 pub use numerals::{long_number, number, signed_long_number};
+pub use parts::Parts;
 pub use text::{Lines, Words, without_comment};
 pub use times::milliseconds;

@@ -11,7 +11,7 @@ use Rattle.slot_ledger.specs.Slots.{StandsIn, HasTicketAt, AreBelow}
 
 module _ {X : Type 0} where
   -- what stands in a list with one more at its end
-  get-push_cases : (xs : List X) (x : X) (k : ℕ) (y : X) → slice_get (xs ++ x ∷ []) k ≡ Some y → (slice_get xs k ≡ Some y) ⊎ ((k ≡ length xs) × (x ≡ y))
+  pub get-push_cases : (xs : List X) (x : X) (k : ℕ) (y : X) → slice_get (xs ++ x ∷ []) k ≡ Some y → (slice_get xs k ≡ Some y) ⊎ ((k ≡ length xs) × (x ≡ y))
   get-push_cases [] x zero y e = inr (refl, same_Some x y e)
   get-push_cases [] x (suc k) y e = cc
   get-push_cases (w ∷ ws) x zero y e = inl e

@@ -221,22 +221,3 @@ fn conditions(rt: HostRuntime) {
         faulty_line(&rt, rt.alloc(), line.expect(&rt, "memory").as_str(), cause);
     }
 }
-
-#[test]
-fn a_pin_may_name_a_server_past_a_faulty_line(rt: HostRuntime) {
-    let alloc = rt.alloc();
-    faulty(
-        &rt,
-        alloc,
-        "listen w\nacl x path /\nuse-server b if x\ncookie\nserver b h:80",
-        4,
-        Cause::Keyword,
-    );
-    faulty(
-        &rt,
-        alloc,
-        "listen w\nacl x path /\nuse-server b if x\nserver b h:80 x",
-        3,
-        Cause::Unknown,
-    );
-}

@@ -1,4 +1,4 @@
-use Rattle.dispatch_log.proofs.WrongLogs.{not_first_come, not_idle, not_above_limit, not_without_offset, not_without_end, not_twice}
+use Rattle.dispatch_log.proofs.WrongLogs.{not_first_come, not_idle, not_above_limit, not_without_offset, not_without_end, not_twice, not_more_loaded, not_against_cursor, not_beside_room}
 use Rattle.dispatch_log.proofs.laws.wrong_logs_are_not_legal.Goals as goal
 
 pub returns-clause-first_come_first_served : goal.returns-clause-first_come_first_served
@@ -18,3 +18,12 @@ returns-clause-end_is_missing c = not_without_end
 
 pub returns-clause-ticket_twice : goal.returns-clause-ticket_twice
 returns-clause-ticket_twice c = not_twice
+
+pub returns-clause-more_loaded_server : goal.returns-clause-more_loaded_server
+returns-clause-more_loaded_server c = not_more_loaded
+
+pub returns-clause-tie_against_the_cursor : goal.returns-clause-tie_against_the_cursor
+returns-clause-tie_against_the_cursor c = not_against_cursor
+
+pub returns-clause-waits_beside_room : goal.returns-clause-waits_beside_room
+returns-clause-waits_beside_room c = not_beside_room

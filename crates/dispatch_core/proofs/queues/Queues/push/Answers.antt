@@ -1,4 +1,4 @@
-use Rattle.std.proofs.Common.{◌≡◌, ◌<◌, ℕ, length, ap, sym, ◌∙◌, subst, arith}
+use Rattle.std.proofs.Common.{◌≡◌, ◌<◌, ℕ, length, ap, sym, ◌∙◌, subst}
 use Rattle.due_key.specs.Order.{key_cmp}
 use Rattle.pend_queue.specs.Pairs.{IsAbsent, inserted}
 use Rattle.dispatch_core.specs.Lines.{Waits, Lined}

@@ -1,9 +1,8 @@
 use Rattle.std.proofs.Common.{◌+◌, refl, sym, subst}
 use Rattle.dispatch_log.specs.declared.entry.Arrival.{Arrival}
-use Rattle.dispatch_log.specs.declared.entry.Entry.TheVariants.{Arrive}
 use Rattle.dispatch_log.specs.Histories.{History, refuses_arrival}
 use Rattle.dispatch_core.specs.Steps.{MayBeginNext}
-use Rattle.dispatch_core.proofs.Events.{arrival_fits, next_is_highest, arrive_kept}
+use Rattle.dispatch_core.proofs.Events.{arrival_fits, next_is_highest, arrive_kept, stands_live}
 use Rattle.dispatch_core.proofs.Holding.{closed}
 use Rattle.dispatch_core.proofs.trace.Trace.arrive.Goals as goal
 
@@ -21,3 +20,12 @@ invariant_of-self g c =
     let arrival : Arrival = record { ticket = c.self.inside.ticket + 1; class = c.args.class; due = c.of-due.result; pin = c.args.pin; place = c.admit-place.result } in
     closed g.Q.PendQueue.pair_of _ _ _ _ _ _ _ _ _ c.admit-place.ensures.admitted c.note.ensures refl
     (arrive_kept g.Q.PendQueue.pair_of _ _ _ _ _ _ c.args.moment c.later-now.result c.admit-place.result c.args.offset arrival c.in_ok-node.node c.self.invariant begins c.later-now.ensures refl refl c.of-due.ensures.sum c.of-due.ensures.range c.admit-place.ensures.vacant c.in_ok-node.ensures.ok)
+
+pub returns-clause-row : goal.returns-clause-row
+returns-clause-row g c =
+    let begins = subst (λ (h : History). MayBeginNext h c.args.moment (refuses_arrival h c.args.pin)) (sym c.self.view_is) c.requires.begins in
+    let arrival : Arrival = record { ticket = c.self.inside.ticket + 1; class = c.args.class; due = c.of-due.result; pin = c.args.pin; place = c.admit-place.result } in
+    stands_live g.Q.PendQueue.pair_of c.self.inside.ledger c.admit-place.new.self c.note.new.self _ _ _ _ c.admit-place.result _
+    (closed g.Q.PendQueue.pair_of _ _ _ _ _ _ _ _ _ c.admit-place.ensures.admitted c.note.ensures refl
+    (arrive_kept g.Q.PendQueue.pair_of _ _ _ _ _ _ c.args.moment c.later-now.result c.admit-place.result c.args.offset arrival c.in_ok-node.node c.self.invariant begins c.later-now.ensures refl refl c.of-due.ensures.sum c.of-due.ensures.range c.admit-place.ensures.vacant c.in_ok-node.ensures.ok))
+    c.admit-place.ensures.admitted c.admit-place.ensures.vacant

@@ -1,4 +1,3 @@
-use Rattle.std.proofs.Common.{refl, sym, subst}
 use Rattle.std.proofs.lemmas.Option.{MatchOption-at_none}
 use Rattle.dispatch_core.proofs.Events.{row_found, row_not_missed, placed_here, cursor_here}
 use Rattle.dispatch_core.proofs.trace.Trace.placement.Goals as goal

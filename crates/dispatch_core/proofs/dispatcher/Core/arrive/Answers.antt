@@ -1,0 +1,23 @@
+use Rattle.std.proofs.Common.{sym, ◌∙◌, subst}
+use Rattle.dispatch_log.specs.Dispatch.{IsDispatched}
+use Rattle.dispatch_log.proofs.Dispatched.{dispatched}
+use Rattle.dispatch_core.proofs.Calls.{arrival_places, arrive_settles, arrive_adds, added_dispatched}
+use Rattle.dispatch_core.proofs.dispatcher.Core.arrive.Goals as goal
+
+pub returns-in-Some-clause-dispatched : goal.returns-in-Some-clause-dispatched
+returns-in-Some-clause-dispatched g c = subst IsDispatched c.self.view_is (dispatched _ c.self.invariant)
+
+pub returns-in_default-arrive-clause-dispatched : goal.returns-in_default-arrive-clause-dispatched
+returns-in_default-arrive-clause-dispatched g c = subst IsDispatched (sym c.in_default-arrive.ensures.err) (dispatched _ c.self.invariant)
+
+pub place-requires-clause-placing : goal.place-requires-clause-placing
+place-requires-clause-placing g c = arrival_places c.self.inside.trace c.arrive.new.self _ _ c.in-Ok.ensures.ok
+
+pub settle-requires-clause-between : goal.settle-requires-clause-between
+settle-requires-clause-between g c = (arrive_settles c.self.inside.trace c.arrive.new.self c.place.new.trace _ _ c.args.pin (sym c.refuses_arrival.ensures ∙ c.in_default.is) c.in-Ok.ensures.ok c.place.ensures).0
+
+pub settle-requires-clause-room : goal.settle-requires-clause-room
+settle-requires-clause-room g c = (arrive_settles c.self.inside.trace c.arrive.new.self c.place.new.trace _ _ c.args.pin (sym c.refuses_arrival.ensures ∙ c.in_default.is) c.in-Ok.ensures.ok c.place.ensures).1
+
+pub returns-clause-dispatched : goal.returns-clause-dispatched
+returns-clause-dispatched g c = added_dispatched c.self.inside.trace c.settle.new.trace _ (arrive_adds c.self.inside.trace c.arrive.new.self c.place.new.trace c.settle.new.trace _ _ c.in-Ok.ensures.ok c.place.ensures c.settle.ensures)

@@ -1,0 +1,11 @@
+use Rattle.dispatch_core.proofs.Calls.{may_free, freed_ends, gives_back}
+use Rattle.dispatch_core.proofs.dispatcher.give_back.Goals as goal
+
+pub free-requires-clause-lawful : goal.free-requires-clause-lawful
+free-requires-clause-lawful g c = may_free c.args.trace.now c.args.ticket c.args.server c.requires.returning c.requires.slot
+
+pub end-requires-clause-lawful : goal.end-requires-clause-lawful
+end-requires-clause-lawful g c = freed_ends c.args.trace.now c.free.new.self c.args.ticket c.args.server c.free.ensures
+
+pub returns : goal.returns
+returns g c = gives_back c.args.trace.now c.free.new.self c.end.new.self c.args.ticket c.args.server c.free.ensures c.end.ensures

@@ -1,0 +1,4 @@
+pub mod Folding
+pub mod Lists
+pub mod Orders
+pub mod Rows

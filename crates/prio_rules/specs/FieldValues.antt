@@ -1,0 +1,9 @@
+-- The values of a field.
+use Rattle.std.specs.Prelude.{ℕ, List}
+use Rattle.std.specs.List.{flat_map}
+use Rattle.proxy_words.specs.Parts.{parts}
+use Rattle.req_view.specs.Request.{Request, values_of}
+
+-- of each field of the name, whatever the case of its letters, in order: the parts between commas
+abbrev pub field_values : List ℕ → Request → List (List ℕ)
+field_values name request = flat_map parts (values_of name request.fields)

@@ -1,0 +1,3 @@
+pub mod FieldValues
+pub mod Truth
+pub mod Wishes

@@ -1,0 +1,54 @@
+-- What the rules of a configuration wish for a request. Each rule is asked of the request as it came.
+use Rattle.std.specs.Prelude.{ℕ, ℤ, pos, Bool, true, false, ◌&&◌, if◌then◌else◌, List, Option, Some, None, option_map, unwrap_or}
+use Rattle.std.specs.Option.{option_and_then}
+use Rattle.std.specs.List.{filter_map, find, last_or}
+use Rattle.due_key.specs.Range.{nearest}
+use Rattle.due_key.specs.declared.class.TheConstants.{LOWEST_CLASS, HIGHEST_CLASS}
+use Rattle.due_key.specs.declared.offset.TheConstants.{LOWEST_OFFSET, HIGHEST_OFFSET}
+use Rattle.proxy_config.specs.declared.parts.Acl.{Acl}
+use Rattle.proxy_config.specs.declared.parts.Action.{Action}
+use Rattle.proxy_config.specs.declared.parts.Action.TheVariants.{SetPriorityClass, SetPriorityOffset}
+use Rattle.proxy_config.specs.declared.parts.Config.{Config}
+use Rattle.proxy_config.specs.declared.parts.Expression.{Expression}
+use Rattle.proxy_config.specs.declared.parts.Expression.TheVariants.{Int, HeaderValue}
+use Rattle.proxy_config.specs.declared.parts.Rule.{Rule}
+use Rattle.proxy_words.specs.Numerals.{signed_numeral}
+use Rattle.req_view.specs.Request.{Request}
+use Rattle.prio_rules.specs.FieldValues.{field_values}
+use Rattle.prio_rules.specs.Truth.{applies, guard_holds}
+use Rattle.prio_rules.specs.declared.wish.Wish.{Wish}
+
+-- the last of a field's values
+abbrev pub last_value : List ℕ → Request → Option (List ℕ)
+last_value name request = last_or None (field_values name request)
+
+-- an integer, or the last value of a field where it is one, of at most 18 digits
+abbrev pub number_of : Request → Expression → Option ℤ
+number_of request (Int number) = Some number
+number_of request (HeaderValue name) = option_and_then (signed_numeral 18) (last_value name request)
+
+abbrev pub is_same : Action → Action → Bool
+is_same SetPriorityClass SetPriorityClass = true
+is_same SetPriorityClass SetPriorityOffset = false
+is_same SetPriorityOffset SetPriorityClass = false
+is_same SetPriorityOffset SetPriorityOffset = true
+
+-- the number that a rule's action sets, if it is this action and is done: the rule applies, and there is a number
+abbrev pub set_by : Action → List Acl → Request → Rule → Option ℤ
+set_by action acls request rule = if is_same rule.action action && applies acls request rule.guard then number_of request rule.value else None
+
+-- of the actions of one kind that are done the last one's number stands, and 0 where none is
+abbrev pub standing : Action → Config → Request → ℤ
+standing action config request = unwrap_or (last_or None (filter_map (set_by action config.acls request) config.rules)) (pos 0)
+
+-- the server of the first `use-server` rule that applies
+abbrev pub pinned : Config → Request → Option ℕ
+pinned config request = option_map (λ pin. pin.server) (find (λ pin. guard_holds config.acls request pin.guard) config.pins)
+
+-- a class and an offset out of range become the nearer end
+abbrev pub wish : Config → Request → Wish
+wish config request = record {
+  class = nearest LOWEST_CLASS HIGHEST_CLASS (standing SetPriorityClass config request);
+  offset = nearest LOWEST_OFFSET HIGHEST_OFFSET (standing SetPriorityOffset config request);
+  pin = pinned config request;
+}

@@ -1,0 +1,14 @@
+//! What a configuration's rules wish for a request: its class, its offset and its server.
+//!
+//! Nothing here takes memory or copies a part of the request.
+#![tactic(auto)]
+
+mod conditions;
+mod fields;
+pub mod laws;
+mod samples;
+#[cfg(test)]
+mod tests;
+mod wish;
+
+pub use wish::{Wish, decide};

@@ -1,0 +1,39 @@
+-- What is known once some lines were read, and what they and the servers of the whole file come to.
+use Rattle.std.specs.Prelude.{ℕ, Bool, List, [], ◌∷◌, ◌++◌, length, Option, Some, None, Result, Ok, Err}
+use Rattle.proxy_config.specs.declared.faults.Cause.{Cause}
+use Rattle.proxy_config.specs.declared.faults.ConfigFault.{ConfigFault}
+use Rattle.proxy_config.specs.declared.draft.Draft.{Draft}
+use Rattle.proxy_config.specs.declared.parts.Server.{Server}
+use Rattle.proxy_config.specs.declared.progress.Progress.{Progress}
+use Rattle.proxy_config.specs.declared.wishes.Wish.{Wish}
+use Rattle.proxy_config.specs.Draft as draft
+use Rattle.proxy_config.specs.Wishes.{step, with_pins}
+
+-- before the first line
+abbrev pub start : Progress
+start = record { draft = draft.start; wishes = []; fault = None }
+
+-- a line's outcome, with its number: past a fault no pin counts, and no other fault
+abbrev pub took : Option ConfigFault → Progress → ℕ → Result (Draft × Option Wish) Cause → Progress
+took None p n (Ok (d, None)) = record p { draft = d }
+took None p n (Ok (d, Some wish)) = record p { draft = d; wishes = p.wishes ++ wish ∷ [] }
+took None p n (Err cause) = record p { fault = Some (record { line = n; cause = cause }) }
+took (Some fault) p n (Ok (d, wish)) = record p { draft = d }
+took (Some fault) p n (Err cause) = p
+
+abbrev pub take_line : Bool → Progress → ℕ → List ℕ → Progress
+take_line too_long p n line = took p.fault p n (step (length p.wishes) too_long p.draft n line)
+
+-- the fault that is known, or else what follows
+abbrev pub unless_known : {A : Type 0} → Option ConfigFault → Result A ConfigFault → Result A ConfigFault
+unless_known None more = more
+unless_known (Some fault) more = Err fault
+
+-- what is known comes to this, by the servers of the whole file
+abbrev pub settled : List Server → Progress → Result Draft ConfigFault
+settled servers p = with_pins servers p.wishes (λ pins. unless_known p.fault (Ok (record p.draft { pins = pins })))
+
+-- the fault that no server changes: behind no pin that asks for one
+abbrev pub decided : List Wish → Option ConfigFault → Option ConfigFault
+decided [] fault = fault
+decided (wish ∷ wishes) fault = None

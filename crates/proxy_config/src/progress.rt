@@ -1,0 +1,137 @@
+//! What is known once some lines were read.
+
+ghost use Rattle.std.specs.Prelude.{◌≡◌, OnOk, IfErr};
+ghost use Rattle.proxy_config.specs.File as file;
+ghost use Rattle.proxy_config.specs.File.{Answers};
+ghost use Rattle.proxy_config.specs.Progress as grammar;
+
+use crate::draft::Draft;
+use crate::faults::{Cause, ConfigFault, LineError, ReadError};
+use crate::lists::Items;
+use crate::parts::Config;
+use crate::wishes::{Wish, pins_of};
+use std::alloc::Global;
+
+#[derive(Drop)]
+pub(crate) struct Progress {
+    /// Without its pins.
+    pub draft: Draft,
+    /// The pins, their servers by name.
+    pub wishes: Items<Wish>,
+    /// The first line that is faulty wherever the servers stand. From there on only servers count.
+    pub fault: Option<ConfigFault>,
+}
+
+impl Progress {
+    pub(crate) fn new(alloc: Global) -> Progress
+        ensures { result ≡ grammar.start }
+    {
+        Progress {
+            draft: Draft::new(alloc),
+            wishes: Items::new(alloc),
+            fault: None,
+        }
+    }
+
+    /// Takes a line in, by its number and whether the file is too long in it.
+    pub(crate) fn take(
+        &mut self,
+        alloc: Global,
+        too_long: bool,
+        number: u64,
+        line: &[u8],
+    ) -> Result<(), ReadError>
+        ensures ok { OnOk result (self.new ≡ grammar.take_line too_long self.old number line.now) }
+        ensures err { IfErr result (λ e. e ≡ ReadError.NoMemory) }
+    {
+        let pins = self.wishes.len();
+        match self.draft.step(alloc, pins, too_long, number, line) {
+            Ok(Some(wish)) if self.fault.is_none() => self.wishes.push(wish)?,
+            Ok(_) => {}
+            Err(LineError::NoMemory) => return Err(ReadError::NoMemory),
+            Err(LineError::Fault(cause)) if self.fault.is_none() => {
+                self.fault = Some(ConfigFault {
+                    line: number,
+                    cause,
+                });
+            }
+            Err(LineError::Fault(_)) => {}
+        }
+        Ok(())
+    }
+
+    /// The fault, if no server that stands later can change it.
+    pub(crate) fn decided(&self) -> Option<ConfigFault>
+        ensures { result ≡ grammar.decided self.now.wishes self.now.fault }
+    {
+        if self.wishes.is_empty() {
+            self.fault
+        } else {
+            None
+        }
+    }
+
+    /// The configuration or its first fault, once all lines are read.
+    #[tactic(auto, using(crate::proofs::OnePass::settled_err))]
+    pub(crate) fn finish(self, alloc: Global) -> Result<Config, ReadError>
+        ensures { Answers result (file.finished (grammar.settled self.draft.servers self)) }
+    {
+        let Progress {
+            mut draft,
+            wishes,
+            fault,
+        } = self;
+        draft.pins = pins_of(alloc, &draft.servers, wishes)?;
+        match fault {
+            Some(fault) => Err(ReadError::Fault(fault)),
+            None => whole(draft),
+        }
+    }
+}
+
+// The configuration, if the lines have all that it needs.
+fn whole(draft: Draft) -> Result<Config, ReadError>
+    ensures { Answers result (file.whole draft.listen draft.bind draft) }
+{
+    let Draft {
+        section: _,
+        listen,
+        defaults: _,
+        values,
+        bind,
+        servers,
+        acls,
+        acl_lines: _,
+        rules,
+        pins,
+    } = draft;
+    let Some(line) = listen else {
+        return Err(missing(0));
+    };
+    let Some(bind) = bind else {
+        return Err(missing(line));
+    };
+    if servers.is_empty() {
+        return Err(missing(line));
+    }
+    Ok(Config {
+        bind,
+        servers,
+        retries: values.retries,
+        redispatch: values.redispatch,
+        abortonclose: values.abortonclose,
+        queue_timeout: values.queue_timeout(),
+        acls,
+        rules,
+        pins,
+    })
+}
+
+fn missing(line: u64) -> ReadError
+    ensures { result ≡ ReadError.Fault (record { line = line; cause = Cause.Missing }) }
+{
+    ReadError::Fault(ConfigFault {
+        line,
+        cause: Cause::Missing,
+    })
+}

@@ -1,0 +1,172 @@
+use super::*;
+use std::test::Fail;
+
+/// A `listen` in its first two lines, with an ACL in the third, and these lines.
+fn pinned(rt: &impl Abort, alloc: Global, lines: &str, line: u64, cause: Cause) {
+    let text = format!(in alloc; "listen w\nbind :80\nacl x path /\n{lines}");
+    faulty(rt, alloc, text.expect(rt, "memory").as_str(), line, cause);
+}
+
+#[test]
+fn a_pin_may_stand_before_its_server(rt: HostRuntime) -> Result<(), Fail> {
+    let text =
+        b"listen w\nbind :80\nacl x path /\nuse-server c if x\nserver a h:80\nuse-server a unless x\nserver b h:80\nserver c h:80\nuse-server b if x";
+    let config = read(rt.alloc(), text)?;
+    let pins = config.pins.as_slice();
+    assert_eq!(rt; pins.len(), 3);
+    assert_eq!(rt; pins[0].server, 2);
+    assert_eq!(rt; pins[1].server, 0);
+    assert_eq!(rt; pins[2].server, 1);
+    assert!(rt; matches!(pins[0].guard, Guard::If(_)));
+    assert!(rt; matches!(pins[1].guard, Guard::Unless(_)));
+    Ok(())
+}
+
+#[test]
+fn a_server_counts_past_a_faulty_line(rt: HostRuntime) {
+    let alloc = rt.alloc();
+    pinned(
+        &rt,
+        alloc,
+        "use-server b if x\ncookie\nserver b h:80",
+        5,
+        Cause::Keyword,
+    );
+    pinned(
+        &rt,
+        alloc,
+        "use-server b if x\ncookie\ndefaults\nserver b h:80",
+        4,
+        Cause::Unknown,
+    );
+    pinned(
+        &rt,
+        alloc,
+        "use-server b if x\nserver b h:80 x",
+        4,
+        Cause::Unknown,
+    );
+    pinned(
+        &rt,
+        alloc,
+        "use-server b if x\nbind :81\nserver b h:80 x\nserver b h:80",
+        5,
+        Cause::Twice,
+    );
+}
+
+#[test]
+fn a_faulty_condition_counts_behind_a_declared_server(rt: HostRuntime) {
+    let alloc = rt.alloc();
+    pinned(
+        &rt,
+        alloc,
+        "use-server b if y\nserver a h:80",
+        4,
+        Cause::Unknown,
+    );
+    pinned(
+        &rt,
+        alloc,
+        "use-server b if !!x\nserver b h:80",
+        4,
+        Cause::Condition,
+    );
+    pinned(
+        &rt,
+        alloc,
+        "use-server b if !!x\nserver a h:80",
+        4,
+        Cause::Unknown,
+    );
+    pinned(
+        &rt,
+        alloc,
+        "use-server b if { path\nserver b h:80",
+        4,
+        Cause::Words,
+    );
+    pinned(
+        &rt,
+        alloc,
+        "use-server b\ncookie\nserver b h:80",
+        4,
+        Cause::Words,
+    );
+}
+
+#[test]
+fn the_first_of_pins_and_other_lines_is_named(rt: HostRuntime) {
+    let alloc = rt.alloc();
+    pinned(
+        &rt,
+        alloc,
+        "use-server b if x\ncookie\nserver a h:80",
+        4,
+        Cause::Unknown,
+    );
+    pinned(
+        &rt,
+        alloc,
+        "server a h:80\ncookie\nuse-server b if x",
+        5,
+        Cause::Keyword,
+    );
+    pinned(
+        &rt,
+        alloc,
+        "use-server a if x\ncookie\nuse-server b if x\nserver a h:80",
+        5,
+        Cause::Keyword,
+    );
+    pinned(
+        &rt,
+        alloc,
+        "use-server a if x\nuse-server b if x\nuse-server c if x\nserver a h:80\nserver c h:80",
+        5,
+        Cause::Unknown,
+    );
+    pinned(
+        &rt,
+        alloc,
+        "use-server a if x\nretries x\ncookie\n\"\nserver a h:80",
+        5,
+        Cause::Number,
+    );
+}
+
+#[test]
+fn a_pin_may_end_the_file(rt: HostRuntime) {
+    let alloc = rt.alloc();
+    pinned(
+        &rt,
+        alloc,
+        "server a h:80\nuse-server b if x",
+        5,
+        Cause::Unknown,
+    );
+    pinned(&rt, alloc, "use-server b if x", 4, Cause::Unknown);
+    faulty(
+        &rt,
+        alloc,
+        "listen w\nacl x path /\nserver a h:80\nuse-server a if x",
+        1,
+        Cause::Missing,
+    );
+}
+
+#[test]
+fn pins_of_later_servers_count_as_rules(rt: HostRuntime) -> Result<(), Fail> {
+    let alloc = rt.alloc();
+    let mut text = String::from_str(alloc, "listen w\nbind :80\nacl x path /\n")?;
+    for _ in 0..256 {
+        text.push_str("use-server a if x\n")?;
+    }
+    let mut more = text.clone()?;
+    text.push_str("server a h:80\n")?;
+    let config = read(alloc, text.as_bytes())?;
+    assert_eq!(rt; config.pins.len(), 256);
+    more.push_str("http-request set-priority-class int(1)\nserver a h:80\n")?;
+    faulty(&rt, alloc, more.as_str(), 260, Cause::Limit);
+    Ok(())
+}

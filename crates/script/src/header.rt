@@ -84,8 +84,9 @@ fn read_lines(alloc: Global, script: &[u8]) -> Result<Header, ScriptError>
     let mut lines = Lines::new(script);
     'lines: while let Some(line) = lines.next() {
         number += 1;
-        match header.take(alloc, begun, line) {
-            Ok(()) => begun |= is_event(line),
+        let event = is_event(line);
+        match header.take(alloc, begun, event, line) {
+            Ok(()) => begun |= event,
             Err(LineError::NoMemory) => return Err(ScriptError::NoMemory),
             Err(LineError::Faulty) => return Err(ScriptError::Fault { line: number }),
         }
@@ -135,15 +136,22 @@ impl Header {
         (names, Servers::new(servers))
     }
 
-    // Takes a line in, behind an event or not.
-    fn take(&mut self, alloc: Global, begun: bool, line: &[u8]) -> Result<(), LineError>
+    // Takes a line in, behind an event or not, that is one itself or not.
+    fn take(
+        &mut self,
+        alloc: Global,
+        begun: bool,
+        event: bool,
+        line: &[u8],
+    ) -> Result<(), LineError>
+        requires { event ≡ is_event line.now }
         ensures ok { OnOk result ((is_faulty self.old begun line.now ≡ false) × (self.new ≡ with_line self.old line.now)) }
         ensures err { IfErr result (λ error. error ≡ LineError.Faulty → is_faulty self.old begun line.now ≡ true) }
     {
         match setting_of(line) {
             Some(setting) => self.set(alloc, begun, setting),
             None => {
-                if is_event(line) || is_skipped(line) {
+                if event || is_skipped(line) {
                     Ok(())
                 } else {
                     Err(LineError::Faulty)

@@ -30,7 +30,7 @@ kept_then (Ok x) (Ok y) P Q was_ok holds then' = then' holds
 kept_then (Ok x) (Err error) P Q was_ok holds then' = absurd (true≢false (sym was_ok))
 
 -- an accepted event is answered by the lines of the entries that are new in the log
-pub answered_by_new : (names : List (List ℕ)) (old new : History) (step : Step) (log : List Entry) (before : ℕ) (text_old text_new : List ℕ) → (event : Entry) × IsEventOf old step event × AddsEvent old new event → log ≡ new.log → before ≡ length old.log → text_new ≡ text_old ++ entries_text names (take (length log - before) (drop before log)) → (front : List ℕ) × Answers names old new step front × (text_new ≡ text_old ++ front)
+pub answered_by_new : (names : List (List ℕ)) (old new : History) (step : Step) (log : List Entry) (before : ℕ) (text_old text_new : List ℕ) → (event : Entry) × IsEventOf names old step event × AddsEvent old new event → log ≡ new.log → before ≡ length old.log → text_new ≡ text_old ++ entries_text names (take (length log - before) (drop before log)) → (front : List ℕ) × Answers names old new step front × (text_new ≡ text_old ++ front)
 answered_by_new names old new step log before text_old text_new (event, asked, adds) logged long written =
     let fresh : take (length log - before) (drop before log) ≡ event ∷ adds.brought = new_part old.log log (event ∷ adds.brought) before (logged ∙ adds.log) long in (
       entries_text names (event ∷ adds.brought),

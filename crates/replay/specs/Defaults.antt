@@ -1,28 +1,45 @@
 -- The dispatcher that a script is replayed on.
 use Rattle.std.specs.Prelude.{ℕ, false, List, [], ◌∷◌, None, codes}
+use Rattle.std.specs.Option.{unwrap_or}
+use Rattle.std.specs.Str.Lines.{lines}
+use Rattle.dispatch_log.specs.declared.setup.ServerSet.{ServerSet}
 use Rattle.dispatch_log.specs.declared.setup.Setup.{Setup}
 use Rattle.dispatch_log.specs.Histories.{History}
+use Rattle.script.specs.Headers.{Settings, settings_of}
 use Rattle.script.specs.Steps.{steps_of}
 use Rattle.script.specs.ScriptTexts.{IsScriptText}
 
 -- one server, which takes one request at a time
-abbrev pub default_setup : Setup
-default_setup = record {
-  servers = record { limit = 1; maxqueue = 0; weight = 1; rise_fall = None } ∷ [];
-  places = 64;
-  log = 262144;
+abbrev pub default_servers : List ServerSet
+default_servers = record { limit = 1; maxqueue = 0; weight = 1; rise_fall = None } ∷ []
+
+abbrev pub default_names : List (List ℕ)
+default_names = codes "s1" ∷ []
+
+-- the items, or where there is none these
+abbrev pub or_else : {X : Type 0} → List X → List X → List X
+or_else [] others = others
+or_else (x ∷ xs) others = x ∷ xs
+
+-- the names of the servers: those that lines say, or the default's
+abbrev pub names_of : Settings → List (List ℕ)
+names_of settings = or_else settings.names default_names
+
+-- what the dispatcher is made for: what lines say, and the defaults where none does
+abbrev pub setup_of : Settings → Setup
+setup_of settings = record {
+  servers = or_else settings.servers default_servers;
+  places = unwrap_or settings.places 64;
+  log = unwrap_or settings.log 262144;
   retries = 3;
   redispatch = false;
   queue_timeout = 0;
 }
 
-abbrev pub default_names : List (List ℕ)
-default_names = codes "s1" ∷ []
-
 -- no event yet
-abbrev pub opening : History
-opening = record { setup = default_setup; log = [] }
+abbrev pub opening : Settings → History
+opening settings = record { setup = setup_of settings; log = [] }
 
--- the trace of a script: a script text of the events that it asks for, from the opening on
+-- the trace of a script: a script text of the events that it asks for, from the opening on that its header lines set
 abbrev pub IsTraceOf : List ℕ → List ℕ → Type 0
-IsTraceOf script text = IsScriptText default_names opening (steps_of script) text
+IsTraceOf script text = let settings = settings_of (lines script) in IsScriptText (names_of settings) (opening settings) (steps_of script) text

@@ -1,7 +1,7 @@
 -- What a replay does to the bytes that a writer holds, where they are known.
 use Rattle.std.specs.Prelude.{◌≡◌, ℕ, List, Option, None}
 use Rattle.std.specs.Io.KnownBytes.{Appends}
-use Rattle.script.specs.Steps.{fault_of}
+use Rattle.script.specs.Faults.{fault_of}
 use Rattle.replay.specs.Defaults.{IsTraceOf}
 use Rattle.replay.specs.Ends.{WritesFront}
 

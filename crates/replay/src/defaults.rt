@@ -1,15 +1,45 @@
-ghost use Rattle.std.specs.Prelude.{◌≡◌, IfOk};
+ghost use Rattle.std.specs.Prelude.{◌≡◌, [], IfOk, length};
+ghost use Rattle.std.specs.Option.{unwrap_or};
 ghost use Rattle.dispatch_log.specs.Setups.{IsSound};
-ghost use Rattle.replay.specs.Defaults.{default_setup as default_setup_is, default_names as default_names_are};
+ghost use Rattle.script.specs.Headers.{AreWithin};
+ghost use Rattle.replay.specs.Defaults.{default_servers as default_servers_are, default_names as default_names_are, names_of, setup_of};
 
 use dispatch_log::{ServerSet, Servers, Setup};
-use script::Names;
+use script::{Header, Names};
 use std::alloc::{AllocError, Global};
 
-/// The setup of a script without header lines.
-pub(crate) fn default_setup(alloc: Global) -> Result<Setup, AllocError>
-    ensures default { IfOk result (λ setup. setup ≡ default_setup_is) }
-    ensures sound { IfOk result IsSound }
+/// What a dispatcher is made for, and the names of its servers: as header lines say, or where none does the defaults.
+pub(crate) fn setup_of(alloc: Global, header: Header) -> Result<(Setup, Names), AllocError>
+    ensures setup { IfOk result (λ made. made.0 ≡ setup_of header) }
+    ensures names { IfOk result (λ made. made.1 ≡ names_of header) }
+    ensures sound { IfOk result (λ made. IsSound made.0) }
+{
+    let places = header.places().unwrap_or(64);
+    let log = header.log().unwrap_or(262_144);
+    let (names, servers) = header.into_servers();
+    let names = if servers.is_empty() {
+        default_names(alloc)?
+    } else {
+        names
+    };
+    let servers = if servers.is_empty() {
+        default_servers(alloc)?
+    } else {
+        servers
+    };
+    let setup = Setup {
+        servers,
+        places,
+        log,
+        retries: 3,
+        redispatch: false,
+        queue_timeout: 0,
+    };
+    Ok((setup, names))
+}
+
+fn default_servers(alloc: Global) -> Result<Servers, AllocError>
+    ensures { IfOk result (λ servers. servers ≡ default_servers_are) }
 {
     let server = ServerSet {
         limit: 1,
@@ -17,18 +47,10 @@ pub(crate) fn default_setup(alloc: Global) -> Result<Setup, AllocError>
         weight: 1,
         rise_fall: None,
     };
-    Ok(Setup {
-        servers: Servers::new(vec![in alloc; server]?),
-        places: 64,
-        log: 262_144,
-        retries: 3,
-        redispatch: false,
-        queue_timeout: 0,
-    })
+    Ok(Servers::new(vec![in alloc; server]?))
 }
 
-/// The name of its server.
-pub(crate) fn default_names(alloc: Global) -> Result<Names, AllocError>
+fn default_names(alloc: Global) -> Result<Names, AllocError>
     ensures { IfOk result (λ names. names ≡ default_names_are) }
 {
     let name = String::from_str(alloc, "s1")?;

@@ -6,8 +6,7 @@ pub enum Fault {
     /// A growth found no memory. Nothing was written.
     #[error("no memory")]
     NoMemory,
-    /// The first line that is neither an event nor empty nor a comment; 0 where the script is too long. Nothing was
-    /// written.
+    /// The first faulty line; 0 where the script is too long. Nothing was written.
     #[error("script line {line}")]
     Script { line: usize },
     /// A read failed. Nothing was written.

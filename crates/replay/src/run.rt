@@ -41,12 +41,12 @@ fn take_step<Q: PendQueue<Key, ()>>(
     step: Step,
     text: &mut String,
 ) -> Result<(), Fault>
-    ensures ok { OnOk result ((front : List ℕ) × Answers names.now core.old core.new step front
+    ensures ok { OnOk result ((front : List ℕ) × Answers names.now core.old core.new step.entry front
         × (string_bytes text.new ≡ string_bytes text.old ++ front)) }
     ensures err { IfErr result (λ fault. fault ≡ Fault.NoMemory) }
 {
     let before = core.log().len();
-    match ask(alloc, core, step) {
+    match ask(alloc, core, names, step) {
         Ok(()) => kept(push_entries(text, names, &core.log().entries()[before..])),
         Err(refusal) => {
             if refusal == Refusal::NoMemory {
@@ -67,9 +67,14 @@ fn kept(written: Result<(), AllocError>) -> Result<(), Fault>
     }
 }
 
-fn ask<Q: PendQueue<Key, ()>>(alloc: Global, core: &mut Core<Q>, step: Step) -> Result<(), Refusal>
-    ensures ok { OnOk result ((event : Entry) × IsEventOf core.old step event × AddsEvent core.old core.new event) }
-    ensures err { IfErr result (RefusedOrNoMemory (refuses core.old step)) }
+fn ask<Q: PendQueue<Key, ()>>(
+    alloc: Global,
+    core: &mut Core<Q>,
+    names: &Names,
+    step: Step,
+) -> Result<(), Refusal>
+    ensures ok { OnOk result ((event : Entry) × IsEventOf names.now core.old step.entry event × AddsEvent core.old core.new event) }
+    ensures err { IfErr result (RefusedOrNoMemory (refuses names.now core.old step.entry)) }
     ensures unchanged { OnErr result (core.new ≡ core.old) }
 {
     match step {
@@ -77,8 +82,10 @@ fn ask<Q: PendQueue<Key, ()>>(alloc: Global, core: &mut Core<Q>, step: Step) -> 
             moment,
             class,
             offset,
+            pin,
         } => {
-            core.arrive(alloc, moment, class, offset, None)?;
+            let pin = pin.map(|name| names.pin(&name));
+            core.arrive(alloc, moment, class, offset, pin)?;
             Ok(())
         }
         Step::Done { moment, ticket } => core.done(moment, ticket),

@@ -1,18 +1,20 @@
-ghost use Rattle.std.specs.Prelude.{◌≡◌, ◌≢◌, ℕ, Some, IfOk, IfErr, IfSome, OnOk, OnErr, string_bytes};
+ghost use Rattle.std.specs.Prelude.{◌≡◌, ◌≢◌, ℕ, Some, None, IfOk, IfErr, IfSome, OnOk, OnErr, string_bytes};
 ghost use Rattle.std.specs.Io.KnownBytes.{IsAtEnd, Keeps};
-ghost use Rattle.script.specs.Steps.{fault_of};
-ghost use Rattle.replay.specs.Defaults.{IsTraceOf, opening};
+ghost use Rattle.std.specs.Str.Lines.{lines};
+ghost use Rattle.script.specs.Faults.{fault_of};
+ghost use Rattle.script.specs.Headers.{settings_of};
+ghost use Rattle.replay.specs.Defaults.{IsTraceOf};
 ghost use Rattle.replay.specs.Replays.{WritesTrace, WritesFrontOfTrace};
 
-use crate::defaults::{default_names, default_setup};
+use crate::defaults::setup_of;
 use crate::ends::{read_whole, write_whole};
 use crate::fault::Fault;
 use crate::run::run;
 use dispatch_core::Core;
 use due_key::Key;
 use pend_queue::ListQueue;
-use script::first_fault;
-use std::alloc::{AllocError, Global};
+use script::{Header, ScriptError, read};
+use std::alloc::Global;
 use std::io::{Read, Write};
 
 /// Reads a script to its end, runs its events in order, and writes their trace.
@@ -31,29 +33,34 @@ pub fn replay<R: Read, W: Write>(alloc: Global, reader: &mut R, writer: &mut W) 
     ensures nothing { result ≢ Err Fault.Write → OnErr result (Keeps (W.contents writer.old) (W.contents writer.new)) }
 {
     let script = read_whole(alloc, reader)?;
-    if let Some(line) = first_fault(&script) {
-        return Err(Fault::Script { line });
-    }
-    let trace = trace_of(alloc, &script)?;
+    let header = header_of(alloc, &script)?;
+    let trace = trace_of(alloc, header, &script)?;
     write_whole(writer, trace.as_bytes())
 }
 
-// The trace of a script.
-fn trace_of(alloc: Global, script: &[u8]) -> Result<String, Fault>
-    ensures ok { IfOk result (λ trace. IsTraceOf script.now (string_bytes trace)) }
+fn header_of(alloc: Global, script: &[u8]) -> Result<Header, Fault>
+    ensures faultless { OnOk result (fault_of script.now ≡ None) }
+    ensures settings { IfOk result (λ header. header ≡ settings_of (lines script.now)) }
+    ensures fault { IfErr result (λ fault. (line : ℕ) → fault ≡ Fault.Script line → fault_of script.now ≡ Some line) }
+    ensures of_reading { IfErr result (λ fault. fault ≢ Fault.Write) }
+{
+    match read(alloc, script) {
+        Ok(header) => Ok(header),
+        Err(ScriptError::NoMemory) => Err(Fault::NoMemory),
+        Err(ScriptError::Fault { line }) => Err(Fault::Script { line }),
+    }
+}
+
+// The trace of a script with these header lines.
+fn trace_of(alloc: Global, header: Header, script: &[u8]) -> Result<String, Fault>
+    ensures ok { header ≡ settings_of (lines script.now) → IfOk result (λ trace. IsTraceOf script.now (string_bytes trace)) }
     ensures err { IfErr result (λ fault. fault ≡ Fault.NoMemory) }
 {
-    let Ok(names) = default_names(alloc) else {
+    let Ok((setup, names)) = setup_of(alloc, header) else {
         return Err(Fault::NoMemory);
     };
-    let Ok(mut core) = default_core(alloc) else {
+    let Ok(mut core) = Core::<ListQueue<Key, ()>>::new(alloc, setup) else {
         return Err(Fault::NoMemory);
     };
     run(alloc, &mut core, &names, script)
-}
-
-fn default_core(alloc: Global) -> Result<Core<ListQueue<Key, ()>>, AllocError>
-    ensures { IfOk result (λ core. core ≡ opening) }
-{
-    Core::new(alloc, default_setup(alloc)?)
 }

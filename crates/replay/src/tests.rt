@@ -1,5 +1,6 @@
 mod ends;
 mod rows;
+mod servers;
 
 use crate::{Fault, replay};
 use std::alloc::Global;

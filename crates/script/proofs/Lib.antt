@@ -1,1 +1,4 @@
+mod NameBytes
+mod NameLists
+mod Headers
 mod Rows

@@ -1,3 +1,6 @@
 pub mod Steps
+pub mod Headers
+pub mod Faults
+pub mod Reading
 pub mod Traces
 pub mod ScriptTexts

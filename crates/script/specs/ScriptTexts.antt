@@ -1,5 +1,7 @@
 -- The text that a dispatcher's answers to a script are written as.
-use Rattle.std.specs.Prelude.{◌≡◌, ◌⊎◌, ℕ, pos, ◌+ℤ◌, List, [], ◌∷◌, ◌++◌, Option, Some, None}
+use Rattle.std.specs.Prelude.{◌≡◌, ◌⊎◌, ℕ, pos, ◌+ℤ◌, List, [], ◌∷◌, ◌++◌, length, position, Option, Some, option_map}
+use Rattle.std.specs.Option.{unwrap_or}
+use Rattle.std.specs.Str.{bytes_eq}
 use Rattle.dispatch_log.specs.declared.entry.Entry.{Entry}
 use Rattle.dispatch_log.specs.declared.entry.Entry.TheVariants as entries
 use Rattle.dispatch_log.specs.declared.refusal.Refusal.{Refusal}
@@ -8,34 +10,43 @@ use Rattle.script.specs.declared.step.Step.{Step}
 use Rattle.script.specs.declared.step.Step.TheVariants.{Arrive, Done}
 use Rattle.script.specs.Traces.{entries_text, refusal_text}
 
--- what refuses a step now
-abbrev pub refuses : History → Step → Option Refusal
-refuses history (Arrive moment class offset) = refuses_arrival history
-refuses history (Done moment ticket) = refuses_done history ticket
+-- the number of the server that has a name; where none has it the number of servers, which is no server's
+abbrev pub number_of : List (List ℕ) → List ℕ → ℕ
+number_of names name = unwrap_or (position (bytes_eq name) names) (length names)
 
--- an entry is the event that a step asks for, at the step's effective moment: an arrival is due by its offset from then
-abbrev pub IsEventOf : History → Step → Entry → Type 0
-IsEventOf history (Arrive moment class offset) (entries.Arrive at arrival) =
-    (at ≡ effective history moment) × (arrival.class ≡ class) × (arrival.due ≡ (pos at +ℤ offset)) × (arrival.pin ≡ None)
-IsEventOf history (Done moment ticket) (entries.Done at leaver) = (at ≡ effective history moment) × (leaver ≡ ticket)
-IsEventOf history step entry = ⊥
+-- the pin that a name stands for
+abbrev pub pin_of : List (List ℕ) → Option (List ℕ) → Option ℕ
+pin_of names pin = option_map (number_of names) pin
+
+-- what refuses a step now
+abbrev pub refuses : List (List ℕ) → History → Step → Option Refusal
+refuses names history (Arrive moment class offset pin) = refuses_arrival history (pin_of names pin)
+refuses names history (Done moment ticket) = refuses_done history ticket
+
+-- an entry is the event that a step asks for, at the step's effective moment: an arrival is due by its offset from
+-- then, and has the pin that its name stands for
+abbrev pub IsEventOf : List (List ℕ) → History → Step → Entry → Type 0
+IsEventOf names history (Arrive moment class offset pin) (entries.Arrive at arrival) =
+    (at ≡ effective history moment) × (arrival.class ≡ class) × (arrival.due ≡ (pos at +ℤ offset)) × (arrival.pin ≡ pin_of names pin)
+IsEventOf names history (Done moment ticket) (entries.Done at leaver) = (at ≡ effective history moment) × (leaver ≡ ticket)
+IsEventOf names history step entry = ⊥
 
 -- a step that is refused leaves the history as it was, and the line of its refusal
-pub record IsRefused (old new : History) (step : Step) (text : List ℕ) : Type 0 where
+pub record IsRefused (names : List (List ℕ)) (old new : History) (step : Step) (text : List ℕ) : Type 0 where
   pub refusal : Refusal
-  pub applies : refuses old step ≡ Some refusal
+  pub applies : refuses names old step ≡ Some refusal
   pub unchanged : new ≡ old
   pub written : text ≡ refusal_text refusal
 
 -- a step that is accepted adds its event to the legal log, and leaves the lines of the entries that are new
 pub record IsAccepted (names : List (List ℕ)) (old new : History) (step : Step) (text : List ℕ) : Type 0 where
   pub event : Entry
-  pub asked : IsEventOf old step event
+  pub asked : IsEventOf names old step event
   pub adds : AddsEvent old new event
   pub written : text ≡ entries_text names (event ∷ adds.brought)
 
 abbrev pub Answers : List (List ℕ) → History → History → Step → List ℕ → Type 0
-Answers names old new step text = IsRefused old new step text ⊎ IsAccepted names old new step text
+Answers names old new step text = IsRefused names old new step text ⊎ IsAccepted names old new step text
 
 -- script text: what is written for each step in order, where each step finds the history that those before it left
 abbrev pub IsScriptText : List (List ℕ) → History → List Step → List ℕ → Type 0

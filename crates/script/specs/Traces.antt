@@ -4,11 +4,12 @@ use Rattle.std.specs.List.{flat_map}
 use Rattle.std.specs.Fmt.{decimal, signed_decimal}
 use Rattle.dispatch_log.specs.declared.entry.Arrival.{Arrival}
 use Rattle.dispatch_log.specs.declared.entry.Entry.{Entry}
-use Rattle.dispatch_log.specs.declared.entry.Entry.TheVariants.{Arrive, Done, Direct, Joined, Granted, Freed, Ended}
+use Rattle.dispatch_log.specs.declared.entry.Entry.TheVariants.{Arrive, Done, Direct, Joined, Granted, Freed, Left, Ended}
 use Rattle.dispatch_log.specs.declared.queue.Queue.{Queue}
 use Rattle.dispatch_log.specs.declared.queue.Queue.TheVariants.{Backend, Server}
 use Rattle.dispatch_log.specs.declared.refusal.Refusal.{Refusal}
 use Rattle.dispatch_log.specs.Refusals.{number_of}
+use Rattle.verdict.specs.Cause.{word_of}
 
 -- the name of the server with a number, of the names in file order
 abbrev pub name_of : List (List ℕ) → ℕ → List ℕ
@@ -35,6 +36,7 @@ entry_text names (Direct ticket server) = codes "  direct " ++ decimal ticket ++
 entry_text names (Joined ticket queue) = codes "  join " ++ decimal ticket ++ codes " " ++ queue_name names queue ++ codes "\n"
 entry_text names (Granted ticket queue server) = codes "  grant " ++ decimal ticket ++ codes " " ++ queue_name names queue ++ codes " " ++ name_of names server ++ codes "\n"
 entry_text names (Freed ticket server) = codes "  free " ++ decimal ticket ++ codes " " ++ name_of names server ++ codes "\n"
+entry_text names (Left ticket cause) = codes "  left " ++ decimal ticket ++ codes " " ++ word_of cause ++ codes "\n"
 entry_text names (Ended ticket) = codes "  end " ++ decimal ticket ++ codes "\n"
 
 abbrev pub entries_text : List (List ℕ) → List Entry → List ℕ

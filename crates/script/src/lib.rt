@@ -1,12 +1,17 @@
 //! Scripts of events for a dispatcher, and the trace that a dispatcher's answers to them are written as.
 #![tactic(auto)]
 
+mod header;
+mod name;
 mod names;
+mod setting;
 mod step;
 mod trace;
 
+pub use header::{Header, MOST_BYTES, ScriptError, read};
+pub use name::Name;
 pub use names::Names;
-pub use step::{MOST_BYTES, Step, first_fault, step_of};
+pub use step::{Step, step_of};
 pub use trace::{push_entries, push_refusal};
 
 #[cfg(test)]

@@ -1,6 +1,11 @@
-ghost use Rattle.std.specs.Prelude.{◌≡◌, map, string_bytes};
+ghost use Rattle.std.specs.Prelude.{◌≡◌, [], ◌∷◌, ◌++◌, map, position, string_bytes, length, IfOk, OnOk, OnErr};
+ghost use Rattle.std.specs.Str.{bytes_eq};
+ghost use Rattle.script.specs.ScriptTexts.{number_of};
+ghost use Rattle.script.specs.Faults.{has_name};
 ghost use Rattle.script.specs.Traces.{name_of};
 
+use crate::name::Name;
+use std::alloc::{AllocError, Global};
 use std::marker::Model;
 
 /// The names of the servers, in file order.
@@ -33,4 +38,48 @@ impl Names {
             None => "",
         }
     }
+
+    /// How many servers there are.
+    pub fn len(&self) -> usize
+        ensures { result ≡ length self.now }
+    {
+        self.list.len()
+    }
+
+    /// The number of the first server with this name. One pass over the names.
+    pub fn find(&self, name: &Name) -> Option<usize>
+        ensures { result ≡ position (bytes_eq name.now) self.now }
+    {
+        place_of(&self.list, name.as_str())
+    }
+
+    /// The pin that a name stands for: the number of its server, and where no server has it the number of servers, which
+    /// a dispatcher refuses as no server's. One pass over the names.
+    pub fn pin(&self, name: &Name) -> usize
+        ensures { result ≡ number_of self.now name.now }
+    {
+        self.find(name).unwrap_or(self.len())
+    }
+
+    // Whether a server has this name.
+    pub(crate) fn has(&self, name: &Name) -> bool
+        ensures { result ≡ has_name self.now name.now }
+    {
+        self.find(name).is_some()
+    }
+
+    // Adds a name at the end.
+    pub(crate) fn push(&mut self, alloc: Global, name: &Name) -> Result<(), AllocError>
+        ensures ok { OnOk result (self.new ≡ self.old ++ name.now ∷ []) }
+        ensures err { OnErr result (self.new ≡ self.old) }
+    {
+        self.list.push(String::from_str(alloc, name.as_str())?)?;
+        Ok(())
+    }
+}
+
+fn place_of(names: &[String], text: &str) -> Option<usize>
+    ensures { result ≡ position (λ name. bytes_eq text.now (string_bytes name)) names.now }
+{
+    names.iter().position(|name| text == name.as_str())
 }

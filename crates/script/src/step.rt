@@ -1,59 +1,27 @@
-ghost use Rattle.std.specs.Prelude.{◌≡◌, ◌<◌, length, position, IfSome};
-ghost use Rattle.std.specs.Str.Lines.{lines};
+ghost use Rattle.std.specs.Prelude.{◌≡◌};
 ghost use Rattle.proxy_words.specs.Numerals.{numeral};
-ghost use Rattle.script.specs.Steps.{arrival_of, return_of, step_of as step_of_line, is_skipped, is_faulty, fault_of};
+ghost use Rattle.script.specs.Steps.{arrival_line, arrival_of, return_of, step_of as step_of_line};
 
+use crate::name::Name;
 use due_key::{Class, Moment, Offset};
-use proxy_words::{Lines, Words, long_number, signed_long_number};
-
-/// The greatest length of a script.
-pub const MOST_BYTES: usize = 4_194_304;
+use proxy_words::{Words, long_number, signed_long_number};
 
 /// What a line of a script asks of a dispatcher.
-#[derive(Clone, Copy, Debug, PartialEq, Eq)]
-pub enum Step {
-    /// `M arrive C O`: a request comes at this moment, of this class, due by this offset from its arrival.
+#[derive(Debug, Drop)]
+pub enum Step<'a> {
+    /// `M arrive C O` or `M arrive C O NAME`: a request comes at this moment, of this class, due by this offset from its
+    /// arrival, and bound to the server with this name.
     Arrive {
         moment: Moment,
         class: Class,
         offset: Offset,
+        pin: Option<Name<'a>>,
     },
     /// `M done T`: the request with this ticket is over.
     Done {
         moment: Moment,
         ticket: u64,
     },
-}
-
-/// The number of the first line, from 1, that is neither an event nor empty nor a comment. A script of more than
-/// [`MOST_BYTES`] bytes is at fault as a whole: line 0. One pass over the bytes.
-pub fn first_fault(script: &[u8]) -> Option<usize>
-    ensures { result ≡ fault_of script.now }
-{
-    if MOST_BYTES < script.len() {
-        return Some(0);
-    }
-    let at = faulty_place(script)?;
-    Some(at + 1)
-}
-
-fn faulty_place(script: &[u8]) -> Option<usize>
-    ensures value { result ≡ position is_faulty (lines script.now) }
-    ensures within { IfSome result (λ at. at < length script.now) }
-{
-    Lines::new(script).position(|line| is_faulty(line))
-}
-
-fn is_faulty(line: &[u8]) -> bool
-    ensures { result ≡ is_faulty line.now }
-{
-    step_of(line).is_none() && !is_skipped(line)
-}
-
-fn is_skipped(line: &[u8]) -> bool
-    ensures { result ≡ is_skipped line.now }
-{
-    Words::new(line).next().is_none() || line[0] == b'#'
 }
 
 /// The event of a line.
@@ -64,21 +32,36 @@ pub fn step_of(line: &[u8]) -> Option<Step>
     let moment = words.next()?;
     let name = words.next()?;
     match name {
-        b"arrive" => arrival_of(moment, words),
+        b"arrive" => arrival_line(moment, words),
         b"done" => return_of(moment, words),
         _ => None,
     }
 }
 
-// `C O`, behind `M arrive`.
-fn arrival_of(moment: &[u8], mut words: Words) -> Option<Step>
-    ensures { result ≡ arrival_of moment.now words.entry }
+// `C O` or `C O NAME`, behind `M arrive`.
+fn arrival_line<'a>(moment: &[u8], mut words: Words<'a>) -> Option<Step<'a>>
+    ensures { result ≡ arrival_line moment.now words.entry }
 {
     let class = words.next()?;
     let offset = words.next()?;
+    let Some(pin) = words.next() else {
+        return arrival_of(moment, class, offset, None);
+    };
     if words.next().is_some() {
         return None;
     }
+    let pin = Name::new(pin)?;
+    arrival_of(moment, class, offset, Some(pin))
+}
+
+fn arrival_of<'a>(
+    moment: &[u8],
+    class: &[u8],
+    offset: &[u8],
+    pin: Option<Name<'a>>,
+) -> Option<Step<'a>>
+    ensures { result ≡ arrival_of moment.now class.now offset.now pin.entry }
+{
     let moment = moment_of(moment)?;
     let class = Class::clamp(signed_long_number(class)?);
     let offset = Offset::clamp(signed_long_number(offset)?);
@@ -86,11 +69,12 @@ fn arrival_of(moment: &[u8], mut words: Words) -> Option<Step>
         moment,
         class,
         offset,
+        pin,
     })
 }
 
 // `T`, behind `M done`.
-fn return_of(moment: &[u8], mut words: Words) -> Option<Step>
+fn return_of<'a>(moment: &[u8], mut words: Words) -> Option<Step<'a>>
     ensures { result ≡ return_of moment.now words.entry }
 {
     let ticket = words.next()?;

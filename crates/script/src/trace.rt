@@ -47,6 +47,7 @@ fn push_entry(text: &mut String, names: &Names, entry: &Entry) -> Result<(), All
             let name = names.of(server);
             writeln!(text, "  free {ticket} {name}")
         }
+        Entry::Left(ticket, cause) => writeln!(text, "  left {ticket} {cause}"),
         Entry::Ended(ticket) => writeln!(text, "  end {ticket}"),
     }
 }

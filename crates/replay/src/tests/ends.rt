@@ -122,9 +122,9 @@ fn a_faulty_script_leaves_nothing_written(rt: HostRuntime) {
 
 #[test]
 fn a_script_has_four_mebibytes_at_most(rt: HostRuntime) -> Result<(), Fail> {
-    let mut script = vec![in rt.alloc(); b'\n'; MOST_BYTES]?;
+    let mut script = vec![in rt.alloc(); b'#'; MOST_BYTES]?;
     assert!(rt; trace_of(rt.alloc(), &script)?.is_empty());
-    script.push(b'\n')?;
+    script.push(b'#')?;
     assert_eq!(rt;
         trace_of(rt.alloc(), &script),
         Err(Fault::Script { line: 0 })

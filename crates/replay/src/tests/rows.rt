@@ -171,8 +171,12 @@ fn the_first_faulty_line_is_named(rt: HostRuntime) {
     );
     assert_eq!(rt; trace_of(rt.alloc(), b" # no comment\n"), fault(1));
     assert_eq!(rt; trace_of(rt.alloc(), b"\n\n1 done 1\r"), fault(3));
-    assert_eq!(rt; trace_of(rt.alloc(), b"places 3\n"), fault(1));
-    assert_eq!(rt; trace_of(rt.alloc(), b"0 arrive 0 0 s1\n"), fault(1));
+    assert_eq!(rt;
+        trace_of(rt.alloc(), b"places 3\n0 done 1\nlog 9\n"),
+        fault(3)
+    );
+    assert_eq!(rt; trace_of(rt.alloc(), b"retries 3\n"), fault(1));
+    assert_eq!(rt; trace_of(rt.alloc(), b"0 arrive 0 0 *\n"), fault(1));
     assert_eq!(rt;
         trace_of(rt.alloc(), b"1000000000000000000 done 1\n"),
         fault(1)

@@ -1,0 +1,235 @@
+use super::trace_of;
+use std::alloc::Global;
+use std::process::Abort;
+use std::test::Fail;
+
+fn expect(rt: &impl Abort, alloc: Global, script: &str, expected: &str) -> Result<(), Fail> {
+    let trace = trace_of(alloc, script.as_bytes())?;
+    assert_eq!(rt; trace.as_slice(), expected.as_bytes());
+    Ok(())
+}
+
+#[test]
+fn ties_go_round_and_weights_count(rt: HostRuntime) -> Result<(), Fail> {
+    expect(
+        &rt,
+        rt.alloc(),
+        "\
+server a 0 0 2
+server b 0 0 1
+0 arrive 0 0
+0 arrive 0 0
+0 arrive 0 0
+0 arrive 0 0
+0 arrive 0 0
+0 arrive 0 0
+0 arrive 0 0
+",
+        "\
+0 arrive 1 0 0
+  direct 1 a
+0 arrive 2 0 0
+  direct 2 b
+0 arrive 3 0 0
+  direct 3 a
+0 arrive 4 0 0
+  direct 4 b
+0 arrive 5 0 0
+  direct 5 a
+0 arrive 6 0 0
+  direct 6 a
+0 arrive 7 0 0
+  direct 7 b
+",
+    )
+}
+
+#[test]
+fn queued_requests_are_load(rt: HostRuntime) -> Result<(), Fail> {
+    expect(
+        &rt,
+        rt.alloc(),
+        "\
+server a 1 5 2
+server b 5 0 1
+0 arrive 0 0
+0 arrive 0 0
+0 arrive 0 0
+0 arrive 0 0
+",
+        "\
+0 arrive 1 0 0
+  direct 1 a
+0 arrive 2 0 0
+  direct 2 b
+0 arrive 3 0 0
+  join 3 a
+0 arrive 4 0 0
+  direct 4 b
+",
+    )
+}
+
+#[test]
+fn a_pin_is_ignored_where_the_queue_is_full(rt: HostRuntime) -> Result<(), Fail> {
+    expect(
+        &rt,
+        rt.alloc(),
+        "\
+server a 1 1 1
+server b 1 0 1
+0 arrive 0 0 a
+1 arrive 0 0 a
+2 arrive 0 0 a
+",
+        "\
+0 arrive 1 0 0 a
+  direct 1 a
+1 arrive 2 0 1 a
+  join 2 a
+2 arrive 3 0 2 a
+  direct 3 b
+",
+    )
+}
+
+#[test]
+fn a_slot_goes_to_the_smaller_head(rt: HostRuntime) -> Result<(), Fail> {
+    expect(
+        &rt,
+        rt.alloc(),
+        "\
+server a 1 1 1
+0 arrive 0 0
+5 arrive 0 0
+5 arrive 0 0
+6 done 1
+7 done 2
+",
+        "\
+0 arrive 1 0 0
+  direct 1 a
+5 arrive 2 0 5
+  join 2 a
+5 arrive 3 0 5
+  join 3 *
+6 done 1
+  free 1 a
+  end 1
+  grant 2 a a
+7 done 2
+  free 2 a
+  end 2
+  grant 3 * a
+",
+    )
+}
+
+#[test]
+fn weight_0_takes_pinned_requests_alone(rt: HostRuntime) -> Result<(), Fail> {
+    expect(
+        &rt,
+        rt.alloc(),
+        "\
+server a 1 0 0
+server b 1 0 1
+0 arrive 0 0 a
+0 arrive 0 0
+1 arrive 0 0
+1 arrive 0 5 a
+2 done 1
+3 done 4
+",
+        "\
+0 arrive 1 0 0 a
+  direct 1 a
+0 arrive 2 0 0
+  direct 2 b
+1 arrive 3 0 1
+  join 3 *
+1 arrive 4 0 6 a
+  join 4 a
+2 done 1
+  free 1 a
+  end 1
+  grant 4 a a
+3 done 4
+  free 4 a
+  end 4
+",
+    )
+}
+
+#[test]
+fn places_and_the_log_have_their_ends(rt: HostRuntime) -> Result<(), Fail> {
+    expect(
+        &rt,
+        rt.alloc(),
+        "\
+places 1
+log 16
+0 arrive 0 0
+1 arrive 0 0
+2 done 1
+3 arrive 0 0
+4 done 2
+",
+        "\
+0 arrive 1 0 0
+  direct 1 s1
+refused 2
+2 done 1
+  free 1 s1
+  end 1
+3 arrive 2 0 3
+  direct 2 s1
+refused 3
+",
+    )
+}
+
+#[test]
+fn a_pin_to_no_server_is_refused(rt: HostRuntime) -> Result<(), Fail> {
+    expect(
+        &rt,
+        rt.alloc(),
+        "\
+places 1
+server a 1 0 1
+0 arrive 0 0 b
+0 arrive 0 0 a
+0 arrive 0 0 b
+0 arrive 0 0 a
+",
+        "\
+refused 6
+0 arrive 1 0 0 a
+  direct 1 a
+refused 6
+refused 2
+",
+    )
+}
+
+// Without a usable server a request is told so at once, and keeps its place until that is done.
+#[test]
+fn a_request_without_a_server_is_told_so(rt: HostRuntime) -> Result<(), Fail> {
+    expect(
+        &rt,
+        rt.alloc(),
+        "\
+places 1
+server a 1 0 0
+0 arrive 0 0
+1 arrive 0 0
+2 done 1
+",
+        "\
+0 arrive 1 0 0
+  left 1 noserver
+refused 2
+2 done 1
+  end 1
+",
+    )
+}

@@ -1,0 +1,91 @@
+-- A script's lines are taken in one by one.
+use Rattle.std.proofs.Common.{◌≡◌, ℕ, ◌+◌, Bool, true, false, ◌||◌, List, [], ◌∷◌, ◌++◌, length, filter_map, Option, Some, None, if◌then◌else◌, refl, sym, ap, ◌∙◌, append_assoc, append-nil, length-append}
+use Rattle.std.proofs.Math.Bool.{or-false}
+use Rattle.std.specs.List.{cons_option, list_any}
+use Rattle.std.specs.Option.{option_map_or}
+use Rattle.std.proofs.lemmas.List.Elements.{filter_map-append}
+use Rattle.std.proofs.lemmas.List.Folds.{list_any-append}
+use Rattle.dispatch_log.specs.declared.setup.ServerSet.{ServerSet}
+use Rattle.script.specs.declared.setting.Setting.{Setting}
+use Rattle.script.specs.declared.setting.Setting.TheVariants.{Places, LogRoom, Server}
+use Rattle.script.specs.Headers.{Settings, all_of, settings_of, setting_of, name_in, server_in, places_in, log_in, last_of}
+use Rattle.script.specs.Faults.{is_event, is_faulty, fault_behind}
+use Rattle.script.specs.Reading.{with_setting, with_line}
+
+last_of-snoc : {X : Type 0} (xs : List X) (x : X) → last_of (xs ++ x ∷ []) ≡ Some x
+last_of-snoc [] x = refl
+last_of-snoc (y ∷ []) x = refl
+last_of-snoc (y ∷ z ∷ xs) x = last_of-snoc (z ∷ xs) x
+
+same : {names names' : List (List ℕ)} {servers servers' : List ServerSet} {places places' log log' : Option ℕ} → names ≡ names' → servers ≡ servers' → places ≡ places' → log ≡ log'
+    → (let left : Settings = record { names = names; servers = servers; places = places; log = log } in left ≡ record { names = names'; servers = servers'; places = places'; log = log' })
+same {names} {names'} {servers} {servers'} {places} {places'} {log} {log'} a b c d = cc
+
+-- what one setting more comes to
+all_of-more : (settings : List Setting) (setting : Setting) → all_of (settings ++ setting ∷ []) ≡ with_setting (all_of settings) setting
+all_of-more settings (Places places) =
+    same (filter_map-append name_in settings _ ∙ append-nil _) (filter_map-append server_in settings _ ∙ append-nil _)
+    (ap last_of (filter_map-append places_in settings _) ∙ last_of-snoc (filter_map places_in settings) places)
+    (ap last_of (filter_map-append log_in settings _ ∙ append-nil _))
+all_of-more settings (LogRoom room) =
+    same (filter_map-append name_in settings _ ∙ append-nil _) (filter_map-append server_in settings _ ∙ append-nil _)
+    (ap last_of (filter_map-append places_in settings _ ∙ append-nil _))
+    (ap last_of (filter_map-append log_in settings _) ∙ last_of-snoc (filter_map log_in settings) room)
+all_of-more settings (Server name server) =
+    same (filter_map-append name_in settings _) (filter_map-append server_in settings _)
+    (ap last_of (filter_map-append places_in settings _ ∙ append-nil _))
+    (ap last_of (filter_map-append log_in settings _ ∙ append-nil _))
+
+all_of-option : (settings : List Setting) (setting : Option Setting) → all_of (settings ++ cons_option setting []) ≡ option_map_or (with_setting (all_of settings)) setting (all_of settings)
+all_of-option settings None = ap all_of (append-nil settings)
+all_of-option settings (Some setting) = all_of-more settings setting
+
+settings_more : (before : List (List ℕ)) (line : List ℕ) → settings_of (before ++ line ∷ []) ≡ with_line (settings_of before) line
+settings_more before line = ap all_of (filter_map-append setting_of before (line ∷ [])) ∙ all_of-option (filter_map setting_of before) (setting_of line)
+
+-- some of the lines are read, and none of them is faulty
+pub record AreRead (all before left : List (List ℕ)) (header : Settings) (begun : Bool) (number : ℕ) : Type 0 where
+  pub cut : all ≡ before ++ left
+  pub settings : header ≡ settings_of before
+  pub events : begun ≡ list_any is_event before
+  pub count : number ≡ length before
+  pub faultless : fault_behind [] all ≡ fault_behind before left
+
+abbrev pub IsReadTo : List (List ℕ) → List (List ℕ) → Settings → Bool → ℕ → Type 0
+IsReadTo all left header begun number = (before : List (List ℕ)) × AreRead all before left header begun number
+
+pub none_read : (all : List (List ℕ)) (header : Settings) → header ≡ all_of [] → IsReadTo all all header false 0
+none_read all header is = ([], record { cut = refl; settings = is; events = refl; count = refl; faultless = refl })
+
+test_of : (all before left : List (List ℕ)) (line : List ℕ) (header : Settings) (begun : Bool) (number : ℕ) → AreRead all before left header begun number → is_faulty header begun line ≡ is_faulty (settings_of before) (list_any is_event before) line
+test_of all before left line header begun number are = ap (λ h. is_faulty h begun line) are.settings ∙ ap (λ b. is_faulty (settings_of before) b line) are.events
+
+pub one_more : (all left rest : List (List ℕ)) (line : List ℕ) (header next : Settings) (begun then' : Bool) (number : ℕ) → IsReadTo all left header begun number → left ≡ line ∷ rest
+    → is_faulty header begun line ≡ false → next ≡ with_line header line → then' ≡ (begun || is_event line) → IsReadTo all rest next then' (number + 1)
+one_more all left rest line header next begun then' number (before, are) cut good taken now = (
+  before ++ line ∷ [],
+  record {
+    cut = are.cut ∙ ap (λ l. before ++ l) cut ∙ sym (append_assoc before (line ∷ []) rest);
+    settings = taken ∙ ap (λ h. with_line h line) are.settings ∙ sym (settings_more before line);
+    events = now ∙ ap (λ b. b || is_event line) are.events ∙ sym (list_any-append is_event before (line ∷ []) ∙ ap (λ b. list_any is_event before || b) (or-false (is_event line)));
+    count = ap (λ n. n + 1) are.count ∙ sym (length-append before (line ∷ []));
+    faultless = are.faultless ∙ ap (fault_behind before) cut
+        ∙ ap (λ b. if b then Some (length before + 1) else fault_behind (before ++ line ∷ []) rest) (sym (test_of all before left line header begun number are) ∙ good);
+  },
+)
+
+pub faulty_next : (all left rest : List (List ℕ)) (line : List ℕ) (header : Settings) (begun : Bool) (number : ℕ) → IsReadTo all left header begun number → left ≡ line ∷ rest
+    → is_faulty header begun line ≡ true → fault_behind [] all ≡ Some (number + 1)
+faulty_next all left rest line header begun number (before, are) cut bad =
+    are.faultless ∙ ap (fault_behind before) cut
+    ∙ ap (λ b. if b then Some (length before + 1) else fault_behind (before ++ line ∷ []) rest) (sym (test_of all before left line header begun number are) ∙ bad)
+    ∙ ap (λ n. Some (n + 1)) (sym are.count)
+
+pub all_read : (all left : List (List ℕ)) (header : Settings) (begun : Bool) (number : ℕ) → IsReadTo all left header begun number → left ≡ [] → (header ≡ settings_of all) × (fault_behind [] all ≡ None)
+all_read all left header begun number (before, are) cut = (
+  are.settings ∙ ap settings_of (sym (are.cut ∙ ap (λ l. before ++ l) cut ∙ append-nil before)),
+  are.faultless ∙ ap (fault_behind before) cut,
+)
+
+pub few_read : (all left : List (List ℕ)) (header : Settings) (begun : Bool) (number : ℕ) → IsReadTo all left header begun number → length all ≡ number + length left
+few_read all left header begun number (before, are) = ap length are.cut ∙ length-append before left ∙ ap (λ n. n + length left) (sym are.count)

@@ -1,0 +1,220 @@
+ghost use Rattle.std.specs.Prelude.{◌≡◌, ◌<◌, ◌≤◌, ℕ, None, Some, true, false, ◌||◌, [], length, IfOk, IfErr, OnOk, IsTrue};
+ghost use Rattle.dispatch_log.specs.Setups.{is_within};
+ghost use Rattle.std.specs.Str.Lines.{lines};
+ghost use Rattle.script.specs.Steps.{is_skipped};
+ghost use Rattle.script.specs.Headers.{settings_of, all_of, AreWithin};
+ghost use Rattle.script.specs.Faults.{fault_of, fault_behind, clashes, is_event, is_faulty};
+ghost use Rattle.script.specs.Reading.{IsWithin, with_setting, with_line};
+
+use crate::name::Name;
+use crate::names::Names;
+use crate::setting::{Setting, setting_of};
+use crate::step::step_of;
+use dispatch_log::{ServerSet, Servers};
+use proxy_words::{Lines, Words};
+use std::alloc::{AllocError, Global};
+use std::marker::Model;
+use thiserror::Error;
+
+/// The greatest length of a script.
+pub const MOST_BYTES: usize = 4_194_304;
+
+/// The greatest number of servers.
+const MOST_SERVERS: usize = 64;
+
+/// What the header lines of a script say.
+#[derive(Debug, Drop)]
+pub struct Header {
+    names: Names,
+    servers: Vec<ServerSet>,
+    places: Option<usize>,
+    log: Option<usize>,
+}
+
+impl Model for Header {
+    ghost use Rattle.script.specs.Headers.{Settings, AreWithin};
+
+    ghost Value = { Settings };
+
+    ghost view = { λ header. record { names = header.names; servers = header.servers.items; places = header.places; log = header.log } };
+
+    ghost invariant = { λ header. AreWithin (record { names = header.names; servers = header.servers.items; places = header.places; log = header.log }) };
+}
+
+/// Why a script wasn't read.
+#[derive(Clone, Copy, Debug, PartialEq, Eq, Error)]
+pub enum ScriptError {
+    /// A growth found no memory.
+    #[error("no memory")]
+    NoMemory,
+    /// The number of the first faulty line, from 1; 0 where the script is too long.
+    #[error("script line {line}")]
+    Fault { line: usize },
+}
+
+// Why a line wasn't taken in.
+#[derive(Clone, Copy, Debug, PartialEq, Eq)]
+enum LineError {
+    NoMemory,
+    Faulty,
+}
+
+/// Reads the header lines of a script, and looks for its first faulty line: one that is neither a header line nor an
+/// event nor empty nor a comment, a header line behind an event, a server's name again, or a 65th server. A script of
+/// more than [`MOST_BYTES`] bytes is at fault as a whole: line 0. One pass over the bytes; memory is taken for the servers.
+pub fn read(alloc: Global, script: &[u8]) -> Result<Header, ScriptError>
+    ensures faultless { OnOk result (fault_of script.now ≡ None) }
+    ensures settings { IfOk result (λ header. header ≡ settings_of (lines script.now)) }
+    ensures fault { IfErr result (λ error. (line : ℕ) → error ≡ ScriptError.Fault line → fault_of script.now ≡ Some line) }
+{
+    if MOST_BYTES < script.len() {
+        return Err(ScriptError::Fault { line: 0 });
+    }
+    read_lines(alloc, script)
+}
+
+fn read_lines(alloc: Global, script: &[u8]) -> Result<Header, ScriptError>
+    ensures faultless { OnOk result (fault_behind [] (lines script.now) ≡ None) }
+    ensures settings { IfOk result (λ header. header ≡ settings_of (lines script.now)) }
+    ensures fault { IfErr result (λ error. (line : ℕ) → error ≡ ScriptError.Fault line → fault_behind [] (lines script.now) ≡ Some line) }
+{
+    let mut header = Header::new(alloc);
+    let mut begun = false;
+    let mut number = 0;
+    let mut lines = Lines::new(script);
+    'lines: while let Some(line) = lines.next() {
+        number += 1;
+        let event = is_event(line);
+        match header.take(alloc, begun, event, line) {
+            Ok(()) => begun |= event,
+            Err(LineError::NoMemory) => return Err(ScriptError::NoMemory),
+            Err(LineError::Faulty) => return Err(ScriptError::Fault { line: number }),
+        }
+    }
+    Ok(header)
+}
+
+impl Header {
+    fn new(alloc: Global) -> Header
+        ensures { result ≡ all_of [] }
+    {
+        Header {
+            names: Names::new(Vec::new(alloc)),
+            servers: Vec::new(alloc),
+            places: None,
+            log: None,
+        }
+    }
+
+    /// How many places a line sets; None where none does.
+    pub fn places(&self) -> Option<usize>
+        ensures value { result ≡ self.now.places }
+        ensures within { AreWithin self.now }
+    {
+        self.places
+    }
+
+    /// The room of the log that a line sets; None where none does.
+    pub fn log(&self) -> Option<usize>
+        ensures value { result ≡ self.now.log }
+        ensures within { AreWithin self.now }
+    {
+        self.log
+    }
+
+    /// The names of the servers, and what these may take.
+    pub fn into_servers(self) -> (Names, Servers)
+        ensures value { (result.0 ≡ self.names) × (result.1 ≡ self.servers) }
+        ensures within { AreWithin self }
+    {
+        let Header {
+            names,
+            servers,
+            places: _,
+            log: _,
+        } = self;
+        (names, Servers::new(servers))
+    }
+
+    // Takes a line in, behind an event or not, that is one itself or not.
+    fn take(
+        &mut self,
+        alloc: Global,
+        begun: bool,
+        event: bool,
+        line: &[u8],
+    ) -> Result<(), LineError>
+        requires { event ≡ is_event line.now }
+        ensures ok { OnOk result ((is_faulty self.old begun line.now ≡ false) × (self.new ≡ with_line self.old line.now)) }
+        ensures err { IfErr result (λ error. error ≡ LineError.Faulty → is_faulty self.old begun line.now ≡ true) }
+    {
+        match setting_of(line) {
+            Some(setting) => self.set(alloc, begun, setting),
+            None => {
+                if event || is_skipped(line) {
+                    Ok(())
+                } else {
+                    Err(LineError::Faulty)
+                }
+            }
+        }
+    }
+
+    fn set(&mut self, alloc: Global, begun: bool, setting: Setting) -> Result<(), LineError>
+        requires { IsWithin setting }
+        ensures ok { OnOk result (((begun || clashes self.old setting.entry) ≡ false) × (self.new ≡ with_setting self.old setting.entry)) }
+        ensures err { IfErr result (λ error. error ≡ LineError.Faulty → (begun || clashes self.old setting.entry) ≡ true) }
+    {
+        if begun {
+            return Err(LineError::Faulty);
+        }
+        match setting {
+            Setting::Places(places) => {
+                self.places = Some(places);
+                Ok(())
+            }
+            Setting::LogRoom(room) => {
+                self.log = Some(room);
+                Ok(())
+            }
+            Setting::Server(name, server) => self.add(alloc, &name, server),
+        }
+    }
+
+    fn add(&mut self, alloc: Global, name: &Name, server: ServerSet) -> Result<(), LineError>
+        requires { IsWithin (Setting.Server name.now server) }
+        ensures ok { OnOk result ((clashes self.old (Setting.Server name.now server) ≡ false) × (self.new ≡ with_setting self.old (Setting.Server name.now server))) }
+        ensures err { IfErr result (λ error. error ≡ LineError.Faulty → clashes self.old (Setting.Server name.now server) ≡ true) }
+    {
+        if MOST_SERVERS <= self.names.len() || self.names.has(name) {
+            return Err(LineError::Faulty);
+        }
+        if self.push(alloc, name, server).is_err() {
+            return Err(LineError::NoMemory);
+        }
+        Ok(())
+    }
+
+    fn push(&mut self, alloc: Global, name: &Name, server: ServerSet) -> Result<(), AllocError>
+        requires within { IsTrue (is_within server) }
+        requires few { length self.old.names < 64 }
+        ensures { OnOk result (self.new ≡ with_setting self.old (Setting.Server name.now server)) }
+    {
+        self.servers.reserve(1)?;
+        self.names.push(alloc, name)?;
+        self.servers.push_reserved(server);
+        Ok(())
+    }
+}
+
+fn is_event(line: &[u8]) -> bool
+    ensures { result ≡ is_event line.now }
+{
+    step_of(line).is_some()
+}
+
+fn is_skipped(line: &[u8]) -> bool
+    ensures { result ≡ is_skipped line.now }
+{
+    Words::new(line).next().is_none() || line[0] == b'#'
+}

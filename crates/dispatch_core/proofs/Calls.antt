@@ -21,27 +21,25 @@ use Rattle.dispatch_log.specs.declared.row.Row.{Row}
 use Rattle.dispatch_log.specs.declared.setup.Setup.{Setup}
 use Rattle.dispatch_log.specs.Dispatch.{IsDispatched}
 use Rattle.dispatch_log.specs.Histories.{History, IsLegal, state_of, begins_event, refuses_arrival, refuses_done, AddsEvent}
-use Rattle.dispatch_log.specs.Judgement.{Stage, placing, returning, ending, granting, MayCome, next_stage, HasSlot, IsTold}
+use Rattle.dispatch_log.specs.Judgement.{Stage, placing, returning, ending, granting, IsOver, MayGrant, IsPut, MayCome, next_stage, HasSlot, IsTold}
 use Rattle.dispatch_log.specs.Refusals.{first_of, is_waiting, lacks_room}
 use Rattle.dispatch_log.specs.Rows.{Rows, StandsAt, row_of, server_in, has_ticket, phase_is_served_by, phase_is_told, pin_of}
 use Rattle.dispatch_log.specs.States.{State, after, opening_state}
 use Rattle.dispatch_log.proofs.Consistency.{IsConsistent}
-use Rattle.dispatch_log.proofs.Dispatched.{dispatched, opening_consistent, none_stands}
-use Rattle.dispatch_log.proofs.Judged.{after_all-push, stage_after-push, places_all, consistent_all}
-use Rattle.dispatch_core.specs.Steps.{with_entry, stage_of, scene_of, waits, waiting_of, IsReturn, MayComeNext, MayBeginNext, Places, Leaves, Settles}
+use Rattle.dispatch_log.proofs.Dispatched.{dispatched, opening_consistent}
+use Rattle.dispatch_log.proofs.Runs.{empty_legal}
+use Rattle.dispatch_log.proofs.Judged.{after_all-push, stage_after-push, over_none, places_all, consistent_all}
+use Rattle.dispatch_core.specs.Steps.{with_entry, stage_of, scene_of, waits, waiting_of, IsReturn, MayComeNext, MayBeginNext, IsOverNext, MayGrantNext, MayPut, Places, Leaves, Settles}
 
 -- an entry may come after another
-may_next : (h : History) (e next : Entry) (t : Stage) → next_stage (stage_of h) e ≡ t → MayCome h.setup (after h.setup (state_of h) e) (length (h.log ++ e ∷ [])) t next → MayComeNext (with_entry h e) next
+pub may_next : (h : History) (e next : Entry) (t : Stage) → next_stage (stage_of h) e ≡ t → MayCome h.setup (after h.setup (state_of h) e) (length (h.log ++ e ∷ [])) t next → MayComeNext (with_entry h e) next
 may_next h e next t stage may =
     subst (λ (s : State). MayCome h.setup s (length (h.log ++ e ∷ [])) (stage_of (with_entry h e)) next) (sym (after_all-push h.setup (opening_state h.setup) h.log e))
     (subst (λ (x : Stage). MayCome h.setup (after h.setup (state_of h) e) (length (h.log ++ e ∷ [])) x next) (sym (stage_after-push granting h.log e ∙ stage)) may)
 
 -- between two events an event may begin that nothing refuses
 pub begins_next : (h : History) (m : ℕ) (refused : Option Refusal) → IsLegal h → refused ≡ None → MayBeginNext h m refused
-begins_next h m refused legal accepted = record {
-  between = legal.whole;
-  begins = record { settled = legal.settled; accepted = accepted; later = omega arith };
-}
+begins_next h m refused legal accepted = record { over = legal.whole; settled = legal.settled; accepted = accepted; later = omega arith }
 
 -- what is accepted has room
 arrival_room : (a b c d : Bool) → first_of ((a, LogFull) ∷ (b, NoSuchServer) ∷ (c, TicketsSpent) ∷ (d, PlacesFull) ∷ []) ≡ None → a ≡ false
@@ -61,8 +59,14 @@ pub done_has_room : (h : History) (t : ℕ) → refuses_done h t ≡ None → 2 
 done_has_room h t accepted = let a : lacks_room h.setup (length h.log) ≡ false = (done_tests _ _ _ accepted).0 in grind (arith, nat_tests)
 
 -- the states of a legal log are consistent
-legal_consistent : (h : History) → IsLegal h → IsConsistent (state_of h).rows (state_of h).ticket granting
-legal_consistent h legal = subst (λ (t : Stage). IsConsistent (state_of h).rows (state_of h).ticket t) legal.whole (consistent_all h.setup (opening_state h.setup) 0 granting h.log (opening_consistent h.setup) legal.judged)
+pub legal_consistent : (h : History) → IsLegal h → IsConsistent (state_of h).rows (state_of h).ticket (stage_of h)
+legal_consistent h legal = consistent_all h.setup (opening_state h.setup) 0 granting h.log (opening_consistent h.setup) legal.judged
+
+-- no row of a legal log is in no place
+pub none_loose : (h : History) (row : Row) (p : ℕ) → IsLegal h → StandsAt (state_of h).rows p row → row.phase ≡ Loose → ⊥
+none_loose h row p legal stands loose =
+    let no : None ≡ Some row.key.ticket = sym (over_none h.setup (state_of h) (stage_of h) legal.whole) ∙ (legal_consistent h legal).loose p row stands loose in
+    cc
 
 further : (cell : Option Row) (rows : Rows) (t : ℕ) (r : Row) → (p : ℕ) × StandsAt rows p r × (r.key.ticket ≡ t) → (p : ℕ) × StandsAt (cell ∷ rows) p r × (r.key.ticket ≡ t)
 further cell rows t r s = (suc s.0, s.1, s.2)
@@ -84,8 +88,7 @@ row_of_stands (Some u ∷ rows) t r e = by_test (has_ticket t (Some u)) refl (λ
 return_of : (h : History) (t : ℕ) (row : Row) → IsLegal h → row_of t (state_of h).rows ≡ Some row → is_waiting row.phase ≡ false → (phase : Phase) → row.phase ≡ phase → IsReturn (state_of h).rows t (server_in phase)
 return_of h t row legal at rests Loose e =
     let s = row_of_stands (state_of h).rows t row at in
-    let no : None ≡ Some row.key.ticket = (legal_consistent h legal).loose s.0 row s.1 e in
-    cc
+    absurd (none_loose h row s.0 legal s.1 e)
 return_of h t row legal at rests (Waiting queue since) e = let no : true ≡ false = ap is_waiting (sym e) ∙ rests in cc
 return_of h t row legal at rests (Serving server) e =
     let s = row_of_stands (state_of h).rows t row at in
@@ -117,18 +120,18 @@ may_free h t server stage has = subst (λ (x : Stage). MayCome h.setup (state_of
 pub may_end_told : (h : History) (t : ℕ) → stage_of h ≡ returning t → IsTold (state_of h).rows t → MayComeNext h (Ended t)
 may_end_told h t stage told = subst (λ (x : Stage). MayCome h.setup (state_of h) (length h.log) x (Ended t)) (sym stage) (refl, told)
 
-pub freed_ends : (one two : History) (t server : ℕ) → two ≡ with_entry one (Freed t server) → MayComeNext two (Ended t)
-freed_ends one two t server freed = subst (λ (x : History). MayComeNext x (Ended t)) (sym freed) (may_next one (Freed t server) (Ended t) (ending t) refl refl)
+pub freed_ends : (one two : History) (t server : ℕ) → stage_of one ≡ returning t → two ≡ with_entry one (Freed t server) → MayComeNext two (Ended t)
+freed_ends one two t server stage freed = subst (λ (x : History). MayComeNext x (Ended t)) (sym freed) (may_next one (Freed t server) (Ended t) (ending t) (ap (λ (x : Stage). next_stage x (Freed t server)) stage) refl)
 
 -- an entry more
-longer : (h next : History) (e : Entry) → next ≡ with_entry h e → length next.log ≡ length h.log + 1
+pub longer : (h next : History) (e : Entry) → next ≡ with_entry h e → length next.log ≡ length h.log + 1
 longer h next e goes = ap (λ (x : History). length x.log) goes ∙ length-append h.log (e ∷ [])
 
-same_setup : (h next : History) (e : Entry) → next ≡ with_entry h e → next.setup ≡ h.setup
+pub same_setup : (h next : History) (e : Entry) → next ≡ with_entry h e → next.setup ≡ h.setup
 same_setup h next e goes = ap (λ (x : History). x.setup) goes
 
 -- no more requests wait than there are places
-few_wait : (h : History) → waiting_of h ≤ h.setup.places
+pub few_wait : (h : History) → waiting_of h ≤ h.setup.places
 few_wait h =
     let few = count_by-le-length waits (state_of h).rows in
     let places : length (state_of h).rows ≡ h.setup.places = places_all h.setup (opening_state h.setup) h.log ∙ length-replicate h.setup.places None in
@@ -155,14 +158,21 @@ ends_told one two t ended = record {
   over = ap stage_of ended ∙ stage_after-push granting one.log (Ended t);
 }
 
+-- between events nothing is owed but grants, which may come
+pub over_granting : (h : History) → stage_of h ≡ granting → IsOverNext h
+over_granting h stage = subst (λ (t : Stage). IsOver h.setup (state_of h) t) (sym stage) tt
+
+pub may_granting : (h : History) → stage_of h ≡ granting → MayGrantNext h
+may_granting h stage = subst (λ (t : Stage). MayGrant h.setup (state_of h) t) (sym stage) tt
+
 -- a history that went on by an opening and its grants
-adds : (h last now : History) (event : Entry) (opening : List Entry) → last.log ≡ h.log ++ event ∷ opening → last.setup ≡ h.setup → All (λ entry. begins_event entry ≡ false) opening → Settles last now → AddsEvent h now event
-adds h last now event opening opened setup inside settled = record {
+pub adds : (h last now : History) (event : Entry) (opening : List Entry) → last.log ≡ h.log ++ event ∷ opening → last.setup ≡ h.setup → All (λ entry. begins_event entry ≡ false) opening → IsOverNext last → Settles last now → AddsEvent h now event
+adds h last now event opening opened setup inside over settled = record {
   brought = opening ++ settled.grants;
   log = settled.log ∙ ap (λ (l : List Entry). l ++ settled.grants) opened ∙ append_assoc h.log (event ∷ opening) settled.grants;
   one_event = All-append (λ (entry : Entry). begins_event entry ≡ false) opening settled.grants inside settled.one_event;
   setup = settled.setup ∙ setup;
-  legal = record { judged = settled.judged; whole = settled.between; settled = settled.settled };
+  legal = record { judged = settled.judged; whole = settled.over over; settled = settled.settled };
 }
 
 -- the log has room for what ends a return, and for its grants
@@ -190,29 +200,41 @@ done_adds h one two now m t begun is settled =
     (is.log ∙ ap (λ (x : History). x.log ++ is.closing) begun ∙ append_assoc h.log (Done m t ∷ []) is.closing)
     (is.setup ∙ same_setup h one (Done m t) begun)
     is.one_event
+    (over_granting two is.over)
     settled
 
 -- a newcomer is placed next
 pub arrival_places : (h one : History) (m : ℕ) (a : Arrival) → one ≡ with_entry h (Arrive m a) → stage_of one ≡ placing a.ticket
 arrival_places h one m a begun = ap stage_of begun ∙ stage_after-push granting h.log (Arrive m a)
 
--- a newcomer's placement may come
-pub may_direct : (h : History) (t server : ℕ) → stage_of h ≡ placing t → IsPlacement (scene_of h) (state_of h).cursor (pin_of t (state_of h).rows) None (Slot server) → MayComeNext h (Direct t server)
-may_direct h t server stage placed = subst (λ (x : Stage). MayCome h.setup (state_of h) (length h.log) x (Direct t server)) (sym stage) (refl, placed)
+-- a newcomer may be put where its pin lets it
+pub newcomer_put : (h : History) (t : ℕ) (pin : Option ℕ) → stage_of h ≡ placing t → pin_of t (state_of h).rows ≡ pin → MayPut h pin None t
+newcomer_put h t pin stage its (Direct u v) put = (subst (λ (x : Stage). MayCome h.setup (state_of h) (length h.log) x (Direct u v)) (sym stage) (subst (λ (p : Option ℕ). IsPut (scene_of h) (state_of h).cursor p None t (Direct u v)) (sym its) put), ap (λ (x : Stage). next_stage x (Direct u v)) stage)
+newcomer_put h t pin stage its (Joined u q) put = (subst (λ (x : Stage). MayCome h.setup (state_of h) (length h.log) x (Joined u q)) (sym stage) (subst (λ (p : Option ℕ). IsPut (scene_of h) (state_of h).cursor p None t (Joined u q)) (sym its) put), ap (λ (x : Stage). next_stage x (Joined u q)) stage)
+newcomer_put h t pin stage its (Left u NoServer) put = (subst (λ (x : Stage). MayCome h.setup (state_of h) (length h.log) x (Left u NoServer)) (sym stage) (subst (λ (p : Option ℕ). IsPut (scene_of h) (state_of h).cursor p None t (Left u NoServer)) (sym its) put), ap (λ (x : Stage). next_stage x (Left u NoServer)) stage)
+newcomer_put h t pin stage its e put = absurd put
 
-pub may_join_own : (h : History) (t server : ℕ) → stage_of h ≡ placing t → IsPlacement (scene_of h) (state_of h).cursor (pin_of t (state_of h).rows) None (OwnQueue server) → MayComeNext h (Joined t (Server server))
-may_join_own h t server stage placed = subst (λ (x : Stage). MayCome h.setup (state_of h) (length h.log) x (Joined t (Server server))) (sym stage) (refl, placed)
+-- the entry of a placement that may come
+pub put_direct : (h : History) (pin avoid : Option ℕ) (t server : ℕ) → MayPut h pin avoid t → IsPlacement (scene_of h) (state_of h).cursor pin avoid (Slot server) → MayComeNext h (Direct t server)
+put_direct h pin avoid t server may placed = (may (Direct t server) (refl, placed)).0
 
-pub may_join : (h : History) (t : ℕ) → stage_of h ≡ placing t → IsPlacement (scene_of h) (state_of h).cursor (pin_of t (state_of h).rows) None BackendQueue → MayComeNext h (Joined t Backend)
-may_join h t stage placed = subst (λ (x : Stage). MayCome h.setup (state_of h) (length h.log) x (Joined t Backend)) (sym stage) (refl, placed)
+pub put_own : (h : History) (pin avoid : Option ℕ) (t server : ℕ) → MayPut h pin avoid t → IsPlacement (scene_of h) (state_of h).cursor pin avoid (OwnQueue server) → MayComeNext h (Joined t (Server server))
+put_own h pin avoid t server may placed = (may (Joined t (Server server)) (refl, placed)).0
 
-pub may_turn_away : (h : History) (t : ℕ) → stage_of h ≡ placing t → IsPlacement (scene_of h) (state_of h).cursor (pin_of t (state_of h).rows) None Nowhere → MayComeNext h (Left t NoServer)
-may_turn_away h t stage placed = subst (λ (x : Stage). MayCome h.setup (state_of h) (length h.log) x (Left t NoServer)) (sym stage) (refl, placed)
+pub put_backend : (h : History) (pin avoid : Option ℕ) (t : ℕ) → MayPut h pin avoid t → IsPlacement (scene_of h) (state_of h).cursor pin avoid BackendQueue → MayComeNext h (Joined t Backend)
+put_backend h pin avoid t may placed = (may (Joined t Backend) (refl, placed)).0
+
+pub put_nowhere : (h : History) (pin avoid : Option ℕ) (t : ℕ) → MayPut h pin avoid t → IsPlacement (scene_of h) (state_of h).cursor pin avoid Nowhere → MayComeNext h (Left t NoServer)
+put_nowhere h pin avoid t may placed = (may (Left t NoServer) (refl, placed)).0
+
+-- the placement that came
+pub put_ends : (h next : History) (pin avoid : Option ℕ) (t : ℕ) (e : Entry) → MayPut h pin avoid t → IsPut (scene_of h) (state_of h).cursor pin avoid t e → next ≡ with_entry h e → begins_event e ≡ false → Places h next
+put_ends h next pin avoid t e may put goes inside = record { placement = e; placed = goes; over = ap stage_of goes ∙ stage_after-push granting h.log e ∙ (may e put).1; one_event = inside }
 
 -- the calls of an arrival, up to its grants
-pub arrive_settles : (h one two : History) (m : ℕ) (a : Arrival) (pin : Option ℕ) → refuses_arrival h pin ≡ None → one ≡ with_entry h (Arrive m a) → Places one two → (stage_of two ≡ granting) × (length two.log + waiting_of two ≤ two.setup.log)
+pub arrive_settles : (h one two : History) (m : ℕ) (a : Arrival) (pin : Option ℕ) → refuses_arrival h pin ≡ None → one ≡ with_entry h (Arrive m a) → Places one two → MayGrantNext two × (length two.log + waiting_of two ≤ two.setup.log)
 arrive_settles h one two m a pin accepted begun is = (
-  ap stage_of is.placed ∙ stage_after-push granting one.log is.placement ∙ is.over (stage_of one),
+  may_granting two is.over,
   (let a' = longer h one (Arrive m a) begun in
       let b = longer one two is.placement is.placed in
       let few = few_wait two in
@@ -236,6 +258,7 @@ arrive_adds h one two now m a begun is settled =
     (ap (λ (x : History). x.log) is.placed ∙ ap (λ (x : History). x.log ++ is.placement ∷ []) begun ∙ append_assoc h.log (Arrive m a ∷ []) (is.placement ∷ []))
     (same_setup one two is.placement is.placed ∙ same_setup h one (Arrive m a) begun)
     (All-cons (λ (entry : Entry). begins_event entry ≡ false) is.placement [] is.one_event (All-nil (λ (entry : Entry). begins_event entry ≡ false)))
+    (over_granting two is.over)
     settled
 
 -- what is legal after an event is dispatched
@@ -244,4 +267,4 @@ added_dispatched h now event added = dispatched now added.legal
 
 -- a core without an entry is legal
 pub new_legal : (h : History) (setup : Setup) → h ≡ record { setup = setup; log = [] } → IsLegal h
-new_legal h setup new = subst IsLegal (sym new) (record { judged = tt; whole = refl; settled = λ server can. none_stands setup.places can.1.1.0 can.1.0 can.1.1.1 })
+new_legal h setup new = subst IsLegal (sym new) (empty_legal setup)

@@ -1,5 +1,5 @@
 -- The entries of a trace, one by one.
-use Rattle.std.proofs.Common.{◌≡◌, ℕ, ◌+◌, ◌<◌, ◌≤◌, true, false, List, Option, None, Some, length, refl, ap, sym, ◌∙◌, subst, arith, ◌⊎◌, inl, inr}
+use Rattle.std.proofs.Common.{◌≢◌, ◌≡◌, ℕ, ◌+◌, ◌<◌, ◌≤◌, true, false, List, Option, None, Some, length, refl, ap, sym, ◌∙◌, subst, arith, ◌⊎◌, inl, inr}
 use Rattle.std.proofs.Math.ListN.{set, length-set}
 use Rattle.std.proofs.lemmas.Bool.Decides.{Decides-eqb}
 use Rattle.std.proofs.lemmas.List.Sums.{count_by-le-length}
@@ -12,13 +12,13 @@ use Rattle.dispatch_log.specs.declared.row.Phase.{Phase}
 use Rattle.dispatch_log.specs.declared.row.Phase.TheVariants.{Loose, Waiting, Serving, Told}
 use Rattle.dispatch_log.specs.declared.row.Row.{Row}
 use Rattle.dispatch_log.specs.Histories.{History, state_of}
-use Rattle.dispatch_log.specs.Judgement.{Stage, placing, granting, returning, ending, MayCome, IsTold}
+use Rattle.dispatch_log.specs.Judgement.{IsTold, MayCome, Stage, leaving, placing}
 use Rattle.dispatch_log.specs.Logs.{Recorded}
 use Rattle.dispatch_log.specs.Refusals.{is_waiting}
 use Rattle.dispatch_log.specs.Rows.{phase_waits_in, phase_is_served_by, phase_is_told, waits_in, queued, in_phase, gone}
 use Rattle.dispatch_log.specs.States.{scene}
 use Rattle.dispatch_log.proofs.Consistency.{IsLoose}
-use Rattle.dispatch_log.proofs.Judged.{direct_row, joined_row, left_row, ended_row, freed_slot}
+use Rattle.dispatch_log.proofs.Judged.{direct_row, joined_row, loose_left, ended_row, freed_slot}
 use Rattle.dispatch_log.proofs.Places.{tally, count-set}
 use Rattle.pend_queue.specs.Pairs.{IsAbsent, inserted}
 use Rattle.slot_ledger.specs.declared.places.Slot.{Slot}
@@ -29,7 +29,7 @@ use Rattle.slot_ledger.proofs.Standing.{with_slot_at}
 use Rattle.server_pick.proofs.Filled.{free_within}
 use Rattle.server_pick.proofs.Taking.{own_queue}
 use Rattle.verdict.specs.declared.cause.Cause.{Cause}
-use Rattle.verdict.specs.declared.cause.Cause.TheVariants.{NoServer}
+use Rattle.verdict.specs.declared.cause.Cause.TheVariants.{Aborted, Timeout}
 use Rattle.dispatch_core.specs.Lines.{Lined, waits_at, with_waits}
 use Rattle.dispatch_core.specs.Steps.{stage_of, cursor_after, MayComeNext}
 use Rattle.dispatch_core.specs.Traces.{HasItsNode, history_of, noted, IsTrace}
@@ -44,7 +44,7 @@ served_phase server (Waiting queue since) e = cc
 served_phase server (Told cause) e = cc
 served_phase server (Serving other) e = ap Serving ((Decides-eqb other server).0 e)
 
-told_rests : (phase : Phase) → phase_is_told phase ≡ true → is_waiting phase ≡ false
+pub told_rests : (phase : Phase) → phase_is_told phase ≡ true → is_waiting phase ≡ false
 told_rests Loose e = cc
 told_rests (Waiting queue since) e = cc
 told_rests (Serving other) e = cc
@@ -56,9 +56,8 @@ direct_within h u v may = by_stage (stage_of h) may
   where
     by_stage : (t : Stage) → MayCome h.setup (state_of h) (length h.log) t (Direct u v) → v < length h.setup.servers
     by_stage (placing n) m = free_within (scene h.setup (state_of h)) v m.1.1
-    by_stage (returning n) m = absurd m
-    by_stage (ending n) m = absurd m
-    by_stage granting m = absurd m
+    by_stage (leaving n w) m = free_within (scene h.setup (state_of h)) v m.put.1.1
+    by_stage t m = absurd m
 
 module _ {N : Type 0} (pair_of : N → Key × Unit {0}) where
   -- the row of a ticket that is in no place
@@ -80,10 +79,10 @@ module _ {N : Type 0} (pair_of : N → Key × Unit {0}) where
       let h = history_of kept log in
       joined_row h.setup (state_of h) (length h.log) (stage_of h) u queue (trace_consistent pair_of kept log lined cursor last ticket is) may
 
-  left_loose : (kept : Kept N) (log : Recorded) (lined : Lined) (cursor last ticket u : ℕ) (cause : Cause) → IsTrace pair_of kept log lined cursor last ticket → MayComeNext (history_of kept log) (Left u cause) → IsLoose (state_of (history_of kept log)).rows u
-  left_loose kept log lined cursor last ticket u cause is may =
+  left_loose : (kept : Kept N) (log : Recorded) (lined : Lined) (cursor last ticket u : ℕ) (cause : Cause) → IsTrace pair_of kept log lined cursor last ticket → cause ≢ Aborted → cause ≢ Timeout → MayComeNext (history_of kept log) (Left u cause) → IsLoose (state_of (history_of kept log)).rows u
+  left_loose kept log lined cursor last ticket u cause is first second may =
       let h = history_of kept log in
-      left_row h.setup (state_of h) (length h.log) (stage_of h) u cause (trace_consistent pair_of kept log lined cursor last ticket is) may
+      loose_left h.setup (state_of h) (length h.log) (stage_of h) u cause (trace_consistent pair_of kept log lined cursor last ticket is) first second may
 
   -- the newcomer is served at once
   pub direct_found : (kept : Kept N) (log : Recorded) (lined : Lined) (cursor last ticket u v : ℕ) → IsTrace pair_of kept log lined cursor last ticket → MayComeNext (history_of kept log) (Direct u v) → HasNoTicket u kept.slots → ⊥
@@ -95,15 +94,15 @@ module _ {N : Type 0} (pair_of : N → Key × Unit {0}) where
       (phase_kept pair_of kept log lined cursor last ticket (cursor_after (history_of kept log) (Direct u v)) u q (Serving v) (Direct u v) is may has
       (ap is_waiting (loose_found kept log lined cursor last ticket u q is (direct_loose kept log lined cursor last ticket u v is may) has)) refl refl)
 
-  -- the newcomer is told that no server could take it
-  pub left_found : (kept : Kept N) (log : Recorded) (lined : Lined) (cursor last ticket u : ℕ) → IsTrace pair_of kept log lined cursor last ticket → MayComeNext (history_of kept log) (Left u NoServer) → HasNoTicket u kept.slots → ⊥
-  left_found kept log lined cursor last ticket u is may = loose_not_missed kept log lined cursor last ticket u is (left_loose kept log lined cursor last ticket u NoServer is may)
+  -- a request in no place is told that it isn't served
+  pub left_found : (kept : Kept N) (log : Recorded) (lined : Lined) (cursor last ticket u : ℕ) (cause : Cause) → IsTrace pair_of kept log lined cursor last ticket → cause ≢ Aborted → cause ≢ Timeout → MayComeNext (history_of kept log) (Left u cause) → HasNoTicket u kept.slots → ⊥
+  left_found kept log lined cursor last ticket u cause is first second may missed = loose_not_missed kept log lined cursor last ticket u is (left_loose kept log lined cursor last ticket u cause is first second may) missed
 
-  pub left_kept : (kept : Kept N) (log : Recorded) (lined : Lined) (cursor last ticket u q : ℕ) → IsTrace pair_of kept log lined cursor last ticket → MayComeNext (history_of kept log) (Left u NoServer) → HasTicketAt u kept.slots q → IsTrace pair_of (with_slots kept (with_phase (Told NoServer) kept.slots q)) (noted log (Left u NoServer)) lined cursor last ticket
-  left_kept kept log lined cursor last ticket u q is may has =
-      subst (λ n. IsTrace pair_of (with_slots kept (with_phase (Told NoServer) kept.slots q)) (noted log (Left u NoServer)) lined n last ticket) (sym is.held.cursor_is)
-      (phase_kept pair_of kept log lined cursor last ticket (state_of (history_of kept log)).cursor u q (Told NoServer) (Left u NoServer) is may has
-      (ap is_waiting (loose_found kept log lined cursor last ticket u q is (left_loose kept log lined cursor last ticket u NoServer is may) has)) refl refl)
+  pub left_kept : (kept : Kept N) (log : Recorded) (lined : Lined) (cursor last ticket u q : ℕ) (cause : Cause) → IsTrace pair_of kept log lined cursor last ticket → cause ≢ Aborted → cause ≢ Timeout → MayComeNext (history_of kept log) (Left u cause) → HasTicketAt u kept.slots q → IsTrace pair_of (with_slots kept (with_phase (Told cause) kept.slots q)) (noted log (Left u cause)) lined cursor last ticket
+  left_kept kept log lined cursor last ticket u q cause is first second may has =
+      subst (λ n. IsTrace pair_of (with_slots kept (with_phase (Told cause) kept.slots q)) (noted log (Left u cause)) lined n last ticket) (sym is.held.cursor_is)
+      (phase_kept pair_of kept log lined cursor last ticket (state_of (history_of kept log)).cursor u q (Told cause) (Left u cause) is may has
+      (ap is_waiting (loose_found kept log lined cursor last ticket u q is (left_loose kept log lined cursor last ticket u cause is first second may) has)) refl refl)
 
   -- a slot is given back
   pub free_found : (kept : Kept N) (log : Recorded) (lined : Lined) (cursor last ticket u v : ℕ) → IsTrace pair_of kept log lined cursor last ticket → MayComeNext (history_of kept log) (Freed u v) → HasNoTicket u kept.slots → ⊥
@@ -146,7 +145,7 @@ module _ {N : Type 0} (pair_of : N → Key × Unit {0}) where
       let idle = end_rests kept log lined cursor last ticket u q is (end_row kept log lined cursor last ticket u is may) has in
       let there = stands_row kept.slots state.rows q has.0 is.held.rows has.1 in
       subst (λ n. IsTrace pair_of (with_slots kept (set kept.slots q None)) (noted log (Ended u)) lined n last ticket) (sym is.held.cursor_is)
-      (trace_step pair_of kept log lined lined (Ended u) (set kept.slots q None) cursor last ticket state.cursor last ticket is may refl refl
+      (trace_step pair_of kept log lined lined (Ended u) kept.ups (set kept.slots q None) cursor last ticket state.cursor last ticket is may refl refl is.ups
       (held_change pair_of state kept.slots lined lined cursor state.cursor last ticket u q has.0 None gone is.held (trace_consistent pair_of kept log lined cursor last ticket is).tickets has.1 has.2 refl
       (λ x e. cc)
       (all_kept lined state.rows q (Some has.0.row) None is.held.waiting there (λ queue. rests queue has.0.row idle) (λ queue. none_rests queue))))
@@ -160,6 +159,9 @@ module _ {N : Type 0} (pair_of : N → Key × Unit {0}) where
       let loose = loose_found kept log lined cursor last ticket u q is (joined_loose kept log lined cursor last ticket u queue is may) has in
       let node = node_of pair_of has.0 Loose loose refl (is.held.nodes q has.0 has.1) in
       (has.0, node.0, has.1, node.1)
+
+  pub join_rests : (kept : Kept N) (log : Recorded) (lined : Lined) (cursor last ticket u q : ℕ) (queue : Queue) → IsTrace pair_of kept log lined cursor last ticket → MayComeNext (history_of kept log) (Joined u queue) → (has : HasTicketAt u kept.slots q) → is_waiting has.0.row.phase ≡ false
+  join_rests kept log lined cursor last ticket u q queue is may has = ap is_waiting (loose_found kept log lined cursor last ticket u q is (joined_loose kept log lined cursor last ticket u queue is may) has)
 
   -- what the queue asks of the newcomer's node, and what is held once it waits
   pub record Joins (kept : Kept N) (log : Recorded) (lined : Lined) (now last ticket u q : ℕ) (queue : Queue) (node : N) : Type 0 where
@@ -200,7 +202,7 @@ module _ {N : Type 0} (pair_of : N → Key × Unit {0}) where
         kept_on =
             subst (λ n. IsTrace pair_of (with_slots kept (waiting queue last kept.slots q)) (noted log (Joined u queue)) left n last ticket) (sym moved)
             (subst (λ (l : List (Option (Slot N))). IsTrace pair_of (with_slots kept l) (noted log (Joined u queue)) left (cursor_after h (Joined u queue)) last ticket) (sym written)
-            (trace_step pair_of kept log lined left (Joined u queue) (set kept.slots q (Some cell)) cursor last ticket (cursor_after h (Joined u queue)) last ticket is may (lines_kept lined queue _) (room_kept lined queue _)
+            (trace_step pair_of kept log lined left (Joined u queue) kept.ups (set kept.slots q (Some cell)) cursor last ticket (cursor_after h (Joined u queue)) last ticket is may (lines_kept lined queue _) (room_kept lined queue _) is.ups
             (held_change pair_of state kept.slots lined left cursor (cursor_after h (Joined u queue)) last ticket u q s (Some cell) (in_phase (Waiting queue state.moment)) is.held consistent.tickets stands named
             (ap (λ m. Some (record s.row { phase = Waiting queue m })) is.held.last_is)
             (λ x e. subst (λ (y : Slot N). HasItsNode pair_of y.row.phase y) (same_Some cell x e) tt)

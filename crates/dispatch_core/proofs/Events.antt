@@ -17,7 +17,7 @@ use Rattle.dispatch_log.specs.declared.refusal.Refusal.TheVariants.{PlacesFull, 
 use Rattle.dispatch_log.specs.declared.row.Row.{Row}
 use Rattle.dispatch_log.specs.declared.setup.Setup.{Setup}
 use Rattle.dispatch_log.specs.Histories.{History, state_of, effective, refuses_arrival, refuses_done}
-use Rattle.dispatch_log.specs.Judgement.{Stage, placing, granting, returning, ending, MayCome, IsNewcomer}
+use Rattle.dispatch_log.specs.Judgement.{Stage, placing, leaving, MayCome, IsNewcomer}
 use Rattle.dispatch_log.specs.Logs.{Recorded}
 use Rattle.dispatch_log.specs.Picks.{IsPick}
 use Rattle.dispatch_log.specs.Placement.{IsCandidate, IsChosen}
@@ -25,7 +25,7 @@ use Rattle.dispatch_log.specs.Refusals.{first_of, is_full, pins_to_none}
 use Rattle.dispatch_log.specs.Rows.{Rows, waits_in, queued, row_of, pin_of}
 use Rattle.dispatch_log.specs.Setups.{IsSound}
 use Rattle.dispatch_log.specs.States.{scene, arrived}
-use Rattle.dispatch_log.specs.Words.{Scene, of_server, is_free, takes_pinned, working_pin}
+use Rattle.dispatch_log.specs.Words.{Scene, of_server, is_up, is_free, takes_pinned, working_pin}
 use Rattle.dispatch_log.proofs.Dispatched.{none_stands}
 use Rattle.dispatch_log.proofs.Places.{tally, get-set_same, get-set_cases, count_none}
 use Rattle.dispatch_log.proofs.RowLemmas.{row_of_at, row_of_none}
@@ -37,12 +37,14 @@ use Rattle.slot_ledger.specs.Slots.{rows_in, StandsIn, HasTicketAt, HasNoTicket}
 use Rattle.slot_ledger.proofs.Counting.{row_in}
 use Rattle.server_pick.specs.declared.placement.Placement.{Placement}
 use Rattle.server_pick.specs.Picked.{IsPlacement, cursor_placed}
+use Rattle.server_pick.proofs.Both.{and_second}
 use Rattle.server_pick.proofs.Chosen.{room_within}
 use Rattle.server_pick.proofs.Filled.{free_within, server_within}
 use Rattle.dispatch_core.specs.Lines.{Waits, Lined, waits_at}
 use Rattle.dispatch_core.specs.Steps.{scene_of, stage_of, HasRowOf, MayComeNext, MayBeginNext, HasEntryRoom}
 use Rattle.dispatch_core.specs.Traces.{HasItsNode, HoldsQueue, history_of, noted, IsTrace}
-use Rattle.dispatch_core.proofs.Holding.{stands_row, stands_slot, not_missed, trace_step, trace_consistent, trace_places}
+use Rattle.dispatch_core.proofs.Healthy.{opening_ups}
+use Rattle.dispatch_core.proofs.Holding.{stands_row, stands_slot, not_missed, trace_step, trace_consistent, trace_places, begun_kept}
 use Rattle.dispatch_core.proofs.Lining.{index-replicate}
 use Rattle.dispatch_core.proofs.Waiting.{none_rests, rests, all_kept}
 
@@ -73,7 +75,7 @@ first_none a b c d e f g h = rw (e, f, g, h) refl
 
 -- a server that a request is put on is one of them
 takes_within : (here : Scene) (server : ℕ) → takes_pinned here server ≡ true → server < length here.servers
-takes_within here server takes = by_free (is_free here server) refl takes
+takes_within here server takes = by_free (is_free here server) refl (and_second (is_up here server) _ takes)
   where
     by_free : (b : Bool) → is_free here server ≡ b → b || of_server here server (λ it. (it.maxqueue == 0) || nat_lt (queued (Server server) here.rows) it.maxqueue) ≡ true → server < length here.servers
     by_free true e t = free_within here server e
@@ -100,10 +102,9 @@ joined_within h u Backend may = tt
 joined_within h u (Server v) may = by_stage (stage_of h) may
   where
     by_stage : (t : Stage) → MayCome h.setup (state_of h) (length h.log) t (Joined u (Server v)) → v < length h.setup.servers
-    by_stage (placing n) m = chosen_within (scene h.setup (state_of h)) _ _ _ v m.1.0
-    by_stage (returning n) m = absurd m
-    by_stage (ending n) m = absurd m
-    by_stage granting m = absurd m
+    by_stage (placing n) m = chosen_within (scene h.setup (state_of h)) (state_of h).cursor (pin_of n (state_of h).rows) None v m.1.0
+    by_stage (leaving n w) m = chosen_within (scene h.setup (state_of h)) (state_of h).cursor None (Some w) v m.put.1.0
+    by_stage t m = absurd m
 
 module _ {N : Type 0} (pair_of : N → Key × Unit {0}) where
   -- an accepted arrival finds a free place
@@ -147,9 +148,8 @@ module _ {N : Type 0} (pair_of : N → Key × Unit {0}) where
         vacant = subst (λ n. slice_get state.rows n ≡ Some None) (sym at) free;
         due = (offset, within, due);
       } in
-      let may : MayComeNext h (Arrive now a) = subst (λ (t : Stage). MayCome h.setup state (length h.log) t (Arrive now a)) (sym begins.between)
-      (subst (λ n. MayCome h.setup state (length h.log) granting (Arrive n a)) (sym when) (begins.begins, subst (λ n. IsNewcomer state n a) when newcomer)) in
-      trace_step pair_of kept log lined lined (Arrive now a) (set kept.slots q (Some cell)) cursor last ticket cursor now a.ticket is may refl refl
+      let may : MayComeNext h (Arrive now a) = subst (λ n. MayComeNext h (Arrive n a)) (sym when) (begins, subst (λ n. IsNewcomer state n a) when newcomer) in
+      trace_step pair_of kept log lined lined (Arrive now a) kept.ups (set kept.slots q (Some cell)) cursor last ticket cursor now a.ticket is may refl refl is.ups
       (record {
         rows = map-set row_in kept.slots q (Some cell) ∙ ap (λ (l : Rows). set l q (Some (arrived a))) is.held.rows ∙ ap (λ n. set state.rows n (Some (arrived a))) (sym at);
         nodes = λ p s there.
@@ -164,28 +164,20 @@ module _ {N : Type 0} (pair_of : N → Key × Unit {0}) where
         ticket_is = refl;
       })
 
-  -- a row that stands in the ledger is the state's
-  pub stands_live : (kept next : Kept N) (log : Recorded) (lined : Lined) (cursor last ticket q : ℕ) (s : Slot N) → IsTrace pair_of next log lined cursor last ticket → next ≡ with_slots kept (set kept.slots q (Some s)) → slice_get kept.slots q ≡ Some None → HasRowOf (state_of (history_of next log)).rows s.row.key.ticket
-  stands_live kept next log lined cursor last ticket q s is written vacant =
+  -- the pin of a row that was put into the ledger is that of its ticket's row
+  pub pin_live : (kept next : Kept N) (log : Recorded) (lined : Lined) (cursor last ticket q : ℕ) (s : Slot N) → IsTrace pair_of next log lined cursor last ticket → next ≡ with_slots kept (set kept.slots q (Some s)) → slice_get kept.slots q ≡ Some None → pin_of s.row.key.ticket (state_of (history_of next log)).rows ≡ s.row.pin
+  pin_live kept next log lined cursor last ticket q s is written vacant =
+      let rows = (state_of (history_of next log)).rows in
       let stands : StandsIn next.slots q s = ap (λ (k : Kept N). slice_get k.slots q) written ∙ get-set_same kept.slots q None (Some s) vacant in
-      (s.row, (q, stands_row next.slots (state_of (history_of next log)).rows q s is.held.rows stands), refl)
+      ap (option_and_then (λ (r : Row). r.pin)) (row_of_at rows s.row.key.ticket q s.row (trace_consistent pair_of next log lined cursor last ticket is).tickets (stands_row next.slots rows q s is.held.rows stands) refl)
 
   -- the return of a slot begins
   pub done_kept : (kept : Kept N) (log : Recorded) (lined : Lined) (cursor last ticket moment now u : ℕ) → IsTrace pair_of kept log lined cursor last ticket → MayBeginNext (history_of kept log) moment (refuses_done (history_of kept log) u) → now ≡ max last moment → IsTrace pair_of kept (noted log (Done now u)) lined cursor now ticket
   done_kept kept log lined cursor last ticket moment now u is begins later =
       let h = history_of kept log in
       let when : now ≡ effective h moment = later ∙ ap (λ n. max n moment) is.held.last_is in
-      let may : MayComeNext h (Done now u) = subst (λ (t : Stage). MayCome h.setup (state_of h) (length h.log) t (Done now u)) (sym begins.between)
-      (subst (λ n. MayCome h.setup (state_of h) (length h.log) granting (Done n u)) (sym when) begins.begins) in
-      trace_step pair_of kept log lined lined (Done now u) kept.slots cursor last ticket cursor now ticket is may refl refl
-      (record {
-        rows = is.held.rows;
-        nodes = is.held.nodes;
-        waiting = is.held.waiting;
-        cursor_is = is.held.cursor_is;
-        last_is = refl;
-        ticket_is = is.held.ticket_is;
-      })
+      let may : MayComeNext h (Done now u) = subst (λ n. MayComeNext h (Done n u)) (sym when) begins in
+      begun_kept pair_of kept log lined cursor last ticket now (Done now u) is may refl
 
   none_rows : (n : ℕ) → rows_in {H = N} (replicate n None) ≡ replicate n None
   none_rows zero = refl
@@ -193,9 +185,10 @@ module _ {N : Type 0} (pair_of : N → Key × Unit {0}) where
 
   -- a new trace
   pub new_is : (setup : Setup) (servers cursor last room : ℕ) → IsSound setup → servers ≡ length setup.servers → last ≡ 0 → cursor ≡ (servers - 1) → room ≡ setup.log
-      → IsTrace pair_of (record { setup = setup; slots = replicate setup.places None }) (record { entries = []; room = room }) (record { own = replicate servers []; backend = []; room = setup.places }) cursor last 0
+      → IsTrace pair_of (record { setup = setup; ups = replicate (length setup.servers) true; slots = replicate setup.places None }) (record { entries = []; room = room }) (record { own = replicate servers []; backend = []; room = setup.places }) cursor last 0
   new_is setup servers cursor last room sound many start first logged = record {
     sound = sound;
+    ups = opening_ups setup;
     judged = tt;
     held = record {
       rows = none_rows setup.places;
@@ -244,25 +237,21 @@ module _ {N : Type 0} (pair_of : N → Key × Unit {0}) where
       let its = subst (λ (h : History). HasRowOf (state_of h).rows u) (sym same) has in
       not_missed kept.slots (state_of (history_of kept log)).rows u its.1.0 its.0 is.held.rows its.1.1 its.2 missed
 
-  -- where a ticket's request goes
-  pub placed_here : (kept : Kept N) (log : Recorded) (lined : Lined) (cursor last ticket u : ℕ) (row : Row) (placement : Placement) (now : History) → IsTrace pair_of kept log lined cursor last ticket → history_of kept log ≡ now → row_of u (state_of (history_of kept log)).rows ≡ Some row
-      → IsPlacement (record { servers = kept.setup.servers; rows = rows_in kept.slots }) cursor row.pin None placement → IsPlacement (scene_of now) (state_of now).cursor (pin_of u (state_of now).rows) None placement
-  placed_here kept log lined cursor last ticket u row placement now is same found placed =
+  -- where a request goes
+  pub placed_here : (kept : Kept N) (log : Recorded) (lined : Lined) (cursor last ticket : ℕ) (pin avoid : Option ℕ) (placement : Placement) (now : History) → IsTrace pair_of kept log lined cursor last ticket → history_of kept log ≡ now
+      → IsPlacement (record { servers = kept.setup.servers; ups = kept.ups; rows = rows_in kept.slots }) cursor pin avoid placement → IsPlacement (scene_of now) (state_of now).cursor pin avoid placement
+  placed_here kept log lined cursor last ticket pin avoid placement now is same placed =
       let state = state_of (history_of kept log) in
-      let pin : row.pin ≡ pin_of u state.rows = ap (option_and_then (λ (r : Row). r.pin)) (sym found) in
-      subst (λ (h : History). IsPlacement (scene_of h) (state_of h).cursor (pin_of u (state_of h).rows) None placement) same
-      (subst (λ (p : Option ℕ). IsPlacement (scene_of (history_of kept log)) state.cursor p None placement) pin
-      (subst (λ n. IsPlacement (scene_of (history_of kept log)) n row.pin None placement) is.held.cursor_is
-      (subst (λ (r : Rows). IsPlacement (record { servers = kept.setup.servers; rows = r }) cursor row.pin None placement) is.held.rows placed)))
+      subst (λ (h : History). IsPlacement (scene_of h) (state_of h).cursor pin avoid placement) same
+      (subst (λ n. IsPlacement (scene_of (history_of kept log)) n pin avoid placement) is.held.cursor_is
+      (subst (λ (u : List Bool). IsPlacement (record { servers = kept.setup.servers; ups = u; rows = state.rows }) cursor pin avoid placement) is.ups
+      (subst (λ (r : Rows). IsPlacement (record { servers = kept.setup.servers; ups = kept.ups; rows = r }) cursor pin avoid placement) is.held.rows placed)))
 
-  pub cursor_here : (kept : Kept N) (log : Recorded) (lined : Lined) (cursor last ticket u next : ℕ) (row : Row) (placement : Placement) (now : History) → IsTrace pair_of kept log lined cursor last ticket → history_of kept log ≡ now → row_of u (state_of (history_of kept log)).rows ≡ Some row
-      → next ≡ cursor_placed row.pin placement cursor → next ≡ cursor_placed (pin_of u (state_of now).rows) placement (state_of now).cursor
-  cursor_here kept log lined cursor last ticket u next row placement now is same found moved =
-      let state = state_of (history_of kept log) in
-      let pin : row.pin ≡ pin_of u state.rows = ap (option_and_then (λ (r : Row). r.pin)) (sym found) in
-      subst (λ (h : History). next ≡ cursor_placed (pin_of u (state_of h).rows) placement (state_of h).cursor) same
-      (subst (λ (p : Option ℕ). next ≡ cursor_placed p placement state.cursor) pin
-      (subst (λ n. next ≡ cursor_placed row.pin placement n) is.held.cursor_is moved))
+  pub cursor_here : (kept : Kept N) (log : Recorded) (lined : Lined) (cursor last ticket next : ℕ) (pin : Option ℕ) (placement : Placement) (now : History) → IsTrace pair_of kept log lined cursor last ticket → history_of kept log ≡ now
+      → next ≡ cursor_placed pin placement cursor → next ≡ cursor_placed pin placement (state_of now).cursor
+  cursor_here kept log lined cursor last ticket next pin placement now is same moved =
+      subst (λ (h : History). next ≡ cursor_placed pin placement (state_of h).cursor) same
+      (subst (λ n. next ≡ cursor_placed pin placement n) is.held.cursor_is moved)
 
   -- nothing refuses an arrival
   pub none_refuses : (kept : Kept N) (log : Recorded) (lined : Lined) (cursor last ticket : ℕ) (pin : Option ℕ) → IsTrace pair_of kept log lined cursor last ticket → HasEntryRoom (history_of kept log) → pins_to_none kept.setup pin ≡ false → ticket + 1 < 2 ^ 40 → count_by is_some kept.slots < kept.setup.places → None ≡ refuses_arrival (history_of kept log) pin

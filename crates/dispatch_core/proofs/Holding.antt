@@ -1,13 +1,15 @@
 -- What a trace holds, while one slot of its ledger changes.
-use Rattle.std.proofs.Common.{◌≡◌, ℕ, ◌+◌, false, List, Option, None, Some, option_map, slice_get, length, refl, ap, sym, ◌∙◌, subst, arith, inl, inr}
+use Rattle.std.proofs.Common.{◌≡◌, ℕ, ◌+◌, Bool, false, List, Option, None, Some, option_map, slice_get, length, refl, ap, sym, ◌∙◌, subst, arith, inl, inr}
 use Rattle.std.proofs.Math.ListN.{set, length-replicate}
-use Rattle.std.proofs.lemmas.List.{map-set}
+use Rattle.std.proofs.lemmas.List.{map-set, set-set}
 use Rattle.std.proofs.lemmas.Option.{same_Some, slice_get-map}
 use Rattle.due_key.specs.declared.key.Key.{Key}
 use Rattle.dispatch_log.specs.declared.entry.Entry.{Entry}
+use Rattle.dispatch_log.specs.declared.queue.Queue.{Queue}
 use Rattle.dispatch_log.specs.declared.row.Phase.{Phase}
 use Rattle.dispatch_log.specs.declared.row.Phase.TheVariants.{Loose, Waiting, Serving, Told}
 use Rattle.dispatch_log.specs.declared.row.Row.{Row}
+use Rattle.dispatch_log.specs.Health.{ups_of}
 use Rattle.dispatch_log.specs.Histories.{state_of}
 use Rattle.dispatch_log.specs.Logs.{Recorded}
 use Rattle.dispatch_log.specs.Judgement.{granting, MayCome}
@@ -17,16 +19,17 @@ use Rattle.dispatch_log.specs.States.{State, after, opening_state}
 use Rattle.dispatch_log.proofs.Consistency.{IsConsistent}
 use Rattle.dispatch_log.proofs.Dispatched.{opening_consistent}
 use Rattle.dispatch_log.proofs.Judged.{after_all-push, judged_push, consistent_all, places_all}
-use Rattle.dispatch_log.proofs.Places.{get-set_cases}
+use Rattle.dispatch_log.proofs.Places.{get-set_same, get-set_cases}
 use Rattle.dispatch_log.proofs.RowLemmas.{HaveOwnTickets, changed_at}
 use Rattle.slot_ledger.specs.declared.places.Slot.{Slot}
 use Rattle.slot_ledger.specs.Ledgers.{Kept, with_slots}
-use Rattle.slot_ledger.specs.Slots.{rows_in, StandsIn, HasTicketAt, HasNoTicket, with_phase}
+use Rattle.slot_ledger.specs.Slots.{rows_in, StandsIn, HasTicketAt, HasNoTicket, with_phase, loosened}
 use Rattle.slot_ledger.proofs.Counting.{row_in}
 use Rattle.slot_ledger.proofs.Standing.{with_slot_at}
-use Rattle.dispatch_core.specs.Lines.{Lined, waits_at}
+use Rattle.dispatch_core.specs.Lines.{Waits, Lined, waits_at, with_waits}
 use Rattle.dispatch_core.specs.Steps.{stage_of, MayComeNext}
 use Rattle.dispatch_core.specs.Traces.{HasItsNode, HoldsQueue, Holds, history_of, noted, IsTrace}
+use Rattle.dispatch_core.proofs.Lining.{lines_kept, room_kept}
 use Rattle.dispatch_core.proofs.Waiting.{HoldAll, rests, all_kept}
 
 module _ {N : Type 0} where
@@ -82,7 +85,7 @@ module _ {N : Type 0} where
       → row_in cell ≡ f s.row
       → ((x : Slot N) → cell ≡ Some x → HasItsNode pair_of x.row.phase x)
       → HoldAll left (set state.rows p (f s.row))
-      → Holds pair_of (record { rows = changed u f state.rows; moment = state.moment; ticket = state.ticket; cursor = now }) (set slots p cell) left now last ticket
+      → Holds pair_of (record { rows = changed u f state.rows; results = state.results; moment = state.moment; ticket = state.ticket; cursor = now }) (set slots p cell) left now last ticket
   held_change pair_of state slots lined left cursor now last ticket u p s cell f is own stands named row node waiting =
       let there = stands_row slots state.rows p s is.rows stands in
       let change : changed u f state.rows ≡ set state.rows p (f s.row) = changed_at state.rows u p s.row f own there named in
@@ -108,11 +111,13 @@ module _ {N : Type 0} where
   trace_places kept log = places_all kept.setup (opening_state kept.setup) log.entries ∙ length-replicate kept.setup.places None
 
   -- a trace that holds what one entry more leaves
-  pub trace_step : (pair_of : N → Key × Unit {0}) (kept : Kept N) (log : Recorded) (lined left : Lined) (e : Entry) (slots : List (Option (Slot N))) (cursor last ticket now later given : ℕ)
+  pub trace_step : (pair_of : N → Key × Unit {0}) (kept : Kept N) (log : Recorded) (lined left : Lined) (e : Entry) (ups : List Bool) (slots : List (Option (Slot N))) (cursor last ticket now later given : ℕ)
       → IsTrace pair_of kept log lined cursor last ticket → MayComeNext (history_of kept log) e → length left.own ≡ length lined.own → left.room ≡ lined.room
-      → Holds pair_of (after kept.setup (state_of (history_of kept log)) e) slots left now later given → IsTrace pair_of (with_slots kept slots) (noted log e) left now later given
-  trace_step pair_of kept log lined left e slots cursor last ticket now later given is may lines room holds = record {
+      → ups ≡ ups_of kept.setup.servers (after kept.setup (state_of (history_of kept log)) e).results
+      → Holds pair_of (after kept.setup (state_of (history_of kept log)) e) slots left now later given → IsTrace pair_of (record { setup = kept.setup; ups = ups; slots = slots }) (noted log e) left now later given
+  trace_step pair_of kept log lined left e ups slots cursor last ticket now later given is may lines room up holds = record {
     sound = is.sound;
+    ups = subst (λ (s : State). ups ≡ ups_of kept.setup.servers s.results) (sym (after_all-push kept.setup (opening_state kept.setup) log.entries e)) up;
     judged = judged_push kept.setup (opening_state kept.setup) 0 granting log.entries e is.judged (let count : 0 + length log.entries ≡ length log.entries = omega arith in subst (λ n. MayCome kept.setup (state_of (history_of kept log)) n (stage_of (history_of kept log)) e) (sym count) may);
     held = subst (λ (s : State). Holds pair_of s slots left now later given) (sym (after_all-push kept.setup (opening_state kept.setup) log.entries e)) holds;
     lines = lines ∙ is.lines;
@@ -130,7 +135,7 @@ module _ {N : Type 0} where
   -- a row goes from one phase in which it doesn't wait into another
   pub phase_kept : (pair_of : N → Key × Unit {0}) (kept : Kept N) (log : Recorded) (lined : Lined) (cursor last ticket now u q : ℕ) (phase : Phase) (e : Entry)
       → IsTrace pair_of kept log lined cursor last ticket → MayComeNext (history_of kept log) e → (has : HasTicketAt u kept.slots q) → is_waiting has.0.row.phase ≡ false → is_waiting phase ≡ false
-      → after kept.setup (state_of (history_of kept log)) e ≡ record { rows = changed u (in_phase phase) (state_of (history_of kept log)).rows; moment = (state_of (history_of kept log)).moment; ticket = (state_of (history_of kept log)).ticket; cursor = now }
+      → after kept.setup (state_of (history_of kept log)) e ≡ record { rows = changed u (in_phase phase) (state_of (history_of kept log)).rows; results = (state_of (history_of kept log)).results; moment = (state_of (history_of kept log)).moment; ticket = (state_of (history_of kept log)).ticket; cursor = now }
       → IsTrace pair_of (with_slots kept (with_phase phase kept.slots q)) (noted log e) lined now last ticket
   phase_kept pair_of kept log lined cursor last ticket now u q phase e is may has idle stays leaves =
       let state = state_of (history_of kept log) in
@@ -140,8 +145,53 @@ module _ {N : Type 0} where
       let written = with_slot_at (λ (s : Slot N). record { row = record s.row { phase = phase }; node = s.node }) kept.slots q has.0 has.1 in
       let node = node_of pair_of has.0 has.0.row.phase refl idle (is.held.nodes q has.0 has.1) in
       subst (λ (l : List (Option (Slot N))). IsTrace pair_of (with_slots kept l) (noted log e) lined now last ticket) (sym written)
-      (trace_step pair_of kept log lined lined e (set kept.slots q (Some next)) cursor last ticket now last ticket is may refl refl
+      (trace_step pair_of kept log lined lined e kept.ups (set kept.slots q (Some next)) cursor last ticket now last ticket is may refl refl
+      (is.ups ∙ ap (λ (s : State). ups_of kept.setup.servers s.results) (sym leaves))
       (subst (λ (s : State). Holds pair_of s (set kept.slots q (Some next)) lined now last ticket) (sym leaves)
       (held_change pair_of state kept.slots lined lined cursor now last ticket u q has.0 (Some next) (in_phase phase) is.held consistent.tickets has.1 has.2 refl
       (λ x same. subst (λ (y : Slot N). HasItsNode pair_of y.row.phase y) (same_Some next x same) (its_node pair_of next phase node))
       (all_kept lined state.rows q (Some has.0.row) (Some next.row) is.held.waiting there (λ queue. rests queue has.0.row idle) (λ queue. rests queue next.row stays)))))
+
+  -- an event that changes no row begins
+  pub begun_kept : (pair_of : N → Key × Unit {0}) (kept : Kept N) (log : Recorded) (lined : Lined) (cursor last ticket now : ℕ) (e : Entry) → IsTrace pair_of kept log lined cursor last ticket → MayComeNext (history_of kept log) e
+      → after kept.setup (state_of (history_of kept log)) e ≡ record { rows = (state_of (history_of kept log)).rows; results = (state_of (history_of kept log)).results; moment = now; ticket = (state_of (history_of kept log)).ticket; cursor = (state_of (history_of kept log)).cursor }
+      → IsTrace pair_of kept (noted log e) lined cursor now ticket
+  begun_kept pair_of kept log lined cursor last ticket now e is may leaves =
+      trace_step pair_of kept log lined lined e kept.ups kept.slots cursor last ticket cursor now ticket is may refl refl
+      (is.ups ∙ ap (λ (s : State). ups_of kept.setup.servers s.results) (sym leaves))
+      (subst (λ (s : State). Holds pair_of s kept.slots lined cursor now ticket) (sym leaves)
+      (record {
+        rows = is.held.rows;
+        nodes = is.held.nodes;
+        waiting = is.held.waiting;
+        cursor_is = is.held.cursor_is;
+        last_is = refl;
+        ticket_is = is.held.ticket_is;
+      }))
+
+  -- a slot whose request left its queue, and is in another phase now
+  left_at : (slots : List (Option (Slot N))) (q : ℕ) (s : Slot N) (node : N) (phase : Phase) → StandsIn slots q s → with_phase phase (loosened node slots q) q ≡ set slots q (Some (record { row = record s.row { phase = phase }; node = Some node }))
+  left_at slots q s node phase stands =
+      let loose : Slot N = record { row = record s.row { phase = Loose }; node = Some node } in
+      let first : loosened node slots q ≡ set slots q (Some loose) = with_slot_at (λ (x : Slot N). record { row = record x.row { phase = Loose }; node = Some node }) slots q s stands in
+      let there : StandsIn (set slots q (Some loose)) q loose = get-set_same slots q (Some s) (Some loose) stands in
+      let second = with_slot_at (λ (x : Slot N). record { row = record x.row { phase = phase }; node = x.node }) (set slots q (Some loose)) q loose there in
+      ap (λ (l : List (Option (Slot N))). with_phase phase l q) first ∙ second ∙ set-set slots q (Some loose) (Some (record { row = record s.row { phase = phase }; node = Some node }))
+
+  -- a row goes from its queue into a phase in which it doesn't wait
+  pub unqueued_kept : (pair_of : N → Key × Unit {0}) (kept : Kept N) (log : Recorded) (lined : Lined) (cursor last ticket now u q : ℕ) (queue : Queue) (rest : Waits) (phase : Phase) (node : N) (e : Entry)
+      → IsTrace pair_of kept log lined cursor last ticket → MayComeNext (history_of kept log) e → (has : HasTicketAt u kept.slots q) → is_waiting phase ≡ false → pair_of node ≡ (has.0.row.key, tt)
+      → HoldAll (with_waits lined queue rest) (set (state_of (history_of kept log)).rows q (Some (record has.0.row { phase = phase })))
+      → after kept.setup (state_of (history_of kept log)) e ≡ record { rows = changed u (in_phase phase) (state_of (history_of kept log)).rows; results = (state_of (history_of kept log)).results; moment = (state_of (history_of kept log)).moment; ticket = (state_of (history_of kept log)).ticket; cursor = now }
+      → IsTrace pair_of (with_slots kept (with_phase phase (loosened node kept.slots q) q)) (noted log e) (with_waits lined queue rest) now last ticket
+  unqueued_kept pair_of kept log lined cursor last ticket now u q queue rest phase node e is may has stays its waiting leaves =
+      let state = state_of (history_of kept log) in
+      let next : Slot N = record { row = record has.0.row { phase = phase }; node = Some node } in
+      let left = with_waits lined queue rest in
+      subst (λ (l : List (Option (Slot N))). IsTrace pair_of (with_slots kept l) (noted log e) left now last ticket) (sym (left_at kept.slots q has.0 node phase has.1))
+      (trace_step pair_of kept log lined left e kept.ups (set kept.slots q (Some next)) cursor last ticket now last ticket is may (lines_kept lined queue rest) (room_kept lined queue rest)
+      (is.ups ∙ ap (λ (s : State). ups_of kept.setup.servers s.results) (sym leaves))
+      (subst (λ (s : State). Holds pair_of s (set kept.slots q (Some next)) left now last ticket) (sym leaves)
+      (held_change pair_of state kept.slots lined left cursor now last ticket u q has.0 (Some next) (in_phase phase) is.held (trace_consistent pair_of kept log lined cursor last ticket is).tickets has.1 has.2 refl
+      (λ x same. subst (λ (y : Slot N). HasItsNode pair_of y.row.phase y) (same_Some next x same) (its_node pair_of next phase (node, refl, its)))
+      waiting)))

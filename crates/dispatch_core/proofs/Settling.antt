@@ -1,14 +1,40 @@
 -- Grants until all is settled.
-use Rattle.std.proofs.Common.{◌≡◌, ◌+◌, ◌≤◌, false, List, [], ◌∷◌, ◌++◌, All, length, refl, ap, sym, ◌∙◌, subst, arith, append_assoc, length-append}
+use Rattle.std.proofs.Common.{◌≡◌, ◌+◌, ℕ, ◌≤◌, ◌==◌, Bool, true, false, cond, List, [], ◌∷◌, ◌++◌, Option, None, Some, IsTrue, All, length, refl, ap, sym, ◌∙◌, subst, arith, append_assoc, length-append}
+use Rattle.std.specs.Option.{option_map_or}
 use Rattle.std.proofs.lemmas.List.{append-nil}
 use Rattle.std.proofs.lemmas.List.Elements.{All-nil, All-push}
 use Rattle.dispatch_log.specs.declared.entry.Entry.{Entry}
 use Rattle.dispatch_log.specs.declared.entry.Entry.TheVariants.{Granted}
 use Rattle.dispatch_log.specs.Grants.{IsSettled}
-use Rattle.dispatch_log.specs.Histories.{History, begins_event}
-use Rattle.dispatch_log.specs.Judgement.{granting}
-use Rattle.dispatch_log.proofs.Judged.{stage_after-push}
-use Rattle.dispatch_core.specs.Steps.{stage_of, scene_of, waiting_of, IsGrant, IsJudged, Settles}
+use Rattle.dispatch_log.specs.declared.queue.Queue.{Queue}
+use Rattle.dispatch_log.specs.declared.row.Phase.TheVariants.{Serving}
+use Rattle.dispatch_log.specs.declared.row.Row.{Row}
+use Rattle.dispatch_log.specs.declared.setup.Setup.{Setup}
+use Rattle.dispatch_log.specs.Histories.{History, state_of, begins_event}
+use Rattle.dispatch_log.specs.Judgement.{Stage, leaving, telling, checking, falling, granting, IsOver, MayGrant, next_stage}
+use Rattle.dispatch_log.specs.Retries.{are_redispatched}
+use Rattle.dispatch_log.specs.Rows.{pin_of, failures_of}
+use Rattle.dispatch_log.specs.States.{State, after, opening_state}
+use Rattle.dispatch_log.proofs.Judged.{stage_after-push, after_all-push}
+use Rattle.dispatch_core.proofs.Phases.{failures_stay, pins_stay}
+use Rattle.dispatch_core.specs.Steps.{with_entry, stage_of, scene_of, waiting_of, IsOverNext, MayGrantNext, IsGrant, IsJudged, Settles}
+
+-- a grant owes nothing after it
+grant_over : (setup : Setup) (s : State) (t : Stage) (u v : ℕ) (q : Queue) → IsOver setup s t → IsOver setup (after setup s (Granted u q v)) (next_stage t (Granted u q v))
+grant_over setup s granting u v q over = tt
+grant_over setup s telling u v q over = tt
+grant_over setup s (checking w) u v q over = tt
+grant_over setup s (falling w) u v q over = tt
+grant_over setup s t u v q over = absurd over
+
+-- and more may come
+grant_more : (setup : Setup) (s : State) (t : Stage) (u v : ℕ) (q : Queue) → MayGrant setup s t → MayGrant setup (after setup s (Granted u q v)) (next_stage t (Granted u q v))
+grant_more setup s (leaving l w) u v q may = subst (λ n. IsTrue (are_redispatched setup n)) (sym (failures_stay l u (Serving v) s.rows)) may
+grant_more setup s granting u v q may = tt
+grant_more setup s telling u v q may = tt
+grant_more setup s (checking w) u v q may = tt
+grant_more setup s (falling w) u v q may = tt
+grant_more setup s t u v q may = absurd may
 
 -- grants so far, and room for as many more as requests wait
 pub record GrantsSince (old now : History) : Type 0 where
@@ -16,17 +42,25 @@ pub record GrantsSince (old now : History) : Type 0 where
   pub log : now.log ≡ old.log ++ grants
   pub setup : now.setup ≡ old.setup
   pub one_event : All (λ entry. begins_event entry ≡ false) grants
-  pub between : stage_of now ≡ granting
+  pub over : IsOverNext old → IsOverNext now
+  pub leaving : (ticket server : ℕ) → stage_of old ≡ leaving ticket server → stage_of now ≡ leaving ticket server
+  pub may_grant : MayGrantNext now
   pub room : length now.log + waiting_of now ≤ now.setup.log
+  pub counted : length grants + waiting_of now ≡ waiting_of old
+  pub pins : (ticket : ℕ) → pin_of ticket (state_of now).rows ≡ pin_of ticket (state_of old).rows
 
-pub since_none : (h : History) → stage_of h ≡ granting → length h.log + waiting_of h ≤ h.setup.log → GrantsSince h h
-since_none h between room = record {
+pub since_none : (h : History) → MayGrantNext h → length h.log + waiting_of h ≤ h.setup.log → GrantsSince h h
+since_none h may_grant room = record {
   grants = [];
   log = sym (append-nil h.log);
   setup = refl;
   one_event = All-nil (λ (entry : Entry). begins_event entry ≡ false);
-  between = between;
+  over = λ over. over;
+  leaving = λ ticket server stage. stage;
+  may_grant = may_grant;
   room = room;
+  counted = omega arith;
+  pins = λ ticket. refl;
 }
 
 pub since_more : (old now next : History) → GrantsSince old now → IsGrant now next → GrantsSince old next
@@ -37,14 +71,36 @@ since_more old now next since grant =
       log = ap (λ (h : History). h.log) grant.grants ∙ ap (λ (l : List Entry). l ++ e ∷ []) since.log ∙ append_assoc old.log since.grants (e ∷ []);
       setup = ap (λ (h : History). h.setup) grant.grants ∙ since.setup;
       one_event = All-push (λ (entry : Entry). begins_event entry ≡ false) since.grants e since.one_event refl;
-      between = ap stage_of grant.grants ∙ stage_after-push granting now.log e;
+      over = λ over. goes_on IsOver (grant_over now.setup (state_of now) (stage_of now) grant.ticket grant.server grant.queue (since.over over));
+      leaving = λ ticket server stage. ap stage_of grant.grants ∙ stage_after-push granting now.log e ∙ ap (λ (t : Stage). next_stage t e) (since.leaving ticket server stage);
+      may_grant = goes_on MayGrant (grant_more now.setup (state_of now) (stage_of now) grant.ticket grant.server grant.queue grant.lawful.0);
       room =
           let longer : length next.log ≡ length now.log + 1 = ap (λ (h : History). length h.log) grant.grants ∙ length-append now.log (e ∷ []) in
           let limit : next.setup.log ≡ now.setup.log = ap (λ (h : History). h.setup.log) grant.grants in
           let fewer = grant.fewer in
           let room = since.room in
           omega arith;
+      counted =
+          let longer : length (since.grants ++ e ∷ []) ≡ length since.grants + 1 = length-append since.grants (e ∷ []) in
+          let fewer = grant.fewer in
+          let counted = since.counted in
+          omega arith;
+      pins = λ ticket. same_pins ticket ∙ since.pins ticket;
     }
+  where
+    same_pins : (ticket : ℕ) → pin_of ticket (state_of next).rows ≡ pin_of ticket (state_of now).rows
+    same_pins ticket =
+        let entry : Entry = Granted grant.ticket grant.queue grant.server in
+        ap (λ (x : History). pin_of ticket (state_of x).rows) grant.grants
+        ∙ ap (λ (s : State). pin_of ticket s.rows) (after_all-push now.setup (opening_state now.setup) now.log entry)
+        ∙ pins_stay ticket grant.ticket (Serving grant.server) (state_of now).rows
+
+    goes_on : (P : Setup → State → Stage → Type 0) → P now.setup (after now.setup (state_of now) (Granted grant.ticket grant.queue grant.server)) (next_stage (stage_of now) (Granted grant.ticket grant.queue grant.server)) → P next.setup (state_of next) (stage_of next)
+    goes_on P h =
+        let entry : Entry = Granted grant.ticket grant.queue grant.server in
+        subst (λ (x : History). P x.setup (state_of x) (stage_of x)) (sym grant.grants)
+        (subst (λ (s : State). P now.setup s (stage_of (with_entry now entry))) (sym (after_all-push now.setup (opening_state now.setup) now.log entry))
+        (subst (λ (t : Stage). P now.setup (after now.setup (state_of now) entry) t) (sym (stage_after-push granting now.log entry)) h))
 
 pub settles : (old now last : History) → GrantsSince old now → last ≡ now → IsJudged last → IsSettled (scene_of now) → Settles old last
 settles old now last since same judged settled = subst (λ (h : History). Settles old h) (sym same) (record {
@@ -52,7 +108,11 @@ settles old now last since same judged settled = subst (λ (h : History). Settle
   log = since.log;
   setup = since.setup;
   one_event = since.one_event;
-  between = since.between;
+  over = since.over;
+  leaving = since.leaving;
+  may_grant = since.may_grant;
+  few = (let counted = since.counted in omega arith);
+  pins = λ ticket. since.pins ticket;
   judged = subst IsJudged same judged;
   settled = settled;
 })

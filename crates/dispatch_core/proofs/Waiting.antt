@@ -1,12 +1,15 @@
 -- The keys in a queue while one row changes.
-use Rattle.std.proofs.Common.{◌≡◌, ◌≢◌, ℕ, ◌+◌, Bool, true, false, [], ◌∷◌, Option, None, Some, MatchOption, option_map, slice_get, length, Contains, refl, ap, sym, ◌∙◌, subst, arith, inl, inr, Less, Equal}
+use Rattle.std.proofs.Common.{◌≡◌, ◌≢◌, ℕ, ◌+◌, ◌<◌, ◌≤◌, nat_le, Bool, true, false, [], ◌∷◌, Option, None, Some, MatchOption, option_map, slice_get, length, Contains, refl, ap, sym, ◌∙◌, subst, arith, inl, inr, Equal}
 use Rattle.std.proofs.Math.ListN.{set}
 use Rattle.std.proofs.lemmas.Option.{same_Some}
+use Rattle.std.proofs.lemmas.Bool.Decides.{nat_tests}
 use Rattle.std.proofs.lemmas.Cmp.{tied_itself}
+use Rattle.std.proofs.lemmas.List.{get_or_past}
 use Rattle.due_key.specs.declared.key.Key.{Key}
 use Rattle.due_key.specs.Order.{key_cmp}
 use Rattle.due_key.proofs.KeyOrder.{key_cmp_total, key_cmp_exact}
 use Rattle.dispatch_log.specs.declared.queue.Queue.{Queue}
+use Rattle.dispatch_log.specs.declared.queue.Queue.TheVariants.{Backend, Server}
 use Rattle.dispatch_log.specs.declared.row.Phase.{Phase}
 use Rattle.dispatch_log.specs.declared.row.Phase.TheVariants.{Loose, Waiting, Serving, Told}
 use Rattle.dispatch_log.specs.declared.row.Row.{Row}
@@ -14,10 +17,11 @@ use Rattle.dispatch_log.specs.Refusals.{is_waiting}
 use Rattle.dispatch_log.specs.Rows.{Rows, StandsAt, phase_waits_in, waits_in, queued}
 use Rattle.dispatch_log.proofs.Places.{tally, get-set_same, get-set_other, get-set_cases, count-set}
 use Rattle.dispatch_log.proofs.RowLemmas.{HaveOwnTickets}
-use Rattle.pend_queue.specs.Pairs.{IsAbsent, inserted}
-use Rattle.pend_queue.proofs.Ascending.{absent_from_members, least_first}
+use Rattle.pend_queue.specs.Pairs.{IsAbsent, inserted, pair_at, without}
+use Rattle.pend_queue.proofs.Ascending.{absent_from_members, least_first, pair_at-member}
 use Rattle.pend_queue.proofs.Inserted.{Contains-inserted, Contains-inserted_new, Contains-inserted_old, length-inserted, IsAscending-inserted}
-use Rattle.pend_queue.proofs.Members.{Contains-nil, Contains-head, Contains-tail, Contains-cases, each_at_member}
+use Rattle.pend_queue.proofs.Members.{Contains-nil, Contains-head}
+use Rattle.pend_queue.proofs.Without.{IsAscending-without, Contains-without, Contains-without_other, length-without, without-head}
 use Rattle.slot_ledger.specs.Counts.{IsQueueOf}
 use Rattle.server_pick.specs.Heads.{IsEmptyQueue, IsLeastIn}
 use Rattle.server_pick.proofs.Taking.{same_queues, own_queue}
@@ -25,7 +29,7 @@ use Rattle.dispatch_core.specs.Lines.{Waits, Lined, waits_at, with_waits}
 use Rattle.dispatch_core.specs.Traces.{HoldsQueue}
 use Rattle.dispatch_core.proofs.Lining.{one_or_other, waits_own, waits_other}
 
-queue_is : (a b : Phase) → a ≡ b → (q r : Queue) (m n : ℕ) → a ≡ Waiting q m → b ≡ Waiting r n → q ≡ r
+pub queue_is : (a b : Phase) → a ≡ b → (q r : Queue) (m n : ℕ) → a ≡ Waiting q m → b ≡ Waiting r n → q ≡ r
 queue_is a b e q r m n x y = let w : Waiting q m ≡ Waiting r n = sym x ∙ e ∙ y in cc
 
 -- a place has no row that waits in a queue
@@ -120,40 +124,49 @@ queue_joined queue waits rows p row next since is own stands none same phase =
           omega arith;
     }
 
--- the row of the least key waits no more
-queue_granted : (queue : Queue) (head : Key × Unit {0}) (rest : Waits) (rows : Rows) (p : ℕ) (row next : Row) (since : ℕ) → HoldsQueue queue (head ∷ rest) rows → HaveOwnTickets rows → StandsAt rows p row → row.phase ≡ Waiting queue since → row.key ≡ head.0 → NoneWaits queue (Some next) → HoldsQueue queue rest (set rows p (Some next))
-queue_granted queue head rest rows p row next since is own stands phase same none = record {
-  ascending = is.ascending.1;
+-- a row that waits in a queue is found there by its key
+pub pair_of_row : (queue : Queue) (waits : Waits) (rows : Rows) (p : ℕ) (row : Row) (since : ℕ) → HoldsQueue queue waits rows → StandsAt rows p row → row.phase ≡ Waiting queue since → pair_at key_cmp row.key waits ≡ Some (row.key, tt)
+pair_of_row queue waits rows p row since is stands phase = pair_at-member key_cmp_total row.key waits (row.key, tt) is.ascending (is.held p row since stands phase) (tied_itself key_cmp_total row.key)
+
+-- a row waits in the queue no more
+queue_left : (queue : Queue) (waits : Waits) (rows : Rows) (p : ℕ) (row next : Row) (since : ℕ) → HoldsQueue queue waits rows → HaveOwnTickets rows → StandsAt rows p row → row.phase ≡ Waiting queue since → NoneWaits queue (Some next) → HoldsQueue queue (without key_cmp row.key waits) (set rows p (Some next))
+queue_left queue waits rows p row next since is own stands phase none = record {
+  ascending = IsAscending-without key_cmp row.key waits is.ascending;
   backed = λ key among.
-      let b = is.backed key (Contains-tail head rest (key, tt) among) in
-      let later : key_cmp head.0 key ≡ Less = each_at_member (λ (q : Key × Unit {0}). key_cmp head.0 q.0 ≡ Less) rest (key, tt) is.ascending.0 among in (
+      let kept = Contains-without key_cmp row.key waits (key, tt) among in
+      let b = is.backed key kept.0 in (
         b.0,
         b.1,
         b.2,
         get-set_other rows p b.0 (Some next) (λ at.
             let it : b.1 ≡ row = same_Some b.1 row (same_Some (Some b.1) (Some row) (sym (subst (λ k. StandsAt rows k b.1) at b.3) ∙ stands)) in
-            let one : key ≡ head.0 = sym b.5 ∙ ap (λ (r : Row). r.key) it ∙ same in
-            let tied : key_cmp head.0 key ≡ Equal = subst (λ (k : Key). key_cmp head.0 k ≡ Equal) (sym one) (tied_itself key_cmp_total head.0) in
-            let no : Less ≡ Equal = sym later ∙ tied in
-            cc) ∙ b.3,
+            let one : row.key ≡ key = ap (λ (r : Row). r.key) (sym it) ∙ b.5 in
+            kept.1 (subst (λ (k : Key). key_cmp key k ≡ Equal) (sym one) (tied_itself key_cmp_total key))) ∙ b.3,
         b.4,
         b.5,
       );
   held = λ k other since' there waits_so.
       elim (get-set_cases rows p k (Some row) (Some next) (Some other) stands there) [
         | inl e ↦ absurd (none other since' e.1 waits_so)
-        | inr e ↦ elim (Contains-cases head rest (other.key, tt) (is.held k other since' e.1 waits_so)) [
-          | inl x ↦ absurd (e.0 (own.own k p other row e.1 stands (ap (λ (k : Key). k.ticket) (sym (ap (λ (q : Key × Unit {0}). q.0) x) ∙ sym same))))
-          | inr x ↦ x
-        ]
+        | inr e ↦
+            Contains-without_other key_cmp row.key waits (other.key, tt) (is.held k other since' e.1 waits_so)
+            (λ tied. e.0 (own.own k p other row e.1 stands (ap (λ (k : Key). k.ticket) (key_cmp_exact other.key row.key tied))))
       ];
   counted =
       let count : queued queue (set rows p (Some next)) + tally (waits_in queue (Some row)) ≡ queued queue rows + tally (waits_in queue (Some next)) = count-set (waits_in queue) rows p (Some row) (Some next) stands in
       let a : tally (waits_in queue (Some next)) ≡ 0 = ap tally (none_counted queue (Some next) none) in
       let b : tally (waits_in queue (Some row)) ≡ 1 = ap tally (one_counted queue row since phase) in
-      let c : length (head ∷ rest) ≡ queued queue rows = is.counted in
+      let c : length waits ≡ queued queue rows = is.counted in
+      let found = pair_of_row queue waits rows p row since is stands phase in
+      let l = length-without key_cmp_total row.key waits (row.key, tt) is.ascending found in
       omega arith;
 }
+
+-- the row of the least key waits no more
+queue_granted : (queue : Queue) (head : Key × Unit {0}) (rest : Waits) (rows : Rows) (p : ℕ) (row next : Row) (since : ℕ) → HoldsQueue queue (head ∷ rest) rows → HaveOwnTickets rows → StandsAt rows p row → row.phase ≡ Waiting queue since → row.key ≡ head.0 → NoneWaits queue (Some next) → HoldsQueue queue rest (set rows p (Some next))
+queue_granted queue head rest rows p row next since is own stands phase same none =
+    subst (λ (w : Waits). HoldsQueue queue w (set rows p (Some next))) (ap (λ (k : Key). without key_cmp k (head ∷ rest)) same ∙ without-head key_cmp_total head rest is.ascending)
+    (queue_left queue (head ∷ rest) rows p row next since is own stands phase none)
 
 -- each queue holds its keys
 abbrev pub HoldAll : Lined → Rows → Type 0
@@ -179,17 +192,36 @@ all_joined lined queue rows p row next since all within own stands none same pha
           (queue_kept other (waits_at lined other) rows p (Some row) (Some next) (all other) stands (none other) (other_rests queue other next since e phase))
     ]
 
-pub all_granted : (lined : Lined) (queue : Queue) (head : Key × Unit {0}) (rest : Waits) (rows : Rows) (p : ℕ) (row next : Row) (since : ℕ) → HoldAll lined rows → IsQueueOf (length lined.own) queue → waits_at lined queue ≡ head ∷ rest → HaveOwnTickets rows → StandsAt rows p row → row.phase ≡ Waiting queue since → row.key ≡ head.0 → ((other : Queue) → NoneWaits other (Some next)) → HoldAll (with_waits lined queue rest) (set rows p (Some next))
-all_granted lined queue head rest rows p row next since all within first own stands phase same none = λ other.
+-- a queue with other keys, where a row waits in none any more
+all_changed : (lined : Lined) (queue : Queue) (rest : Waits) (rows : Rows) (p : ℕ) (row next : Row) (since : ℕ) → HoldAll lined rows → IsQueueOf (length lined.own) queue → StandsAt rows p row → row.phase ≡ Waiting queue since → ((other : Queue) → NoneWaits other (Some next)) → HoldsQueue queue rest (set rows p (Some next)) → HoldAll (with_waits lined queue rest) (set rows p (Some next))
+all_changed lined queue rest rows p row next since all within stands phase none its = λ other.
     elim (one_or_other other queue) [
       | inl e ↦
           subst (λ (q : Queue). HoldsQueue q (waits_at (with_waits lined queue rest) q) (set rows p (Some next))) (sym e)
-          (subst (λ (w : Waits). HoldsQueue queue w (set rows p (Some next))) (sym (waits_own lined queue rest within))
-          (queue_granted queue head rest rows p row next since (subst (λ (w : Waits). HoldsQueue queue w rows) first (all queue)) own stands phase same (none queue)))
+          (subst (λ (w : Waits). HoldsQueue queue w (set rows p (Some next))) (sym (waits_own lined queue rest within)) its)
       | inr e ↦
           subst (λ (w : Waits). HoldsQueue other w (set rows p (Some next))) (sym (waits_other lined queue other rest e))
           (queue_kept other (waits_at lined other) rows p (Some row) (Some next) (all other) stands (other_rests queue other row since e phase) (none other))
     ]
+
+pub all_left : (lined : Lined) (queue : Queue) (rows : Rows) (p : ℕ) (row next : Row) (since : ℕ) → HoldAll lined rows → IsQueueOf (length lined.own) queue → HaveOwnTickets rows → StandsAt rows p row → row.phase ≡ Waiting queue since → ((other : Queue) → NoneWaits other (Some next)) → HoldAll (with_waits lined queue (without key_cmp row.key (waits_at lined queue))) (set rows p (Some next))
+all_left lined queue rows p row next since all within own stands phase none =
+    all_changed lined queue (without key_cmp row.key (waits_at lined queue)) rows p row next since all within stands phase none (queue_left queue (waits_at lined queue) rows p row next since (all queue) own stands phase (none queue))
+
+pub all_granted : (lined : Lined) (queue : Queue) (head : Key × Unit {0}) (rest : Waits) (rows : Rows) (p : ℕ) (row next : Row) (since : ℕ) → HoldAll lined rows → IsQueueOf (length lined.own) queue → waits_at lined queue ≡ head ∷ rest → HaveOwnTickets rows → StandsAt rows p row → row.phase ≡ Waiting queue since → row.key ≡ head.0 → ((other : Queue) → NoneWaits other (Some next)) → HoldAll (with_waits lined queue rest) (set rows p (Some next))
+all_granted lined queue head rest rows p row next since all within first own stands phase same none =
+    all_changed lined queue rest rows p row next since all within stands phase none (queue_granted queue head rest rows p row next since (subst (λ (w : Waits). HoldsQueue queue w rows) first (all queue)) own stands phase same (none queue))
+
+-- a queue in which a row waits is one of them
+pub waits_within : (lined : Lined) (queue : Queue) (rows : Rows) (p : ℕ) (row : Row) (since : ℕ) → HoldAll lined rows → StandsAt rows p row → row.phase ≡ Waiting queue since → IsQueueOf (length lined.own) queue
+waits_within lined Backend rows p row since all stands phase = tt
+waits_within lined (Server s) rows p row since all stands phase = by_test (nat_le (length lined.own) s) refl
+  where
+    by_test : (b : Bool) → nat_le (length lined.own) s ≡ b → s < length lined.own
+    by_test false e = grind (arith, nat_tests)
+    by_test true e =
+        let past : length lined.own ≤ s = grind (arith, nat_tests) in
+        absurd (Contains-nil (row.key, tt) (subst (λ (w : Waits). Contains w (row.key, tt)) (get_or_past lined.own s [] past) ((all (Server s)).held p row since stands phase)))
 
 -- a queue's first key is the least that waits in it
 pub head_is : (queue : Queue) (waits : Waits) (rows : Rows) → HoldsQueue queue waits rows → MatchOption (option_map (λ (p : Key × Unit {0}). p.0) (slice_get waits 0)) (IsEmptyQueue queue rows) (IsLeastIn queue rows)

@@ -8,8 +8,8 @@ use Rattle.dispatch_log.specs.Histories.{History, state_of, effective, begins_ev
 use Rattle.dispatch_log.specs.declared.row.Row.{Row}
 use Rattle.dispatch_log.specs.Grants.{IsSettled}
 use Rattle.dispatch_log.specs.Refusals.{is_waiting}
-use Rattle.dispatch_log.specs.Rows.{Rows, IsRow}
-use Rattle.dispatch_log.specs.Judgement.{HasSlot, IsTold, Stage, granting, next_stage, stage_after, MayCome, AllMayCome, MayBegin}
+use Rattle.dispatch_log.specs.Rows.{Rows, IsRow, pin_of}
+use Rattle.dispatch_log.specs.Judgement.{HasSlot, IsTold, Stage, granting, leaving, next_stage, stage_after, IsPut, IsOver, MayGrant, MayCome, AllMayCome, MayBegin}
 use Rattle.dispatch_log.specs.States.{scene, after, opening_state}
 use Rattle.dispatch_log.specs.Words.{Scene}
 
@@ -25,10 +25,22 @@ stage_of history = stage_after granting history.log
 abbrev pub MayComeNext : History → Entry → Type 0
 MayComeNext history entry = MayCome history.setup (state_of history) (length history.log) (stage_of history) entry
 
+-- a request in no place may be put anywhere that its pin and the server to avoid let it, and its event owes nothing then
+abbrev pub MayPut : History → Option ℕ → Option ℕ → ℕ → Type 0
+MayPut history pin avoid ticket =
+    (entry : Entry) → IsPut (scene history.setup (state_of history)) (state_of history).cursor pin avoid ticket entry
+    → MayComeNext history entry × (next_stage (stage_of history) entry ≡ granting)
+
 -- an event may begin at a history's end
-pub record MayBeginNext (history : History) (moment : ℕ) (refused : Option Refusal) : Type 0 where
-  pub between : stage_of history ≡ granting
-  pub begins : MayBegin history.setup (state_of history) (effective history moment) refused
+abbrev pub MayBeginNext : History → ℕ → Option Refusal → Type 0
+MayBeginNext history moment refused = MayBegin history.setup (state_of history) (stage_of history) (effective history moment) refused
+
+-- the last event owes nothing but grants at a history's end, and grants may come there
+abbrev pub IsOverNext : History → Type 0
+IsOverNext history = IsOver history.setup (state_of history) (stage_of history)
+
+abbrev pub MayGrantNext : History → Type 0
+MayGrantNext history = MayGrant history.setup (state_of history) (stage_of history)
 
 -- the log has room for the longest event
 abbrev pub HasEntryRoom : History → Type 0
@@ -63,13 +75,17 @@ pub record IsGrant (old new : History) : Type 0 where
 abbrev pub IsJudged : History → Type 0
 IsJudged history = AllMayCome history.setup (opening_state history.setup) 0 granting history.log
 
--- a history goes on by grants until all is settled
+-- a history goes on by grants until all is settled; what the event owed beside them is what it owes then
 pub record Settles (old new : History) : Type 0 where
   pub grants : List Entry
   pub log : new.log ≡ old.log ++ grants
   pub setup : new.setup ≡ old.setup
   pub one_event : All (λ entry. begins_event entry ≡ false) grants
-  pub between : stage_of new ≡ granting
+  pub over : IsOverNext old → IsOverNext new
+  pub leaving : (ticket server : ℕ) → stage_of old ≡ leaving ticket server → stage_of new ≡ leaving ticket server
+  pub may_grant : MayGrantNext new
+  pub few : length grants ≤ waiting_of old
+  pub pins : (ticket : ℕ) → pin_of ticket (state_of new).rows ≡ pin_of ticket (state_of old).rows
   pub judged : IsJudged new
   pub settled : IsSettled (scene_of new)
 
@@ -82,12 +98,27 @@ pub record Leaves (old new : History) : Type 0 where
   pub one_event : All (λ entry. begins_event entry ≡ false) closing
   pub over : stage_of new ≡ granting
 
--- a history goes on by the entry that ends a newcomer's placement
+-- a history goes on by the entry that ends a request's placement
 pub record Places (old new : History) : Type 0 where
   pub placement : Entry
   pub placed : new ≡ with_entry old placement
-  pub over : (stage : Stage) → next_stage stage placement ≡ granting
+  pub over : stage_of new ≡ granting
   pub one_event : begins_event placement ≡ false
+
+-- a history goes on inside an event
+pub record GoesOn (old new : History) : Type 0 where
+  pub entries : List Entry
+  pub log : new.log ≡ old.log ++ entries
+  pub setup : new.setup ≡ old.setup
+  pub one_event : All (λ entry. begins_event entry ≡ false) entries
+
+-- a history goes on by what becomes of a request whose connection failed: its event owes nothing but grants then, for
+-- which the log has room
+pub record CarriesOn (old new : History) : Type 0 where
+  pub goes : GoesOn old new
+  pub over : IsOverNext new
+  pub may_grant : MayGrantNext new
+  pub room : length new.log + waiting_of new ≤ new.setup.log
 
 -- a ticket has a row
 abbrev pub HasRowOf : Rows → ℕ → Type 0

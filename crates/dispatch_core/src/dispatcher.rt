@@ -1,46 +1,67 @@
-ghost use Rattle.std.specs.Prelude.{◌≡◌, ◌+◌, ◌<◌, ◌≤◌, ◌↔◌, [], ◌∷◌, ◌++◌, length, IfOk, IfErr, OnOk, OnErr, IsTrue, Some, None, option_map, pos, ◌+ℤ◌};
-ghost use Rattle.dispatch_log.specs.declared.entry.Entry.TheVariants.{Arrive, Done};
+ghost use Rattle.std.specs.Prelude.{◌≡◌, ◌+◌, ◌*◌, ◌<◌, ◌≤◌, ◌↔◌, [], ◌∷◌, ◌++◌, length, IfOk, IfErr, OnOk, OnErr, IsTrue, Some, None, true, false, option_map, pos, ◌+ℤ◌};
+ghost use Rattle.dispatch_log.specs.declared.entry.Entry.TheVariants.{Arrive, Done, Fail, Abort, Tick, Check};
 ghost use Rattle.dispatch_log.specs.Dispatch.{IsDispatched};
-ghost use Rattle.dispatch_log.specs.Histories.{History, IsLegal, state_of, effective, refuses_arrival, refuses_done, AddsEvent, RefusedOrNoMemory};
-ghost use Rattle.dispatch_log.specs.Judgement.{granting, placing, returning, HasSlot};
-ghost use Rattle.dispatch_log.specs.Rows.{row_of, served, queued};
+ghost use Rattle.dispatch_log.specs.Histories.{History, IsLegal, state_of, effective, refuses_arrival, refuses_done, refuses_failure, refuses_abort, refuses_tick, refuses_check, SomeExpires, AddsEvent, RefusedOrNoMemory};
+ghost use Rattle.check_state.specs.Standing.{change_between};
+ghost use Rattle.dispatch_log.specs.Judgement.{returning, failing, checking, telling, was_up, HasSlot};
+ghost use Rattle.dispatch_log.specs.Words.{is_up};
+ghost use Rattle.dispatch_log.specs.Retries.{are_spent, are_redispatched};
+ghost use Rattle.dispatch_log.specs.Rows.{row_of, pin_of, failures_of, served, queued};
 ghost use Rattle.dispatch_log.specs.Setups.{IsSound};
-ghost use Rattle.dispatch_core.specs.Steps.{stage_of, waiting_of, HasRowOf, IsReturn, HasEntryRoom, Places, Leaves, Settles};
+ghost use Rattle.dispatch_core.specs.Timeouts.{TimesOut};
+ghost use Rattle.dispatch_core.specs.Steps.{stage_of, scene_of, waiting_of, MayPut, MayGrantNext, IsReturn, HasEntryRoom, Places, Leaves, Settles, CarriesOn};
 
+use crate::fate::Fate;
+use crate::healths::Healths;
 use crate::trace::{Ticketed, Trace};
-use dispatch_log::{Log, Phase, Queue, Refusal, Setup};
+use check_state::Change;
+use dispatch_log::{Phase, Queue, Refusal, Setup};
 use due_key::{Class, Key, Moment, Offset};
-use pend_queue::PendQueue;
+use pend_queue::{ListQueue, PendQueue};
+use readable_log::Log;
 use server_pick::Placement;
 use std::alloc::{AllocError, Global};
 use std::marker::Model;
+use verdict::Cause;
 
 /// A dispatcher. Each call that is accepted adds one event to its log, which is legal after every
 /// call; a call that is refused changes nothing.
 #[derive(Drop)]
 pub struct Core<Q: PendQueue<Key, ()>> {
     trace: Trace<Q>,
+    healths: Healths,
+    // An empty queue, for the requests of a server that goes down while they are moved.
+    spare: Q,
+    // The tickets of the requests that a tick times out; empty between calls.
+    expiring: ListQueue<u64, ()>,
 }
 
 impl<Q: PendQueue<Key, ()>> Model for Core<Q> {
-    ghost use Rattle.dispatch_log.specs.Histories.{History, IsLegal};
+    ghost use Rattle.dispatch_log.specs.Histories.{History};
+    ghost use Rattle.dispatch_core.specs.Checks.{IsCore};
 
     ghost Value = { History };
 
     ghost view = { λ core. core.trace };
 
-    ghost invariant = { λ core. IsLegal core.trace };
+    ghost invariant = { λ core. IsCore core.trace core.healths (Q.pairs core.spare) (Q.room core.spare) core.expiring };
 }
 
 impl<Q: PendQueue<Key, ()>> Core<Q> {
-    /// A dispatcher without a request. Rows, queue and log are reserved here, so that it fails
+    /// A dispatcher without a request, all servers up. Rows, queues and log are reserved here, so that it fails
     /// only where memory is refused; the setup is gone then.
     pub fn new(alloc: Global, setup: Setup) -> Result<Core<Q>, AllocError>
         requires { IsSound setup }
         ensures { IfOk result (λ core. core ≡ record { setup = setup; log = [] }) }
     {
+        let healths = Healths::new(alloc, setup.servers.as_slice())?;
+        let spare = Q::with_room(alloc, setup.places)?;
+        let expiring = ListQueue::with_room(alloc, setup.places)?;
         Ok(Core {
             trace: Trace::new(alloc, setup)?,
+            healths,
+            spare,
+            expiring,
         })
     }
 
@@ -67,7 +88,7 @@ impl<Q: PendQueue<Key, ()>> Core<Q> {
         let Ok(it) = self.trace.arrive(alloc, moment, class, offset, pin) else {
             return Err(Refusal::NoMemory);
         };
-        place(&mut self.trace, it.ticket);
+        place(&mut self.trace, it.ticket, pin, None);
         settle(&mut self.trace);
         Ok(it)
     }
@@ -90,6 +111,101 @@ impl<Q: PendQueue<Key, ()>> Core<Q> {
         leave(&mut self.trace, ticket, server);
         settle(&mut self.trace);
         Ok(())
+    }
+
+    /// A connection of the request with this ticket failed before anything was sent over it. The
+    /// request keeps its slot for another try (`retries`), or goes to another server where it is the
+    /// last one (`option redispatch`), or is told that its retries are spent. Refused, in this order,
+    /// where the log is full, no live request has the ticket, or it has no slot. Takes no memory, and
+    /// `O(log n)` in the live requests and `O(s)` in the servers, for each slot that is handed on too.
+    pub fn failed(&mut self, moment: Moment, ticket: u64) -> Result<(), Refusal>
+        ensures ok { OnOk result (AddsEvent self.old self.new (Fail (effective self.old moment) ticket)) }
+        ensures err { IfErr result (λ refusal. refuses_failure self.old ticket ≡ Some refusal) }
+        ensures accepted { OnOk result (refuses_failure self.old ticket ≡ None) }
+        ensures unchanged { OnErr result (self.new ≡ self.old) }
+        ensures dispatched { IsDispatched self.new }
+    {
+        if let Some(refusal) = self.trace.refuses_failure(ticket) {
+            return Err(refusal);
+        }
+        let Some(server) = self.trace.server_of(ticket) else {
+            unreachable!()
+        };
+        let failures = self.trace.fail(moment, ticket);
+        carry_on(&mut self.trace, ticket, server, failures);
+        settle(&mut self.trace);
+        Ok(())
+    }
+
+    /// The request with this ticket, which waits, is given up: it leaves its queue, and is told so.
+    /// Refused, in this order, where the log is full, no live request has the ticket, or it doesn't
+    /// wait. Takes no memory, and `O(log n)` in the live requests and `O(s)` in the servers beside
+    /// the queue's own cost.
+    pub fn abort(&mut self, moment: Moment, ticket: u64) -> Result<(), Refusal>
+        ensures ok { OnOk result (AddsEvent self.old self.new (Abort (effective self.old moment) ticket)) }
+        ensures err { IfErr result (λ refusal. refuses_abort self.old ticket ≡ Some refusal) }
+        ensures accepted { OnOk result (refuses_abort self.old ticket ≡ None) }
+        ensures unchanged { OnErr result (self.new ≡ self.old) }
+        ensures dispatched { IsDispatched self.new }
+    {
+        if let Some(refusal) = self.trace.refuses_abort(ticket) {
+            return Err(refusal);
+        }
+        self.trace.abort(moment, ticket);
+        self.trace.dismiss(ticket, Cause::Aborted);
+        settle(&mut self.trace);
+        Ok(())
+    }
+
+    /// Each request that has waited as long as it may (`timeout queue`) leaves its queue and is told
+    /// so, by rising ticket. Refused where the log is full. Takes no memory. `O(1)` where none has,
+    /// and `O(k log n)` beside the queues' own cost where k of the n live requests have.
+    pub fn tick(&mut self, moment: Moment) -> Result<(), Refusal>
+        ensures ok { OnOk result (AddsEvent self.old self.new (Tick (effective self.old moment))) }
+        ensures err { IfErr result (λ refusal. refuses_tick self.old ≡ Some refusal) }
+        ensures accepted { OnOk result (refuses_tick self.old ≡ None) }
+        ensures unchanged { OnErr result (self.new ≡ self.old) }
+        ensures dispatched { IsDispatched self.new }
+    {
+        if !self.trace.has_room() {
+            return Err(Refusal::LogFull);
+        }
+        self.trace.tick(moment);
+        if !self.trace.expired(moment) {
+            return Ok(());
+        }
+        time_out(&mut self.trace, &mut self.expiring);
+        settle(&mut self.trace);
+        Ok(())
+    }
+
+    /// A check of a server ended; it answered, or not (`check`, `rise`, `fall`). Where the server went
+    /// down, the requests of its queue are moved into the backend's under `option redispatch`. Refused,
+    /// in this order, where the log is full, no server has the number, or it isn't checked. Takes no
+    /// memory; `O(s)` in the servers, and `O(log n)` for each request that is moved or takes a slot.
+    pub fn check(&mut self, moment: Moment, server: usize, ok: bool) -> Result<(), Refusal>
+        ensures ok { OnOk result (AddsEvent self.old self.new (Check (effective self.old moment) server ok)) }
+        ensures err { IfErr result (λ refusal. refuses_check self.old server ≡ Some refusal) }
+        ensures accepted { OnOk result (refuses_check self.old server ≡ None) }
+        ensures unchanged { OnErr result (self.new ≡ self.old) }
+        ensures dispatched { IsDispatched self.new }
+    {
+        if let Some(refusal) = self.trace.refuses_check(server) {
+            return Err(refusal);
+        }
+        let change = self.healths.result(server, ok);
+        let up = self.healths.up(server);
+        self.trace.check(moment, server, ok, up);
+        follow(&mut self.trace, &mut self.spare, server, change);
+        settle(&mut self.trace);
+        Ok(())
+    }
+
+    /// Whether a tick at this moment would tell a timeout. `O(1)`.
+    pub fn expired(&self, moment: Moment) -> bool
+        ensures { IsTrue result ↔ SomeExpires self.now moment }
+    {
+        self.trace.expired(moment)
     }
 
     /// What was decided so far.
@@ -130,19 +246,25 @@ impl<Q: PendQueue<Key, ()>> Core<Q> {
     }
 }
 
-/// Puts a newcomer on a server or into a queue, or tells it that no server could take it.
-fn place<Q: PendQueue<Key, ()>>(trace: &mut Trace<Q>, ticket: u64)
-    requires placing { stage_of trace.old ≡ placing ticket }
-    requires row { HasRowOf (state_of trace.old).rows ticket }
+/// Puts a request that is in no place on a server or into a queue, or tells it that no server could
+/// take it.
+fn place<Q: PendQueue<Key, ()>>(
+    trace: &mut Trace<Q>,
+    ticket: u64,
+    pin: Option<usize>,
+    avoid: Option<usize>,
+)
+    requires may_put { MayPut trace.old pin avoid ticket }
+    requires pin { pin_of ticket (state_of trace.old).rows ≡ pin }
     requires room { length trace.old.log < trace.old.setup.log }
     ensures { Places trace.old trace.new }
 {
-    let (placement, cursor) = trace.placement(ticket);
+    let (placement, cursor) = trace.placement(pin, avoid);
     match placement {
         Placement::Slot(server) => trace.direct(ticket, server, cursor),
         Placement::OwnQueue(server) => trace.join(ticket, Queue::Server(server), cursor),
         Placement::BackendQueue => trace.join(ticket, Queue::Backend, cursor),
-        Placement::Nowhere => trace.turn_away(ticket),
+        Placement::Nowhere => trace.tell(ticket, Cause::NoServer),
     }
 }
 
@@ -170,11 +292,108 @@ fn give_back<Q: PendQueue<Key, ()>>(trace: &mut Trace<Q>, ticket: u64, server: u
     trace.end(ticket);
 }
 
+/// Tries a request again whose connection failed, or tells it that its retries are spent.
+fn carry_on<Q: PendQueue<Key, ()>>(trace: &mut Trace<Q>, ticket: u64, server: usize, failures: u32)
+    requires failing { stage_of trace.old ≡ failing ticket }
+    requires slot { HasSlot (state_of trace.old).rows ticket server }
+    requires failures { failures_of ticket (state_of trace.old).rows ≡ failures }
+    requires pin { IsTrue (are_redispatched trace.old.setup failures) → pin_of ticket (state_of trace.old).rows ≡ None }
+    requires room { length trace.old.log + 2 * trace.old.setup.places + 3 ≤ trace.old.setup.log }
+    ensures { CarriesOn trace.old trace.new }
+{
+    match trace.fate(failures) {
+        Fate::Retried => trace.retry(ticket, server, failures),
+        Fate::Spent => give_up(trace, ticket, server),
+        Fate::Redispatched => redispatch(trace, ticket, server),
+    }
+}
+
+/// Gives a request's slot back, and tells it that its retries are spent.
+fn give_up<Q: PendQueue<Key, ()>>(trace: &mut Trace<Q>, ticket: u64, server: usize)
+    requires failing { stage_of trace.old ≡ failing ticket }
+    requires slot { HasSlot (state_of trace.old).rows ticket server }
+    requires spent { IsTrue (are_spent trace.old.setup (failures_of ticket (state_of trace.old).rows)) }
+    requires room { length trace.old.log + 2 * trace.old.setup.places + 3 ≤ trace.old.setup.log }
+    ensures { CarriesOn trace.old trace.new }
+{
+    trace.free(ticket, server);
+    trace.tell(ticket, Cause::Retries);
+}
+
+/// Gives a request's slot back, which others take first, and puts the request anew, away from the
+/// server where it can be.
+fn redispatch<Q: PendQueue<Key, ()>>(trace: &mut Trace<Q>, ticket: u64, server: usize)
+    requires failing { stage_of trace.old ≡ failing ticket }
+    requires slot { HasSlot (state_of trace.old).rows ticket server }
+    requires redispatched { IsTrue (are_redispatched trace.old.setup (failures_of ticket (state_of trace.old).rows)) }
+    requires pin { pin_of ticket (state_of trace.old).rows ≡ None }
+    requires room { length trace.old.log + 2 * trace.old.setup.places + 3 ≤ trace.old.setup.log }
+    ensures { CarriesOn trace.old trace.new }
+{
+    trace.free(ticket, server);
+    settle(trace);
+    place(trace, ticket, None, Some(server));
+}
+
+/// Notes what a check changed of a server's health, and what follows from it.
+fn follow<Q: PendQueue<Key, ()>>(trace: &mut Trace<Q>, spare: &mut Q, server: usize, change: Change)
+    requires checking { stage_of trace.old ≡ checking server }
+    requires change { change ≡ change_between (was_up trace.old.setup (state_of trace.old) server) (is_up (scene_of trace.old) server) }
+    requires within { server < length trace.old.setup.servers }
+    requires room { length trace.old.log + 2 * trace.old.setup.places + 3 ≤ trace.old.setup.log }
+    requires empty { Q.pairs spare.old ≡ [] }
+    requires spare_room { Q.room spare.old ≡ trace.old.setup.places }
+    ensures carries { CarriesOn trace.old trace.new }
+    ensures emptied { Q.pairs spare.new ≡ [] }
+    ensures kept { Q.room spare.new ≡ Q.room spare.old }
+{
+    match change {
+        Change::Stay => {}
+        Change::WentUp => trace.tell_health(server, true),
+        Change::WentDown => fall(trace, spare, server),
+    }
+}
+
+/// Notes that a server went down, and moves its requests where they are to be moved.
+fn fall<Q: PendQueue<Key, ()>>(trace: &mut Trace<Q>, spare: &mut Q, server: usize)
+    requires checking { stage_of trace.old ≡ checking server }
+    requires was { was_up trace.old.setup (state_of trace.old) server ≡ true }
+    requires down { is_up (scene_of trace.old) server ≡ false }
+    requires within { server < length trace.old.setup.servers }
+    requires room { length trace.old.log + 2 * trace.old.setup.places + 3 ≤ trace.old.setup.log }
+    requires empty { Q.pairs spare.old ≡ [] }
+    requires spare_room { Q.room spare.old ≡ trace.old.setup.places }
+    ensures carries { CarriesOn trace.old trace.new }
+    ensures emptied { Q.pairs spare.new ≡ [] }
+    ensures kept { Q.room spare.new ≡ Q.room spare.old }
+{
+    trace.tell_health(server, false);
+    if trace.redispatches() {
+        trace.move_all(server, spare);
+    }
+}
+
 /// Grants slots until all is settled.
 fn settle<Q: PendQueue<Key, ()>>(trace: &mut Trace<Q>)
-    requires between { stage_of trace.old ≡ granting }
+    requires may_grant { MayGrantNext trace.old }
     requires room { length trace.old.log + waiting_of trace.old ≤ trace.old.setup.log }
     ensures { Settles trace.old trace.new }
 {
     'granting: while trace.grant() {}
+}
+
+/// Tells the requests that have waited as long as they may, by rising ticket.
+fn time_out<Q: PendQueue<Key, ()>>(trace: &mut Trace<Q>, tickets: &mut ListQueue<u64, ()>)
+    requires telling { stage_of trace.old ≡ telling }
+    requires room { length trace.old.log + waiting_of trace.old ≤ trace.old.setup.log }
+    requires none { tickets.old.pairs ≡ [] }
+    requires places { trace.old.setup.places ≤ tickets.old.room }
+    ensures told { TimesOut trace.old trace.new }
+    ensures none { tickets.new.pairs ≡ [] }
+    ensures kept { tickets.new.room ≡ tickets.old.room }
+{
+    trace.gather(tickets);
+    'telling: while let Some((ticket, _)) = tickets.pop() {
+        trace.dismiss(ticket, Cause::Timeout);
+    }
 }

@@ -1,4 +1,4 @@
-ghost use Rattle.std.specs.Prelude.{◌≡◌, ℕ, ◌<◌, ◌≤◌, [], IfOk, length, replicate, drop, slice_get, option_map};
+ghost use Rattle.std.specs.Prelude.{◌≡◌, ℕ, ◌+◌, ◌<◌, ◌≤◌, [], IfOk, length, replicate, drop, slice_get, option_map};
 ghost use Rattle.due_key.specs.Order.{key_cmp};
 ghost use Rattle.slot_ledger.specs.Counts.{IsQueueOf};
 
@@ -31,7 +31,8 @@ impl<Q: PendQueue<Key, ()>> Model for Queues<Q> {
 impl<Q: PendQueue<Key, ()>> Queues<Q> {
     ghost use Rattle.dispatch_core.specs.Lines.{waits_at, with_waits};
     ghost use Rattle.server_pick.specs.Heads.{head_at};
-    ghost use Rattle.pend_queue.specs.Pairs.{IsAbsent, inserted};
+    ghost use Rattle.dispatch_log.specs.declared.queue.Queue.TheVariants.{Backend};
+    ghost use Rattle.pend_queue.specs.Pairs.{IsAbsent, HaveNoCommonKey, inserted, pair_at, without, merged};
 
     /// Empty queues of so many servers and of the backend.
     pub(crate) fn new(alloc: Global, servers: usize, places: usize) -> Result<Queues<Q>, AllocError>
@@ -84,5 +85,28 @@ impl<Q: PendQueue<Key, ()>> Queues<Q> {
             Queue::Backend => self.backend.pop(),
             Queue::Server(server) => self.own[server].pop(),
         }
+    }
+
+    /// Takes the request of a key out of a queue.
+    pub(crate) fn remove(&mut self, queue: Queue, key: &Key) -> Option<Q::Node>
+        requires { IsQueueOf (length self.old.own) queue }
+        ensures its { option_map Q.pair_of result ≡ pair_at key_cmp key.now (waits_at self.old queue) }
+        ensures rest { self.new ≡ with_waits self.old queue (without key_cmp key.now (waits_at self.old queue)) }
+    {
+        match queue {
+            Queue::Backend => self.backend.remove(key),
+            Queue::Server(server) => self.own[server].remove(key),
+        }
+    }
+
+    /// Merges a queue of others into the backend's. It is empty afterwards.
+    pub(crate) fn take_in(&mut self, others: &mut Q)
+        requires room { length (waits_at self.old Backend) + length (Q.pairs others.old) ≤ self.old.room }
+        requires apart { HaveNoCommonKey key_cmp (waits_at self.old Backend) (Q.pairs others.old) }
+        ensures merged { self.new ≡ with_waits self.old Backend (merged key_cmp (waits_at self.old Backend) (Q.pairs others.old)) }
+        ensures emptied { Q.pairs others.new ≡ [] }
+        ensures kept { Q.room others.new ≡ Q.room others.old }
+    {
+        self.backend.merge(others);
     }
 }

@@ -1,23 +1,31 @@
-ghost use Rattle.std.specs.Prelude.{◌≡◌, ◌+◌, ◌<◌, ◌≤◌, ◌↔◌, ◌∷◌, [], ◌++◌, length, IfOk, OnErr, IsTrue, None, option_map, MatchOption, pos, ◌+ℤ◌};
+ghost use Rattle.std.specs.Prelude.{◌≡◌, ◌≢◌, ◌+◌, ◌<◌, ◌≤◌, ◌↔◌, ◌∷◌, [], ◌++◌, length, IfOk, OnErr, IsTrue, None, option_map, MatchOption, pos, ◌+ℤ◌};
 ghost use Rattle.std.specs.Option.{option_and_then};
 ghost use Rattle.std.specs.Bool.{OnTrue, OnFalse};
-ghost use Rattle.dispatch_log.specs.declared.entry.Entry.TheVariants.{Arrive, Done, Direct, Joined, Granted, Freed, Left, Ended};
-ghost use Rattle.verdict.specs.declared.cause.Cause.TheVariants.{NoServer};
-ghost use Rattle.dispatch_log.specs.Histories.{History, state_of, effective, refuses_arrival, refuses_done};
+ghost use Rattle.dispatch_log.specs.declared.entry.Entry.TheVariants.{Arrive, Done, Fail, Direct, Joined, Granted, Freed, Retried, Left, Ended};
+ghost use Rattle.verdict.specs.declared.cause.Cause.TheVariants.{Aborted, Timeout};
+ghost use Rattle.dispatch_log.specs.Histories.{History, state_of, effective, refuses_arrival, refuses_done, refuses_failure};
 ghost use Rattle.dispatch_log.specs.Grants.{IsSettled};
-ghost use Rattle.dispatch_log.specs.Judgement.{granting};
 ghost use Rattle.dispatch_log.specs.Refusals.{pins_to_none};
-ghost use Rattle.dispatch_log.specs.Rows.{row_of, pin_of, server_in, served, queued};
+ghost use Rattle.dispatch_log.specs.Rows.{row_of, pin_of, failures_of, server_in, served, queued};
 ghost use Rattle.dispatch_log.specs.Setups.{IsSound};
 ghost use Rattle.server_pick.specs.Picked.{IsPlacement, cursor_placed};
-ghost use Rattle.dispatch_core.specs.Steps.{with_entry, stage_of, scene_of, cursor_after, waiting_of, HasRowOf, MayComeNext, MayBeginNext, HasEntryRoom, IsGrant, IsJudged};
+ghost use Rattle.dispatch_core.specs.Fates.{fate_of};
+ghost use Rattle.dispatch_core.specs.Steps.{with_entry, scene_of, cursor_after, waiting_of, MayComeNext, MayBeginNext, MayGrantNext, HasEntryRoom, IsGrant, IsJudged};
 
+mod checking;
+mod expiry;
+mod leaving;
+mod moving;
+
+use crate::fate::{Fate, count_failure, fate_of};
 use crate::queues::Queues;
-use dispatch_log::{Arrival, Entry, Log, Phase, Queue, Refusal, Row, Setup};
+use dispatch_log::{Arrival, Entry, Phase, Queue, Refusal, Row, Setup};
 use due_key::{Class, Due, Key, Moment, Offset};
 use pend_queue::PendQueue;
+use readable_log::Log;
 use server_pick::{Cursor, Placement, next_take};
 use slot_ledger::Ledger;
+use stay_order::StayOrder;
 use std::alloc::{AllocError, Global};
 use std::marker::Model;
 use verdict::Cause;
@@ -41,6 +49,10 @@ pub(crate) struct Trace<Q: PendQueue<Key, ()>> {
     last: Moment,
     // The last ticket that was given.
     ticket: u64,
+    // By place, where in the log its waiting request joined its queue.
+    joinings: Vec<usize>,
+    // The places of the waiting requests, the one that joined first at the front.
+    stays: StayOrder,
 }
 
 impl<Q: PendQueue<Key, ()>> Model for Trace<Q> {
@@ -48,11 +60,11 @@ impl<Q: PendQueue<Key, ()>> Model for Trace<Q> {
 
     ghost Value = { History };
 
-    ghost use Rattle.dispatch_core.specs.Traces.{history_of, IsTrace};
+    ghost use Rattle.dispatch_core.specs.Traces.{history_of, IsNoted};
 
     ghost view = { λ trace. history_of trace.ledger trace.log };
 
-    ghost invariant = { λ trace. IsTrace Q.pair_of trace.ledger trace.log trace.queues trace.cursor trace.last trace.ticket };
+    ghost invariant = { λ trace. IsNoted Q.pair_of trace.ledger trace.log trace.queues trace.cursor trace.last trace.ticket trace.joinings.items trace.stays };
 }
 
 impl<Q: PendQueue<Key, ()>> Trace<Q> {
@@ -104,6 +116,19 @@ impl<Q: PendQueue<Key, ()>> Trace<Q> {
         }
     }
 
+    pub(crate) fn refuses_failure(&self, ticket: u64) -> Option<Refusal>
+        ensures { result ≡ refuses_failure self.now ticket }
+    {
+        if !self.has_room() {
+            return Some(Refusal::LogFull);
+        }
+        match self.phase(ticket) {
+            None => Some(Refusal::NoSuchTicket),
+            Some(Phase::Serving(_)) => None,
+            Some(_) => Some(Refusal::WrongPhase),
+        }
+    }
+
     pub(crate) fn phase(&self, ticket: u64) -> Option<Phase>
         ensures { result ≡ option_map (λ row. row.phase) (row_of ticket (state_of self.now).rows) }
     {
@@ -137,7 +162,7 @@ impl<Q: PendQueue<Key, ()>> Trace<Q> {
         requires begins { MayBeginNext self.old moment (refuses_arrival self.old pin) }
         requires room { length self.old.log < self.old.setup.log }
         ensures ok { IfOk result (λ it. self.new ≡ with_entry self.old (Arrive (effective self.old moment) (record { ticket = it.ticket; class = class; due = pos (effective self.old moment) +ℤ offset; pin = pin; place = it.place }))) }
-        ensures row { IfOk result (λ it. HasRowOf (state_of self.new).rows it.ticket) }
+        ensures pin { IfOk result (λ it. pin_of it.ticket (state_of self.new).rows ≡ pin) }
         ensures err { OnErr result (self.new ≡ self.old) }
     {
         let now = self.last.later(moment);
@@ -178,22 +203,50 @@ impl<Q: PendQueue<Key, ()>> Trace<Q> {
         self.last = now;
     }
 
-    /// Where a request goes that is in no place yet, and the cursor that this leaves.
-    pub(crate) fn placement(&self, ticket: u64) -> (Placement, Cursor)
-        requires { HasRowOf (state_of self.now).rows ticket }
-        ensures placed { IsPlacement (scene_of self.now) (state_of self.now).cursor (pin_of ticket (state_of self.now).rows) None result.0 }
-        ensures cursor { result.1 ≡ cursor_placed (pin_of ticket (state_of self.now).rows) result.0 (state_of self.now).cursor }
+    /// A connection of the ticket's request failed, which has a slot. Answers how many failed so far.
+    pub(crate) fn fail(&mut self, moment: Moment, ticket: u64) -> u32
+        requires begins { MayBeginNext self.old moment (refuses_failure self.old ticket) }
+        requires room { length self.old.log < self.old.setup.log }
+        ensures fails { self.new ≡ with_entry self.old (Fail (effective self.old moment) ticket) }
+        ensures count { failures_of ticket (state_of self.new).rows ≡ result }
     {
+        let now = self.last.later(moment);
         let Some(place) = self.ledger.find(ticket) else {
             unreachable!()
         };
-        let pin = self.ledger.row(place).pin;
+        let failures = count_failure(&mut self.ledger, place);
+        self.log.note(Entry::Fail(now, ticket));
+        self.last = now;
+        failures
+    }
+
+    /// The ticket keeps its slot for another connection.
+    pub(crate) fn retry(&mut self, ticket: u64, server: usize, failures: u32)
+        requires lawful { MayComeNext self.old (Retried ticket server failures) }
+        requires room { length self.old.log < self.old.setup.log }
+        ensures { self.new ≡ with_entry self.old (Retried ticket server failures) }
+    {
+        self.log.note(Entry::Retried(ticket, server, failures));
+    }
+
+    /// What becomes of a request once so many of its connections failed.
+    pub(crate) fn fate(&self, failures: u32) -> Fate
+        ensures { result ≡ fate_of self.now.setup failures }
+    {
+        fate_of(self.ledger.setup(), failures)
+    }
+
+    /// Where a request in no place goes, bound to this pin and with this server to avoid, and the cursor that this leaves.
+    pub(crate) fn placement(&self, pin: Option<usize>, avoid: Option<usize>) -> (Placement, Cursor)
+        ensures placed { IsPlacement (scene_of self.now) (state_of self.now).cursor pin avoid result.0 }
+        ensures cursor { result.1 ≡ cursor_placed pin result.0 (state_of self.now).cursor }
+    {
         let mut cursor = self.cursor;
-        let placement = server_pick::place(&self.ledger, &mut cursor, pin, None);
+        let placement = server_pick::place(&self.ledger, &mut cursor, pin, avoid);
         (placement, cursor)
     }
 
-    /// The newcomer takes a slot of a server.
+    /// The request takes a slot of a server.
     pub(crate) fn direct(&mut self, ticket: u64, server: usize, cursor: Cursor)
         requires lawful { MayComeNext self.old (Direct ticket server) }
         requires cursor { cursor ≡ cursor_after self.old (Direct ticket server) }
@@ -208,7 +261,7 @@ impl<Q: PendQueue<Key, ()>> Trace<Q> {
         self.log.note(Entry::Direct(ticket, server));
     }
 
-    /// The newcomer begins to wait in a queue.
+    /// The request begins to wait in a queue.
     pub(crate) fn join(&mut self, ticket: u64, queue: Queue, cursor: Cursor)
         requires lawful { MayComeNext self.old (Joined ticket queue) }
         requires cursor { cursor ≡ cursor_after self.old (Joined ticket queue) }
@@ -221,20 +274,24 @@ impl<Q: PendQueue<Key, ()>> Trace<Q> {
         let node = self.ledger.wait(place, queue, self.last);
         self.queues.push(queue, node);
         self.cursor = cursor;
+        self.joinings[place] = self.log.len() + 1;
+        self.stays.append(place);
         self.log.note(Entry::Joined(ticket, queue));
     }
 
-    /// The newcomer is told that no server could ever take it.
-    pub(crate) fn turn_away(&mut self, ticket: u64)
-        requires lawful { MayComeNext self.old (Left ticket NoServer) }
+    /// The request, which is in no place, is told that it isn't served.
+    pub(crate) fn tell(&mut self, ticket: u64, cause: Cause)
+        requires lawful { MayComeNext self.old (Left ticket cause) }
+        requires no_abort { cause ≢ Aborted }
+        requires no_timeout { cause ≢ Timeout }
         requires room { length self.old.log < self.old.setup.log }
-        ensures { self.new ≡ with_entry self.old (Left ticket NoServer) }
+        ensures { self.new ≡ with_entry self.old (Left ticket cause) }
     {
         let Some(place) = self.ledger.find(ticket) else {
             unreachable!()
         };
-        self.ledger.tell(place, Cause::NoServer);
-        self.log.note(Entry::Left(ticket, Cause::NoServer));
+        self.ledger.tell(place, cause);
+        self.log.note(Entry::Left(ticket, cause));
     }
 
     /// The ticket's slot is given back.
@@ -266,7 +323,7 @@ impl<Q: PendQueue<Key, ()>> Trace<Q> {
     /// Grants a slot where one is free and a request waits that it may go to. Answers whether it
     /// did; where it didn't, all is settled. `O(n)` in the servers beside the queue's own cost.
     pub(crate) fn grant(&mut self) -> bool
-        requires between { stage_of self.old ≡ granting }
+        requires may_grant { MayGrantNext self.old }
         requires room { length self.old.log + waiting_of self.old ≤ self.old.setup.log }
         ensures granted { OnTrue result (IsGrant self.old self.new) }
         ensures settled { OnFalse result (IsSettled (scene_of self.old)) }
@@ -281,14 +338,17 @@ impl<Q: PendQueue<Key, ()>> Trace<Q> {
         let Some(node) = self.queues.pop(queue) else {
             unreachable!()
         };
-        let ticket = Q::pair(&node).0.ticket;
+        let Key { class, due, ticket } = *Q::pair(&node).0;
         let Some(place) = self.ledger.find(ticket) else {
             unreachable!()
         };
         self.ledger.loosen(place, node);
         self.ledger.serve(place, server);
+        self.stays.remove(place);
         self.cursor = cursor;
-        self.log.note(Entry::Granted(ticket, queue, server));
+        let joined = self.joinings[place];
+        self.log
+            .note_grant(ticket, queue, server, class, due, joined);
         true
     }
 
@@ -314,6 +374,8 @@ impl<Q: PendQueue<Key, ()>> Trace<Q> {
         let servers = setup.servers.len();
         let log = Log::with_room(alloc, setup.log)?;
         let queues = Queues::new(alloc, servers, setup.places)?;
+        let joinings = vec![in alloc; 0; setup.places]?;
+        let stays = StayOrder::with_room(alloc, setup.places)?;
         let ledger = Ledger::new(alloc, setup)?;
         Ok(Trace {
             log,
@@ -322,6 +384,8 @@ impl<Q: PendQueue<Key, ()>> Trace<Q> {
             cursor: Cursor::new(servers),
             last: Moment::zero(),
             ticket: 0,
+            joinings,
+            stays,
         })
     }
 }

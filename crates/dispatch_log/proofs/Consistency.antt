@@ -5,17 +5,17 @@ use Rattle.std.proofs.Math.ListN.{set}
 use Rattle.std.proofs.lemmas.Option.{same_Some}
 use Rattle.dispatch_log.specs.declared.row.Phase.TheVariants.{Loose}
 use Rattle.dispatch_log.specs.declared.row.Row.{Row}
-use Rattle.dispatch_log.specs.Judgement.{Stage, placing, returning, ending, granting}
+use Rattle.dispatch_log.specs.Judgement.{Stage, placing, ending, leaving}
 use Rattle.dispatch_log.specs.Rows.{Rows, StandsAt, IsVacant}
-use Rattle.dispatch_log.proofs.Places.{get-set_same, get-set_cases}
+use Rattle.dispatch_log.proofs.Places.{get-set_same, get-set_other, get-set_cases}
 use Rattle.dispatch_log.proofs.RowLemmas.{HaveOwnTickets}
 
 -- the ticket whose row is in no place at a stage
 abbrev pub loose_ticket : Stage → Option ℕ
 loose_ticket (placing ticket) = Some ticket
-loose_ticket (returning ticket) = None
 loose_ticket (ending ticket) = Some ticket
-loose_ticket granting = None
+loose_ticket (leaving ticket server) = Some ticket
+loose_ticket stage = None
 
 -- a ticket's row is in no place
 pub record IsLoose (rows : Rows) (ticket : ℕ) : Type 0 where
@@ -63,70 +63,82 @@ write rows last old new p r cell is stands named loose owed = record {
 none_some : {A : Type 0} {x : A} {P : Type 0} → None ≡ Some x → P
 none_some e = cc
 
--- the row that was in no place gets one
-pub placed : (rows : Rows) (last t p : ℕ) (r s : Row) → IsConsistent rows last (placing t) → StandsAt rows p r → r.key.ticket ≡ t → s.key.ticket ≡ r.key.ticket → s.phase ≢ Loose → IsConsistent (set rows p (Some s)) last granting
-placed rows last t p r s is stands named same firm =
-    write rows last (placing t) granting p r (Some s) is stands (λ u e. ap (λ (x : Row). x.key.ticket) (sym (same_Some s u e)) ∙ same)
-    (λ k u there loose.
-    elim (get-set_cases rows p k (Some r) (Some s) (Some u) stands there) [
-      | inl e ↦ absurd (firm (ap (λ (x : Row). x.phase) (same_Some s u e.1) ∙ loose))
-      | inr e ↦ absurd (e.0 (is.tickets.own k p u r e.1 stands (sym (same_Some t u.key.ticket (is.loose k u e.1 loose)) ∙ sym named)))
-    ])
-    (λ t e. none_some e)
+-- where the same ticket, or none, is in no place at both stages
+pub at_stage : (rows : Rows) (last : ℕ) (old new : Stage) → IsConsistent rows last old → loose_ticket old ≡ loose_ticket new → IsConsistent rows last new
+at_stage rows last old new is same = record {
+  tickets = is.tickets;
+  below = is.below;
+  loose = λ p r a e. sym same ∙ is.loose p r a e;
+  owed = λ t e. is.owed t (same ∙ e);
+}
 
--- a row moves on, none is in no place
-pub moved : (rows : Rows) (last p : ℕ) (r s : Row) → IsConsistent rows last granting → StandsAt rows p r → s.key.ticket ≡ r.key.ticket → s.phase ≢ Loose → IsConsistent (set rows p (Some s)) last granting
-moved rows last p r s is stands same firm =
-    write rows last granting granting p r (Some s) is stands (λ u e. ap (λ (x : Row). x.key.ticket) (sym (same_Some s u e)) ∙ same)
+-- the row that was in no place gets one
+pub placed : (rows : Rows) (last t p : ℕ) (old new : Stage) (r s : Row) → IsConsistent rows last old → loose_ticket old ≡ Some t → loose_ticket new ≡ None → StandsAt rows p r → r.key.ticket ≡ t → s.key.ticket ≡ r.key.ticket → s.phase ≢ Loose → IsConsistent (set rows p (Some s)) last new
+placed rows last t p old new r s is one none stands named same firm =
+    write rows last old new p r (Some s) is stands (λ u e. ap (λ (x : Row). x.key.ticket) (sym (same_Some s u e)) ∙ same)
     (λ k u there loose.
     elim (get-set_cases rows p k (Some r) (Some s) (Some u) stands there) [
       | inl e ↦ absurd (firm (ap (λ (x : Row). x.phase) (same_Some s u e.1) ∙ loose))
-      | inr e ↦ none_some (is.loose k u e.1 loose)
+      | inr e ↦ absurd (e.0 (is.tickets.own k p u r e.1 stands (same_Some u.key.ticket t (sym (is.loose k u e.1 loose) ∙ one) ∙ sym named)))
     ])
-    (λ t e. none_some e)
+    (λ t e. none_some (sym none ∙ e))
+
+-- a row that has a place changes and keeps one
+pub moved : (rows : Rows) (last p : ℕ) (old new : Stage) (r s : Row) → IsConsistent rows last old → loose_ticket old ≡ loose_ticket new → StandsAt rows p r → s.key.ticket ≡ r.key.ticket → r.phase ≢ Loose → s.phase ≢ Loose → IsConsistent (set rows p (Some s)) last new
+moved rows last p old new r s is stay stands same was firm =
+    write rows last old new p r (Some s) is stands (λ u e. ap (λ (x : Row). x.key.ticket) (sym (same_Some s u e)) ∙ same)
+    (λ k u there loose.
+    elim (get-set_cases rows p k (Some r) (Some s) (Some u) stands there) [
+      | inl e ↦ absurd (firm (ap (λ (x : Row). x.phase) (same_Some s u e.1) ∙ loose))
+      | inr e ↦ sym stay ∙ is.loose k u e.1 loose
+    ])
+    (λ t e.
+    let it = is.owed t (stay ∙ e) in
+    let other : it.place ≢ p = λ here. was (ap (λ (x : Row). x.phase) (same_Some r it.row (same_Some (Some r) (Some it.row) (sym stands ∙ subst (λ k. StandsAt rows k it.row) here it.stands))) ∙ it.loose) in
+    record { row = it.row; place = it.place; stands = get-set_other rows p it.place (Some s) other ∙ it.stands; named = it.named; loose = it.loose })
 
 -- a row loses its slot
-pub loosened : (rows : Rows) (last t p : ℕ) (r s : Row) → IsConsistent rows last (returning t) → StandsAt rows p r → r.key.ticket ≡ t → s.key.ticket ≡ r.key.ticket → s.phase ≡ Loose → IsConsistent (set rows p (Some s)) last (ending t)
-loosened rows last t p r s is stands named same loose =
-    write rows last (returning t) (ending t) p r (Some s) is stands (λ u e. ap (λ (x : Row). x.key.ticket) (sym (same_Some s u e)) ∙ same)
+pub loosened : (rows : Rows) (last t p : ℕ) (old new : Stage) (r s : Row) → IsConsistent rows last old → loose_ticket old ≡ None → loose_ticket new ≡ Some t → StandsAt rows p r → r.key.ticket ≡ t → s.key.ticket ≡ r.key.ticket → s.phase ≡ Loose → IsConsistent (set rows p (Some s)) last new
+loosened rows last t p old new r s is none one stands named same loose =
+    write rows last old new p r (Some s) is stands (λ u e. ap (λ (x : Row). x.key.ticket) (sym (same_Some s u e)) ∙ same)
     (λ k u there free.
     elim (get-set_cases rows p k (Some r) (Some s) (Some u) stands there) [
-      | inl e ↦ ap Some (sym named ∙ sym same ∙ ap (λ (x : Row). x.key.ticket) (same_Some s u e.1))
-      | inr e ↦ none_some (is.loose k u e.1 free)
+      | inl e ↦ one ∙ ap Some (sym named ∙ sym same ∙ ap (λ (x : Row). x.key.ticket) (same_Some s u e.1))
+      | inr e ↦ none_some (sym none ∙ is.loose k u e.1 free)
     ])
     (λ other e. record {
       row = s;
       place = p;
       stands = get-set_same rows p (Some r) (Some s) stands;
-      named = same ∙ named ∙ same_Some t other e;
+      named = same ∙ named ∙ same_Some t other (sym one ∙ e);
       loose = loose;
     })
 
 -- a row that is in no place goes
-pub removed : (rows : Rows) (last t p : ℕ) (r : Row) → IsConsistent rows last (ending t) → StandsAt rows p r → r.key.ticket ≡ t → IsConsistent (set rows p None) last granting
-removed rows last t p r is stands named =
-    write rows last (ending t) granting p r None is stands (λ u e. none_some e)
+pub removed : (rows : Rows) (last t p : ℕ) (old new : Stage) (r : Row) → IsConsistent rows last old → loose_ticket old ≡ Some t → loose_ticket new ≡ None → StandsAt rows p r → r.key.ticket ≡ t → IsConsistent (set rows p None) last new
+removed rows last t p old new r is one none stands named =
+    write rows last old new p r None is stands (λ u e. none_some e)
     (λ k u there loose.
     elim (get-set_cases rows p k (Some r) None (Some u) stands there) [
       | inl e ↦ none_some e.1
-      | inr e ↦ absurd (e.0 (is.tickets.own k p u r e.1 stands (sym (same_Some t u.key.ticket (is.loose k u e.1 loose)) ∙ sym named)))
+      | inr e ↦ absurd (e.0 (is.tickets.own k p u r e.1 stands (same_Some u.key.ticket t (sym (is.loose k u e.1 loose) ∙ one) ∙ sym named)))
     ])
-    (λ t e. none_some e)
+    (λ t e. none_some (sym none ∙ e))
 
 -- a row that is told goes
-pub dismissed : (rows : Rows) (last t p : ℕ) (r : Row) → IsConsistent rows last (returning t) → StandsAt rows p r → IsConsistent (set rows p None) last granting
-dismissed rows last t p r is stands =
-    write rows last (returning t) granting p r None is stands (λ u e. none_some e)
+pub dismissed : (rows : Rows) (last p : ℕ) (old new : Stage) (r : Row) → IsConsistent rows last old → loose_ticket old ≡ None → loose_ticket new ≡ None → StandsAt rows p r → IsConsistent (set rows p None) last new
+dismissed rows last p old new r is free none stands =
+    write rows last old new p r None is stands (λ u e. none_some e)
     (λ k u there loose.
     elim (get-set_cases rows p k (Some r) None (Some u) stands there) [
       | inl e ↦ none_some e.1
-      | inr e ↦ none_some (is.loose k u e.1 loose)
+      | inr e ↦ none_some (sym free ∙ is.loose k u e.1 loose)
     ])
-    (λ t e. none_some e)
+    (λ t e. none_some (sym none ∙ e))
 
 -- a row comes under the next ticket
-pub admitted : (rows : Rows) (last p : ℕ) (s : Row) → IsConsistent rows last granting → IsVacant rows p → s.key.ticket ≡ last + 1 → s.phase ≡ Loose → IsConsistent (set rows p (Some s)) s.key.ticket (placing s.key.ticket)
-admitted rows last p s is vacant next loose = record {
+pub admitted : (rows : Rows) (last p : ℕ) (old : Stage) (s : Row) → IsConsistent rows last old → loose_ticket old ≡ None → IsVacant rows p → s.key.ticket ≡ last + 1 → s.phase ≡ Loose → IsConsistent (set rows p (Some s)) s.key.ticket (placing s.key.ticket)
+admitted rows last p old s is none vacant next loose = record {
   tickets = record {
     own = λ k l u v a b e.
         elim (get-set_cases rows p k None (Some s) (Some u) vacant a) [
@@ -148,7 +160,7 @@ admitted rows last p s is vacant next loose = record {
   loose = λ k u a free.
       elim (get-set_cases rows p k None (Some s) (Some u) vacant a) [
         | inl x ↦ ap (λ (w : Row). Some w.key.ticket) (same_Some s u x.1)
-        | inr x ↦ none_some (is.loose k u x.1 free)
+        | inr x ↦ none_some (sym none ∙ is.loose k u x.1 free)
       ];
   owed = λ t e. record { row = s; place = p; stands = get-set_same rows p None (Some s) vacant; named = same_Some s.key.ticket t e; loose = loose };
 }

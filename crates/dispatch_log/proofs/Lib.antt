@@ -1,6 +1,11 @@
 pub mod Places
 pub mod RowLemmas
+pub mod Accepted
 pub mod Consistency
 pub mod Judged
 pub mod Dispatched
+pub mod Runs
 pub mod WrongLogs
+pub mod FourPlaces
+pub mod WrongChanges
+pub mod RightLogs

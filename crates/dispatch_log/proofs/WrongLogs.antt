@@ -37,14 +37,14 @@ not_least (suc (suc (suc (suc p)))) row stands named least = let e : None ≡ So
 
 pub not_first_come : IsLegal (worked first_come_first_served) → ⊥
 not_first_come legal =
-    let grant = legal.judged.1.1.1.1.1.1.1.1.1.0 in
+    let grant = legal.judged.1.1.1.1.1.1.1.1.1.0.1 in
     not_least grant.live.0 grant.row grant.live.1 grant.named (grant.least row_3 (2, refl) refl)
 
 pub not_idle : IsLegal (worked idle_slot) → ⊥
 not_idle legal = legal.settled 0 (refl, (_, (1, refl), refl))
 
 pub not_above_limit : IsLegal (worked grant_above_the_limit) → ⊥
-not_above_limit legal = let free = legal.judged.1.1.1.1.1.1.0.next.takes.0 in cc
+not_above_limit legal = let free = legal.judged.1.1.1.1.1.1.0.1.next.takes.0 in cc
 
 pub not_without_offset : IsLegal (worked due_date_of_no_offset) → ⊥
 not_without_offset legal =
@@ -54,7 +54,7 @@ not_without_offset legal =
     absurd (omega (arith, ints))
 
 pub not_without_end : IsLegal (worked end_is_missing) → ⊥
-not_without_end legal = legal.judged.1.1.1.1.1.1.1.1.0
+not_without_end legal = legal.judged.1.1.1.1.1.1.1.1.0.0
 
 pub not_twice : IsLegal (worked ticket_twice) → ⊥
 not_twice legal = let next : 1 ≡ 1 + 1 = legal.judged.1.1.0.1.numbered in absurd (omega arith)

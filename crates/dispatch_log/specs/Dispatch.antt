@@ -2,7 +2,7 @@
 use Rattle.std.specs.Prelude.{◌≡◌, ℕ, ◌+◌, ◌<◌, ◌≤◌, nat_le, ◌==◌, ◌&&◌, Bool, true, false, List, IsTrue, count_by, slice_get, if◌then◌else◌}
 use Rattle.std.specs.Option.{option_map_or}
 use Rattle.dispatch_log.specs.declared.entry.Entry.{Entry}
-use Rattle.dispatch_log.specs.declared.entry.Entry.TheVariants.{Arrive, Done, Direct, Joined, Granted, Freed, Left, Ended}
+use Rattle.dispatch_log.specs.declared.entry.Entry.TheVariants.{Arrive, Ended}
 use Rattle.dispatch_log.specs.declared.row.Phase.{Phase}
 use Rattle.dispatch_log.specs.declared.row.Phase.TheVariants.{Loose, Waiting, Serving, Told}
 use Rattle.dispatch_log.specs.declared.row.Row.{Row}
@@ -22,23 +22,11 @@ KeepsLimits setup rows = (server : ℕ) → 0 < bound_of setup server → served
 
 abbrev pub is_arrival_of : ℕ → Entry → Bool
 is_arrival_of ticket (Arrive moment arrival) = arrival.ticket == ticket
-is_arrival_of ticket (Done moment other) = false
-is_arrival_of ticket (Direct other server) = false
-is_arrival_of ticket (Joined other queue) = false
-is_arrival_of ticket (Granted other queue server) = false
-is_arrival_of ticket (Freed other server) = false
-is_arrival_of ticket (Left other cause) = false
-is_arrival_of ticket (Ended other) = false
+is_arrival_of ticket entry = false
 
 abbrev pub is_end_of : ℕ → Entry → Bool
 is_end_of ticket (Ended other) = other == ticket
-is_end_of ticket (Arrive moment arrival) = false
-is_end_of ticket (Done moment other) = false
-is_end_of ticket (Direct other server) = false
-is_end_of ticket (Joined other queue) = false
-is_end_of ticket (Granted other queue server) = false
-is_end_of ticket (Freed other server) = false
-is_end_of ticket (Left other cause) = false
+is_end_of ticket entry = false
 
 -- how often a ticket arrives and ends in a log
 abbrev pub arrivals_of : ℕ → List Entry → ℕ

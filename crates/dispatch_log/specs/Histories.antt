@@ -1,12 +1,14 @@
 -- Dispatchers, as contracts see them: what one was made for, and its log.
 use Rattle.std.specs.Prelude.{◌≡◌, ◌⊎◌, ℕ, max, Bool, true, false, List, ◌∷◌, ◌++◌, Option, None, Some, All, length}
 use Rattle.dispatch_log.specs.declared.entry.Entry.{Entry}
-use Rattle.dispatch_log.specs.declared.entry.Entry.TheVariants.{Arrive, Done, Direct, Joined, Granted, Freed, Left, Ended}
+use Rattle.dispatch_log.specs.declared.entry.Entry.TheVariants.{Arrive, Done, Fail, Abort, Tick, Check}
 use Rattle.dispatch_log.specs.declared.refusal.Refusal.{Refusal}
 use Rattle.dispatch_log.specs.declared.refusal.Refusal.TheVariants.{NoMemory}
+use Rattle.dispatch_log.specs.declared.row.Row.{Row}
 use Rattle.dispatch_log.specs.declared.setup.Setup.{Setup}
-use Rattle.dispatch_log.specs.Judgement.{IsLegalFrom}
-use Rattle.dispatch_log.specs.Refusals.{arrival_refusal, done_refusal}
+use Rattle.dispatch_log.specs.Judgement.{has_expired, IsLegalFrom}
+use Rattle.dispatch_log.specs.Refusals.{arrival_refusal, done_refusal, failure_refusal, abort_refusal, tick_refusal, check_refusal}
+use Rattle.dispatch_log.specs.Rows.{IsRow}
 use Rattle.dispatch_log.specs.States.{State, opening_state, after_all}
 
 -- a dispatcher's setup and its log
@@ -26,22 +28,38 @@ IsLegal history = IsLegalFrom history.setup (opening_state history.setup) histor
 abbrev pub effective : History → ℕ → ℕ
 effective history moment = max (state_of history).moment moment
 
--- what refuses an arrival with a pin, or the return of a ticket's slot, now
+-- at a moment, some request has waited as long as requests may
+abbrev pub SomeExpires : History → ℕ → Type 0
+SomeExpires history moment = (row : Row) × IsRow (state_of history).rows row × has_expired history.setup (effective history moment) row.phase
+
+-- what refuses an arrival with a pin, or the return of a ticket's slot, its failure, its abort, a tick, or a check of a
+-- server, now
 abbrev pub refuses_arrival : History → Option ℕ → Option Refusal
 refuses_arrival history pin = arrival_refusal history.setup (state_of history) (length history.log) pin
 
 abbrev pub refuses_done : History → ℕ → Option Refusal
 refuses_done history ticket = done_refusal history.setup (state_of history) (length history.log) ticket
 
+abbrev pub refuses_failure : History → ℕ → Option Refusal
+refuses_failure history ticket = failure_refusal history.setup (state_of history) (length history.log) ticket
+
+abbrev pub refuses_abort : History → ℕ → Option Refusal
+refuses_abort history ticket = abort_refusal history.setup (state_of history) (length history.log) ticket
+
+abbrev pub refuses_tick : History → Option Refusal
+refuses_tick history = tick_refusal history.setup (length history.log)
+
+abbrev pub refuses_check : History → ℕ → Option Refusal
+refuses_check history server = check_refusal history.setup (length history.log) server
+
 abbrev pub begins_event : Entry → Bool
 begins_event (Arrive moment arrival) = true
 begins_event (Done moment ticket) = true
-begins_event (Direct ticket server) = false
-begins_event (Joined ticket queue) = false
-begins_event (Granted ticket queue server) = false
-begins_event (Freed ticket server) = false
-begins_event (Left ticket cause) = false
-begins_event (Ended ticket) = false
+begins_event (Fail moment ticket) = true
+begins_event (Abort moment ticket) = true
+begins_event (Tick moment) = true
+begins_event (Check moment server ok) = true
+begins_event entry = false
 
 -- the log goes on with one event, and stays legal
 pub record AddsEvent (old new : History) (event : Entry) : Type 0 where

@@ -1,18 +1,27 @@
 -- Legal logs, judged entry by entry.
-use Rattle.std.specs.Prelude.{◌≡◌, ℕ, ◌+◌, ◌≤◌, ℤ, pos, ◌+ℤ◌, Bool, IsTrue, List, [], ◌∷◌, Option, None}
+use Rattle.std.specs.Prelude.{◌≡◌, ◌≢◌, ℕ, ◌+◌, ◌<◌, ◌≤◌, ℤ, pos, ◌+ℤ◌, Bool, true, false, IsTrue, List, [], ◌∷◌, Option, None, Some, slice_get}
+use Rattle.std.specs.Option.{option_map_or}
+use Rattle.std.specs.declared.cmp.Ordering.TheVariants.{Greater}
+use Rattle.due_key.specs.Order.{key_cmp}
 use Rattle.due_key.specs.Range.{IsBetween}
 use Rattle.due_key.specs.declared.offset.TheConstants.{LOWEST_OFFSET, HIGHEST_OFFSET}
 use Rattle.dispatch_log.specs.declared.entry.Arrival.{Arrival}
 use Rattle.dispatch_log.specs.declared.entry.Entry.{Entry}
-use Rattle.dispatch_log.specs.declared.entry.Entry.TheVariants.{Arrive, Done, Direct, Joined, Granted, Freed, Left, Ended}
-use Rattle.verdict.specs.declared.cause.Cause.TheVariants.{NoServer}
+use Rattle.dispatch_log.specs.declared.entry.Entry.TheVariants.{Arrive, Done, Fail, Abort, Tick, Check, Direct, Joined, Granted, Moved, Freed, Retried, Left, Health, Ended}
+use Rattle.verdict.specs.declared.cause.Cause.TheVariants.{Aborted, Timeout, Retries, NoServer}
+use Rattle.dispatch_log.specs.declared.queue.Queue.{Queue}
+use Rattle.dispatch_log.specs.declared.queue.Queue.TheVariants.{Server}
 use Rattle.dispatch_log.specs.declared.row.Phase.{Phase}
+use Rattle.dispatch_log.specs.declared.row.Phase.TheVariants.{Loose, Waiting, Serving, Told}
 use Rattle.dispatch_log.specs.declared.row.Row.{Row}
 use Rattle.dispatch_log.specs.declared.setup.Setup.{Setup}
 use Rattle.dispatch_log.specs.declared.refusal.Refusal.{Refusal}
-use Rattle.dispatch_log.specs.Refusals.{arrival_refusal, done_refusal}
-use Rattle.dispatch_log.specs.Rows.{Rows, IsRow, IsVacant, phase_is_served_by, phase_is_told, pin_of}
+use Rattle.dispatch_log.specs.Health.{is_up_by, results_of, without_last}
+use Rattle.dispatch_log.specs.Refusals.{arrival_refusal, done_refusal, failure_refusal, abort_refusal, tick_refusal, check_refusal, is_waiting}
+use Rattle.dispatch_log.specs.Retries.{are_spent, are_redispatched, are_retried}
+use Rattle.dispatch_log.specs.Rows.{Rows, IsRow, IsVacant, phase_is_served_by, phase_is_told, phase_waits_in, pin_of, failures_of}
 use Rattle.dispatch_log.specs.States.{State, scene, after, after_all}
+use Rattle.dispatch_log.specs.Words.{Scene, is_up}
 use Rattle.dispatch_log.specs.Placement.{IsDirect, IsJoining, IsTurnedAway}
 use Rattle.dispatch_log.specs.Grants.{IsSettled, IsLawfulGrant}
 
@@ -40,47 +49,133 @@ pub record IsNewcomer (state : State) (moment : ℕ) (arrival : Arrival) : Type 
   pub vacant : IsVacant state.rows arrival.place
   pub due : IsDueFrom moment arrival.due
 
--- an event may begin: all is settled, nothing refuses the call, and moments never fall
-pub record MayBegin (setup : Setup) (state : State) (moment : ℕ) (refused : Option Refusal) : Type 0 where
-  pub settled : IsSettled (scene setup state)
-  pub accepted : refused ≡ None
-  pub later : state.moment ≤ moment
+-- expired: a request waits since a moment that lies as far back as requests may wait
+abbrev pub has_expired : Setup → ℕ → Phase → Type 0
+has_expired setup now (Waiting queue since) = (0 < setup.queue_timeout) × (since + setup.queue_timeout ≤ now)
+has_expired setup now Loose = ⊥
+has_expired setup now (Serving server) = ⊥
+has_expired setup now (Told cause) = ⊥
+
+abbrev pub IsExpired : Setup → State → Row → Type 0
+IsExpired setup state row = IsRow state.rows row × has_expired setup state.moment row.phase
+
+-- the expired request with the lowest ticket
+pub record IsFirstExpired (setup : Setup) (state : State) (ticket : ℕ) : Type 0 where
+  pub row : Row
+  pub expired : IsExpired setup state row
+  pub named : row.key.ticket ≡ ticket
+  pub first : (other : Row) → IsExpired setup state other → ticket ≤ other.key.ticket
+
+-- the request with the least key of those that wait in a queue
+pub record IsFirstIn (queue : Queue) (rows : Rows) (ticket : ℕ) : Type 0 where
+  pub row : Row
+  pub live : IsRow rows row
+  pub named : row.key.ticket ≡ ticket
+  pub waits : IsTrue (phase_waits_in queue row.phase)
+  pub least : (other : Row) → IsRow rows other → IsTrue (phase_waits_in queue other.phase) → key_cmp row.key other.key ≢ Greater
+
+-- whether a server was up before the last result of its checks
+abbrev pub was_up : Setup → State → ℕ → Bool
+was_up setup state server = option_map_or (λ it. is_up_by it.rise_fall (without_last (results_of state.results server))) (slice_get setup.servers server) false
 
 -- what comes next in an event: the placement of a request that is in no place; what the return of a ticket's slot opens
--- with; its end; or grants, as long as one is lawful, and then another event
+-- with; its end; what the failure of a ticket's connection opens with, and where its slot at a server was given back what
+-- becomes of it; what an abort opens with; the requests that expired, one by one; whether a check changed a server's
+-- health, and where it went down the requests of its queue, one by one; or grants, as long as one is lawful, and then
+-- another event
 pub data Stage : Type 0 where
   placing : ℕ → Stage
   returning : ℕ → Stage
   ending : ℕ → Stage
+  failing : ℕ → Stage
+  leaving : ℕ → ℕ → Stage
+  aborting : ℕ → Stage
+  telling : Stage
+  checking : ℕ → Stage
+  falling : ℕ → Stage
   granting : Stage
+
+-- an event owes nothing any more but grants: no expired request, no word of a change of health, no request in the
+-- queue of a server that went down where they are moved
+abbrev pub IsOver : Setup → State → Stage → Type 0
+IsOver setup state granting = Unit {0}
+IsOver setup state telling = (row : Row) → IsExpired setup state row → ⊥
+IsOver setup state (checking server) = was_up setup state server ≡ is_up (scene setup state) server
+IsOver setup state (falling server) =
+    IsTrue setup.redispatch → (row : Row) → IsRow state.rows row → IsTrue (phase_waits_in (Server server) row.phase) → ⊥
+IsOver setup state stage = ⊥
+
+-- grants may come: the event owes nothing else, or a request is redispatched, whose slot goes to another one first
+abbrev pub MayGrant : Setup → State → Stage → Type 0
+MayGrant setup state (leaving leaver server) = IsTrue (are_redispatched setup (failures_of leaver state.rows))
+MayGrant setup state stage = IsOver setup state stage
+
+-- an event may begin: the one before is over, all is settled, nothing refuses the call, and moments never fall
+pub record MayBegin (setup : Setup) (state : State) (stage : Stage) (moment : ℕ) (refused : Option Refusal) : Type 0 where
+  pub over : IsOver setup state stage
+  pub settled : IsSettled (scene setup state)
+  pub accepted : refused ≡ None
+  pub later : state.moment ≤ moment
+
+-- a request in no place takes a slot, joins a queue, or is told that no server is usable
+abbrev pub IsPut : Scene → ℕ → Option ℕ → Option ℕ → ℕ → Entry → Type 0
+IsPut scene cursor pin avoid newcomer (Direct ticket server) = (ticket ≡ newcomer) × IsDirect scene cursor pin avoid server
+IsPut scene cursor pin avoid newcomer (Joined ticket queue) = (ticket ≡ newcomer) × IsJoining scene cursor pin avoid queue
+IsPut scene cursor pin avoid newcomer (Left ticket NoServer) = (ticket ≡ newcomer) × IsTurnedAway scene pin
+IsPut scene cursor pin avoid newcomer entry = ⊥
+
+-- a redispatched request is put anew once all is settled, and away from the server that failed where it can be
+pub record IsPutAnew (setup : Setup) (state : State) (leaver server : ℕ) (entry : Entry) : Type 0 where
+  pub redispatched : IsTrue (are_redispatched setup (failures_of leaver state.rows))
+  pub settled : IsSettled (scene setup state)
+  pub put : IsPut (scene setup state) state.cursor None (Some server) leaver entry
 
 -- an entry may come at a stage, in a state that so many entries left
 abbrev pub MayCome : Setup → State → ℕ → Stage → Entry → Type 0
-MayCome setup state used granting (Arrive moment arrival) =
-    MayBegin setup state moment (arrival_refusal setup state used arrival.pin) × IsNewcomer state moment arrival
-MayCome setup state used granting (Done moment ticket) = MayBegin setup state moment (done_refusal setup state used ticket)
-MayCome setup state used granting (Granted ticket queue server) = IsLawfulGrant (scene setup state) state.cursor ticket queue server
-MayCome setup state used (placing newcomer) (Direct ticket server) =
-    (ticket ≡ newcomer) × IsDirect (scene setup state) state.cursor (pin_of ticket state.rows) None server
-MayCome setup state used (placing newcomer) (Joined ticket queue) =
-    (ticket ≡ newcomer) × IsJoining (scene setup state) state.cursor (pin_of ticket state.rows) None queue
-MayCome setup state used (placing newcomer) (Left ticket NoServer) =
-    (ticket ≡ newcomer) × IsTurnedAway (scene setup state) (pin_of ticket state.rows)
+MayCome setup state used stage (Arrive moment arrival) =
+    MayBegin setup state stage moment (arrival_refusal setup state used arrival.pin) × IsNewcomer state moment arrival
+MayCome setup state used stage (Done moment ticket) = MayBegin setup state stage moment (done_refusal setup state used ticket)
+MayCome setup state used stage (Fail moment ticket) = MayBegin setup state stage moment (failure_refusal setup state used ticket)
+MayCome setup state used stage (Abort moment ticket) = MayBegin setup state stage moment (abort_refusal setup state used ticket)
+MayCome setup state used stage (Tick moment) = MayBegin setup state stage moment (tick_refusal setup used)
+MayCome setup state used stage (Check moment server ok) = MayBegin setup state stage moment (check_refusal setup used server)
+MayCome setup state used stage (Granted ticket queue server) =
+    MayGrant setup state stage × IsLawfulGrant (scene setup state) state.cursor ticket queue server
+MayCome setup state used (placing newcomer) entry = IsPut (scene setup state) state.cursor (pin_of newcomer state.rows) None newcomer entry
 MayCome setup state used (returning leaver) (Freed ticket server) = (ticket ≡ leaver) × HasSlot state.rows ticket server
 MayCome setup state used (returning leaver) (Ended ticket) = (ticket ≡ leaver) × IsTold state.rows ticket
 MayCome setup state used (ending leaver) (Ended ticket) = ticket ≡ leaver
+MayCome setup state used (failing leaver) (Retried ticket server failures) =
+    (ticket ≡ leaver) × HasSlot state.rows ticket server × (failures_of ticket state.rows ≡ failures) × IsTrue (are_retried setup failures)
+MayCome setup state used (failing leaver) (Freed ticket server) =
+    (ticket ≡ leaver) × HasSlot state.rows ticket server × (IsTrue (are_retried setup (failures_of ticket state.rows)) → ⊥)
+MayCome setup state used (leaving leaver server) (Left ticket Retries) =
+    (ticket ≡ leaver) × IsTrue (are_spent setup (failures_of ticket state.rows))
+MayCome setup state used (leaving leaver server) entry = IsPutAnew setup state leaver server entry
+MayCome setup state used (aborting leaver) (Left ticket Aborted) = (ticket ≡ leaver) × IsInPhase is_waiting state.rows ticket
+MayCome setup state used telling (Left ticket Timeout) = IsFirstExpired setup state ticket
+MayCome setup state used (checking checked) (Health server up) =
+    (server ≡ checked) × (is_up (scene setup state) server ≡ up) × (was_up setup state server ≢ up)
+MayCome setup state used (falling fallen) (Moved ticket server) =
+    (server ≡ fallen) × IsTrue setup.redispatch × IsFirstIn (Server server) state.rows ticket
 MayCome setup state used stage entry = ⊥
 
 -- the stage after an entry
 abbrev pub next_stage : Stage → Entry → Stage
 next_stage stage (Arrive moment arrival) = placing arrival.ticket
 next_stage stage (Done moment ticket) = returning ticket
+next_stage stage (Fail moment ticket) = failing ticket
+next_stage stage (Abort moment ticket) = aborting ticket
+next_stage stage (Tick moment) = telling
+next_stage stage (Check moment server ok) = checking server
+next_stage (failing leaver) (Freed ticket server) = leaving ticket server
 next_stage stage (Freed ticket server) = ending ticket
-next_stage stage (Direct ticket server) = granting
-next_stage stage (Joined ticket queue) = granting
-next_stage stage (Granted ticket queue server) = granting
-next_stage stage (Left ticket cause) = granting
-next_stage stage (Ended ticket) = granting
+next_stage (leaving leaver server) (Granted ticket queue taker) = leaving leaver server
+next_stage telling (Left ticket cause) = telling
+next_stage stage (Health server true) = granting
+next_stage stage (Health server false) = falling server
+next_stage stage (Moved ticket server) = falling server
+next_stage stage entry = granting
 
 abbrev pub stage_after : Stage → List Entry → Stage
 stage_after stage [] = stage
@@ -92,9 +187,8 @@ AllMayCome setup state used stage [] = Unit {0}
 AllMayCome setup state used stage (entry ∷ entries) =
     MayCome setup state used stage entry × AllMayCome setup (after setup state entry) (used + 1) (next_stage stage entry) entries
 
--- legal log, from a base state on: each entry may come where it stands, the last event is whole,
--- and all is settled
+-- legal log, from a base state on: each entry may come where it stands, the last event is over, and all is settled
 pub record IsLegalFrom (setup : Setup) (base : State) (log : List Entry) : Type 0 where
   pub judged : AllMayCome setup base 0 granting log
-  pub whole : stage_after granting log ≡ granting
+  pub whole : IsOver setup (after_all setup base log) (stage_after granting log)
   pub settled : IsSettled (scene setup (after_all setup base log))

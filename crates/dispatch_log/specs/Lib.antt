@@ -1,6 +1,8 @@
 pub mod Setups
 pub mod Rows
 pub mod Words
+pub mod Health
+pub mod Retries
 pub mod States
 pub mod Picks
 pub mod Placement
@@ -10,4 +12,7 @@ pub mod Judgement
 pub mod Logs
 pub mod Histories
 pub mod Dispatch
+pub mod Runs
 pub mod Worked
+pub mod WorkedChanges
+pub mod WorkedRight

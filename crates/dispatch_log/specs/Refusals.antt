@@ -1,5 +1,5 @@
 -- The refusals: the first that applies is the answer.
-use Rattle.std.specs.Prelude.{ℕ, ◌+◌, ◌-◌, ◌*◌, ◌^◌, nat_lt, nat_le, Bool, true, false, List, [], ◌∷◌, Option, None, Some, count_by, is_some, is_none, length, if◌then◌else◌}
+use Rattle.std.specs.Prelude.{ℕ, ◌+◌, ◌-◌, ◌*◌, ◌^◌, nat_lt, nat_le, Bool, true, false, List, [], ◌∷◌, Option, None, Some, count_by, is_some, is_none, not, length, slice_get, if◌then◌else◌}
 use Rattle.std.specs.Option.{option_map_or}
 use Rattle.dispatch_log.specs.declared.refusal.Refusal.{Refusal}
 use Rattle.dispatch_log.specs.declared.refusal.Refusal.TheVariants.{NoMemory, PlacesFull, LogFull, NoSuchTicket, WrongPhase, NoSuchServer, TicketsSpent}
@@ -36,11 +36,18 @@ is_full setup rows = nat_le setup.places (count_by is_some rows)
 abbrev pub tickets_are_spent : ℕ → Bool
 tickets_are_spent last = nat_le (2 ^ 40) (last + 1)
 
+-- a row waits, and a row has a slot
 abbrev pub is_waiting : Phase → Bool
 is_waiting (Waiting queue since) = true
 is_waiting Loose = false
 is_waiting (Serving server) = false
 is_waiting (Told cause) = false
+
+abbrev pub has_a_slot : Phase → Bool
+has_a_slot (Serving server) = true
+has_a_slot Loose = false
+has_a_slot (Waiting queue since) = false
+has_a_slot (Told cause) = false
 
 -- no server has the number of a pin
 abbrev pub pins_to_none : Setup → Option ℕ → Bool
@@ -52,8 +59,33 @@ abbrev pub arrival_refusal : Setup → State → ℕ → Option ℕ → Option R
 arrival_refusal setup state used pin =
     first_of ((lacks_room setup used, LogFull) ∷ (pins_to_none setup pin, NoSuchServer) ∷ (tickets_are_spent state.ticket, TicketsSpent) ∷ (is_full setup state.rows, PlacesFull) ∷ [])
 
+-- what refuses an event of a ticket, whose row may not be in a phase of this kind
+abbrev pub ticket_refusal : (Phase → Bool) → Setup → State → ℕ → ℕ → Option Refusal
+ticket_refusal wrong setup state used ticket =
+    let row = row_of ticket state.rows in
+    first_of ((lacks_room setup used, LogFull) ∷ (is_none row, NoSuchTicket) ∷ (option_map_or (λ it. wrong it.phase) row false, WrongPhase) ∷ [])
+
 -- what refuses the return of a ticket's slot: no such row, or it still waits
 abbrev pub done_refusal : Setup → State → ℕ → ℕ → Option Refusal
-done_refusal setup state used ticket =
-    let row = row_of ticket state.rows in
-    first_of ((lacks_room setup used, LogFull) ∷ (is_none row, NoSuchTicket) ∷ (option_map_or (λ it. is_waiting it.phase) row false, WrongPhase) ∷ [])
+done_refusal = ticket_refusal is_waiting
+
+-- a ticket's failure: no such row, or it has no slot
+abbrev pub failure_refusal : Setup → State → ℕ → ℕ → Option Refusal
+failure_refusal = ticket_refusal (λ phase. not (has_a_slot phase))
+
+-- a ticket's abort: no such row, or it doesn't wait
+abbrev pub abort_refusal : Setup → State → ℕ → ℕ → Option Refusal
+abort_refusal = ticket_refusal (λ phase. not (is_waiting phase))
+
+-- a tick: the log alone
+abbrev pub tick_refusal : Setup → ℕ → Option Refusal
+tick_refusal setup used = first_of ((lacks_room setup used, LogFull) ∷ [])
+
+-- whether a server is checked
+abbrev pub is_checked : Setup → ℕ → Bool
+is_checked setup server = option_map_or (λ it. is_some it.rise_fall) (slice_get setup.servers server) false
+
+-- a check: no such server, or it is never checked
+abbrev pub check_refusal : Setup → ℕ → ℕ → Option Refusal
+check_refusal setup used server =
+    first_of ((lacks_room setup used, LogFull) ∷ (nat_le (length setup.servers) server, NoSuchServer) ∷ (not (is_checked setup server), WrongPhase) ∷ [])

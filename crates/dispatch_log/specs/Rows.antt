@@ -1,6 +1,6 @@
 -- The live requests: a list of places, each empty or with a row.
 use Rattle.std.specs.Prelude.{◌≡◌, ℕ, ◌==◌, Bool, false, true, List, [], ◌∷◌, Option, None, Some, map, count_by, slice_get, if◌then◌else◌}
-use Rattle.std.specs.Option.{option_and_then}
+use Rattle.std.specs.Option.{option_and_then, option_map_or}
 use Rattle.dispatch_log.specs.declared.queue.Queue.{Queue}
 use Rattle.dispatch_log.specs.declared.queue.Queue.TheVariants.{Backend, Server}
 use Rattle.dispatch_log.specs.declared.row.Phase.{Phase}
@@ -91,6 +91,10 @@ changed ticket change rows = map (with_change ticket change) rows
 abbrev pub in_phase : Phase → Row → Option Row
 in_phase phase row = Some (record row { phase = phase })
 
+-- a row that was moved into the backend's queue: no server is its own any more
+abbrev pub in_backend_since : ℕ → Row → Option Row
+in_backend_since moment row = Some (record row { pin = None; phase = Waiting Backend moment })
+
 -- no row any more
 abbrev pub gone : Row → Option Row
 gone row = None
@@ -105,3 +109,7 @@ server_in (Told cause) = None
 -- the pin of a ticket's row
 abbrev pub pin_of : ℕ → Rows → Option ℕ
 pin_of ticket rows = option_and_then (λ row. row.pin) (row_of ticket rows)
+
+-- how many connections failed for a ticket
+abbrev pub failures_of : ℕ → Rows → ℕ
+failures_of ticket rows = option_map_or (λ row. row.failures) (row_of ticket rows) 0

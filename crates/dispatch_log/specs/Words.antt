@@ -1,5 +1,5 @@
 -- What a server can take.
-use Rattle.std.specs.Prelude.{ℕ, ◌+◌, ◌==◌, nat_lt, ◌&&◌, ◌||◌, Bool, false, List, Option, None, Some, slice_get, if◌then◌else◌}
+use Rattle.std.specs.Prelude.{ℕ, ◌+◌, ◌==◌, nat_lt, ◌&&◌, ◌||◌, Bool, false, List, Option, None, Some, slice_get, slice_index_or, if◌then◌else◌}
 use Rattle.std.specs.Option.{option_map_or}
 use Rattle.dispatch_log.specs.declared.queue.Queue.{Queue}
 use Rattle.dispatch_log.specs.declared.queue.Queue.TheVariants.{Backend, Server}
@@ -8,18 +8,23 @@ use Rattle.dispatch_log.specs.declared.row.Phase.TheVariants.{Loose, Waiting, Se
 use Rattle.dispatch_log.specs.declared.setup.ServerSet.{ServerSet}
 use Rattle.dispatch_log.specs.Rows.{Rows, served, queued}
 
--- the scene of a decision: what the servers may take, and where the live requests stand
+-- the scene of a decision: what the servers may take, which of them are up, and where the live requests stand
 pub record Scene : Type 0 where
   pub servers : List ServerSet
+  pub ups : List Bool
   pub rows : Rows
 
 -- a test of the server with a number; a number that is no server's fails it
 abbrev pub of_server : Scene → ℕ → (ServerSet → Bool) → Bool
 of_server scene server test = option_map_or test (slice_get scene.servers server) false
 
--- usable: the server takes part in balancing
+-- up: the server's health lets it take requests
+abbrev pub is_up : Scene → ℕ → Bool
+is_up scene server = slice_index_or scene.ups server false
+
+-- usable: the server is up and takes part in balancing
 abbrev pub is_usable : Scene → ℕ → Bool
-is_usable scene server = of_server scene server (λ it. nat_lt 0 it.weight)
+is_usable scene server = is_up scene server && of_server scene server (λ it. nat_lt 0 it.weight)
 
 -- free: the server serves fewer than its limit, or has none
 abbrev pub is_free : Scene → ℕ → Bool
@@ -31,21 +36,22 @@ has_room scene server =
     is_usable scene server
     && of_server scene server (λ it. (it.limit == 0) || nat_lt (served server scene.rows + queued (Server server) scene.rows) (it.limit + it.maxqueue))
 
--- whether a server takes a request that is bound to it: into a slot where it is free, and else into its queue, which
--- may be as long as maxqueue, or of any length where that is 0
+-- whether a server takes a request that is bound to it: where it is up, into a slot where it is free, and else into
+-- its queue, which may be as long as maxqueue, or of any length where that is 0
 abbrev pub takes_pinned : Scene → ℕ → Bool
 takes_pinned scene server =
-    is_free scene server || of_server scene server (λ it. (it.maxqueue == 0) || nat_lt (queued (Server server) scene.rows) it.maxqueue)
+    is_up scene server
+    && (is_free scene server || of_server scene server (λ it. (it.maxqueue == 0) || nat_lt (queued (Server server) scene.rows) it.maxqueue))
 
 -- a pin whose server takes the request
 abbrev pub working_pin : Scene → Option ℕ → Option ℕ
 working_pin scene None = None
 working_pin scene (Some server) = if takes_pinned scene server then Some server else None
 
--- whether a slot of a server may go to a queue: to its own, and where it is usable to the backend's
+-- whether a slot of a server may go to a queue: where it is up to its own, and where it is usable to the backend's
 abbrev pub may_take : Scene → ℕ → Queue → Bool
 may_take scene server Backend = is_usable scene server
-may_take scene server (Server own) = own == server
+may_take scene server (Server own) = is_up scene server && (own == server)
 
 -- whether a slot of a server may go to a row in a phase
 abbrev pub may_go_to : Scene → ℕ → Phase → Bool

@@ -23,16 +23,30 @@ pub enum Entry {
     Arrive(Moment, Arrival),
     /// Event: the request with this ticket is over, and its slot comes back.
     Done(Moment, u64),
+    /// Event: a connection of the request with this ticket, which has a slot, failed.
+    Fail(Moment, u64),
+    /// Event: the client of the waiting request with this ticket gave up.
+    Abort(Moment, u64),
+    /// Event: time passed, and requests may have waited too long.
+    Tick(Moment),
+    /// Event: a check of the server ended; it answered, or not.
+    Check(Moment, usize, bool),
     /// The ticket takes a slot of the server as it arrives.
     Direct(u64, usize),
     /// The ticket begins to wait in the queue.
     Joined(u64, Queue),
     /// The ticket leaves the queue for a slot of the server.
     Granted(u64, Queue, usize),
+    /// The ticket leaves the server's queue for the backend's, and its pin is gone.
+    Moved(u64, usize),
     /// The ticket's slot at the server is given back.
     Freed(u64, usize),
+    /// The ticket keeps its slot at the server for another connection, after so many failed.
+    Retried(u64, usize, u32),
     /// The ticket is told that it isn't served, and why.
     Left(u64, Cause),
+    /// The server's health changed: it is up now, or down.
+    Health(usize, bool),
     /// The ticket's row is gone, and its place is free.
     Ended(u64),
 }

@@ -1,6 +1,12 @@
 ghost use Rattle.dispatch_log.specs.Dispatch.{IsDispatched};
 ghost use Rattle.dispatch_log.specs.Histories.{History, IsLegal};
+ghost use Rattle.std.specs.Prelude.{List};
+ghost use Rattle.dispatch_log.specs.declared.entry.Entry.{Entry};
+ghost use Rattle.dispatch_log.specs.declared.setup.Setup.{Setup};
+ghost use Rattle.dispatch_log.specs.Runs.{IsRun};
 ghost use Rattle.dispatch_log.specs.Worked.{worked, first_come_first_served, idle_slot, grant_above_the_limit, due_date_of_no_offset, end_is_missing, ticket_twice, worked_by_two, more_loaded_server, tie_against_the_cursor, waits_beside_room};
+ghost use Rattle.dispatch_log.specs.WorkedRight.{redispatch_to_the_other_server, told_by_rising_ticket, fall_moves_its_queue};
+ghost use Rattle.dispatch_log.specs.WorkedChanges.{worked_with_checks, worked_in_time, retry_past_the_retries, failure_counted_twice, redispatch_keeps_the_pin, redispatch_to_the_failed_server, redispatch_before_the_grant, no_server_beside_a_usable_one, told_one_millisecond_early, told_by_falling_ticket, expired_and_not_told, abort_of_a_served_request, failure_of_a_waiting_request, fall_leaves_its_queue, moves_by_ticket, grant_before_the_moves, rise_grants_nothing, rise_is_not_told, down_after_its_rise, served_by_a_fallen_server};
 
 /// The law of legal logs: whatever was asked of a dispatcher, in whatever order, as long as its
 /// log is legal no server serves more than its limit, every request stands in one place, and no
@@ -9,7 +15,20 @@ pub fn legal_logs_are_dispatched()
     ensures { (history : History) → IsLegal history → IsDispatched history }
 {}
 
-/// The law of worked logs: none of these, each wrong in one way, is legal.
+/// The law of all runs: after any list of events since a dispatcher was made, each of which added
+/// itself with the entries that follow from it, the same holds.
+pub fn runs_are_dispatched()
+    ensures { (setup : Setup) (events : List Entry) (history : History) → IsRun setup events history → IsDispatched history }
+{}
+
+/// The law of worked logs: each of these is legal.
+pub fn worked_logs_are_legal()
+    ensures redispatch_to_the_other_server { IsLegal (worked_with_checks redispatch_to_the_other_server) }
+    ensures told_by_rising_ticket { IsLegal (worked_in_time told_by_rising_ticket) }
+    ensures fall_moves_its_queue { IsLegal (worked_with_checks fall_moves_its_queue) }
+{}
+
+/// The law of wrong logs: none of these, each wrong in one way, is legal.
 pub fn wrong_logs_are_not_legal()
     ensures first_come_first_served { IsLegal (worked first_come_first_served) → ⊥ }
     ensures idle_slot { IsLegal (worked idle_slot) → ⊥ }
@@ -20,4 +39,22 @@ pub fn wrong_logs_are_not_legal()
     ensures more_loaded_server { IsLegal (worked_by_two more_loaded_server) → ⊥ }
     ensures tie_against_the_cursor { IsLegal (worked_by_two tie_against_the_cursor) → ⊥ }
     ensures waits_beside_room { IsLegal (worked_by_two waits_beside_room) → ⊥ }
+    ensures retry_past_the_retries { IsLegal (worked retry_past_the_retries) → ⊥ }
+    ensures failure_counted_twice { IsLegal (worked failure_counted_twice) → ⊥ }
+    ensures redispatch_keeps_the_pin { IsLegal (worked_with_checks redispatch_keeps_the_pin) → ⊥ }
+    ensures redispatch_to_the_failed_server { IsLegal (worked_with_checks redispatch_to_the_failed_server) → ⊥ }
+    ensures redispatch_before_the_grant { IsLegal (worked_with_checks redispatch_before_the_grant) → ⊥ }
+    ensures no_server_beside_a_usable_one { IsLegal (worked no_server_beside_a_usable_one) → ⊥ }
+    ensures told_one_millisecond_early { IsLegal (worked_in_time told_one_millisecond_early) → ⊥ }
+    ensures told_by_falling_ticket { IsLegal (worked_in_time told_by_falling_ticket) → ⊥ }
+    ensures expired_and_not_told { IsLegal (worked_in_time expired_and_not_told) → ⊥ }
+    ensures abort_of_a_served_request { IsLegal (worked abort_of_a_served_request) → ⊥ }
+    ensures failure_of_a_waiting_request { IsLegal (worked failure_of_a_waiting_request) → ⊥ }
+    ensures fall_leaves_its_queue { IsLegal (worked_with_checks fall_leaves_its_queue) → ⊥ }
+    ensures moves_by_ticket { IsLegal (worked_with_checks moves_by_ticket) → ⊥ }
+    ensures grant_before_the_moves { IsLegal (worked_with_checks grant_before_the_moves) → ⊥ }
+    ensures rise_grants_nothing { IsLegal (worked_with_checks rise_grants_nothing) → ⊥ }
+    ensures rise_is_not_told { IsLegal (worked_with_checks rise_is_not_told) → ⊥ }
+    ensures down_after_its_rise { IsLegal (worked_with_checks down_after_its_rise) → ⊥ }
+    ensures served_by_a_fallen_server { IsLegal (worked_with_checks served_by_a_fallen_server) → ⊥ }
 {}

@@ -4,15 +4,15 @@
 
 mod entry;
 mod laws;
-mod log;
 mod queue;
 mod refusal;
 mod row;
 mod setup;
 
 pub use entry::{Arrival, Entry};
-pub use laws::{legal_logs_are_dispatched, wrong_logs_are_not_legal};
-pub use log::Log;
+pub use laws::{
+    legal_logs_are_dispatched, runs_are_dispatched, worked_logs_are_legal, wrong_logs_are_not_legal,
+};
 pub use queue::Queue;
 pub use refusal::Refusal;
 pub use row::{Phase, Row};

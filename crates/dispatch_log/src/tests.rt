@@ -1,17 +1,5 @@
-use crate::{Entry, Log, Phase, Refusal, ServerSet, Servers};
+use crate::{Phase, Refusal, ServerSet, Servers};
 use std::test::Fail;
-
-#[test]
-fn a_log_keeps_its_entries(rt: HostRuntime) -> Result<(), Fail> {
-    let mut log = Log::with_room(rt.alloc(), 2)?;
-    assert!(rt; log.is_empty());
-    log.note(Entry::Freed(1, 0));
-    log.note(Entry::Ended(1));
-    assert_eq!(rt; log.len(), 2);
-    assert_eq!(rt; log.room(), 2);
-    assert_eq!(rt; log.entries().last(), Some(&Entry::Ended(1)));
-    Ok(())
-}
 
 #[test]
 fn servers_stand_in_file_order(rt: HostRuntime) -> Result<(), Fail> {

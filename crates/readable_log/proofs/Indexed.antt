@@ -1,5 +1,6 @@
 -- The index of a log with an entry more.
-use Rattle.std.proofs.Common.{◌≡◌, ℕ, zero, suc, ◌+◌, ◌<◌, ◌==◌, ◌&&◌, Bool, true, false, cond, List, [], ◌∷◌, ◌++◌, Option, None, Some, length, take, get_or, append_assoc, refl, ap, sym, ◌∙◌, subst, arith, is_eq}
+use Rattle.std.proofs.Common.{◌≡◌, ℕ, zero, suc, ◌+◌, ◌<◌, ◌==◌, ◌&&◌, Bool, true, false, cond, List, [], ◌∷◌, ◌++◌, Option, None, Some, length, take, get_or, append_assoc, refl, ap, sym, ◌∙◌, subst, arith, is_eq, Result, Ok, Err, OnOk}
+use Rattle.std.specs.declared.alloc.AllocError.{AllocError}
 use Rattle.std.specs.BTreeMap.{get}
 use Rattle.std.specs.Option.{unwrap_or, option_map_or}
 use Rattle.std.proofs.lemmas.List.{append-nil}
@@ -7,7 +8,7 @@ use Rattle.std.specs.Ordering.{nat_cmp}
 use Rattle.std.proofs.lemmas.Bool.Decides.{nat_tests}
 use Rattle.dispatch_log.specs.declared.entry.Arrival.{Arrival}
 use Rattle.dispatch_log.specs.declared.entry.Entry.{Entry}
-use Rattle.dispatch_log.specs.declared.entry.Entry.TheVariants.{Arrive, Joined}
+use Rattle.dispatch_log.specs.declared.entry.Entry.TheVariants.{Arrive, Joined, Moved}
 use Rattle.dispatch_log.specs.declared.queue.Queue.{Queue}
 use Rattle.dispatch_log.specs.declared.queue.Queue.TheVariants.{Backend, Server}
 use Rattle.dispatch_log.specs.Rows.{same_queue}
@@ -59,9 +60,17 @@ pub not_arrival : (e : Entry) → ((m : ℕ) (a : Arrival) → e ≡ Arrive m a 
 not_arrival (Arrive m a) other = absurd (other m a refl)
 not_arrival e other = refl
 
-pub not_joining : (e : Entry) → ((t : ℕ) (q : Queue) → e ≡ Joined t q → ⊥) → joining_in e ≡ None
-not_joining (Joined t q) other = absurd (other t q refl)
-not_joining e other = refl
+pub not_joining : (e : Entry) → ((t : ℕ) (q : Queue) → e ≡ Joined t q → ⊥) → ((t v : ℕ) → e ≡ Moved t v → ⊥) → joining_in e ≡ None
+not_joining (Joined t q) other moved = absurd (other t q refl)
+not_joining (Moved t v) other moved = absurd (moved t v refl)
+not_joining e other moved = refl
+
+-- the index of a log with one joining more
+pub joining_indexed : (result : Result (Unit {0}) AllocError) (at t : ℕ) (q : Queue) (e : Entry) (old new : Index) → arrival_in e ≡ None → joining_in e ≡ Some (record { ticket = t; queue = q })
+    → OnOk result ((log : List Entry) (entry : Entry) → at ≡ length log + 1 → arrival_in entry ≡ None → joining_in entry ≡ Some (record { ticket = t; queue = q }) → IsIndexOf log old → IsIndexOf (log ++ entry ∷ []) new)
+    → OnOk result ((log : List Entry) → at ≡ length log + 1 → IsIndexOf log old → IsIndexOf (log ++ e ∷ []) new)
+joining_indexed (Ok u) at t q e old new no_arrival begins noted = λ log long is. noted log e long no_arrival begins is
+joining_indexed (Err x) at t q e old new no_arrival begins noted = tt
 
 -- what may follow where it stands in a readable log
 pub follows_at : (past es : List Entry) → AllFollow past es → (i : ℕ) (d : Entry) → i < length es → MayFollow (past ++ take i es) (get_or es i d)

@@ -1,10 +1,12 @@
 -- Where tickets joined a queue.
-use Rattle.std.proofs.Common.{◌≡◌, ℕ, ◌+◌, ◌≤◌, Bool, true, false, cond, List, [], ◌∷◌, ◌++◌, length, Some, refl, ap, ◌∙◌, arith}
+use Rattle.std.proofs.Common.{◌≡◌, ℕ, ◌+◌, ◌≤◌, ◌==◌, ◌&&◌, Bool, true, false, cond, List, [], ◌∷◌, ◌++◌, length, Option, None, Some, refl, ap, ◌∙◌, arith}
 use Rattle.std.specs.List.{AllByRecursion}
+use Rattle.std.specs.Option.{option_map_or}
 use Rattle.dispatch_log.specs.declared.entry.Entry.{Entry}
 use Rattle.dispatch_log.specs.declared.entry.Entry.TheVariants.{Granted}
 use Rattle.dispatch_log.specs.declared.queue.Queue.{Queue}
-use Rattle.readable_log.specs.Grants.{Wait, grant_in, joins, last_from, joining_of}
+use Rattle.dispatch_log.specs.Rows.{same_queue}
+use Rattle.readable_log.specs.Grants.{Wait, grant_in, joining_in, joins, last_from, joining_of}
 
 -- a position that was found is one of those that were looked at
 pub last_from-le : (test : Entry → Bool) (n found : ℕ) (es : List Entry) → found ≤ n → last_from test n found es ≤ n + length es
@@ -56,3 +58,15 @@ joining_of-push t q past e = from-append (joins t q) 0 0 past (e ∷ []) ∙ ap 
   where
     zero_more : 0 + length past ≡ length past
     zero_more = omega arith
+
+-- an entry that puts no ticket into a queue
+pub nothing_joins : (e : Entry) (t : ℕ) (q : Queue) → joining_in e ≡ None → joins t q e ≡ false
+nothing_joins e t q none = ap (λ (o : Option Wait). option_map_or (λ w. (w.ticket == t) && same_queue q w.queue) o false) none
+
+-- the last joining after an entry that doesn't put the ticket into the queue
+pub joining_of_other : (t : ℕ) (q : Queue) (past : List Entry) (e : Entry) → joins t q e ≡ false → joining_of t q (past ++ e ∷ []) ≡ joining_of t q past
+joining_of_other t q past e other = joining_of-push t q past e ∙ ap (λ b. cond b (length past + 1) (joining_of t q past)) other
+
+-- and after one that does
+pub joining_of_last : (t : ℕ) (q : Queue) (past : List Entry) (e : Entry) → joins t q e ≡ true → joining_of t q (past ++ e ∷ []) ≡ length past + 1
+joining_of_last t q past e is = joining_of-push t q past e ∙ ap (λ b. cond b (length past + 1) (joining_of t q past)) is

@@ -1,13 +1,14 @@
 -- Logs that are judged entry by entry keep the order of their queues, and are readable.
-use Rattle.std.proofs.Common.{◌≡◌, ℕ, ◌+◌, ◌<◌, ◌≤◌, true, List, [], ◌∷◌, ◌++◌, Option, None, Some, IsSome, is_some, length, IsTrue, refl, ap, sym, subst, arith, inl, inr, length-append}
+use Rattle.std.proofs.Common.{◌≡◌, ℕ, ◌+◌, ◌<◌, ◌≤◌, true, List, [], ◌∷◌, ◌++◌, Option, None, Some, IsSome, is_some, length, IsTrue, refl, ap, sym, subst, arith, inl, inr, append_assoc, length-append}
 use Rattle.std.specs.Option.{unwrap_or, IsSomeAnd}
 use Rattle.std.proofs.lemmas.Bool.{false≢true}
+use Rattle.std.proofs.lemmas.List.{append-nil}
 use Rattle.std.proofs.lemmas.Option.{same_Some}
 use Rattle.std.proofs.lemmas.Bool.Decides.{Decides-eqb}
 use Rattle.due_key.specs.declared.key.Key.{Key}
 use Rattle.dispatch_log.specs.declared.entry.Arrival.{Arrival}
 use Rattle.dispatch_log.specs.declared.entry.Entry.{Entry}
-use Rattle.dispatch_log.specs.declared.entry.Entry.TheVariants.{Arrive, Done, Granted}
+use Rattle.dispatch_log.specs.declared.entry.Entry.TheVariants.{Arrive, Done, Fail, Abort, Tick, Check, Granted}
 use Rattle.dispatch_log.specs.declared.queue.Queue.{Queue}
 use Rattle.dispatch_log.specs.declared.queue.Queue.TheVariants.{Backend, Server}
 use Rattle.dispatch_log.specs.declared.row.Phase.{Phase}
@@ -16,9 +17,10 @@ use Rattle.dispatch_log.specs.declared.row.Row.{Row}
 use Rattle.dispatch_log.specs.declared.setup.Setup.{Setup}
 use Rattle.dispatch_log.specs.Judgement.{Stage, granting, MayCome, next_stage, AllMayCome}
 use Rattle.dispatch_log.specs.Grants.{IsLawfulGrant}
-use Rattle.dispatch_log.specs.Rows.{Rows, IsRow, phase_waits_in}
-use Rattle.dispatch_log.specs.States.{State, scene, after}
+use Rattle.dispatch_log.specs.Rows.{IsRow, phase_waits_in}
+use Rattle.dispatch_log.specs.States.{State, scene, after, opening_state}
 use Rattle.dispatch_log.specs.Words.{Scene, may_take, may_go_to}
+use Rattle.dispatch_log.proofs.Dispatched.{none_stands}
 use Rattle.readable_log.specs.Grants.{arrival_in, moment_in, moment_of, arrival_of, joining_of}
 use Rattle.readable_log.specs.Ordered.{TakesLeast, KeepsOrder, AllKeepOrder, HaveNone, HaveArrived, HaveJoined}
 use Rattle.readable_log.specs.Readable.{MayFollow, AllFollow, IsReadable, HasArrived}
@@ -32,8 +34,7 @@ AreBelow s = (row : Row) → IsRow s.rows row → row.key.ticket ≤ s.ticket
 
 -- the last ticket never falls
 ticket_rises : (setup : Setup) (s : State) (n : ℕ) (t : Stage) (e : Entry) → MayCome setup s n t e → s.ticket ≤ (after setup s e).ticket
-ticket_rises setup s n granting (Arrive m a) may = let next : a.ticket ≡ s.ticket + 1 = may.1.numbered in omega arith
-ticket_rises setup s n t (Arrive m a) may = absurd may
+ticket_rises setup s n t (Arrive m a) may = let next : a.ticket ≡ s.ticket + 1 = may.1.numbered in omega arith
 ticket_rises setup s n t e may = omega arith
 
 arrived_ticket : (setup : Setup) (s : State) (e : Entry) (a : Arrival) → arrival_in e ≡ Some a → (after setup s e).ticket ≡ a.ticket
@@ -44,7 +45,7 @@ below_after : (setup : Setup) (s : State) (n : ℕ) (t : Stage) (e : Entry) → 
 below_after setup s n t e below may row live =
     elim (origin setup s e live.0 row live.1) [
       | inl came ↦ let h : row.key.ticket ≡ came.arrival.ticket = ap (λ (r : Row). r.key.ticket) came.row in let k : (after setup s e).ticket ≡ came.arrival.ticket = arrived_ticket setup s e came.arrival came.is in omega arith
-      | inr was ↦ let h : was.row.key.ticket ≤ s.ticket = below was.row was.live in let k : s.ticket ≤ (after setup s e).ticket = ticket_rises setup s n t e may in let same : was.row.key.ticket ≡ row.key.ticket = ap (λ (x : Key). x.ticket) was.key in omega arith
+      | inr was ↦ let h : was.row.key.ticket ≤ s.ticket = below was.row (live.0, was.stands) in let k : s.ticket ≤ (after setup s e).ticket = ticket_rises setup s n t e may in let same : was.row.key.ticket ≡ row.key.ticket = ap (λ (x : Key). x.ticket) was.key in omega arith
     ]
 
 -- a slot may go to whoever waits in a queue that it may go to
@@ -68,13 +69,11 @@ takes_least here cursor u q v grant = record {
 
 -- what is judged keeps the order of the queues
 keeps : (setup : Setup) (s : State) (n : ℕ) (t : Stage) (e : Entry) → AreBelow s → MayCome setup s n t e → KeepsOrder s.rows e
-keeps setup s n granting (Arrive m a) below may = record {
+keeps setup s n t (Arrive m a) below may = record {
   fresh = λ row live same. let h : row.key.ticket ≤ s.ticket = below row live in let next : a.ticket ≡ s.ticket + 1 = may.1.numbered in absurd (omega arith);
   least = tt;
 }
-keeps setup s n granting (Granted u q v) below may = record { fresh = tt; least = takes_least (scene setup s) s.cursor u q v may }
-keeps setup s n t (Arrive m a) below may = absurd may
-keeps setup s n t (Granted u q v) below may = absurd may
+keeps setup s n t (Granted u q v) below may = record { fresh = tt; least = takes_least (scene setup s) s.cursor u q v may.1 }
 keeps setup s n t e below may = record { fresh = tt; least = tt }
 
 all_keep : (setup : Setup) (s : State) (n : ℕ) (t : Stage) (es : List Entry) → AreBelow s → AllMayCome setup s n t es → AllKeepOrder setup s es
@@ -93,6 +92,10 @@ moment_after setup past s e low = subst (λ m. m ≤ (after setup s e).moment) (
     by_entry : (x : Entry) → unwrap_or (moment_in x) (moment_of past) ≤ (after setup s x).moment
     by_entry (Arrive m a) = omega arith
     by_entry (Done m u) = omega arith
+    by_entry (Fail m u) = omega arith
+    by_entry (Abort m u) = omega arith
+    by_entry (Tick m) = omega arith
+    by_entry (Check m v ok) = omega arith
     by_entry x = low
 
 -- what is known of a log where more follows
@@ -115,20 +118,22 @@ granted_past [] u some none = absurd (false≢true some)
 granted_past (x ∷ past) u some none = absurd (omega arith)
 
 may_follow : (setup : Setup) (past : List Entry) (s : State) (n : ℕ) (t : Stage) (e : Entry) → IsRead past s t → MayCome setup s n t e → MayFollow past e
-may_follow setup past s n granting (Arrive m a) is may = record { begins = λ h. refl; later = (let low = is.moment in let next = may.0.later in omega arith); arrived = tt; joined = tt }
-may_follow setup past s n granting (Done m u) is may = record { begins = λ h. refl; later = (let low = is.moment in let next = may.later in omega arith); arrived = tt; joined = tt }
-may_follow setup past s n granting (Granted u q v) is may =
-    let come : IsSome (arrival_of u past) = has_come past u may.row (is.arrived may.row may.live) may.named in
+may_follow setup past s n t (Arrive m a) is may = record { begins = λ h. refl; later = (let low = is.moment in let next = may.0.later in omega arith); arrived = tt; joined = tt }
+may_follow setup past s n t (Done m u) is may = record { begins = λ h. refl; later = (let low = is.moment in let next = may.later in omega arith); arrived = tt; joined = tt }
+may_follow setup past s n t (Fail m u) is may = record { begins = λ h. refl; later = (let low = is.moment in let next = may.later in omega arith); arrived = tt; joined = tt }
+may_follow setup past s n t (Abort m u) is may = record { begins = λ h. refl; later = (let low = is.moment in let next = may.later in omega arith); arrived = tt; joined = tt }
+may_follow setup past s n t (Tick m) is may = record { begins = λ h. refl; later = (let low = is.moment in let next = may.later in omega arith); arrived = tt; joined = tt }
+may_follow setup past s n t (Check m v ok) is may = record { begins = λ h. refl; later = (let low = is.moment in let next = may.later in omega arith); arrived = tt; joined = tt }
+may_follow setup past s n t (Granted u q v) is may =
+    let grant = may.1 in
+    let come : IsSome (arrival_of u past) = has_come past u grant.row (is.arrived grant.row grant.live) grant.named in
     record {
       begins = λ h. absurd (granted_past past u come h);
       later = tt;
       arrived = come;
-      joined = subst (λ k. 0 < joining_of k q past) may.named (is.joined may.row q may.live may.waits);
+      joined = subst (λ k. 0 < joining_of k q past) grant.named (is.joined grant.row q grant.live grant.waits);
     }
 may_follow setup past s n granting e is may = absurd may
-may_follow setup past s n t (Arrive m a) is may = absurd may
-may_follow setup past s n t (Done m u) is may = absurd may
-may_follow setup past s n t (Granted u q v) is may = absurd may
 may_follow setup past s n t e is may = record { begins = λ h. (let b = is.begun h in cc); later = tt; arrived = tt; joined = tt }
 
 read_after : (setup : Setup) (past : List Entry) (s : State) (n : ℕ) (t : Stage) (e : Entry) → IsRead past s t → MayCome setup s n t e → IsRead (past ++ e ∷ []) (after setup s e) (next_stage t e)
@@ -155,3 +160,17 @@ judged_readable setup base log none all = all_follow setup [] base 0 granting lo
       moment = omega arith;
       begun = λ h. refl;
     }
+
+-- ---- one entry more
+
+-- the opening state has no request
+pub opens_empty : (setup : Setup) → HaveNone (opening_state setup).rows
+opens_empty setup row live = none_stands setup.places live.0 row live.1
+
+last_follows : (past es : List Entry) (e : Entry) → AllFollow past (es ++ e ∷ []) → MayFollow (past ++ es) e
+last_follows past [] e all = subst (λ l. MayFollow l e) (sym (append-nil past)) all.0
+last_follows past (x ∷ es) e all = subst (λ l. MayFollow l e) (append_assoc past (x ∷ []) es) (last_follows (past ++ x ∷ []) es e all.1)
+
+-- the last entry of a judged log may follow those before it
+pub judged_follows : (setup : Setup) (log : List Entry) (e : Entry) → AllMayCome setup (opening_state setup) 0 granting (log ++ e ∷ []) → MayFollow log e
+judged_follows setup log e all = last_follows [] log e (judged_readable setup (opening_state setup) (log ++ e ∷ []) (opens_empty setup) all)

@@ -19,9 +19,9 @@ have_joined_after setup past s e have r q live waits =
       | inr was ↦ subst (λ n. 0 < n) (sym (joining_of-push r.key.ticket q past e)) (go was (joins r.key.ticket q e) refl)
     ]
   where
-    go : WasThere s.rows e r → (b : Bool) → joins r.key.ticket q e ≡ b → 0 < cond b (length past + 1) (joining_of r.key.ticket q past)
+    go : WasThere s.rows e live.0 r → (b : Bool) → joins r.key.ticket q e ≡ b → 0 < cond b (length past + 1) (joining_of r.key.ticket q past)
     go was true is = omega arith
-    go was false is = subst (λ (k : Key). 0 < joining_of k.ticket q past) was.key (have was.row q was.live (was.waited q waits is))
+    go was false is = subst (λ (k : Key). 0 < joining_of k.ticket q past) was.key (have was.row q (live.0, was.stands) (was.waited q waits is))
 
 arrived_from : (setup : Setup) (past es : List Entry) (s : State) → HaveArrived past s.rows → AllKeepOrder setup s es → HaveArrived (past ++ es) (after_all setup s es).rows
 arrived_from setup past [] s have keep = subst (λ l. HaveArrived l s.rows) (sym (append-nil past)) have

@@ -5,7 +5,7 @@ use Rattle.std.specs.Option.{unwrap_or, option_map_or}
 use Rattle.std.specs.Ordering.{int_eq}
 use Rattle.dispatch_log.specs.declared.entry.Arrival.{Arrival}
 use Rattle.dispatch_log.specs.declared.entry.Entry.{Entry}
-use Rattle.dispatch_log.specs.declared.entry.Entry.TheVariants.{Arrive, Done, Joined, Granted}
+use Rattle.dispatch_log.specs.declared.entry.Entry.TheVariants.{Arrive, Done, Fail, Abort, Tick, Check, Joined, Granted, Moved}
 use Rattle.dispatch_log.specs.declared.queue.Queue.{Queue}
 use Rattle.dispatch_log.specs.declared.queue.Queue.TheVariants.{Backend, Server}
 use Rattle.dispatch_log.specs.Rows.{same_queue}
@@ -21,6 +21,10 @@ pub record Wait : Type 0 where
 abbrev pub moment_in : Entry → Option ℕ
 moment_in (Arrive moment arrival) = Some moment
 moment_in (Done moment ticket) = Some moment
+moment_in (Fail moment ticket) = Some moment
+moment_in (Abort moment ticket) = Some moment
+moment_in (Tick moment) = Some moment
+moment_in (Check moment server ok) = Some moment
 moment_in entry = None
 
 -- the arrival that an entry is
@@ -28,9 +32,10 @@ abbrev pub arrival_in : Entry → Option Arrival
 arrival_in (Arrive moment arrival) = Some arrival
 arrival_in entry = None
 
--- the wait that begins with an entry
+-- the wait that begins with an entry: a request joins a queue, or is moved into the backend's
 abbrev pub joining_in : Entry → Option Wait
 joining_in (Joined ticket queue) = Some (record { ticket = ticket; queue = queue })
+joining_in (Moved ticket server) = Some (record { ticket = ticket; queue = Backend })
 joining_in entry = None
 
 -- the wait that ends with an entry, by the grant of a slot

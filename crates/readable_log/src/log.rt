@@ -143,7 +143,12 @@ fn moment_in(entry: &Entry) -> Option<Moment>
     ensures { result ≡ moment_in entry.now }
 {
     match entry {
-        Entry::Arrive(moment, _) | Entry::Done(moment, _) => Some(*moment),
+        Entry::Arrive(moment, _)
+        | Entry::Done(moment, _)
+        | Entry::Fail(moment, _)
+        | Entry::Abort(moment, _)
+        | Entry::Tick(moment)
+        | Entry::Check(moment, _, _) => Some(*moment),
         _ => None,
     }
 }

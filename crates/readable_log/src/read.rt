@@ -1,7 +1,7 @@
-ghost use Rattle.std.specs.Prelude.{◌≡◌, ◌<◌, ◌+◌, [], ◌∷◌, ◌++◌, IfOk, IfErr, OnOk, None, length, IsTrue, ◌↔◌, List};
+ghost use Rattle.std.specs.Prelude.{◌≡◌, ◌<◌, ◌+◌, [], ◌∷◌, ◌++◌, IfOk, IfErr, OnOk, None, Some, length, IsTrue, ◌↔◌, List};
 ghost use Rattle.dispatch_log.specs.declared.entry.Entry.{Entry};
 ghost use Rattle.dispatch_log.specs.declared.entry.Entry.TheVariants.{Granted};
-ghost use Rattle.readable_log.specs.Grants.{grant_in, server_of};
+ghost use Rattle.readable_log.specs.Grants.{arrival_in, joining_in, grant_in, server_of};
 ghost use Rattle.readable_log.specs.Index.{IsIndexOf};
 ghost use Rattle.readable_log.specs.Readable.{MayFollow, IsReadable};
 ghost use Rattle.readable_log.specs.declared.read.ReadError.TheVariants.{NotReadable};
@@ -110,14 +110,25 @@ fn note(index: &mut Index, entry: &Entry, position: usize) -> Result<(), AllocEr
             index.arrivals.insert(arrival.ticket, *arrival)?;
             Ok(())
         }
-        Entry::Joined(ticket, queue) => {
-            index
-                .joinings
-                .insert((*ticket, server_of(*queue)), position)?;
-            Ok(())
-        }
+        Entry::Joined(ticket, queue) => note_joining(index, *ticket, *queue, position),
+        Entry::Moved(ticket, _) => note_joining(index, *ticket, Queue::Backend, position),
         _ => Ok(()),
     }
+}
+
+/// Takes an entry that put a ticket into a queue into the index.
+fn note_joining(
+    index: &mut Index,
+    ticket: u64,
+    queue: Queue,
+    position: usize,
+) -> Result<(), AllocError>
+    ensures { OnOk result ((log : List Entry) (entry : Entry) → position ≡ length log + 1 → arrival_in entry ≡ None → joining_in entry ≡ Some (record { ticket = ticket; queue = queue }) → IsIndexOf log index.old → IsIndexOf (log ++ entry ∷ []) index.new) }
+{
+    index
+        .joinings
+        .insert((ticket, server_of(queue)), position)?;
+    Ok(())
 }
 
 /// The server whose queue it is; None for the backend's.

@@ -1,3 +1,4 @@
 mod Fronts
 mod Runs
+mod Certified
 mod Rows

@@ -2,28 +2,70 @@
 use Rattle.std.proofs.Common.{◌≡◌, [], ◌∷◌, codes, false, inl, refl}
 use Rattle.dispatch_log.specs.declared.refusal.Refusal.TheVariants.{NoSuchTicket, NoSuchServer}
 use Rattle.std.specs.Fmt.{digits}
-use Rattle.script.specs.Headers.{settings_of}
+use Rattle.dispatch_log.specs.Histories.{History}
+use Rattle.dispatch_log.proofs.Dispatched.{dispatched}
+use Rattle.dispatch_core.proofs.Calls.{new_legal}
+use Rattle.script.specs.Headers.{Settings, settings_of}
 use Rattle.script.specs.ScriptTexts.{IsScriptText}
-use Rattle.replay.specs.Defaults.{default_names, opening, setup_of, IsTraceOf}
+use Rattle.replay.specs.Certificates.{IsCertified}
+use Rattle.replay.specs.Defaults.{default_names, opening, setup_of}
+use Rattle.replay.specs.TraceTexts.{IsTraceOf}
+use Rattle.replay.proofs.Certified.{certified}
+
+-- the log of no event has no report
+opening_certified : (settings : Settings) → IsCertified (opening settings) []
+opening_certified settings =
+    let legal = new_legal (opening settings) (setup_of settings) refl in
+    certified (opening settings) [] [] refl legal (dispatched (opening settings) legal) (record { chosen = tt; ascending = tt; complete = tt })
 
 empty_script : IsTraceOf [] []
-empty_script = refl
+empty_script = record { last = opening (settings_of []); events = []; reports = []; answered = (refl, refl); certified = opening_certified (settings_of []); written = refl }
 
 comments_ask_for_nothing : IsTraceOf (codes "# nothing\n\n \t\n") []
-comments_ask_for_nothing = refl
+comments_ask_for_nothing = record { last = opening (settings_of []); events = []; reports = []; answered = (refl, refl); certified = opening_certified (settings_of []); written = refl }
 
 -- nobody has the ticket, so the history stays as it is
 unknown_ticket : IsTraceOf (codes "5 done 9") (codes "refused 4\n")
 unfolding digits
-unknown_ticket = (opening (settings_of []), codes "refused 4\n", [], inl record { refusal = NoSuchTicket; applies = refl; unchanged = refl; written = refl }, refl, refl)
+unknown_ticket = record {
+  last = opening (settings_of []);
+  events = codes "refused 4\n";
+  reports = [];
+  answered = (opening (settings_of []), codes "refused 4\n", [], inl record { refusal = NoSuchTicket; applies = refl; unchanged = refl; written = refl }, refl, (refl, refl));
+  certified = opening_certified (settings_of []);
+  written = refl;
+}
 
-nothing_more : IsScriptText default_names (opening (settings_of [])) [] (codes "refused 4\n") → ⊥
-nothing_more same = cc same
+nothing_more : (last : History) → IsScriptText default_names (opening (settings_of [])) [] last (codes "refused 4\n") → ⊥
+nothing_more last same = let none = same.1 in cc
 
 -- a server with the number of a name that none has
 unknown_server : IsTraceOf (codes "server a 1 0 1\n5 arrive 0 0 b") (codes "refused 6\n")
 unfolding digits
-unknown_server = (opening (settings_of (codes "server a 1 0 1" ∷ [])), codes "refused 6\n", [], inl record { refusal = NoSuchServer; applies = refl; unchanged = refl; written = refl }, refl, refl)
+unknown_server =
+    let settings = settings_of (codes "server a 1 0 1" ∷ []) in
+    record {
+      last = opening settings;
+      events = codes "refused 6\n";
+      reports = [];
+      answered = (opening settings, codes "refused 6\n", [], inl record { refusal = NoSuchServer; applies = refl; unchanged = refl; written = refl }, refl, (refl, refl));
+      certified = opening_certified settings;
+      written = refl;
+    }
+
+-- the same by a check
+check_of_unknown_server : IsTraceOf (codes "server a 1 0 1\n5 check b up") (codes "refused 6\n")
+unfolding digits
+check_of_unknown_server =
+    let settings = settings_of (codes "server a 1 0 1" ∷ []) in
+    record {
+      last = opening settings;
+      events = codes "refused 6\n";
+      reports = [];
+      answered = (opening settings, codes "refused 6\n", [], inl record { refusal = NoSuchServer; applies = refl; unchanged = refl; written = refl }, refl, (refl, refl));
+      certified = opening_certified settings;
+      written = refl;
+    }
 
 -- what no line says is as without header lines
 one_place : setup_of (settings_of (codes "places 1" ∷ [])) ≡ record { servers = (setup_of (settings_of [])).servers; places = 1; log = 262144; retries = 3; redispatch = false; queue_timeout = 0 }

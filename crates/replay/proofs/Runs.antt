@@ -20,8 +20,8 @@ pub steps_from_line : (line : List ℕ) (lines rest : List (List ℕ)) (asked : 
 steps_from_line line lines rest asked step cut is some = ap (filter_map step_of) cut ∙ ap (λ o. cons_option o (filter_map step_of rest)) (sym is ∙ some)
 
 -- a text of the first event, and then one of the others, is a text of all
-pub text_from_step : (names : List (List ℕ)) (old new : History) (step : Step) (all others : List Step) (front rest : List ℕ) → all ≡ step ∷ others → Answers names old new step front → IsScriptText names new others rest → IsScriptText names old all (front ++ rest)
-text_from_step names old new step all others front rest cut answers more = subst (λ (steps : List Step). IsScriptText names old steps (front ++ rest)) (sym cut) (new, front, rest, answers, refl, more)
+pub text_from_step : (names : List (List ℕ)) (old new last : History) (step : Step) (all others : List Step) (front rest : List ℕ) → all ≡ step ∷ others → Answers names old new step front → IsScriptText names new others last rest → IsScriptText names old all last (front ++ rest)
+text_from_step names old new last step all others front rest cut answers more = subst (λ (steps : List Step). IsScriptText names old steps last (front ++ rest)) (sym cut) (new, front, rest, answers, refl, more)
 
 -- what a success that is kept says
 pub kept_then : {A B E F : Type 0} (kept : Result A E) (written : Result B F) (P Q : Type 0) → OnOk kept (IsOk written) → OnOk written P → (P → Q) → OnOk kept Q

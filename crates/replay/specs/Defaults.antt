@@ -1,13 +1,10 @@
 -- The dispatcher that a script is replayed on.
-use Rattle.std.specs.Prelude.{ℕ, false, List, [], ◌∷◌, None, codes}
+use Rattle.std.specs.Prelude.{ℕ, List, [], ◌∷◌, None, codes}
 use Rattle.std.specs.Option.{unwrap_or}
-use Rattle.std.specs.Str.Lines.{lines}
 use Rattle.dispatch_log.specs.declared.setup.ServerSet.{ServerSet}
 use Rattle.dispatch_log.specs.declared.setup.Setup.{Setup}
 use Rattle.dispatch_log.specs.Histories.{History}
-use Rattle.script.specs.Headers.{Settings, settings_of}
-use Rattle.script.specs.Steps.{steps_of}
-use Rattle.script.specs.ScriptTexts.{IsScriptText}
+use Rattle.script.specs.Headers.{Settings}
 
 -- one server, which takes one request at a time
 abbrev pub default_servers : List ServerSet
@@ -31,15 +28,11 @@ setup_of settings = record {
   servers = or_else settings.servers default_servers;
   places = unwrap_or settings.places 64;
   log = unwrap_or settings.log 262144;
-  retries = 3;
-  redispatch = false;
-  queue_timeout = 0;
+  retries = unwrap_or settings.retries 3;
+  redispatch = settings.redispatch;
+  queue_timeout = unwrap_or settings.queue_timeout 0;
 }
 
 -- no event yet
 abbrev pub opening : Settings → History
 opening settings = record { setup = setup_of settings; log = [] }
-
--- the trace of a script: a script text of the events that it asks for, from the opening on that its header lines set
-abbrev pub IsTraceOf : List ℕ → List ℕ → Type 0
-IsTraceOf script text = let settings = settings_of (lines script) in IsScriptText (names_of settings) (opening settings) (steps_of script) text

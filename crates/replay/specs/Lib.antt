@@ -1,3 +1,5 @@
 pub mod Defaults
+pub mod Certificates
+pub mod TraceTexts
 pub mod Ends
 pub mod Replays

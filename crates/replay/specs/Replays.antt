@@ -2,8 +2,8 @@
 use Rattle.std.specs.Prelude.{◌≡◌, ℕ, List, Option, None}
 use Rattle.std.specs.Io.KnownBytes.{Appends}
 use Rattle.script.specs.Faults.{fault_of}
-use Rattle.replay.specs.Defaults.{IsTraceOf}
 use Rattle.replay.specs.Ends.{WritesFront}
+use Rattle.replay.specs.TraceTexts.{IsTraceOf}
 
 -- the script is faultless, and its trace is written
 pub record WritesTrace (script : List ℕ) (old new : Option (List ℕ)) : Type 0 where

@@ -16,6 +16,9 @@ pub(crate) fn setup_of(alloc: Global, header: Header) -> Result<(Setup, Names), 
 {
     let places = header.places().unwrap_or(64);
     let log = header.log().unwrap_or(262_144);
+    let retries = header.retries().unwrap_or(3);
+    let redispatch = header.redispatch();
+    let queue_timeout = header.queue_timeout().unwrap_or(0);
     let (names, servers) = header.into_servers();
     let names = if servers.is_empty() {
         default_names(alloc)?
@@ -31,9 +34,9 @@ pub(crate) fn setup_of(alloc: Global, header: Header) -> Result<(Setup, Names), 
         servers,
         places,
         log,
-        retries: 3,
-        redispatch: false,
-        queue_timeout: 0,
+        retries,
+        redispatch,
+        queue_timeout,
     };
     Ok((setup, names))
 }

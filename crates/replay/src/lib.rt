@@ -1,13 +1,15 @@
-//! The replay of a script: from its bytes, over any reader, to the bytes of its trace, over any writer.
+//! The replay of a script: from its bytes, over any reader, to the bytes of its trace and its reports, over any writer.
 #![tactic(auto)]
 
 mod defaults;
 mod ends;
 mod fault;
+mod reports;
 mod run;
 mod streams;
 
 pub use fault::Fault;
+pub use reports::reports_of;
 pub use streams::replay;
 
 #[cfg(test)]

@@ -20,7 +20,7 @@ pub(crate) fn run<Q: PendQueue<Key, ()>>(
     names: &Names,
     script: &[u8],
 ) -> Result<String, Fault>
-    ensures ok { IfOk result (λ text. IsScriptText names.now core.old (steps_of script.now) (string_bytes text)) }
+    ensures ok { IfOk result (λ text. IsScriptText names.now core.old (steps_of script.now) core.new (string_bytes text)) }
     ensures err { IfErr result (λ fault. fault ≡ Fault.NoMemory) }
 {
     let mut text = String::new(alloc);
@@ -57,7 +57,7 @@ fn take_step<Q: PendQueue<Key, ()>>(
     }
 }
 
-fn kept(written: Result<(), AllocError>) -> Result<(), Fault>
+pub(crate) fn kept(written: Result<(), AllocError>) -> Result<(), Fault>
     ensures ok { OnOk result (IsOk written) }
     ensures err { IfErr result (λ fault. fault ≡ Fault.NoMemory) }
 {
@@ -84,10 +84,18 @@ fn ask<Q: PendQueue<Key, ()>>(
             offset,
             pin,
         } => {
-            let pin = pin.map(|name| names.pin(&name));
+            let pin = pin.map(|name| names.number(&name));
             core.arrive(alloc, moment, class, offset, pin)?;
             Ok(())
         }
         Step::Done { moment, ticket } => core.done(moment, ticket),
+        Step::Fail { moment, ticket } => core.failed(moment, ticket),
+        Step::Abort { moment, ticket } => core.abort(moment, ticket),
+        Step::Tick { moment } => core.tick(moment),
+        Step::Check {
+            moment,
+            server,
+            answered,
+        } => core.check(moment, names.number(&server), answered),
     }
 }

@@ -3,12 +3,13 @@ ghost use Rattle.std.specs.Io.KnownBytes.{IsAtEnd, Keeps};
 ghost use Rattle.std.specs.Str.Lines.{lines};
 ghost use Rattle.script.specs.Faults.{fault_of};
 ghost use Rattle.script.specs.Headers.{settings_of};
-ghost use Rattle.replay.specs.Defaults.{IsTraceOf};
 ghost use Rattle.replay.specs.Replays.{WritesTrace, WritesFrontOfTrace};
+ghost use Rattle.replay.specs.TraceTexts.{IsTraceOf};
 
 use crate::defaults::setup_of;
 use crate::ends::{read_whole, write_whole};
 use crate::fault::Fault;
+use crate::reports::report;
 use crate::run::run;
 use dispatch_core::Core;
 use due_key::Key;
@@ -17,7 +18,7 @@ use script::{Header, ScriptError, read};
 use std::alloc::Global;
 use std::io::{Read, Write};
 
-/// Reads a script to its end, runs its events in order, and writes their trace.
+/// Reads a script to its end, runs its events in order, and writes their trace and the reports of its log.
 ///
 /// At most 4,194,305 reads are made, of which each but the last gives a byte at least, and at most as many writes as
 /// the trace has bytes. Nothing is written before the whole script was read and run. The writer is not flushed.
@@ -51,7 +52,7 @@ fn header_of(alloc: Global, script: &[u8]) -> Result<Header, Fault>
     }
 }
 
-// The trace of a script with these header lines.
+// The trace of a script with these header lines, and its reports.
 fn trace_of(alloc: Global, header: Header, script: &[u8]) -> Result<String, Fault>
     ensures ok { header ≡ settings_of (lines script.now) → IfOk result (λ trace. IsTraceOf script.now (string_bytes trace)) }
     ensures err { IfErr result (λ fault. fault ≡ Fault.NoMemory) }
@@ -62,5 +63,7 @@ fn trace_of(alloc: Global, header: Header, script: &[u8]) -> Result<String, Faul
     let Ok(mut core) = Core::<ListQueue<Key, ()>>::new(alloc, setup) else {
         return Err(Fault::NoMemory);
     };
-    run(alloc, &mut core, &names, script)
+    let mut text = run(alloc, &mut core, &names, script)?;
+    report(alloc, &core, &names, &mut text)?;
+    Ok(text)
 }

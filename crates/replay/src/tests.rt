@@ -1,9 +1,15 @@
 mod ends;
+mod failures;
+mod health;
+mod reports;
 mod rows;
 mod servers;
+mod waiting;
 
 use crate::{Fault, replay};
 use std::alloc::Global;
+use std::process::Abort;
+use std::test::Fail;
 
 // The trace of a script, or its fault.
 fn trace_of(alloc: Global, script: &[u8]) -> Result<Vec<u8>, Fault> {
@@ -11,4 +17,10 @@ fn trace_of(alloc: Global, script: &[u8]) -> Result<Vec<u8>, Fault> {
     let mut trace = Vec::new(alloc);
     replay(alloc, &mut reader, &mut trace)?;
     Ok(trace)
+}
+
+fn expect(rt: &impl Abort, alloc: Global, script: &str, expected: &str) -> Result<(), Fail> {
+    let trace = trace_of(alloc, script.as_bytes())?;
+    assert_eq!(rt; trace.as_slice(), expected.as_bytes());
+    Ok(())
 }

@@ -1,40 +1,50 @@
 -- A script's lines are taken in one by one.
 use Rattle.std.proofs.Common.{◌≡◌, ℕ, ◌+◌, Bool, true, false, ◌||◌, List, [], ◌∷◌, ◌++◌, length, filter_map, Option, Some, None, if◌then◌else◌, refl, sym, ap, ◌∙◌, append_assoc, append-nil, length-append}
-use Rattle.std.proofs.Math.Bool.{or-false}
+use Rattle.std.proofs.Math.Bool.{or-false, or_comm}
 use Rattle.std.specs.List.{cons_option, list_any}
-use Rattle.std.specs.Option.{option_map_or}
+use Rattle.std.specs.Option.{option_map_or, option_or}
 use Rattle.std.proofs.lemmas.List.Elements.{filter_map-append}
 use Rattle.std.proofs.lemmas.List.Folds.{list_any-append}
-use Rattle.dispatch_log.specs.declared.setup.ServerSet.{ServerSet}
 use Rattle.script.specs.declared.setting.Setting.{Setting}
-use Rattle.script.specs.declared.setting.Setting.TheVariants.{Places, LogRoom, Server}
-use Rattle.script.specs.Headers.{Settings, all_of, settings_of, setting_of, name_in, server_in, places_in, log_in, last_of}
+use Rattle.script.specs.Headers.{Settings, all_of, settings_of, setting_of, name_in, server_in, places_in, log_in, retries_in, is_redispatch, timeout_in, last_of}
 use Rattle.script.specs.Faults.{is_event, is_faulty, fault_behind}
-use Rattle.script.specs.Reading.{with_setting, with_line}
+use Rattle.script.specs.Reading.{with_last, with_setting, with_line}
 
 last_of-snoc : {X : Type 0} (xs : List X) (x : X) → last_of (xs ++ x ∷ []) ≡ Some x
 last_of-snoc [] x = refl
 last_of-snoc (y ∷ []) x = refl
 last_of-snoc (y ∷ z ∷ xs) x = last_of-snoc (z ∷ xs) x
 
-same : {names names' : List (List ℕ)} {servers servers' : List ServerSet} {places places' log log' : Option ℕ} → names ≡ names' → servers ≡ servers' → places ≡ places' → log ≡ log'
-    → (let left : Settings = record { names = names; servers = servers; places = places; log = log } in left ≡ record { names = names'; servers = servers'; places = places'; log = log' })
-same {names} {names'} {servers} {servers'} {places} {places'} {log} {log'} a b c d = cc
+append-option : {X : Type 0} (xs : List X) (x : Option X) → xs ++ cons_option x [] ≡ with_last xs x
+append-option xs None = append-nil xs
+append-option xs (Some x) = refl
+
+last_of-with_last : {X : Type 0} (xs : List X) (x : Option X) → last_of (with_last xs x) ≡ option_or x (last_of xs)
+last_of-with_last xs None = refl
+last_of-with_last xs (Some x) = last_of-snoc xs x
+
+-- what is found in settings and in one more
+found-more : {X : Type 0} (found : Setting → Option X) (settings : List Setting) (setting : Setting) → filter_map found (settings ++ setting ∷ []) ≡ with_last (filter_map found settings) (found setting)
+found-more found settings setting = filter_map-append found settings (setting ∷ []) ∙ append-option (filter_map found settings) (found setting)
+
+last-more : {X : Type 0} (found : Setting → Option X) (settings : List Setting) (setting : Setting) → last_of (filter_map found (settings ++ setting ∷ [])) ≡ option_or (found setting) (last_of (filter_map found settings))
+last-more found settings setting = ap last_of (found-more found settings setting) ∙ last_of-with_last (filter_map found settings) (found setting)
+
+any-more : (test : Setting → Bool) (settings : List Setting) (setting : Setting) → list_any test (settings ++ setting ∷ []) ≡ (test setting || list_any test settings)
+any-more test settings setting =
+    list_any-append test settings (setting ∷ []) ∙ ap (λ b. list_any test settings || b) (or-false (test setting)) ∙ or_comm (list_any test settings) (test setting)
 
 -- what one setting more comes to
 all_of-more : (settings : List Setting) (setting : Setting) → all_of (settings ++ setting ∷ []) ≡ with_setting (all_of settings) setting
-all_of-more settings (Places places) =
-    same (filter_map-append name_in settings _ ∙ append-nil _) (filter_map-append server_in settings _ ∙ append-nil _)
-    (ap last_of (filter_map-append places_in settings _) ∙ last_of-snoc (filter_map places_in settings) places)
-    (ap last_of (filter_map-append log_in settings _ ∙ append-nil _))
-all_of-more settings (LogRoom room) =
-    same (filter_map-append name_in settings _ ∙ append-nil _) (filter_map-append server_in settings _ ∙ append-nil _)
-    (ap last_of (filter_map-append places_in settings _ ∙ append-nil _))
-    (ap last_of (filter_map-append log_in settings _) ∙ last_of-snoc (filter_map log_in settings) room)
-all_of-more settings (Server name server) =
-    same (filter_map-append name_in settings _) (filter_map-append server_in settings _)
-    (ap last_of (filter_map-append places_in settings _ ∙ append-nil _))
-    (ap last_of (filter_map-append log_in settings _ ∙ append-nil _))
+all_of-more settings setting =
+    let names = found-more name_in settings setting in
+    let servers = found-more server_in settings setting in
+    let places = last-more places_in settings setting in
+    let log = last-more log_in settings setting in
+    let retries = last-more retries_in settings setting in
+    let redispatch = any-more is_redispatch settings setting in
+    let timeout = last-more timeout_in settings setting in
+    cc
 
 all_of-option : (settings : List Setting) (setting : Option Setting) → all_of (settings ++ cons_option setting []) ≡ option_map_or (with_setting (all_of settings)) setting (all_of settings)
 all_of-option settings None = ap all_of (append-nil settings)

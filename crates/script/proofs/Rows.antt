@@ -1,17 +1,19 @@
 -- The definitions at worked examples: what must hold, and wrong values that must not be taken.
-use Rattle.std.proofs.Common.{◌≡◌, ◌≢◌, ◌++◌, ℕ, pos, negsuc, List, [], ◌∷◌, Some, None, true, codes, slice_index, refl, ap, arith}
+use Rattle.std.proofs.Common.{◌≡◌, ◌≢◌, ◌++◌, ℕ, pos, negsuc, List, [], ◌∷◌, Some, None, true, false, codes, slice_index, refl, ap, arith}
 use Rattle.std.specs.Fmt.{digits}
 use Rattle.dispatch_log.specs.declared.entry.Entry.TheVariants as entries
 use Rattle.dispatch_log.specs.declared.queue.Queue.TheVariants as queues
 use Rattle.dispatch_log.specs.declared.refusal.Refusal.TheVariants.{PlacesFull, TicketsSpent}
-use Rattle.script.specs.declared.step.Step.TheVariants.{Arrive, Done}
+use Rattle.script.specs.declared.step.Step.TheVariants.{Arrive, Done, Fail, Abort, Tick, Check}
 use Rattle.script.specs.Steps.{step_of, is_skipped, steps_of}
 use Rattle.script.specs.Headers.{setting_of, settings_of}
 use Rattle.script.specs.Faults.{fault_of}
 use Rattle.script.specs.ScriptTexts.{number_of}
-use Rattle.script.specs.declared.setting.Setting.TheVariants.{Server}
-use Rattle.verdict.specs.declared.cause.Cause.TheVariants.{NoServer}
+use Rattle.readable_log.specs.declared.grant.Stay.{Stay}
+use Rattle.script.specs.declared.setting.Setting.TheVariants.{Retries, Redispatch, QueueTimeout, Server}
+use Rattle.verdict.specs.declared.cause.Cause.TheVariants.{Aborted, Timeout, Retries as NoMoreRetries, NoServer}
 use Rattle.script.specs.Traces.{entry_text, refusal_text}
+use Rattle.script.specs.Reports.{report_text, reports_text}
 
 -- a class and an offset out of their ranges are the nearer ends
 arrival_row : step_of (codes "7 arrive 5000 -600000") ≡ Some (Arrive 7 (pos 2047) (negsuc 524286) None)
@@ -37,6 +39,43 @@ nineteen_digits = refl
 
 negative_ticket : step_of (codes "7 done -1") ≡ None
 negative_ticket = refl
+
+failure_row : step_of (codes "3 fail 1") ≡ Some (Fail 3 1)
+failure_row = refl
+
+abort_row : step_of (codes "3 abort 1") ≡ Some (Abort 3 1)
+abort_row = refl
+
+tick_row : step_of (codes "14 tick") ≡ Some (Tick 14)
+tick_row = refl
+
+check_up_row : step_of (codes "4 check a up") ≡ Some (Check 4 (codes "a") true)
+check_up_row = refl
+
+check_down_row : step_of (codes "4 check a down") ≡ Some (Check 4 (codes "a") false)
+check_down_row = refl
+
+-- a server may be named `up`
+check_of_up : step_of (codes "4 check up down") ≡ Some (Check 4 (codes "up") false)
+check_of_up = refl
+
+failure_of_two : step_of (codes "3 fail 1 2") ≡ None
+failure_of_two = refl
+
+abort_of_nobody : step_of (codes "3 abort") ≡ None
+abort_of_nobody = refl
+
+tick_of_a_ticket : step_of (codes "14 tick 1") ≡ None
+tick_of_a_ticket = refl
+
+check_without_result : step_of (codes "4 check a") ≡ None
+check_without_result = refl
+
+check_of_no_name : step_of (codes "4 check * up") ≡ None
+check_of_no_name = refl
+
+check_with_another_word : step_of (codes "4 check a on") ≡ None
+check_with_another_word = refl
 
 blanks_are_skipped : is_skipped (codes " \t") ≡ true
 blanks_are_skipped = refl
@@ -65,15 +104,59 @@ server_row = refl
 too_heavy : setting_of (codes "server a 2 0 257") ≡ None
 too_heavy = refl
 
+-- rise comes before fall
+checked_row : setting_of (codes "server a 1 0 1 2 3") ≡ Some (Server (codes "a") (record { limit = 1; maxqueue = 0; weight = 1; rise_fall = Some (2, 3) }))
+checked_row = refl
+
+rise_alone : setting_of (codes "server a 1 0 1 2") ≡ None
+rise_alone = refl
+
+no_rise : setting_of (codes "server a 1 0 1 0 3") ≡ None
+no_rise = refl
+
+no_fall : setting_of (codes "server a 1 0 1 2 0") ≡ None
+no_fall = refl
+
+seven_words : setting_of (codes "server a 1 0 1 2 3 4") ≡ None
+seven_words = refl
+
+retries_row : setting_of (codes "retries 0") ≡ Some (Retries 0)
+retries_row = refl
+
+ten_digits : setting_of (codes "retries 1000000000") ≡ None
+ten_digits = refl
+
+redispatch_row : setting_of (codes "redispatch") ≡ Some Redispatch
+redispatch_row = refl
+
+redispatch_of_a_number : setting_of (codes "redispatch 1") ≡ None
+redispatch_of_a_number = refl
+
+timeout_row : setting_of (codes "queue-timeout 010") ≡ Some (QueueTimeout 10)
+timeout_row = refl
+
+timeout_without_a_number : setting_of (codes "queue-timeout") ≡ None
+timeout_without_a_number = refl
+
 no_place : setting_of (codes "places 0") ≡ None
 no_place = refl
 
 -- the last of the lines of one word stands
-settings_row : settings_of (codes "places 2" ∷ codes "server a 0 0 2" ∷ codes "# none" ∷ codes "places 3" ∷ []) ≡ record { names = codes "a" ∷ []; servers = record { limit = 0; maxqueue = 0; weight = 2; rise_fall = None } ∷ []; places = Some 3; log = None }
+settings_row : settings_of (codes "places 2" ∷ codes "server a 0 0 2" ∷ codes "# none" ∷ codes "places 3" ∷ []) ≡ record { names = codes "a" ∷ []; servers = record { limit = 0; maxqueue = 0; weight = 2; rise_fall = None } ∷ []; places = Some 3; log = None; retries = None; redispatch = false; queue_timeout = None }
 settings_row = refl
+
+events_settings_row : settings_of (codes "retries 5" ∷ codes "queue-timeout 10" ∷ codes "redispatch" ∷ codes "retries 0" ∷ codes "server b 1 0 1 2 1" ∷ []) ≡ record { names = codes "b" ∷ []; servers = record { limit = 1; maxqueue = 0; weight = 1; rise_fall = Some (2, 1) } ∷ []; places = None; log = None; retries = Some 0; redispatch = true; queue_timeout = Some 10 }
+events_settings_row = refl
 
 late_header : fault_of (codes "places 1\n7 done 1\nlog 9") ≡ Some 3
 late_header = refl
+
+late_redispatch : fault_of (codes "retries 1\n7 tick\nredispatch") ≡ Some 3
+late_redispatch = refl
+
+-- a name that no server has is no fault
+check_of_none : fault_of (codes "server a 0 0 2 1 1\n7 check b up") ≡ None
+check_of_none = refl
 
 name_twice : fault_of (codes "server a 0 0 2\nserver b 0 0 2\nserver a 1 0 2") ≡ Some 3
 name_twice = refl
@@ -89,6 +172,9 @@ no_such_server = refl
 
 abbrev names : List (List ℕ)
 names = codes "a" ∷ codes "b" ∷ []
+
+abbrev stay : ℕ → Stay
+stay ticket = record { ticket = ticket; joined = 4; slot = 9; due = pos 7 }
 
 arrive_text : entry_text names (entries.Arrive 7 (record { ticket = 2; class = negsuc 2; due = negsuc 4; pin = None; place = 9 })) ≡ codes "7 arrive 2 -3 -5\n"
 unfolding digits
@@ -122,6 +208,47 @@ left_text : entry_text names (entries.Left 2 NoServer) ≡ codes "  left 2 noser
 unfolding digits
 left_text = refl
 
+causes_text : entry_text names (entries.Left 2 Aborted) ++ entry_text names (entries.Left 3 Timeout) ++ entry_text names (entries.Left 4 NoMoreRetries) ≡ codes "  left 2 aborted\n  left 3 timeout\n  left 4 retries\n"
+unfolding digits
+causes_text = refl
+
+fail_text : entry_text names (entries.Fail 7 2) ≡ codes "7 fail 2\n"
+unfolding digits
+fail_text = refl
+
+abort_text : entry_text names (entries.Abort 7 2) ≡ codes "7 abort 2\n"
+unfolding digits
+abort_text = refl
+
+tick_text : entry_text names (entries.Tick 7) ≡ codes "7 tick\n"
+unfolding digits
+tick_text = refl
+
+check_text : entry_text names (entries.Check 7 1 true) ++ entry_text names (entries.Check 8 0 false) ≡ codes "7 check b up\n8 check a down\n"
+unfolding digits
+check_text = refl
+
+move_text : entry_text names (entries.Moved 2 1) ≡ codes "  move 2 b\n"
+unfolding digits
+move_text = refl
+
+retry_text : entry_text names (entries.Retried 2 1 3) ≡ codes "  retry 2 b 3\n"
+unfolding digits
+retry_text = refl
+
+health_text : entry_text names (entries.Health 0 false) ++ entry_text names (entries.Health 1 true) ≡ codes "  health a down\n  health b up\n"
+unfolding digits
+health_text = refl
+
 refused_text : refusal_text PlacesFull ++ refusal_text TicketsSpent ≡ codes "refused 2\nrefused 14\n"
 unfolding digits
 refused_text = refl
+
+-- the tickets of the critical stays stand behind the numbers, by slots
+report_row : report_text names (record { queue = queues.Backend; class = negsuc 0; granted = 2; worst = pos 19; due = negsuc 4; after = 0; to = 14; critical = stay 3 ∷ stay 2 ∷ [] }) ≡ codes "queue * class -1 granted 2 worst 19 due -5 after 0 to 14 critical 3 2\n"
+unfolding digits
+report_row = refl
+
+-- nothing of a log without a grant
+no_report : reports_text names [] ≡ []
+no_report = refl

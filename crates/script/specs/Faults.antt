@@ -6,7 +6,7 @@ use Rattle.std.specs.Str.{bytes_eq}
 use Rattle.std.specs.Str.Lines.{lines}
 use Rattle.script.specs.declared.header.TheConstants.{MOST_BYTES}
 use Rattle.script.specs.declared.setting.Setting.{Setting}
-use Rattle.script.specs.declared.setting.Setting.TheVariants.{Places, LogRoom, Server}
+use Rattle.script.specs.declared.setting.Setting.TheVariants.{Server}
 use Rattle.script.specs.Steps.{step_of, is_skipped}
 use Rattle.script.specs.Headers.{Settings, setting_of, settings_of}
 
@@ -19,9 +19,8 @@ has_name names name = is_some (position (bytes_eq name) names)
 
 -- what can't be set besides what is: a server whose name is there, or one more than 64
 abbrev pub clashes : Settings → Setting → Bool
-clashes settings (Places places) = false
-clashes settings (LogRoom room) = false
 clashes settings (Server name server) = nat_le 64 (length settings.names) || has_name settings.names name
+clashes settings other = false
 
 -- a faulty line, behind lines with these settings and with an event or none: a header line behind an event, or one that
 -- clashes; or what is no header line, no event, and not skipped

@@ -1,13 +1,14 @@
 -- What the header lines of a script say.
-use Rattle.std.specs.Prelude.{◌≡◌, ℕ, ◌<◌, ◌≤◌, nat_lt, ◌||◌, List, [], ◌∷◌, length, All, filter_map, Option, Some, None, option_map, option_and_then, IfSome, IsTrue, if◌then◌else◌, codes}
+use Rattle.std.specs.Prelude.{◌≡◌, ℕ, ◌<◌, ◌≤◌, ◌^◌, nat_lt, ◌||◌, Bool, true, false, List, [], ◌∷◌, length, All, filter_map, Option, Some, None, option_map, option_and_then, IfSome, IsTrue, if◌then◌else◌, codes}
+use Rattle.std.specs.List.{list_any}
 use Rattle.std.specs.Str.{bytes_eq}
 use Rattle.proxy_words.specs.Text.{words}
 use Rattle.proxy_words.specs.Numerals.{numeral}
 use Rattle.dispatch_log.specs.declared.setup.ServerSet.{ServerSet}
 use Rattle.dispatch_log.specs.Setups.{is_within}
 use Rattle.script.specs.declared.setting.Setting.{Setting}
-use Rattle.script.specs.declared.setting.Setting.TheVariants.{Places, LogRoom, Server}
-use Rattle.script.specs.Steps.{named}
+use Rattle.script.specs.declared.setting.Setting.TheVariants.{Places, LogRoom, Retries, Redispatch, QueueTimeout, Server}
+use Rattle.script.specs.Steps.{named, only}
 
 -- a number of at most nine digits within these ends
 abbrev pub number_in : ℕ → ℕ → List ℕ → Option ℕ
@@ -15,22 +16,38 @@ number_in least most word = option_and_then (λ n. if nat_lt n least || nat_lt m
 
 -- the number of places, by the words behind `places`
 abbrev pub places_line : List (List ℕ) → Option Setting
-places_line (places ∷ []) = option_map Places (number_in 1 4096 places)
-places_line others = None
+places_line others = option_and_then (λ word. option_map Places (number_in 1 4096 word)) (only others)
 
 -- the room of the log, by the words behind `log`
 abbrev pub log_line : List (List ℕ) → Option Setting
-log_line (room ∷ []) = option_map LogRoom (number_in 1 262144 room)
-log_line others = None
+log_line others = option_and_then (λ word. option_map LogRoom (number_in 1 262144 word)) (only others)
 
--- a server's name, and what it may take: maxconn, maxqueue and weight
-abbrev pub server_of : List ℕ → List ℕ → List ℕ → List ℕ → Option Setting
-server_of name limit maxqueue weight =
-    option_and_then (λ name. option_and_then (λ most. option_and_then (λ waiting. option_map (λ share. Server name (record { limit = most; maxqueue = waiting; weight = share; rise_fall = None })) (number_in 0 256 weight)) (numeral 9 maxqueue)) (numeral 9 limit)) (named name)
+-- how many further tries a request has, by the words behind `retries`
+abbrev pub retries_line : List (List ℕ) → Option Setting
+retries_line others = option_and_then (λ word. option_map Retries (numeral 9 word)) (only others)
 
--- a server, by the words behind `server`
+-- that the last try goes to another server: no word stands behind `redispatch`
+abbrev pub redispatch_line : List (List ℕ) → Option Setting
+redispatch_line [] = Some Redispatch
+redispatch_line others = None
+
+-- how long a request may wait in a queue, by the words behind `queue-timeout`
+abbrev pub timeout_line : List (List ℕ) → Option Setting
+timeout_line others = option_and_then (λ word. option_map QueueTimeout (numeral 9 word)) (only others)
+
+-- how many checks in a row raise a server and let it fall, by their words: one at least
+abbrev pub checks_of : List ℕ → List ℕ → Option (ℕ × ℕ)
+checks_of rise fall = option_and_then (λ raising. option_map (λ felling. (raising, felling)) (number_in 1 999999999 fall)) (number_in 1 999999999 rise)
+
+-- a server's name, and what it may take: maxconn, maxqueue and weight, and how its checks count, where it is checked
+abbrev pub server_of : List ℕ → List ℕ → List ℕ → List ℕ → Option (ℕ × ℕ) → Option Setting
+server_of name limit maxqueue weight checks =
+    option_and_then (λ name. option_and_then (λ most. option_and_then (λ waiting. option_map (λ share. Server name (record { limit = most; maxqueue = waiting; weight = share; rise_fall = checks })) (number_in 0 256 weight)) (numeral 9 maxqueue)) (numeral 9 limit)) (named name)
+
+-- a server, by the words behind `server`: it is checked where rise and fall are there
 abbrev pub server_line : List (List ℕ) → Option Setting
-server_line (name ∷ limit ∷ maxqueue ∷ weight ∷ []) = server_of name limit maxqueue weight
+server_line (name ∷ limit ∷ maxqueue ∷ weight ∷ []) = server_of name limit maxqueue weight None
+server_line (name ∷ limit ∷ maxqueue ∷ weight ∷ rise ∷ fall ∷ []) = option_and_then (λ checks. server_of name limit maxqueue weight (Some checks)) (checks_of rise fall)
 server_line others = None
 
 -- what a header line's words set
@@ -39,6 +56,9 @@ set_by [] = None
 set_by (keyword ∷ others) =
     if bytes_eq keyword (codes "places") then places_line others
     else if bytes_eq keyword (codes "log") then log_line others
+    else if bytes_eq keyword (codes "retries") then retries_line others
+    else if bytes_eq keyword (codes "redispatch") then redispatch_line others
+    else if bytes_eq keyword (codes "queue-timeout") then timeout_line others
     else if bytes_eq keyword (codes "server") then server_line others
     else None
 
@@ -46,33 +66,43 @@ set_by (keyword ∷ others) =
 abbrev pub setting_of : List ℕ → Option Setting
 setting_of line = set_by (words line)
 
--- the servers of a script, by name and by what they may take, in order; the places and the room of the log, where a
--- line says them
+-- the servers of a script, by name and by what they may take, in order; of the other words what a line says, if one does
 pub record Settings : Type 0 where
   pub names : List (List ℕ)
   pub servers : List ServerSet
   pub places : Option ℕ
   pub log : Option ℕ
+  pub retries : Option ℕ
+  pub redispatch : Bool
+  pub queue_timeout : Option ℕ
 
 abbrev pub name_in : Setting → Option (List ℕ)
 name_in (Server name server) = Some name
-name_in (Places places) = None
-name_in (LogRoom room) = None
+name_in other = None
 
 abbrev pub server_in : Setting → Option ServerSet
 server_in (Server name server) = Some server
-server_in (Places places) = None
-server_in (LogRoom room) = None
+server_in other = None
 
 abbrev pub places_in : Setting → Option ℕ
-places_in (Server name server) = None
 places_in (Places places) = Some places
-places_in (LogRoom room) = None
+places_in other = None
 
 abbrev pub log_in : Setting → Option ℕ
-log_in (Server name server) = None
-log_in (Places places) = None
 log_in (LogRoom room) = Some room
+log_in other = None
+
+abbrev pub retries_in : Setting → Option ℕ
+retries_in (Retries retries) = Some retries
+retries_in other = None
+
+abbrev pub is_redispatch : Setting → Bool
+is_redispatch Redispatch = true
+is_redispatch other = false
+
+abbrev pub timeout_in : Setting → Option ℕ
+timeout_in (QueueTimeout timeout) = Some timeout
+timeout_in other = None
 
 -- the last item
 abbrev pub last_of : {X : Type 0} → List X → Option X
@@ -80,13 +110,16 @@ last_of [] = None
 last_of (x ∷ []) = Some x
 last_of (x ∷ y ∷ xs) = last_of (y ∷ xs)
 
--- what settings come to: each server stands, and of several places or log lines the last
+-- what settings come to: each server stands, and of several lines of another word the last
 abbrev pub all_of : List Setting → Settings
 all_of settings = record {
   names = filter_map name_in settings;
   servers = filter_map server_in settings;
   places = last_of (filter_map places_in settings);
   log = last_of (filter_map log_in settings);
+  retries = last_of (filter_map retries_in settings);
+  redispatch = list_any is_redispatch settings;
+  queue_timeout = last_of (filter_map timeout_in settings);
 }
 
 -- what lines set
@@ -100,3 +133,4 @@ pub record AreWithin (settings : Settings) : Type 0 where
   pub within : All (λ server. IsTrue (is_within server)) settings.servers
   pub places : IfSome settings.places (λ places. (0 < places) × (places ≤ 4096))
   pub log : IfSome settings.log (λ room. (0 < room) × (room ≤ 262144))
+  pub timeout : IfSome settings.queue_timeout (λ timeout. timeout < 2 ^ 62)

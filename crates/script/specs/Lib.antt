@@ -3,4 +3,5 @@ pub mod Headers
 pub mod Faults
 pub mod Reading
 pub mod Traces
+pub mod Reports
 pub mod ScriptTexts

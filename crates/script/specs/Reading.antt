@@ -1,22 +1,35 @@
 -- Settings that are taken in one by one.
-use Rattle.std.specs.Prelude.{ℕ, ◌<◌, ◌≤◌, IsTrue, List, [], ◌∷◌, ◌++◌, Some}
-use Rattle.std.specs.Option.{option_map_or}
+use Rattle.std.specs.Prelude.{ℕ, ◌<◌, ◌≤◌, ◌^◌, ◌||◌, IsTrue, List, [], ◌∷◌, ◌++◌, Option, None, Some}
+use Rattle.std.specs.Option.{option_map_or, option_or}
 use Rattle.dispatch_log.specs.Setups.{is_within}
 use Rattle.script.specs.declared.setting.Setting.{Setting}
-use Rattle.script.specs.declared.setting.Setting.TheVariants.{Places, LogRoom, Server}
-use Rattle.script.specs.Headers.{Settings, setting_of}
+use Rattle.script.specs.declared.setting.Setting.TheVariants.{Places, LogRoom, QueueTimeout, Server}
+use Rattle.script.specs.Headers.{Settings, setting_of, name_in, server_in, places_in, log_in, retries_in, is_redispatch, timeout_in}
 
 -- a setting within the limits of a dispatcher
 abbrev pub IsWithin : Setting → Type 0
 IsWithin (Places places) = (0 < places) × (places ≤ 4096)
 IsWithin (LogRoom room) = (0 < room) × (room ≤ 262144)
+IsWithin (QueueTimeout timeout) = timeout < 2 ^ 62
 IsWithin (Server name server) = IsTrue (is_within server)
+IsWithin other = Unit
 
--- settings, and one more
+-- items, and one more where there is one
+abbrev pub with_last : {X : Type 0} → List X → Option X → List X
+with_last xs None = xs
+with_last xs (Some x) = xs ++ x ∷ []
+
+-- settings, and one more: a server comes last, and of a word that comes again the last stands
 abbrev pub with_setting : Settings → Setting → Settings
-with_setting settings (Places places) = record { names = settings.names; servers = settings.servers; places = Some places; log = settings.log }
-with_setting settings (LogRoom room) = record { names = settings.names; servers = settings.servers; places = settings.places; log = Some room }
-with_setting settings (Server name server) = record { names = settings.names ++ name ∷ []; servers = settings.servers ++ server ∷ []; places = settings.places; log = settings.log }
+with_setting settings setting = record {
+  names = with_last settings.names (name_in setting);
+  servers = with_last settings.servers (server_in setting);
+  places = option_or (places_in setting) settings.places;
+  log = option_or (log_in setting) settings.log;
+  retries = option_or (retries_in setting) settings.retries;
+  redispatch = is_redispatch setting || settings.redispatch;
+  queue_timeout = option_or (timeout_in setting) settings.queue_timeout;
+}
 
 -- settings, and what a line sets
 abbrev pub with_line : Settings → List ℕ → Settings

@@ -5,9 +5,9 @@ use Rattle.std.specs.Str.{bytes_eq}
 use Rattle.dispatch_log.specs.declared.entry.Entry.{Entry}
 use Rattle.dispatch_log.specs.declared.entry.Entry.TheVariants as entries
 use Rattle.dispatch_log.specs.declared.refusal.Refusal.{Refusal}
-use Rattle.dispatch_log.specs.Histories.{History, AddsEvent, effective, refuses_arrival, refuses_done}
+use Rattle.dispatch_log.specs.Histories.{History, AddsEvent, effective, refuses_arrival, refuses_done, refuses_failure, refuses_abort, refuses_tick, refuses_check}
 use Rattle.script.specs.declared.step.Step.{Step}
-use Rattle.script.specs.declared.step.Step.TheVariants.{Arrive, Done}
+use Rattle.script.specs.declared.step.Step.TheVariants.{Arrive, Done, Fail, Abort, Tick, Check}
 use Rattle.script.specs.Traces.{entries_text, refusal_text}
 
 -- the number of the server that has a name; where none has it the number of servers, which is no server's
@@ -22,13 +22,21 @@ pin_of names pin = option_map (number_of names) pin
 abbrev pub refuses : List (List ℕ) → History → Step → Option Refusal
 refuses names history (Arrive moment class offset pin) = refuses_arrival history (pin_of names pin)
 refuses names history (Done moment ticket) = refuses_done history ticket
+refuses names history (Fail moment ticket) = refuses_failure history ticket
+refuses names history (Abort moment ticket) = refuses_abort history ticket
+refuses names history (Tick moment) = refuses_tick history
+refuses names history (Check moment server answered) = refuses_check history (number_of names server)
 
 -- an entry is the event that a step asks for, at the step's effective moment: an arrival is due by its offset from
--- then, and has the pin that its name stands for
+-- then, and has the pin that its name stands for; a check is of the server that its name stands for
 abbrev pub IsEventOf : List (List ℕ) → History → Step → Entry → Type 0
 IsEventOf names history (Arrive moment class offset pin) (entries.Arrive at arrival) =
     (at ≡ effective history moment) × (arrival.class ≡ class) × (arrival.due ≡ (pos at +ℤ offset)) × (arrival.pin ≡ pin_of names pin)
 IsEventOf names history (Done moment ticket) (entries.Done at leaver) = (at ≡ effective history moment) × (leaver ≡ ticket)
+IsEventOf names history (Fail moment ticket) (entries.Fail at failed) = (at ≡ effective history moment) × (failed ≡ ticket)
+IsEventOf names history (Abort moment ticket) (entries.Abort at leaver) = (at ≡ effective history moment) × (leaver ≡ ticket)
+IsEventOf names history (Tick moment) (entries.Tick at) = at ≡ effective history moment
+IsEventOf names history (Check moment name answered) (entries.Check at server ok) = (at ≡ effective history moment) × (server ≡ number_of names name) × (ok ≡ answered)
 IsEventOf names history step entry = ⊥
 
 -- a step that is refused leaves the history as it was, and the line of its refusal
@@ -48,8 +56,9 @@ pub record IsAccepted (names : List (List ℕ)) (old new : History) (step : Step
 abbrev pub Answers : List (List ℕ) → History → History → Step → List ℕ → Type 0
 Answers names old new step text = IsRefused names old new step text ⊎ IsAccepted names old new step text
 
--- script text: what is written for each step in order, where each step finds the history that those before it left
-abbrev pub IsScriptText : List (List ℕ) → History → List Step → List ℕ → Type 0
-IsScriptText names history [] text = text ≡ []
-IsScriptText names history (step ∷ steps) text =
-    (new : History) × (front : List ℕ) × (rest : List ℕ) × Answers names history new step front × (text ≡ front ++ rest) × IsScriptText names new steps rest
+-- script text: what is written for each step in order, where each step finds the history that those before it left, and
+-- the last one leaves this one
+abbrev pub IsScriptText : List (List ℕ) → History → List Step → History → List ℕ → Type 0
+IsScriptText names history [] last text = (last ≡ history) × (text ≡ [])
+IsScriptText names history (step ∷ steps) last text =
+    (new : History) × (front : List ℕ) × (rest : List ℕ) × Answers names history new step front × (text ≡ front ++ rest) × IsScriptText names new steps last rest

@@ -1,5 +1,5 @@
 -- What the event lines of a script ask.
-use Rattle.std.specs.Prelude.{ℕ, Bool, ◌==◌, ◌||◌, List, [], ◌∷◌, length, filter_map, Option, Some, None, option_map, option_and_then, slice_index, if◌then◌else◌, codes}
+use Rattle.std.specs.Prelude.{ℕ, Bool, true, false, ◌==◌, ◌||◌, List, [], ◌∷◌, length, filter_map, Option, Some, None, option_map, option_and_then, slice_index, if◌then◌else◌, codes}
 use Rattle.std.specs.Str.{bytes_eq}
 use Rattle.std.specs.Str.Lines.{lines}
 use Rattle.due_key.specs.Range.{nearest}
@@ -9,7 +9,12 @@ use Rattle.proxy_words.specs.Text.{words}
 use Rattle.proxy_words.specs.Names.{is_name}
 use Rattle.proxy_words.specs.Numerals.{numeral, signed_numeral}
 use Rattle.script.specs.declared.step.Step.{Step}
-use Rattle.script.specs.declared.step.Step.TheVariants.{Arrive, Done}
+use Rattle.script.specs.declared.step.Step.TheVariants.{Arrive, Done, Fail, Abort, Tick, Check}
+
+-- the word that stands alone
+abbrev pub only : List (List ℕ) → Option (List ℕ)
+only (word ∷ []) = Some word
+only others = None
 
 -- a word that is a name
 abbrev pub named : List ℕ → Option (List ℕ)
@@ -26,16 +31,45 @@ arrival_line moment (class ∷ offset ∷ []) = arrival_of moment class offset N
 arrival_line moment (class ∷ offset ∷ pin ∷ []) = option_and_then (λ name. arrival_of moment class offset (Some name)) (named pin)
 arrival_line moment others = None
 
+-- a moment, and the ticket that the one word behind an event's name is
+abbrev pub ticketed : List ℕ → List (List ℕ) → Option (ℕ × ℕ)
+ticketed moment others = option_and_then (λ at. option_and_then (λ word. option_map (λ ticket. (at, ticket)) (numeral 18 word)) (only others)) (numeral 18 moment)
+
 -- the return of a slot at a moment, by the word behind `done`: the ticket
 abbrev pub return_of : List ℕ → List (List ℕ) → Option Step
-return_of moment (ticket ∷ []) = option_and_then (λ at. option_map (λ number. Done at number) (numeral 18 ticket)) (numeral 18 moment)
-return_of moment others = None
+return_of moment others = option_map (λ it. Done it.0 it.1) (ticketed moment others)
+
+-- a connection that failed at a moment, by the word behind `fail`: the ticket
+abbrev pub failure_of : List ℕ → List (List ℕ) → Option Step
+failure_of moment others = option_map (λ it. Fail it.0 it.1) (ticketed moment others)
+
+-- a client that gave up at a moment, by the word behind `abort`: the ticket
+abbrev pub abort_of : List ℕ → List (List ℕ) → Option Step
+abort_of moment others = option_map (λ it. Abort it.0 it.1) (ticketed moment others)
+
+-- time that passed up to a moment: no word stands behind `tick`
+abbrev pub tick_of : List ℕ → List (List ℕ) → Option Step
+tick_of moment [] = option_map Tick (numeral 18 moment)
+tick_of moment others = None
+
+-- what a check came to: `up` where the server answered, `down` where it didn't
+abbrev pub result_of : List ℕ → Option Bool
+result_of word = if bytes_eq word (codes "up") then Some true else if bytes_eq word (codes "down") then Some false else None
+
+-- a check at a moment, by the words behind `check`: the server's name, and what the check came to
+abbrev pub check_of : List ℕ → List (List ℕ) → Option Step
+check_of moment (server ∷ result ∷ []) = option_and_then (λ at. option_and_then (λ name. option_map (λ answered. Check at name answered) (result_of result)) (named server)) (numeral 18 moment)
+check_of moment others = None
 
 -- the event of a line's words
 abbrev pub event_of : List (List ℕ) → Option Step
 event_of (moment ∷ name ∷ others) =
     if bytes_eq name (codes "arrive") then arrival_line moment others
     else if bytes_eq name (codes "done") then return_of moment others
+    else if bytes_eq name (codes "fail") then failure_of moment others
+    else if bytes_eq name (codes "abort") then abort_of moment others
+    else if bytes_eq name (codes "tick") then tick_of moment others
+    else if bytes_eq name (codes "check") then check_of moment others
     else None
 event_of others = None
 

@@ -1,10 +1,10 @@
 -- The text of a trace. A line feed ends each line.
-use Rattle.std.specs.Prelude.{ℕ, List, [], ◌++◌, Option, Some, None, slice_index_or, codes}
+use Rattle.std.specs.Prelude.{ℕ, Bool, true, false, List, [], ◌++◌, Option, Some, None, slice_index_or, codes}
 use Rattle.std.specs.List.{flat_map}
 use Rattle.std.specs.Fmt.{decimal, signed_decimal}
 use Rattle.dispatch_log.specs.declared.entry.Arrival.{Arrival}
 use Rattle.dispatch_log.specs.declared.entry.Entry.{Entry}
-use Rattle.dispatch_log.specs.declared.entry.Entry.TheVariants.{Arrive, Done, Direct, Joined, Granted, Freed, Left, Ended}
+use Rattle.dispatch_log.specs.declared.entry.Entry.TheVariants.{Arrive, Done, Fail, Abort, Tick, Check, Direct, Joined, Granted, Moved, Freed, Retried, Left, Health, Ended}
 use Rattle.dispatch_log.specs.declared.queue.Queue.{Queue}
 use Rattle.dispatch_log.specs.declared.queue.Queue.TheVariants.{Backend, Server}
 use Rattle.dispatch_log.specs.declared.refusal.Refusal.{Refusal}
@@ -19,6 +19,11 @@ abbrev pub queue_name : List (List ℕ) → Queue → List ℕ
 queue_name names Backend = codes "*"
 queue_name names (Server server) = name_of names server
 
+-- the word for a server that is up, or answers a check, and for one that is down, or doesn't
+abbrev pub health_word : Bool → List ℕ
+health_word true = codes "up"
+health_word false = codes "down"
+
 -- the name of the server that an arrival is bound to, behind a space
 abbrev pub pin_text : List (List ℕ) → Option ℕ → List ℕ
 pin_text names None = []
@@ -32,11 +37,18 @@ arrival_text moment arrival = decimal moment ++ codes " arrive " ++ decimal arri
 abbrev pub entry_text : List (List ℕ) → Entry → List ℕ
 entry_text names (Arrive moment arrival) = arrival_text moment arrival ++ (pin_text names arrival.pin ++ codes "\n")
 entry_text names (Done moment ticket) = decimal moment ++ codes " done " ++ decimal ticket ++ codes "\n"
+entry_text names (Fail moment ticket) = decimal moment ++ codes " fail " ++ decimal ticket ++ codes "\n"
+entry_text names (Abort moment ticket) = decimal moment ++ codes " abort " ++ decimal ticket ++ codes "\n"
+entry_text names (Tick moment) = decimal moment ++ codes " tick\n"
+entry_text names (Check moment server answered) = decimal moment ++ codes " check " ++ name_of names server ++ codes " " ++ health_word answered ++ codes "\n"
 entry_text names (Direct ticket server) = codes "  direct " ++ decimal ticket ++ codes " " ++ name_of names server ++ codes "\n"
 entry_text names (Joined ticket queue) = codes "  join " ++ decimal ticket ++ codes " " ++ queue_name names queue ++ codes "\n"
 entry_text names (Granted ticket queue server) = codes "  grant " ++ decimal ticket ++ codes " " ++ queue_name names queue ++ codes " " ++ name_of names server ++ codes "\n"
+entry_text names (Moved ticket server) = codes "  move " ++ decimal ticket ++ codes " " ++ name_of names server ++ codes "\n"
 entry_text names (Freed ticket server) = codes "  free " ++ decimal ticket ++ codes " " ++ name_of names server ++ codes "\n"
+entry_text names (Retried ticket server failures) = codes "  retry " ++ decimal ticket ++ codes " " ++ name_of names server ++ codes " " ++ decimal failures ++ codes "\n"
 entry_text names (Left ticket cause) = codes "  left " ++ decimal ticket ++ codes " " ++ word_of cause ++ codes "\n"
+entry_text names (Health server up) = codes "  health " ++ name_of names server ++ codes " " ++ health_word up ++ codes "\n"
 entry_text names (Ended ticket) = codes "  end " ++ decimal ticket ++ codes "\n"
 
 abbrev pub entries_text : List (List ℕ) → List Entry → List ℕ

@@ -29,6 +29,9 @@ pub struct Header {
     servers: Vec<ServerSet>,
     places: Option<usize>,
     log: Option<usize>,
+    retries: Option<u32>,
+    redispatch: bool,
+    queue_timeout: Option<u64>,
 }
 
 impl Model for Header {
@@ -36,9 +39,9 @@ impl Model for Header {
 
     ghost Value = { Settings };
 
-    ghost view = { λ header. record { names = header.names; servers = header.servers.items; places = header.places; log = header.log } };
+    ghost view = { λ header. record { names = header.names; servers = header.servers.items; places = header.places; log = header.log; retries = header.retries; redispatch = header.redispatch; queue_timeout = header.queue_timeout } };
 
-    ghost invariant = { λ header. AreWithin (record { names = header.names; servers = header.servers.items; places = header.places; log = header.log }) };
+    ghost invariant = { λ header. AreWithin (record { names = header.names; servers = header.servers.items; places = header.places; log = header.log; retries = header.retries; redispatch = header.redispatch; queue_timeout = header.queue_timeout }) };
 }
 
 /// Why a script wasn't read.
@@ -103,6 +106,9 @@ impl Header {
             servers: Vec::new(alloc),
             places: None,
             log: None,
+            retries: None,
+            redispatch: false,
+            queue_timeout: None,
         }
     }
 
@@ -122,6 +128,28 @@ impl Header {
         self.log
     }
 
+    /// How many further tries a line sets; None where none does.
+    pub fn retries(&self) -> Option<u32>
+        ensures { result ≡ self.now.retries }
+    {
+        self.retries
+    }
+
+    /// Whether a `redispatch` line stands.
+    pub fn redispatch(&self) -> bool
+        ensures { result ≡ self.now.redispatch }
+    {
+        self.redispatch
+    }
+
+    /// The longest stay in a queue that a line sets, in milliseconds, 0 for none; None where none does.
+    pub fn queue_timeout(&self) -> Option<u64>
+        ensures value { result ≡ self.now.queue_timeout }
+        ensures within { AreWithin self.now }
+    {
+        self.queue_timeout
+    }
+
     /// The names of the servers, and what these may take.
     pub fn into_servers(self) -> (Names, Servers)
         ensures value { (result.0 ≡ self.names) × (result.1 ≡ self.servers) }
@@ -132,6 +160,9 @@ impl Header {
             servers,
             places: _,
             log: _,
+            retries: _,
+            redispatch: _,
+            queue_timeout: _,
         } = self;
         (names, Servers::new(servers))
     }
@@ -175,6 +206,18 @@ impl Header {
             }
             Setting::LogRoom(room) => {
                 self.log = Some(room);
+                Ok(())
+            }
+            Setting::Retries(retries) => {
+                self.retries = Some(retries);
+                Ok(())
+            }
+            Setting::Redispatch => {
+                self.redispatch = true;
+                Ok(())
+            }
+            Setting::QueueTimeout(timeout) => {
+                self.queue_timeout = Some(timeout);
                 Ok(())
             }
             Setting::Server(name, server) => self.add(alloc, &name, server),

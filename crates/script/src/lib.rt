@@ -1,9 +1,10 @@
-//! Scripts of events for a dispatcher, and the trace that a dispatcher's answers to them are written as.
+//! Scripts of events for a dispatcher, and the trace that a dispatcher's answers to them and its reports are written as.
 #![tactic(auto)]
 
 mod header;
 mod name;
 mod names;
+mod report;
 mod setting;
 mod step;
 mod trace;
@@ -11,6 +12,7 @@ mod trace;
 pub use header::{Header, MOST_BYTES, ScriptError, read};
 pub use name::Name;
 pub use names::Names;
+pub use report::push_reports;
 pub use step::{Step, step_of};
 pub use trace::{push_entries, push_refusal};
 

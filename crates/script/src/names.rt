@@ -53,9 +53,9 @@ impl Names {
         place_of(&self.list, name.as_str())
     }
 
-    /// The pin that a name stands for: the number of its server, and where no server has it the number of servers, which
-    /// a dispatcher refuses as no server's. One pass over the names.
-    pub fn pin(&self, name: &Name) -> usize
+    /// The number that a name stands for, in a pin or in a check: its server's, and where no server has it the number of
+    /// servers, which a dispatcher refuses as no server's. One pass over the names.
+    pub fn number(&self, name: &Name) -> usize
         ensures { result ≡ number_of self.now name.now }
     {
         self.find(name).unwrap_or(self.len())

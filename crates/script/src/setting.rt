@@ -1,8 +1,10 @@
-ghost use Rattle.std.specs.Prelude.{◌≡◌, ◌<◌, ◌≤◌, IfSome};
-ghost use Rattle.script.specs.Headers.{places_line, log_line, server_line, server_of, set_by, setting_of, number_in};
+ghost use Rattle.std.specs.Prelude.{◌≡◌, ◌<◌, ◌≤◌, IfSome, IsTrue};
+ghost use Rattle.dispatch_log.specs.Setups.{checks_count};
+ghost use Rattle.script.specs.Headers.{places_line, log_line, retries_line, redispatch_line, timeout_line, server_line, server_of, checks_of, set_by, setting_of, number_in};
 ghost use Rattle.script.specs.Reading.{IsWithin};
 
 use crate::name::Name;
+use crate::step::only;
 use dispatch_log::ServerSet;
 use proxy_words::{Words, number};
 
@@ -13,7 +15,13 @@ pub(crate) enum Setting<'a> {
     Places(usize),
     /// `log N`: the greatest number of log entries.
     LogRoom(usize),
-    /// `server NAME MAXCONN MAXQUEUE WEIGHT`.
+    /// `retries N`: how many further tries a request has whose connection fails.
+    Retries(u32),
+    /// `redispatch`: the last of them goes to another server.
+    Redispatch,
+    /// `queue-timeout N`: how many milliseconds a request may wait in a queue.
+    QueueTimeout(u64),
+    /// `server NAME MAXCONN MAXQUEUE WEIGHT` or `server NAME MAXCONN MAXQUEUE WEIGHT RISE FALL`.
     Server(Name<'a>, ServerSet),
 }
 
@@ -28,6 +36,12 @@ pub(crate) fn setting_of(line: &[u8]) -> Option<Setting>
         places(words)
     } else if keyword == b"log".as_slice() {
         log_room(words)
+    } else if keyword == b"retries".as_slice() {
+        retries(words)
+    } else if keyword == b"redispatch".as_slice() {
+        redispatch(words)
+    } else if keyword == b"queue-timeout".as_slice() {
+        queue_timeout(words)
     } else if keyword == b"server".as_slice() {
         server(words)
     } else {
@@ -36,32 +50,53 @@ pub(crate) fn setting_of(line: &[u8]) -> Option<Setting>
 }
 
 // `N`, behind `places`.
-fn places(mut words: Words) -> Option<Setting>
+fn places(words: Words) -> Option<Setting>
     ensures value { result ≡ places_line words.entry }
     ensures within { IfSome result IsWithin }
 {
-    let places = words.next()?;
-    if words.next().is_some() {
-        return None;
-    }
-    let places = number_in(1, 4096, places)?;
+    let places = number_in(1, 4096, only(words)?)?;
     Some(Setting::Places(places as usize))
 }
 
 // `N`, behind `log`.
-fn log_room(mut words: Words) -> Option<Setting>
+fn log_room(words: Words) -> Option<Setting>
     ensures value { result ≡ log_line words.entry }
     ensures within { IfSome result IsWithin }
 {
-    let room = words.next()?;
-    if words.next().is_some() {
-        return None;
-    }
-    let room = number_in(1, 262_144, room)?;
+    let room = number_in(1, 262_144, only(words)?)?;
     Some(Setting::LogRoom(room as usize))
 }
 
-// `NAME MAXCONN MAXQUEUE WEIGHT`, behind `server`.
+// `N`, behind `retries`.
+fn retries(words: Words) -> Option<Setting>
+    ensures value { result ≡ retries_line words.entry }
+    ensures within { IfSome result IsWithin }
+{
+    let retries = number(only(words)?)?;
+    Some(Setting::Retries(retries))
+}
+
+// Nothing, behind `redispatch`.
+fn redispatch(mut words: Words) -> Option<Setting>
+    ensures value { result ≡ redispatch_line words.entry }
+    ensures within { IfSome result IsWithin }
+{
+    match words.next() {
+        None => Some(Setting::Redispatch),
+        Some(_) => None,
+    }
+}
+
+// `N`, behind `queue-timeout`.
+fn queue_timeout(words: Words) -> Option<Setting>
+    ensures value { result ≡ timeout_line words.entry }
+    ensures within { IfSome result IsWithin }
+{
+    let timeout = number(only(words)?)?;
+    Some(Setting::QueueTimeout(timeout.into()))
+}
+
+// `NAME MAXCONN MAXQUEUE WEIGHT` or `NAME MAXCONN MAXQUEUE WEIGHT RISE FALL`, behind `server`.
 fn server<'a>(mut words: Words<'a>) -> Option<Setting<'a>>
     ensures value { result ≡ server_line words.entry }
     ensures within { IfSome result IsWithin }
@@ -70,10 +105,25 @@ fn server<'a>(mut words: Words<'a>) -> Option<Setting<'a>>
     let limit = words.next()?;
     let maxqueue = words.next()?;
     let weight = words.next()?;
+    let Some(rise) = words.next() else {
+        return server_of(name, limit, maxqueue, weight, None);
+    };
+    let fall = words.next()?;
     if words.next().is_some() {
         return None;
     }
-    server_of(name, limit, maxqueue, weight)
+    let checks = checks_of(rise, fall)?;
+    server_of(name, limit, maxqueue, weight, Some(checks))
+}
+
+// `RISE FALL`, behind a server's weight.
+fn checks_of(rise: &[u8], fall: &[u8]) -> Option<(u32, u32)>
+    ensures value { result ≡ checks_of rise.now fall.now }
+    ensures within { IsTrue (checks_count result) }
+{
+    let rise = number_in(1, 999_999_999, rise)?;
+    let fall = number_in(1, 999_999_999, fall)?;
+    Some((rise, fall))
 }
 
 fn server_of<'a>(
@@ -81,8 +131,10 @@ fn server_of<'a>(
     limit: &[u8],
     maxqueue: &[u8],
     weight: &[u8],
+    rise_fall: Option<(u32, u32)>,
 ) -> Option<Setting<'a>>
-    ensures value { result ≡ server_of name.now limit.now maxqueue.now weight.now }
+    requires { IsTrue (checks_count rise_fall) }
+    ensures value { result ≡ server_of name.now limit.now maxqueue.now weight.now rise_fall }
     ensures within { IfSome result IsWithin }
 {
     let name = Name::new(name)?;
@@ -90,7 +142,7 @@ fn server_of<'a>(
         limit: number(limit)?,
         maxqueue: number(maxqueue)?,
         weight: number_in(0, 256, weight)?,
-        rise_fall: None,
+        rise_fall,
     };
     Some(Setting::Server(name, set))
 }

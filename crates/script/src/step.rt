@@ -1,6 +1,7 @@
 ghost use Rattle.std.specs.Prelude.{◌≡◌};
+ghost use Rattle.std.specs.Option.{option_copied};
 ghost use Rattle.proxy_words.specs.Numerals.{numeral};
-ghost use Rattle.script.specs.Steps.{arrival_line, arrival_of, return_of, step_of as step_of_line};
+ghost use Rattle.script.specs.Steps.{only, ticketed, arrival_line, arrival_of, return_of, failure_of, abort_of, tick_of, check_of, result_of, step_of as step_of_line};
 
 use crate::name::Name;
 use due_key::{Class, Moment, Offset};
@@ -22,6 +23,26 @@ pub enum Step<'a> {
         moment: Moment,
         ticket: u64,
     },
+    /// `M fail T`: a connection of the request with this ticket failed.
+    Fail {
+        moment: Moment,
+        ticket: u64,
+    },
+    /// `M abort T`: the client of the request with this ticket gave up.
+    Abort {
+        moment: Moment,
+        ticket: u64,
+    },
+    /// `M tick`: time has passed up to this moment.
+    Tick {
+        moment: Moment,
+    },
+    /// `M check NAME up` or `M check NAME down`: a check of the server with this name ended, and it answered or not.
+    Check {
+        moment: Moment,
+        server: Name<'a>,
+        answered: bool,
+    },
 }
 
 /// The event of a line.
@@ -31,10 +52,20 @@ pub fn step_of(line: &[u8]) -> Option<Step>
     let mut words = Words::new(line);
     let moment = words.next()?;
     let name = words.next()?;
-    match name {
-        b"arrive" => arrival_line(moment, words),
-        b"done" => return_of(moment, words),
-        _ => None,
+    if name == b"arrive".as_slice() {
+        arrival_line(moment, words)
+    } else if name == b"done".as_slice() {
+        return_of(moment, words)
+    } else if name == b"fail".as_slice() {
+        failure_of(moment, words)
+    } else if name == b"abort".as_slice() {
+        abort_of(moment, words)
+    } else if name == b"tick".as_slice() {
+        tick_of(moment, words)
+    } else if name == b"check".as_slice() {
+        check_of(moment, words)
+    } else {
+        None
     }
 }
 
@@ -74,16 +105,86 @@ fn arrival_of<'a>(
 }
 
 // `T`, behind `M done`.
-fn return_of<'a>(moment: &[u8], mut words: Words) -> Option<Step<'a>>
+fn return_of<'a>(moment: &[u8], words: Words) -> Option<Step<'a>>
     ensures { result ≡ return_of moment.now words.entry }
 {
-    let ticket = words.next()?;
+    let (moment, ticket) = ticketed(moment, words)?;
+    Some(Step::Done { moment, ticket })
+}
+
+// `T`, behind `M fail`.
+fn failure_of<'a>(moment: &[u8], words: Words) -> Option<Step<'a>>
+    ensures { result ≡ failure_of moment.now words.entry }
+{
+    let (moment, ticket) = ticketed(moment, words)?;
+    Some(Step::Fail { moment, ticket })
+}
+
+// `T`, behind `M abort`.
+fn abort_of<'a>(moment: &[u8], words: Words) -> Option<Step<'a>>
+    ensures { result ≡ abort_of moment.now words.entry }
+{
+    let (moment, ticket) = ticketed(moment, words)?;
+    Some(Step::Abort { moment, ticket })
+}
+
+// `M tick`.
+fn tick_of<'a>(moment: &[u8], mut words: Words) -> Option<Step<'a>>
+    ensures { result ≡ tick_of moment.now words.entry }
+{
     if words.next().is_some() {
         return None;
     }
     let moment = moment_of(moment)?;
-    let ticket = long_number(ticket)?;
-    Some(Step::Done { moment, ticket })
+    Some(Step::Tick { moment })
+}
+
+// `NAME up` or `NAME down`, behind `M check`.
+fn check_of<'a>(moment: &[u8], mut words: Words<'a>) -> Option<Step<'a>>
+    ensures { result ≡ check_of moment.now words.entry }
+{
+    let server = words.next()?;
+    let result = words.next()?;
+    if words.next().is_some() {
+        return None;
+    }
+    let moment = moment_of(moment)?;
+    let server = Name::new(server)?;
+    let answered = result_of(result)?;
+    Some(Step::Check {
+        moment,
+        server,
+        answered,
+    })
+}
+
+fn result_of(word: &[u8]) -> Option<bool>
+    ensures { result ≡ result_of word.now }
+{
+    match word {
+        b"up" => Some(true),
+        b"down" => Some(false),
+        _ => None,
+    }
+}
+
+fn ticketed(moment: &[u8], words: Words) -> Option<(Moment, u64)>
+    ensures { result ≡ ticketed moment.now words.entry }
+{
+    let moment = moment_of(moment)?;
+    let ticket = long_number(only(words)?)?;
+    Some((moment, ticket))
+}
+
+// The word that stands alone.
+pub(crate) fn only<'a>(mut words: Words<'a>) -> Option<&'a [u8]>
+    ensures { option_copied result ≡ only words.entry }
+{
+    let word = words.next()?;
+    match words.next() {
+        None => Some(word),
+        Some(_) => None,
+    }
 }
 
 // A long number always is a moment.

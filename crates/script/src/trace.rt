@@ -1,5 +1,5 @@
 ghost use Rattle.std.specs.Prelude.{◌≡◌, ◌++◌, OnOk, string_bytes, codes};
-ghost use Rattle.script.specs.Traces.{arrival_text, pin_text, entry_text, entries_text, refusal_text, queue_name};
+ghost use Rattle.script.specs.Traces.{arrival_text, health_word as health_word_is, pin_text, entry_text, entries_text, refusal_text, queue_name};
 
 use crate::names::Names;
 use dispatch_log::{Arrival, Entry, Queue, Refusal};
@@ -30,24 +30,35 @@ fn push_entry(text: &mut String, names: &Names, entry: &Entry) -> Result<(), All
     match *entry {
         Entry::Arrive(moment, arrival) => push_arrival(text, names, moment, arrival),
         Entry::Done(moment, ticket) => writeln!(text, "{moment} done {ticket}"),
-        Entry::Direct(ticket, server) => {
-            let name = names.of(server);
-            writeln!(text, "  direct {ticket} {name}")
+        Entry::Fail(moment, ticket) => writeln!(text, "{moment} fail {ticket}"),
+        Entry::Abort(moment, ticket) => writeln!(text, "{moment} abort {ticket}"),
+        Entry::Tick(moment) => writeln!(text, "{moment} tick"),
+        Entry::Check(moment, server, answered) => {
+            writeln!(
+                text,
+                "{moment} check {} {}",
+                names.of(server),
+                health_word(answered)
+            )
         }
+        Entry::Direct(ticket, server) => writeln!(text, "  direct {ticket} {}", names.of(server)),
         Entry::Joined(ticket, queue) => {
             let name = name_of(names, queue);
             writeln!(text, "  join {ticket} {name}")
         }
         Entry::Granted(ticket, queue, server) => {
             let from = name_of(names, queue);
-            let to = names.of(server);
-            writeln!(text, "  grant {ticket} {from} {to}")
+            writeln!(text, "  grant {ticket} {from} {}", names.of(server))
         }
-        Entry::Freed(ticket, server) => {
-            let name = names.of(server);
-            writeln!(text, "  free {ticket} {name}")
+        Entry::Moved(ticket, server) => writeln!(text, "  move {ticket} {}", names.of(server)),
+        Entry::Freed(ticket, server) => writeln!(text, "  free {ticket} {}", names.of(server)),
+        Entry::Retried(ticket, server, failures) => {
+            writeln!(text, "  retry {ticket} {} {failures}", names.of(server))
         }
         Entry::Left(ticket, cause) => writeln!(text, "  left {ticket} {cause}"),
+        Entry::Health(server, up) => {
+            writeln!(text, "  health {} {}", names.of(server), health_word(up))
+        }
         Entry::Ended(ticket) => writeln!(text, "  end {ticket}"),
     }
 }
@@ -87,11 +98,17 @@ fn push_pin(text: &mut String, names: &Names, pin: Option<usize>) -> Result<(), 
     }
 }
 
-fn name_of(names: &Names, queue: Queue) -> &str
+pub(crate) fn name_of(names: &Names, queue: Queue) -> &str
     ensures { result.now ≡ queue_name names.now queue }
 {
     match queue {
         Queue::Backend => "*",
         Queue::Server(server) => names.of(server),
     }
+}
+
+fn health_word(up: bool) -> &'static str
+    ensures { result.now ≡ health_word_is up }
+{
+    if up { "up" } else { "down" }
 }

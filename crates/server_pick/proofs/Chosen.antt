@@ -9,19 +9,16 @@ use Rattle.dispatch_log.specs.Picks.{IsPick}
 use Rattle.dispatch_log.specs.Placement.{IsCandidate, IsChosen}
 use Rattle.dispatch_log.specs.Rows.{served, queued}
 use Rattle.dispatch_log.specs.States.{put_on}
-use Rattle.dispatch_log.specs.Words.{Scene, is_usable, is_free, has_room, takes_pinned, working_pin}
+use Rattle.dispatch_log.specs.Words.{Scene, of_server, is_up, is_usable, is_free, has_room, takes_pinned, working_pin}
 use Rattle.dispatch_log.proofs.Places.{same_or_other}
 use Rattle.server_pick.specs.Order.{HasRoomBut}
 use Rattle.server_pick.specs.Picked.{IsPlacement, cursor_placed, placed_on}
 use Rattle.server_pick.specs.Sets.{IsIn}
+use Rattle.server_pick.proofs.Both.{and_first, and_second}
 use Rattle.server_pick.proofs.Filled.{server_within}
 
-and_first : (a b : Bool) → a && b ≡ true → a ≡ true
-and_first true b e = refl
-and_first false b e = cc
-
 pub usable_within : (scene : Scene) (server : ℕ) → is_usable scene server ≡ true → server < length scene.servers
-usable_within scene server usable = server_within scene server (λ it. nat_lt 0 it.weight) usable
+usable_within scene server usable = server_within scene server (λ it. nat_lt 0 it.weight) (and_second (is_up scene server) _ usable)
 
 -- a server with room is one of them
 pub room_within : (scene : Scene) (server : ℕ) → has_room scene server ≡ true → server < length scene.servers
@@ -29,13 +26,19 @@ room_within scene server room = usable_within scene server (and_first (is_usable
 
 -- a server with room takes its pinned requests
 pub room_takes : (scene : Scene) (server : ℕ) → has_room scene server ≡ true → takes_pinned scene server ≡ true
-room_takes scene server room = by_server (slice_get scene.servers server) room
+room_takes scene server room = by_up (is_up scene server) room
   where
     by_server : (it : Option ServerSet)
-        → option_map_or (λ (x : ServerSet). nat_lt 0 x.weight) it false && option_map_or (λ (x : ServerSet). (x.limit == 0) || nat_lt (served server scene.rows + queued (Server server) scene.rows) (x.limit + x.maxqueue)) it false ≡ true
+        → option_map_or (λ (x : ServerSet). (x.limit == 0) || nat_lt (served server scene.rows + queued (Server server) scene.rows) (x.limit + x.maxqueue)) it false ≡ true
         → option_map_or (λ (x : ServerSet). (x.limit == 0) || nat_lt (served server scene.rows) x.limit) it false || option_map_or (λ (x : ServerSet). (x.maxqueue == 0) || nat_lt (queued (Server server) scene.rows) x.maxqueue) it false ≡ true
     by_server None e = cc
     by_server (Some x) e = grind (arith, nat_tests)
+
+    by_up : (up : Bool)
+        → (up && of_server scene server (λ it. nat_lt 0 it.weight)) && of_server scene server (λ it. (it.limit == 0) || nat_lt (served server scene.rows + queued (Server server) scene.rows) (it.limit + it.maxqueue)) ≡ true
+        → up && (is_free scene server || of_server scene server (λ it. (it.maxqueue == 0) || nat_lt (queued (Server server) scene.rows) it.maxqueue)) ≡ true
+    by_up true e = by_server (slice_get scene.servers server) (and_second (of_server scene server (λ it. nat_lt 0 it.weight)) _ e)
+    by_up false e = cc
 
 -- where no server is a candidate, none has room
 pub none_has_room : (scene : Scene) (avoid : Option ℕ) → ((server : ℕ) → IsCandidate scene avoid server → ⊥) → (server : ℕ) → has_room scene server ≡ true → ⊥

@@ -1,4 +1,6 @@
+pub mod Both
 pub mod Preferred
 pub mod Filled
 pub mod Chosen
 pub mod Taking
+pub mod Alone

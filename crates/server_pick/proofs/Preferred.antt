@@ -5,7 +5,8 @@ use Rattle.std.proofs.Math.Nat.{mul_right_comm, mul-lt-mul_of_pos_right, lt_of_m
 use Rattle.std.proofs.lemmas.Bool.Decides.{nat_tests}
 use Rattle.dispatch_log.specs.declared.setup.ServerSet.{ServerSet}
 use Rattle.dispatch_log.specs.Picks.{weight_of, load, steps_after, IsPick}
-use Rattle.dispatch_log.specs.Words.{Scene, is_usable}
+use Rattle.dispatch_log.specs.Words.{Scene, is_up, is_usable}
+use Rattle.server_pick.proofs.Both.{and_second}
 use Rattle.server_pick.specs.Order.{goes_before, beats, better_of}
 
 -- the test of an order by two numbers each
@@ -70,14 +71,15 @@ trans l w d m v e n u f pw pv pu one two = go (split (l * v) (m * w) d e one) (s
 
 -- a usable server has a weight
 pub usable_weight : (scene : Scene) (server : ℕ) → is_usable scene server ≡ true → 0 < weight_of scene server
-usable_weight scene server usable = by_server (slice_get scene.servers server) usable
+usable_weight scene server usable = by_server (slice_get scene.servers server) (and_second (is_up scene server) _ usable)
   where
     by_server : (it : Option ServerSet) → option_map_or (λ (x : ServerSet). nat_lt 0 x.weight) it false ≡ true → 0 < option_map_or (λ (x : ServerSet). x.weight) it 0
     by_server None e = cc
     by_server (Some x) e = grind (arith, nat_tests)
 
-pub weight_usable : (scene : Scene) (server : ℕ) → 0 < weight_of scene server → is_usable scene server ≡ true
-weight_usable scene server some = by_server (slice_get scene.servers server) some
+-- a server that is up and has a weight is usable
+pub weight_usable : (scene : Scene) (server : ℕ) → is_up scene server ≡ true → 0 < weight_of scene server → is_usable scene server ≡ true
+weight_usable scene server up some = rw up (by_server (slice_get scene.servers server) some)
   where
     by_server : (it : Option ServerSet) → 0 < option_map_or (λ (x : ServerSet). x.weight) it 0 → option_map_or (λ (x : ServerSet). nat_lt 0 x.weight) it false ≡ true
     by_server None e = absurd (omega arith)

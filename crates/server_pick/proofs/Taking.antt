@@ -1,5 +1,5 @@
 -- Servers that take from queues.
-use Rattle.std.proofs.Common.{◌≡◌, ◌≢◌, ℕ, ◌<◌, ◌||◌, ◌&&◌, Bool, true, false, IsTrue, Option, None, Some, MatchOption, is_some, if◌then◌else◌, ◌↔◌, refl, ap, sym, ◌∙◌, subst, arith, ◌⊎◌, inl, inr, Ordering, Less, Equal, Greater}
+use Rattle.std.proofs.Common.{◌≡◌, ◌≢◌, ℕ, ◌<◌, ◌||◌, ◌&&◌, ◌==◌, Bool, true, false, IsTrue, Option, None, Some, MatchOption, is_some, if◌then◌else◌, ◌↔◌, refl, ap, sym, ◌∙◌, subst, arith, ◌⊎◌, inl, inr, Ordering, Less, Equal, Greater}
 use Rattle.std.specs.Ordering.{is_lt}
 use Rattle.std.proofs.lemmas.Bool.Decides.{Decides-eqb}
 use Rattle.due_key.specs.declared.key.Key.{Key}
@@ -14,9 +14,10 @@ use Rattle.dispatch_log.specs.declared.row.Row.{Row}
 use Rattle.dispatch_log.specs.Grants.{CanTake, IsSettled, IsNextTaker}
 use Rattle.dispatch_log.specs.Picks.{weight_of, IsPick}
 use Rattle.dispatch_log.specs.Rows.{Rows, IsRow, same_queue, phase_waits_in}
-use Rattle.dispatch_log.specs.Words.{Scene, is_usable, may_take, may_go_to}
+use Rattle.dispatch_log.specs.Words.{Scene, is_up, is_usable, may_take, may_go_to}
 use Rattle.server_pick.specs.Heads.{Held, head_at, IsLeastIn, IsEmptyQueue, IsLawfulTake, has_stay, goes_first, queue_of}
 use Rattle.server_pick.specs.Picked.{IsFirstWeightless}
+use Rattle.server_pick.proofs.Both.{and_first, and_second}
 use Rattle.server_pick.proofs.Chosen.{pick_same}
 
 -- no key is greater than one that is no greater than a third
@@ -55,16 +56,20 @@ may_go_waits scene server (Serving s) m = cc
 may_go_waits scene server (Told c) m = cc
 may_go_waits scene server (Waiting queue since) m = (queue, own_queue queue, m)
 
--- a row that may go to a server waits in its own queue, or in the backend's where the server is usable
-by_queues : (scene : Scene) (server : ℕ) (phase : Phase) → may_go_to scene server phase ≡ true → (phase_waits_in (Server server) phase ≡ true) ⊎ ((is_usable scene server ≡ true) × (phase_waits_in Backend phase ≡ true))
+-- a row that may go to a server waits in its own queue where the server is up, or in the backend's where it is usable
+by_queues : (scene : Scene) (server : ℕ) (phase : Phase) → may_go_to scene server phase ≡ true → ((is_up scene server ≡ true) × (phase_waits_in (Server server) phase ≡ true)) ⊎ ((is_usable scene server ≡ true) × (phase_waits_in Backend phase ≡ true))
 by_queues scene server phase m = go (may_go_waits scene server phase m)
   where
-    go : (queue : Queue) × (phase_waits_in queue phase ≡ true) × (may_take scene server queue ≡ true) → (phase_waits_in (Server server) phase ≡ true) ⊎ ((is_usable scene server ≡ true) × (phase_waits_in Backend phase ≡ true))
+    go : (queue : Queue) × (phase_waits_in queue phase ≡ true) × (may_take scene server queue ≡ true) → ((is_up scene server ≡ true) × (phase_waits_in (Server server) phase ≡ true)) ⊎ ((is_usable scene server ≡ true) × (phase_waits_in Backend phase ≡ true))
     go (Backend, w, t) = inr (t, w)
-    go (Server own, w, t) = inl (subst (λ s. phase_waits_in (Server s) phase ≡ true) ((Decides-eqb own server).0 t) w)
+    go (Server own, w, t) = inl (and_first (is_up scene server) (own == server) t, subst (λ s. phase_waits_in (Server s) phase ≡ true) ((Decides-eqb own server).0 (and_second (is_up scene server) (own == server) t)) w)
 
-own_taken : (scene : Scene) (server : ℕ) → may_take scene server (Server server) ≡ true
-own_taken scene server = (Decides-eqb server server).1 refl
+own_taken : (scene : Scene) (server : ℕ) → is_up scene server ≡ true → may_take scene server (Server server) ≡ true
+own_taken scene server up = rw up ((Decides-eqb server server).1 refl)
+
+-- a server that can take is up
+pub taker_up : (scene : Scene) (server : ℕ) → CanTake scene server → is_up scene server ≡ true
+taker_up scene server can = elim (by_queues scene server can.1.0.phase can.1.2) [ inl w ↦ w.0 | inr w ↦ and_first (is_up scene server) _ w.0 ]
 
 -- a queue's head, by what it says of the rows
 abbrev IsHead : Option Key → Queue → Rows → Type 0
@@ -73,31 +78,37 @@ IsHead head queue rows = MatchOption head (IsEmptyQueue queue rows) (IsLeastIn q
 -- a server has a stay exactly where a request may go to it
 pub stay_may_go : (scene : Scene) (heads : Held) (server : ℕ) → IsHead (head_at heads (Server server)) (Server server) scene.rows → IsHead heads.backend Backend scene.rows → has_stay scene heads server ≡ true ↔ ((row : Row) × IsRow scene.rows row × IsTrue (may_go_to scene server row.phase))
 stay_may_go scene heads server own other = (
-  (λ stay. forth (head_at heads (Server server)) own heads.backend other (is_usable scene server) refl stay),
+  (λ stay. forth (head_at heads (Server server)) own heads.backend other (is_up scene server) refl (is_usable scene server) refl stay),
   (λ may. elim (by_queues scene server may.0.phase may.2) [
-    | inl w ↦ back_own (head_at heads (Server server)) own may.0 may.1 w
+    | inl w ↦ back_own (head_at heads (Server server)) own may.0 may.1 w.0 w.1
     | inr w ↦ back_other heads.backend other may.0 may.1 w.0 w.1
   ]),
 )
   where
-    forth : (h : Option Key) → IsHead h (Server server) scene.rows → (b : Option Key) → IsHead b Backend scene.rows → (u : Bool) → is_usable scene server ≡ u → is_some h || (u && is_some b) ≡ true → (row : Row) × IsRow scene.rows row × IsTrue (may_go_to scene server row.phase)
-    forth (Some key) is b its u e stay = (is.row, is.live, waits_may_go scene server (Server server) is.row.phase is.waits (own_taken scene server))
-    forth None is (Some key) its true e stay = (its.row, its.live, waits_may_go scene server Backend its.row.phase its.waits e)
-    forth None is (Some key) its false e stay = cc
-    forth None is None its true e stay = cc
-    forth None is None its false e stay = cc
+    forth : (h : Option Key) → IsHead h (Server server) scene.rows → (b : Option Key) → IsHead b Backend scene.rows → (p : Bool) → is_up scene server ≡ p → (u : Bool) → is_usable scene server ≡ u → (p && is_some h) || (u && is_some b) ≡ true → (row : Row) × IsRow scene.rows row × IsTrue (may_go_to scene server row.phase)
+    forth (Some key) is b its true up u e stay = (is.row, is.live, waits_may_go scene server (Server server) is.row.phase is.waits (own_taken scene server up))
+    forth h is (Some key) its p up true e stay = (its.row, its.live, waits_may_go scene server Backend its.row.phase its.waits e)
+    forth (Some key) is (Some k) its false up false e stay = cc
+    forth (Some key) is None its false up true e stay = cc
+    forth (Some key) is None its false up false e stay = cc
+    forth None is (Some k) its true up false e stay = cc
+    forth None is (Some k) its false up false e stay = cc
+    forth None is None its true up true e stay = cc
+    forth None is None its true up false e stay = cc
+    forth None is None its false up true e stay = cc
+    forth None is None its false up false e stay = cc
 
-    back_own : (h : Option Key) → IsHead h (Server server) scene.rows → (row : Row) → IsRow scene.rows row → phase_waits_in (Server server) row.phase ≡ true → is_some h || (is_usable scene server && is_some heads.backend) ≡ true
-    back_own (Some key) is row live w = refl
-    back_own None is row live w = absurd (is row live w)
+    or_true : (b : Bool) → b || true ≡ true
+    or_true true = refl
+    or_true false = refl
 
-    back_other : (b : Option Key) → IsHead b Backend scene.rows → (row : Row) → IsRow scene.rows row → is_usable scene server ≡ true → phase_waits_in Backend row.phase ≡ true → is_some (head_at heads (Server server)) || (is_usable scene server && is_some b) ≡ true
+    back_own : (h : Option Key) → IsHead h (Server server) scene.rows → (row : Row) → IsRow scene.rows row → is_up scene server ≡ true → phase_waits_in (Server server) row.phase ≡ true → (is_up scene server && is_some h) || (is_usable scene server && is_some heads.backend) ≡ true
+    back_own (Some key) is row live up w = ap (λ b. (b && true) || (is_usable scene server && is_some heads.backend)) up
+    back_own None is row live up w = absurd (is row live w)
+
+    back_other : (b : Option Key) → IsHead b Backend scene.rows → (row : Row) → IsRow scene.rows row → is_usable scene server ≡ true → phase_waits_in Backend row.phase ≡ true → (is_up scene server && is_some (head_at heads (Server server))) || (is_usable scene server && is_some b) ≡ true
     back_other None is row live u w = absurd (is row live w)
-    back_other (Some key) is row live u w = rw u (or_true (is_some (head_at heads (Server server))))
-      where
-        or_true : (b : Bool) → b || true ≡ true
-        or_true true = refl
-        or_true false = refl
+    back_other (Some key) is row live u w = ap (λ b. (is_up scene server && is_some (head_at heads (Server server))) || (b && true)) u ∙ or_true (is_up scene server && is_some (head_at heads (Server server)))
 
 -- the first of weight 0 takes next
 pub weightless_next : (scene : Scene) (cursor : ℕ) (among : ℕ → Type 0) (server : ℕ) → ((k : ℕ) → among k ↔ CanTake scene k) → IsFirstWeightless scene among (Some server) → IsNextTaker scene cursor server
@@ -141,23 +152,23 @@ lawful_take scene cursor heads server own other next = go (is_usable scene serve
         waits = is.waits;
         taken = taken;
         next = next;
-        least = λ r live may. subst (λ (k : Key). key_cmp k r.key ≢ Greater) (sym is.own) (elim (by_queues scene server r.phase may) [ inl w ↦ first r live w | inr w ↦ second r live w.0 w.1 ]);
+        least = λ r live may. subst (λ (k : Key). key_cmp k r.key ≢ Greater) (sym is.own) (elim (by_queues scene server r.phase may) [ inl w ↦ first r live w.1 | inr w ↦ second r live w.0 w.1 ]);
       },
     )
 
     -- some request waits that the server may take
     idle : {P : Type 0} → ((r : Row) → IsRow scene.rows r → phase_waits_in (Server server) r.phase ≡ true → ⊥) → ((r : Row) → IsRow scene.rows r → is_usable scene server ≡ true → phase_waits_in Backend r.phase ≡ true → ⊥) → P
-    idle first second = absurd (elim (by_queues scene server next.takes.1.0.phase next.takes.1.2) [ inl w ↦ first next.takes.1.0 next.takes.1.1 w | inr w ↦ second next.takes.1.0 next.takes.1.1 w.0 w.1 ])
+    idle first second = absurd (elim (by_queues scene server next.takes.1.0.phase next.takes.1.2) [ inl w ↦ first next.takes.1.0 next.takes.1.1 w.1 | inr w ↦ second next.takes.1.0 next.takes.1.1 w.0 w.1 ])
 
     both : (key its : Key) → head_at heads (Server server) ≡ Some key → IsLeastIn (Server server) scene.rows key → heads.backend ≡ Some its → IsLeastIn Backend scene.rows its → is_usable scene server ≡ true → (b : Bool) → is_lt (key_cmp its key) ≡ b → IsLawfulTake scene cursor heads server (if is_lt (key_cmp its key) then Backend else Server server)
     both key its k own l other e true t = rw t (take Backend its l other e (λ r live w. no_greater its key r.key (first_less its key t) (own.least r live w)) (λ r live u w. other.least r live w))
-    both key its k own l other e false t = rw t (take (Server server) key k own (own_taken scene server) own.least (λ r live u w. no_greater key its r.key (not_first key its t) (other.least r live w)))
+    both key its k own l other e false t = rw t (take (Server server) key k own (own_taken scene server (taker_up scene server next.takes)) own.least (λ r live u w. no_greater key its r.key (not_first key its t) (other.least r live w)))
 
     go : (u : Bool) → is_usable scene server ≡ u → (h : Option Key) → head_at heads (Server server) ≡ h → IsHead h (Server server) scene.rows → (b : Option Key) → heads.backend ≡ b → IsHead b Backend scene.rows
         → IsLawfulTake scene cursor heads server (if u && goes_first b h then Backend else Server server)
     go false e None k own b l other = idle own (λ r live t w. let no : false ≡ true = sym e ∙ t in cc)
-    go false e (Some key) k own b l other = take (Server server) key k own (own_taken scene server) own.least (λ r live t w. let no : false ≡ true = sym e ∙ t in cc)
+    go false e (Some key) k own b l other = take (Server server) key k own (own_taken scene server (taker_up scene server next.takes)) own.least (λ r live t w. let no : false ≡ true = sym e ∙ t in cc)
     go true e None k own None l other = idle own (λ r live t w. other r live w)
     go true e None k own (Some its) l other = take Backend its l other e (λ r live w. absurd (own r live w)) (λ r live t w. other.least r live w)
-    go true e (Some key) k own None l other = take (Server server) key k own (own_taken scene server) own.least (λ r live t w. absurd (other r live w))
+    go true e (Some key) k own None l other = take (Server server) key k own (own_taken scene server (taker_up scene server next.takes)) own.least (λ r live t w. absurd (other r live w))
     go true e (Some key) k own (Some its) l other = both key its k own l other e (is_lt (key_cmp its key)) refl

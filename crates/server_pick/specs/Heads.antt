@@ -9,7 +9,7 @@ use Rattle.dispatch_log.specs.declared.queue.Queue.TheVariants.{Backend, Server}
 use Rattle.dispatch_log.specs.declared.row.Row.{Row}
 use Rattle.dispatch_log.specs.Grants.{IsLawfulGrant}
 use Rattle.dispatch_log.specs.Rows.{Rows, IsRow, phase_waits_in}
-use Rattle.dispatch_log.specs.Words.{Scene, is_usable}
+use Rattle.dispatch_log.specs.Words.{Scene, is_up, is_usable}
 use Rattle.slot_ledger.specs.Counts.{IsQueueOf}
 
 -- heads of the servers' queues and of the backend's
@@ -43,7 +43,7 @@ IsLawfulTake scene cursor heads server queue = (key : Key) × (head_at heads que
 
 -- whether a queue has a head that a slot of a server may go to
 abbrev pub has_stay : Scene → Held → ℕ → Bool
-has_stay scene heads server = is_some (head_at heads (Server server)) || (is_usable scene server && is_some heads.backend)
+has_stay scene heads server = (is_up scene server && is_some (head_at heads (Server server))) || (is_usable scene server && is_some heads.backend)
 
 -- whether a head of the backend's queue goes before a head of a server's
 abbrev pub goes_first : Option Key → Option Key → Bool

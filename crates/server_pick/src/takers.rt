@@ -70,7 +70,7 @@ fn can_take<H: Drop>(ledger: &Ledger<H>, heads: &Heads, server: usize) -> bool
 fn has_stay<H: Drop>(ledger: &Ledger<H>, heads: &Heads, server: usize) -> bool
     ensures { result ≡ has_stay (scene_of ledger.now) heads.now server }
 {
-    heads.get(Queue::Server(server)).is_some()
+    ledger.up(server) && heads.get(Queue::Server(server)).is_some()
         || is_usable(ledger, server) && heads.get(Queue::Backend).is_some()
 }
 

@@ -1,7 +1,11 @@
-use crate::{Cursor, Heads, Placement, Set64, candidates, place};
-use dispatch_log::{Queue, ServerSet, Servers, Setup};
+ghost use Rattle.std.specs.Prelude.{◌≡◌, IfOk, length};
+ghost use Rattle.dispatch_log.specs.Setups.{IsSound};
+
+use crate::{Cursor, Heads, Placement, Set64, candidates, next_take, place};
+use dispatch_log::{Phase, Queue, Row, ServerSet, Servers, Setup};
 use due_key::{Class, Due, Key, Moment, Offset};
 use slot_ledger::Ledger;
+use std::alloc::Global;
 use std::test::Fail;
 
 fn key(ticket: u64) -> Result<Key, Fail> {
@@ -34,9 +38,12 @@ fn heads_are_kept_by_queue(rt: HostRuntime) -> Result<(), Fail> {
     Ok(())
 }
 
-#[test]
-fn idle_servers_are_picked_in_turn(rt: HostRuntime) -> Result<(), Fail> {
-    let alloc = rt.alloc();
+// Three servers of one slot each, and four places.
+fn three_servers(alloc: Global) -> Result<Setup, Fail>
+    ensures sound { IfOk result (λ setup. IsSound setup) }
+    ensures servers { IfOk result (λ setup. length setup.servers ≡ 3) }
+    ensures places { IfOk result (λ setup. setup.places ≡ 4) }
+{
     let server = ServerSet {
         limit: 1,
         maxqueue: 0,
@@ -54,7 +61,13 @@ fn idle_servers_are_picked_in_turn(rt: HostRuntime) -> Result<(), Fail> {
     if !setup.sound() {
         return Err(Fail::from("not a sound setup"));
     }
-    let ledger: Ledger<char> = Ledger::new(alloc, setup)?;
+    Ok(setup)
+}
+
+#[test]
+fn idle_servers_are_picked_in_turn(rt: HostRuntime) -> Result<(), Fail> {
+    let alloc = rt.alloc();
+    let ledger: Ledger<char> = Ledger::new(alloc, three_servers(alloc)?)?;
     let mut cursor = Cursor::new(3);
     assert_eq!(rt; cursor.server(), 2);
     assert_eq!(rt; place(&ledger, &mut cursor, None, None), Placement::Slot(0));
@@ -69,5 +82,53 @@ fn idle_servers_are_picked_in_turn(rt: HostRuntime) -> Result<(), Fail> {
     );
     let others = candidates(&ledger, Some(1));
     assert!(rt; others.contains(0) && !others.contains(1));
+    Ok(())
+}
+
+#[test]
+fn servers_that_are_down_are_passed_over(rt: HostRuntime) -> Result<(), Fail> {
+    let alloc = rt.alloc();
+    let mut ledger: Ledger<char> = Ledger::new(alloc, three_servers(alloc)?)?;
+    let mut cursor = Cursor::new(3);
+    ledger.set_up(0, false);
+    assert_eq!(rt; place(&ledger, &mut cursor, None, None), Placement::Slot(1));
+    assert!(rt; !candidates(&ledger, None).contains(0));
+    ledger.set_up(1, false);
+    assert_eq!(rt;
+        place(&ledger, &mut cursor, Some(1), None),
+        Placement::Slot(2)
+    );
+    ledger.set_up(2, false);
+    assert_eq!(rt;
+        place(&ledger, &mut cursor, Some(1), None),
+        Placement::Nowhere
+    );
+    ledger.set_up(0, true);
+    assert_eq!(rt; place(&ledger, &mut cursor, None, None), Placement::Slot(0));
+    Ok(())
+}
+
+#[test]
+fn a_server_that_is_down_takes_nothing(rt: HostRuntime) -> Result<(), Fail> {
+    let alloc = rt.alloc();
+    let mut ledger: Ledger<char> = Ledger::new(alloc, three_servers(alloc)?)?;
+    let since = Moment::new(0).ok_or("a moment out of range")?;
+    let row = Row {
+        key: key(1)?,
+        pin: None,
+        failures: 0,
+        phase: Phase::Loose,
+    };
+    let place = ledger.admit(row, 'n');
+    assert_eq!(rt; ledger.wait(place, Queue::Backend, since), 'n');
+    ledger.set_up(0, false);
+    let mut heads = Heads::new();
+    heads.set(Queue::Backend, Some(row.key));
+    let mut cursor = Cursor::new(3);
+    assert_eq!(rt;
+        next_take(&ledger, &mut cursor, &heads),
+        Some((1, Queue::Backend))
+    );
+    assert_eq!(rt; cursor.server(), 1);
     Ok(())
 }

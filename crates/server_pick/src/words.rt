@@ -1,7 +1,9 @@
-ghost use Rattle.std.specs.Prelude.{◌≡◌, ◌≤◌, All, IsTrue, length};
+ghost use Rattle.std.specs.Prelude.{◌≡◌, ◌+◌, ◌≤◌, ◌==◌, ◌||◌, nat_lt, All, IsTrue, length};
+ghost use Rattle.dispatch_log.specs.declared.queue.Queue.TheVariants.{Server};
+ghost use Rattle.dispatch_log.specs.Rows.{queued};
 ghost use Rattle.dispatch_log.specs.Setups.{is_within};
 ghost use Rattle.dispatch_log.specs.Picks.{weight_of, load};
-ghost use Rattle.dispatch_log.specs.Words.{is_usable, is_free, has_room, takes_pinned};
+ghost use Rattle.dispatch_log.specs.Words.{of_server, is_usable, is_free, has_room, takes_pinned};
 ghost use Rattle.slot_ledger.specs.Ledgers.{scene_of};
 
 use dispatch_log::{Queue, ServerSet};
@@ -29,6 +31,13 @@ pub(crate) fn load<H: Drop>(ledger: &Ledger<H>, server: usize) -> u64
 pub(crate) fn is_usable<H: Drop>(ledger: &Ledger<H>, server: usize) -> bool
     ensures { result ≡ is_usable (scene_of ledger.now) server }
 {
+    ledger.up(server) && takes_part(ledger, server)
+}
+
+/// Whether balancing gives a server any request while it is up.
+fn takes_part<H: Drop>(ledger: &Ledger<H>, server: usize) -> bool
+    ensures { result ≡ of_server (scene_of ledger.now) server (λ it. nat_lt 0 it.weight) }
+{
     match settings(ledger).get(server) {
         None => false,
         Some(it) => 0 < it.weight,
@@ -48,11 +57,19 @@ pub(crate) fn has_room<H: Drop>(ledger: &Ledger<H>, server: usize) -> bool
     ensures room { result ≡ has_room (scene_of ledger.now) server }
     ensures few { length ledger.now.setup.servers ≤ 64 }
 {
+    has_places(ledger, server) && is_usable(ledger, server)
+}
+
+/// Whether a server serves and queues fewer requests than balancing may give it.
+fn has_places<H: Drop>(ledger: &Ledger<H>, server: usize) -> bool
+    ensures places { result ≡ of_server (scene_of ledger.now) server (λ it. (it.limit == 0) || nat_lt (load (scene_of ledger.now) server) (it.limit + it.maxqueue)) }
+    ensures few { length ledger.now.setup.servers ≤ 64 }
+{
     match settings(ledger).get(server) {
         None => false,
         Some(it) => {
             let (limit, load) = (u64::from(it.limit), load(ledger, server));
-            0 < it.weight && (limit == 0 || load < limit || load - limit < u64::from(it.maxqueue))
+            limit == 0 || load < limit || load - limit < u64::from(it.maxqueue)
         }
     }
 }
@@ -60,11 +77,18 @@ pub(crate) fn has_room<H: Drop>(ledger: &Ledger<H>, server: usize) -> bool
 pub(crate) fn takes_pinned<H: Drop>(ledger: &Ledger<H>, server: usize) -> bool
     ensures { result ≡ takes_pinned (scene_of ledger.now) server }
 {
+    ledger.up(server) && (is_free(ledger, server) || queues_pinned(ledger, server))
+}
+
+/// Whether a server's queue takes a request that is bound to it.
+fn queues_pinned<H: Drop>(ledger: &Ledger<H>, server: usize) -> bool
+    ensures { result ≡ of_server (scene_of ledger.now) server (λ it. (it.maxqueue == 0) || nat_lt (queued (Server server) (scene_of ledger.now).rows) it.maxqueue) }
+{
     match settings(ledger).get(server) {
         None => false,
         Some(it) => {
             let queued = ledger.queued(Queue::Server(server)) as u64;
-            is_free(ledger, server) || it.maxqueue == 0 || queued < u64::from(it.maxqueue)
+            it.maxqueue == 0 || queued < u64::from(it.maxqueue)
         }
     }
 }

@@ -146,6 +146,13 @@ module _ {H : Type 0} where
   ledger_includes setup slots counts p row is there =
       counts_include counts (rows_in slots) p row is.counted (slice_get-map row_in slots p ∙ ap (option_map row_in) there.1 ∙ ap (λ (r : Row). Some (Some r)) there.2)
 
+  -- a ledger after a request changed and stayed in its phase
+  pub ledger_same : (change : Slot H → Slot H) (setup : Setup) (slots next : List (Option (Slot H))) (counts : Counted) (p : ℕ) → IsLedger setup slots counts → (s : Slot H) × StandsIn slots p s
+      → ((s : Slot H) → (change s).row.phase ≡ s.row.phase) → next ≡ with_slot change slots p → IsLedger setup next counts
+  ledger_same change setup slots next counts p is there stays written =
+      ledger_passed setup slots next counts counts p (Some there.0) (Some (change there.0)) there.0.row.phase there.0.row.phase is there.1 refl (stays there.0) (written ∙ with_slot_at change slots p there.0 there.1)
+      (record { serving = λ server. refl; waiting = λ queue. refl }) refl refl
+
   -- a ledger after a request went into another phase
   pub ledger_changed : (change : Slot H → Slot H) (after : Phase) (setup : Setup) (slots next : List (Option (Slot H))) (counts now : Counted) (p : ℕ) (row : Row) → IsLedger setup slots counts → (s : Slot H) × StandsIn slots p s × (s.row ≡ row)
       → ((s : Slot H) → (change s).row.phase ≡ after) → next ≡ with_slot change slots p → IsPassed row.phase after counts now → length now.served ≡ length counts.served → length now.own ≡ length counts.own → IsLedger setup next now

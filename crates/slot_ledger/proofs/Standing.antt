@@ -13,12 +13,18 @@ module _ {H : Type 0} where
   with_slot_at change slots p s stands = ap (λ (cell : Option (Slot H)). set slots p (option_map change cell)) (get_or_from_slice_get slots p (Some s) None stands)
 
   -- the changed request stands there
-  pub still_stands : (change : Slot H → Slot H) (slots new : List (Option (Slot H))) (p : ℕ) → HasRow slots p → new ≡ with_slot change slots p → HasRow new p
-  still_stands change slots new p has is =
-      (change has.0, subst (λ (l : List (Option (Slot H))). StandsIn l p (change has.0)) (sym (with_slot_at change slots p has.0 has.1) ∙ sym is) (get-set_same slots p (Some has.0) (Some (change has.0)) has.1))
+  pub changed_stands : (change : Slot H → Slot H) (slots new : List (Option (Slot H))) (p : ℕ) (s : Slot H) → StandsIn slots p s → new ≡ with_slot change slots p → StandsIn new p (change s)
+  changed_stands change slots new p s stands is =
+      subst (λ (l : List (Option (Slot H))). StandsIn l p (change s)) (sym (with_slot_at change slots p s stands) ∙ sym is) (get-set_same slots p (Some s) (Some (change s)) stands)
 
-  -- a request that was put at a free place stands there, with its node
+  -- so some request does
+  pub still_stands : (change : Slot H → Slot H) (slots new : List (Option (Slot H))) (p : ℕ) → HasRow slots p → new ≡ with_slot change slots p → HasRow new p
+  still_stands change slots new p has is = (change has.0, changed_stands change slots new p has.0 has.1 is)
+
+  -- a request that was put at a free place stands there
+  pub put_stands : (slots new : List (Option (Slot H))) (p : ℕ) (slot : Slot H) → slice_get slots p ≡ Some None → new ≡ set slots p (Some slot) → StandsIn new p slot
+  put_stands slots new p slot free is = subst (λ (l : List (Option (Slot H))). StandsIn l p slot) (sym is) (get-set_same slots p None (Some slot) free)
+
+  -- with its node
   pub admitted_stands : (slots new : List (Option (Slot H))) (p : ℕ) (row : Row) (node : H) → slice_get slots p ≡ Some None → new ≡ set slots p (Some (record { row = row; node = Some node })) → HasNode new p
-  admitted_stands slots new p row node free is =
-      let slot : Slot H = record { row = row; node = Some node } in
-      (slot, node, subst (λ (l : List (Option (Slot H))). StandsIn l p slot) (sym is) (get-set_same slots p None (Some slot) free), refl)
+  admitted_stands slots new p row node free is = (_, node, put_stands slots new p (record { row = row; node = Some node }) free is, refl)

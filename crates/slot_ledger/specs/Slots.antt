@@ -1,5 +1,5 @@
 -- Places with live requests.
-use Rattle.std.specs.Prelude.{◌≡◌, ◌≢◌, ℕ, ◌<◌, List, Option, None, Some, option_map, map, slice_get, slice_set, slice_index_or}
+use Rattle.std.specs.Prelude.{◌≡◌, ◌≢◌, ℕ, ◌+◌, ◌^◌, ◌<◌, List, Option, None, Some, option_map, map, slice_get, slice_set, slice_index_or}
 use Rattle.dispatch_log.specs.declared.queue.Queue.{Queue}
 use Rattle.dispatch_log.specs.declared.row.Phase.{Phase}
 use Rattle.dispatch_log.specs.declared.row.Phase.TheVariants.{Loose, Waiting}
@@ -23,6 +23,10 @@ module _ {H : Type 0} where
   abbrev pub HasNode : List (Option (Slot H)) → ℕ → Type 0
   HasNode slots place = (slot : Slot H) × (node : H) × StandsIn slots place slot × (slot.node ≡ Some node)
 
+  -- some request stands at a place whose failures are far from all that can be counted
+  abbrev pub HasCountable : List (Option (Slot H)) → ℕ → Type 0
+  HasCountable slots place = (slot : Slot H) × StandsIn slots place slot × (slot.row.failures + 1 < 2 ^ 32)
+
   -- the request of a ticket stands at a place
   abbrev pub HasTicketAt : ℕ → List (Option (Slot H)) → ℕ → Type 0
   HasTicketAt ticket slots place = (slot : Slot H) × StandsIn slots place slot × (slot.row.key.ticket ≡ ticket)
@@ -42,6 +46,14 @@ module _ {H : Type 0} where
   -- the request at a place is in this phase
   abbrev pub with_phase : Phase → List (Option (Slot H)) → ℕ → List (Option (Slot H))
   with_phase phase = with_slot (λ slot. record { row = record slot.row { phase = phase }; node = slot.node })
+
+  -- one connection more failed for the request at a place
+  abbrev pub with_failure : List (Option (Slot H)) → ℕ → List (Option (Slot H))
+  with_failure = with_slot (λ slot. record { row = record slot.row { failures = slot.row.failures + 1 }; node = slot.node })
+
+  -- no server is the own one of the request at a place
+  abbrev pub unpinned : List (Option (Slot H)) → ℕ → List (Option (Slot H))
+  unpinned = with_slot (λ slot. record { row = record slot.row { pin = None }; node = slot.node })
 
   -- the request at a place waits, and its node is out
   abbrev pub waiting : Queue → ℕ → List (Option (Slot H)) → ℕ → List (Option (Slot H))

@@ -1,9 +1,11 @@
-ghost use Rattle.std.specs.Prelude.{◌≡◌, ◌<◌, ◌≤◌, Some, None, IfOk, length, count_by, is_some, slice_get, slice_set, replicate, MatchOption};
+ghost use Rattle.std.specs.Prelude.{◌≡◌, ◌<◌, ◌≤◌, Some, None, IfOk, length, count_by, is_some, slice_get, slice_set, replicate, true, MatchOption};
+ghost use Rattle.dispatch_log.specs.declared.queue.Queue.{Queue};
 ghost use Rattle.dispatch_log.specs.declared.row.Phase.{Phase};
 ghost use Rattle.dispatch_log.specs.Rows.{served, queued};
 ghost use Rattle.dispatch_log.specs.Setups.{IsSound};
-ghost use Rattle.slot_ledger.specs.Ledgers.{with_slots};
-ghost use Rattle.slot_ledger.specs.Slots.{rows_in, HasRow, HasNode, HasTicketAt, HasNoTicket, AreBelow, with_phase, waiting, loosened};
+ghost use Rattle.dispatch_log.specs.Words.{is_up};
+ghost use Rattle.slot_ledger.specs.Ledgers.{scene_of, with_slots, with_up};
+ghost use Rattle.slot_ledger.specs.Slots.{rows_in, HasRow, HasCountable, HasNode, HasTicketAt, HasNoTicket, AreBelow, with_phase, with_failure, unpinned, waiting, loosened};
 ghost use Rattle.slot_ledger.specs.Counts.{IsQueueOf, IsPhaseOf};
 
 use crate::counts::Counts;
@@ -14,37 +16,41 @@ use std::alloc::{AllocError, Global};
 use std::marker::Model;
 use verdict::Cause;
 
-/// The live requests by place. Each call changes only the row that it names. How many requests a
-/// server serves and how many wait in a queue are counts of rows, which no call counts anew.
+/// The live requests by place, and which servers are up. Each call changes only the row or the
+/// server that it names. How many requests a server serves and how many wait in a queue are counts
+/// of rows, which no call counts anew.
 #[derive(Drop)]
 pub struct Ledger<H> {
     setup: Setup,
+    ups: Vec<bool>,
     places: Places<H>,
     counts: Counts,
 }
 
 impl<H> Model for Ledger<H> {
-    ghost use Rattle.slot_ledger.specs.Ledgers.{Kept, IsLedger};
+    ghost use Rattle.slot_ledger.specs.Ledgers.{Kept, IsLedgerWith};
 
     ghost Value = { Kept H };
 
-    ghost view = { λ ledger. record { setup = ledger.setup; slots = ledger.places } };
+    ghost view = { λ ledger. record { setup = ledger.setup; ups = ledger.ups.items; slots = ledger.places } };
 
-    ghost invariant = { λ ledger. IsLedger ledger.setup ledger.places ledger.counts };
+    ghost invariant = { λ ledger. IsLedgerWith ledger.setup ledger.ups.items ledger.places ledger.counts };
 }
 
 impl<H: Drop> Ledger<H> {
     ghost use Rattle.slot_ledger.specs.declared.places.Slot.{Slot};
 
-    /// A ledger without a request. All its memory is taken here. `O(n)` in the places.
+    /// A ledger without a request, all its servers up. All its memory is taken here. `O(n)` in the places.
     pub fn new(alloc: Global, setup: Setup) -> Result<Ledger<H>, AllocError>
         requires { IsSound setup }
-        ensures { IfOk result (λ ledger. ledger ≡ record { setup = setup; slots = replicate setup.places None }) }
+        ensures { IfOk result (λ ledger. ledger ≡ record { setup = setup; ups = replicate (length setup.servers) true; slots = replicate setup.places None }) }
     {
         let places = Places::new(alloc, setup.places)?;
         let counts = Counts::new(alloc, setup.servers.len())?;
+        let ups = vec![in alloc; true; setup.servers.len()]?;
         Ok(Ledger {
             setup,
+            ups,
             places,
             counts,
         })
@@ -55,8 +61,24 @@ impl<H: Drop> Ledger<H> {
         ensures setup { result.now ≡ self.now.setup }
         ensures sound { IsSound self.now.setup }
         ensures places { length self.now.slots ≡ self.now.setup.places }
+        ensures ups { length self.now.ups ≡ length self.now.setup.servers }
     {
         &self.setup
+    }
+
+    /// Whether a server is up. `O(1)`.
+    pub fn up(&self, server: usize) -> bool
+        ensures { result ≡ is_up (scene_of self.now) server }
+    {
+        self.ups.get(server).copied().unwrap_or(false)
+    }
+
+    /// A server is up, or down, from now on. `O(1)`.
+    pub fn set_up(&mut self, server: usize, up: bool)
+        requires { server < length self.old.setup.servers }
+        ensures { self.new ≡ with_up self.old server up }
+    {
+        self.ups[server] = up;
     }
 
     /// How many places it has.
@@ -150,6 +172,31 @@ impl<H: Drop> Ledger<H> {
         let to = phase;
         self.counts.pass(from, phase);
         self.places.set_phase(place, to);
+    }
+
+    /// The row, which waits in a server's queue, waits in the backend's from this moment on. Its
+    /// node stays where it is.
+    pub fn shift(&mut self, place: usize, since: Moment)
+        requires { HasRow self.old.slots place }
+        ensures { self.new ≡ with_slots self.old (with_phase (Phase.Waiting Queue.Backend since) self.old.slots place) }
+    {
+        self.set_phase(place, Phase::Waiting(Queue::Backend, since));
+    }
+
+    /// One connection more failed for the row.
+    pub fn fail(&mut self, place: usize)
+        requires { HasCountable self.old.slots place }
+        ensures { self.new ≡ with_slots self.old (with_failure self.old.slots place) }
+    {
+        self.places.fail(place);
+    }
+
+    /// The row is bound to no server any more.
+    pub fn unpin(&mut self, place: usize)
+        requires { HasRow self.old.slots place }
+        ensures { self.new ≡ with_slots self.old (unpinned self.old.slots place) }
+    {
+        self.places.unpin(place);
     }
 
     /// The row waits in a queue from this moment on; its node is handed out.

@@ -39,7 +39,7 @@ impl<H> Model for Places<H> {
 
 impl<H: Drop> Places<H> {
     ghost use Rattle.slot_ledger.specs.declared.places.Slot.{Slot};
-    ghost use Rattle.slot_ledger.specs.Slots.{HasRow, HasNode, HasTicketAt, HasNoTicket, AreBelow, with_phase, waiting, loosened};
+    ghost use Rattle.slot_ledger.specs.Slots.{HasRow, HasCountable, HasNode, HasTicketAt, HasNoTicket, AreBelow, with_phase, with_failure, unpinned, waiting, loosened};
 
     /// So many places, all free. `O(n)`.
     pub(crate) fn new(alloc: Global, places: usize) -> Result<Places<H>, AllocError>
@@ -117,6 +117,28 @@ impl<H: Drop> Places<H> {
             unreachable!()
         };
         slot.row.phase = phase;
+    }
+
+    /// One connection more failed for the row.
+    pub(crate) fn fail(&mut self, place: usize)
+        requires { HasCountable self.old place }
+        ensures { self.new ≡ with_failure self.old place }
+    {
+        let Some(slot) = &mut self.slots[place] else {
+            unreachable!()
+        };
+        slot.row.failures += 1;
+    }
+
+    /// The row is bound to no server any more.
+    pub(crate) fn unpin(&mut self, place: usize)
+        requires { HasRow self.old place }
+        ensures { self.new ≡ unpinned self.old place }
+    {
+        let Some(slot) = &mut self.slots[place] else {
+            unreachable!()
+        };
+        slot.row.pin = None;
     }
 
     /// The row waits in a queue from this moment on; its node is handed out.

@@ -37,6 +37,7 @@ fn overtaking_by_offset(rt: HostRuntime) -> Result<(), Fail> {
   free 3 s1
   end 3
   grant 2 * s1
+queue * class 0 granted 2 worst 19 due 1 after 0 to 14 critical 3 2
 ",
     )
 }
@@ -62,6 +63,7 @@ fn an_early_grant_is_no_fault(rt: HostRuntime) -> Result<(), Fail> {
   free 2 s1
   end 2
   grant 3 * s1
+queue * class 0 granted 2 worst 15 due 5 after 8 to 14 critical 3
 ",
     )
 }
@@ -87,6 +89,7 @@ fn ties_go_by_ticket(rt: HostRuntime) -> Result<(), Fail> {
   free 2 s1
   end 2
   grant 3 * s1
+queue * class 0 granted 2 worst 4 due 5 after 0 to 14 critical 2 3
 ",
     )
 }
@@ -127,6 +130,8 @@ fn classes_go_first(rt: HostRuntime) -> Result<(), Fail> {
   free 3 s1
   end 3
   grant 2 * s1
+queue * class -1 granted 1 worst -8 due 11 after 0 to 10 critical 3
+queue * class 0 granted 1 worst 4 due 0 after 0 to 14 critical 2
 ",
     )
 }
@@ -175,7 +180,7 @@ fn the_first_faulty_line_is_named(rt: HostRuntime) {
         trace_of(rt.alloc(), b"places 3\n0 done 1\nlog 9\n"),
         fault(3)
     );
-    assert_eq!(rt; trace_of(rt.alloc(), b"retries 3\n"), fault(1));
+    assert_eq!(rt; trace_of(rt.alloc(), b"retry 3\n"), fault(1));
     assert_eq!(rt; trace_of(rt.alloc(), b"0 arrive 0 0 *\n"), fault(1));
     assert_eq!(rt;
         trace_of(rt.alloc(), b"1000000000000000000 done 1\n"),

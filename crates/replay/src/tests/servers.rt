@@ -1,13 +1,5 @@
-use super::trace_of;
-use std::alloc::Global;
-use std::process::Abort;
+use super::expect;
 use std::test::Fail;
-
-fn expect(rt: &impl Abort, alloc: Global, script: &str, expected: &str) -> Result<(), Fail> {
-    let trace = trace_of(alloc, script.as_bytes())?;
-    assert_eq!(rt; trace.as_slice(), expected.as_bytes());
-    Ok(())
-}
 
 #[test]
 fn ties_go_round_and_weights_count(rt: HostRuntime) -> Result<(), Fail> {
@@ -121,6 +113,8 @@ server a 1 1 1
   free 2 a
   end 2
   grant 3 * a
+queue * class 0 granted 1 worst 2 due 5 after 0 to 14 critical 3
+queue a class 0 granted 1 worst 1 due 5 after 0 to 10 critical 2
 ",
     )
 }
@@ -156,6 +150,7 @@ server b 1 0 1
 3 done 4
   free 4 a
   end 4
+queue a class 0 granted 1 worst -4 due 6 after 0 to 12 critical 4
 ",
     )
 }
@@ -230,6 +225,54 @@ server a 1 0 0
 refused 2
 2 done 1
   end 1
+",
+    )
+}
+
+// The servers stand in the order of their lines, the classes of a queue rise.
+#[test]
+fn each_queue_and_class_is_reported(rt: HostRuntime) -> Result<(), Fail> {
+    expect(
+        &rt,
+        rt.alloc(),
+        "\
+server b 1 5 1
+server a 1 5 1
+0 arrive 0 0 b
+0 arrive 0 0 a
+1 arrive 3 0 a
+1 arrive -2 0 a
+1 arrive 3 0 b
+6 done 1
+8 done 2
+9 done 4
+",
+        "\
+0 arrive 1 0 0 b
+  direct 1 b
+0 arrive 2 0 0 a
+  direct 2 a
+1 arrive 3 3 1 a
+  join 3 a
+1 arrive 4 -2 1 a
+  join 4 a
+1 arrive 5 3 1 b
+  join 5 b
+6 done 1
+  free 1 b
+  end 1
+  grant 5 b b
+8 done 2
+  free 2 a
+  end 2
+  grant 4 a a
+9 done 4
+  free 4 a
+  end 4
+  grant 3 a a
+queue b class 3 granted 1 worst 5 due 1 after 0 to 14 critical 5
+queue a class -2 granted 1 worst 7 due 1 after 0 to 18 critical 4
+queue a class 3 granted 1 worst 8 due 1 after 0 to 22 critical 3
 ",
     )
 }

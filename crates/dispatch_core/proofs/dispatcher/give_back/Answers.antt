@@ -5,7 +5,7 @@ pub free-requires-clause-lawful : goal.free-requires-clause-lawful
 free-requires-clause-lawful g c = may_free c.args.trace.now c.args.ticket c.args.server c.requires.returning c.requires.slot
 
 pub end-requires-clause-lawful : goal.end-requires-clause-lawful
-end-requires-clause-lawful g c = freed_ends c.args.trace.now c.free.new.self c.args.ticket c.args.server c.free.ensures
+end-requires-clause-lawful g c = freed_ends c.args.trace.now c.free.new.self c.args.ticket c.args.server c.requires.returning c.free.ensures
 
 pub returns : goal.returns
 returns g c = gives_back c.args.trace.now c.free.new.self c.end.new.self c.args.ticket c.args.server c.free.ensures c.end.ensures

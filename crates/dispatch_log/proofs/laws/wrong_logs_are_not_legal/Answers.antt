@@ -1,4 +1,5 @@
 use Rattle.dispatch_log.proofs.WrongLogs.{not_first_come, not_idle, not_above_limit, not_without_offset, not_without_end, not_twice, not_more_loaded, not_against_cursor, not_beside_room}
+use Rattle.dispatch_log.proofs.WrongChanges.{not_past_the_retries, not_counted_twice, not_with_the_pin, not_to_the_failed, not_before_the_grant, not_beside_a_usable_one, not_early, not_by_falling_ticket, not_untold, not_while_served, not_while_waiting, not_left_behind, not_by_ticket, not_before_the_moves, not_idle_after_a_rise, not_without_a_word, not_down_after, not_by_a_fallen_server}
 use Rattle.dispatch_log.proofs.laws.wrong_logs_are_not_legal.Goals as goal
 
 pub returns-clause-first_come_first_served : goal.returns-clause-first_come_first_served
@@ -27,3 +28,57 @@ returns-clause-tie_against_the_cursor c = not_against_cursor
 
 pub returns-clause-waits_beside_room : goal.returns-clause-waits_beside_room
 returns-clause-waits_beside_room c = not_beside_room
+
+pub returns-clause-retry_past_the_retries : goal.returns-clause-retry_past_the_retries
+returns-clause-retry_past_the_retries c = not_past_the_retries
+
+pub returns-clause-failure_counted_twice : goal.returns-clause-failure_counted_twice
+returns-clause-failure_counted_twice c = not_counted_twice
+
+pub returns-clause-redispatch_keeps_the_pin : goal.returns-clause-redispatch_keeps_the_pin
+returns-clause-redispatch_keeps_the_pin c = not_with_the_pin
+
+pub returns-clause-redispatch_to_the_failed_server : goal.returns-clause-redispatch_to_the_failed_server
+returns-clause-redispatch_to_the_failed_server c = not_to_the_failed
+
+pub returns-clause-redispatch_before_the_grant : goal.returns-clause-redispatch_before_the_grant
+returns-clause-redispatch_before_the_grant c = not_before_the_grant
+
+pub returns-clause-no_server_beside_a_usable_one : goal.returns-clause-no_server_beside_a_usable_one
+returns-clause-no_server_beside_a_usable_one c = not_beside_a_usable_one
+
+pub returns-clause-told_one_millisecond_early : goal.returns-clause-told_one_millisecond_early
+returns-clause-told_one_millisecond_early c = not_early
+
+pub returns-clause-told_by_falling_ticket : goal.returns-clause-told_by_falling_ticket
+returns-clause-told_by_falling_ticket c = not_by_falling_ticket
+
+pub returns-clause-expired_and_not_told : goal.returns-clause-expired_and_not_told
+returns-clause-expired_and_not_told c = not_untold
+
+pub returns-clause-abort_of_a_served_request : goal.returns-clause-abort_of_a_served_request
+returns-clause-abort_of_a_served_request c = not_while_served
+
+pub returns-clause-failure_of_a_waiting_request : goal.returns-clause-failure_of_a_waiting_request
+returns-clause-failure_of_a_waiting_request c = not_while_waiting
+
+pub returns-clause-fall_leaves_its_queue : goal.returns-clause-fall_leaves_its_queue
+returns-clause-fall_leaves_its_queue c = not_left_behind
+
+pub returns-clause-moves_by_ticket : goal.returns-clause-moves_by_ticket
+returns-clause-moves_by_ticket c = not_by_ticket
+
+pub returns-clause-grant_before_the_moves : goal.returns-clause-grant_before_the_moves
+returns-clause-grant_before_the_moves c = not_before_the_moves
+
+pub returns-clause-rise_grants_nothing : goal.returns-clause-rise_grants_nothing
+returns-clause-rise_grants_nothing c = not_idle_after_a_rise
+
+pub returns-clause-rise_is_not_told : goal.returns-clause-rise_is_not_told
+returns-clause-rise_is_not_told c = not_without_a_word
+
+pub returns-clause-down_after_its_rise : goal.returns-clause-down_after_its_rise
+returns-clause-down_after_its_rise c = not_down_after
+
+pub returns-clause-served_by_a_fallen_server : goal.returns-clause-served_by_a_fallen_server
+returns-clause-served_by_a_fallen_server c = not_by_a_fallen_server

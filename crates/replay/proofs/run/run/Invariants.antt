@@ -1,4 +1,5 @@
 use Rattle.std.proofs.Common.{ℕ, List, ◌++◌, length, filter_map, string_bytes}
+use Rattle.dispatch_log.specs.Histories.{History}
 use Rattle.script.specs.Steps.{step_of, steps_of}
 use Rattle.script.specs.ScriptTexts.{IsScriptText}
 use Rattle.replay.proofs.run.run.Given as goal
@@ -6,8 +7,8 @@ use Rattle.replay.proofs.run.run.Given as goal
 -- what is written, and then a text of the lines that are left, is a text of all lines
 abbrev pub invariant-lines : goal.invariant-lines
 invariant-lines g l =
-    (rest : List ℕ) → IsScriptText l.names l.core (filter_map step_of l.lines) rest
-    → IsScriptText l.names l.initial.core (steps_of l.script) (string_bytes l.text ++ rest)
+    (last : History) (rest : List ℕ) → IsScriptText l.names l.core (filter_map step_of l.lines) last rest
+    → IsScriptText l.names l.initial.core (steps_of l.script) last (string_bytes l.text ++ rest)
 
 abbrev pub decreases-lines : goal.decreases-lines
 decreases-lines g l = length l.lines

@@ -7,4 +7,4 @@ pub returns-in-Ok-clause-ok : goal.returns-in-Ok-clause-ok
 returns-in-Ok-clause-ok g c =
     kept_then c.kept.result c.push_entries.result _ _ c.kept.ensures.ok c.push_entries.ensures
     (answered_by_new c.args.names.now c.args.core.now c.ask.new.core c.args.step c.entries.result.now c.len-before.result _ _ c.in-Ok.ensures.ok
-    (c.entries.ensures ∙ c.log-in-Ok.ensures.entries) (c.len-before.ensures ∙ ap length c.log.ensures.entries))
+    (c.entries.ensures.entries ∙ c.log-in-Ok.ensures.entries) (c.len-before.ensures ∙ ap length c.log.ensures.entries))

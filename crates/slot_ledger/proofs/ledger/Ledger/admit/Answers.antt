@@ -3,4 +3,7 @@ use Rattle.slot_ledger.proofs.Counting.{ledger_passed}
 use Rattle.slot_ledger.proofs.ledger.Ledger.admit.Goals as goal
 
 pub invariant_of-self : goal.invariant_of-self
-invariant_of-self g c = ledger_passed _ _ _ _ _ c.admit.result _ _ _ _ c.self.invariant c.admit.ensures.vacant refl refl c.admit.ensures.admitted c.pass.ensures.passed c.pass.ensures.served c.pass.ensures.own
+invariant_of-self g c = record {
+  ledger = ledger_passed _ _ _ _ _ c.admit.result _ _ _ _ c.self.invariant.ledger c.admit.ensures.vacant refl refl c.admit.ensures.admitted c.pass.ensures.passed c.pass.ensures.served c.pass.ensures.own;
+  each = c.self.invariant.each;
+}

@@ -4,8 +4,10 @@ use Rattle.slot_ledger.proofs.Counting.{ledger_includes, ledger_passed}
 use Rattle.slot_ledger.proofs.ledger.Ledger.end.Goals as goal
 
 pub pass-requires-clause-counted : goal.pass-requires-clause-counted
-pass-requires-clause-counted g c = ledger_includes c.self.inside.setup _ _ c.args.place c.row-from.result c.self.invariant c.row-from.ensures
+pass-requires-clause-counted g c = ledger_includes c.self.inside.setup _ _ c.args.place c.row-from.result c.self.invariant.ledger c.row-from.ensures
 
 pub invariant_of-self : goal.invariant_of-self
-invariant_of-self g c =
-    ledger_passed _ _ _ _ _ c.args.place _ _ _ _ c.self.invariant c.row-from.ensures.1 (ap (λ (r : Row). r.phase) c.row-from.ensures.2) refl c.end.ensures c.pass.ensures.passed c.pass.ensures.served c.pass.ensures.own
+invariant_of-self g c = record {
+  ledger = ledger_passed _ _ _ _ _ c.args.place _ _ _ _ c.self.invariant.ledger c.row-from.ensures.1 (ap (λ (r : Row). r.phase) c.row-from.ensures.2) refl c.end.ensures c.pass.ensures.passed c.pass.ensures.served c.pass.ensures.own;
+  each = c.self.invariant.each;
+}

@@ -1,5 +1,9 @@
+use Rattle.std.proofs.Common.{sym, ◌∙◌}
 use Rattle.slot_ledger.proofs.Counting.{ledger_new}
 use Rattle.slot_ledger.proofs.ledger.Ledger.new.Goals as goal
 
 pub invariant_of-result : goal.invariant_of-result
-invariant_of-result g c = ledger_new c.args.setup c.len.result _ _ c.requires c.in_ok-places.ensures c.in_ok-counts.ensures c.len.ensures
+invariant_of-result g c = record {
+  ledger = ledger_new c.args.setup c.len.result _ _ c.requires c.in_ok-places.ensures c.in_ok-counts.ensures c.len.ensures;
+  each = sym c.in_ok-ups.ups.ok.0 ∙ c.in_ok-ups.ensures.len ∙ c.len-2.ensures;
+}

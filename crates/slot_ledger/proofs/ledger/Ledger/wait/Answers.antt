@@ -3,7 +3,10 @@ use Rattle.slot_ledger.proofs.Counting.{ledger_includes, ledger_changed}
 use Rattle.slot_ledger.proofs.ledger.Ledger.wait.Goals as goal
 
 pub pass-requires-clause-counted : goal.pass-requires-clause-counted
-pass-requires-clause-counted g c = ledger_includes c.self.inside.setup _ _ c.args.place c.row-from.result c.self.invariant c.row-from.ensures
+pass-requires-clause-counted g c = ledger_includes c.self.inside.setup _ _ c.args.place c.row-from.result c.self.invariant.ledger c.row-from.ensures
 
 pub invariant_of-self : goal.invariant_of-self
-invariant_of-self g c = ledger_changed _ _ _ _ _ _ _ c.args.place c.row-from.result c.self.invariant c.row-from.ensures (λ s. refl) c.wait.ensures.waiting c.pass.ensures.passed c.pass.ensures.served c.pass.ensures.own
+invariant_of-self g c = record {
+  ledger = ledger_changed _ _ _ _ _ _ _ c.args.place c.row-from.result c.self.invariant.ledger c.row-from.ensures (λ s. refl) c.wait.ensures.waiting c.pass.ensures.passed c.pass.ensures.served c.pass.ensures.own;
+  each = c.self.invariant.each;
+}

@@ -1,0 +1,4 @@
+pub mod Runs
+pub mod Walk
+pub mod Steps
+pub mod Parts

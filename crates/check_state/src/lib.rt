@@ -1,0 +1,11 @@
+//! Whether a server is up, by the results of its health checks. No memory, no handle.
+#![tactic(auto)]
+
+mod health;
+mod laws;
+
+pub use health::{Change, Health};
+pub use laws::runs_decide;
+
+#[cfg(test)]
+mod tests;

@@ -1,0 +1,220 @@
+-- Checks on a trace, and what they change.
+use Rattle.std.proofs.Common.{◌≡◌, ◌≢◌, ℕ, zero, suc, ◌+◌, ◌-◌, ◌*◌, ◌<◌, ◌≤◌, max, nat_le, not, Bool, true, false, List, [], ◌∷◌, ◌++◌, Option, None, Some, is_some, slice_get, slice_index_or, All, length, replicate, refl, ap, sym, ◌∙◌, subst, arith, append_assoc}
+use Rattle.std.proofs.Math.ListN.{set, length-set, length-replicate}
+use Rattle.std.specs.Option.{option_map_or}
+use Rattle.std.proofs.lemmas.Bool.Decides.{nat_tests}
+use Rattle.std.proofs.lemmas.List.Elements.{All-head, All-tail}
+use Rattle.std.proofs.lemmas.Option.{same_Some, slice_get_within, slice_get-get_or, get_or_from_slice_get}
+use Rattle.check_state.specs.declared.health.Change.{Change}
+use Rattle.check_state.specs.declared.health.Change.TheVariants.{Stay, WentDown, WentUp}
+use Rattle.check_state.specs.Standing.{Standing, change_between}
+use Rattle.due_key.specs.declared.key.Key.{Key}
+use Rattle.dispatch_log.specs.declared.entry.Entry.{Entry}
+use Rattle.dispatch_log.specs.declared.entry.Entry.TheVariants.{Arrive, Done, Fail, Abort, Tick, Check, Direct, Joined, Granted, Moved, Freed, Retried, Left, Health, Ended}
+use Rattle.dispatch_log.specs.declared.refusal.Refusal.{Refusal}
+use Rattle.dispatch_log.specs.declared.refusal.Refusal.TheVariants.{LogFull, NoSuchServer, WrongPhase}
+use Rattle.dispatch_log.specs.declared.setup.ServerSet.{ServerSet}
+use Rattle.dispatch_log.specs.declared.setup.Setup.{Setup}
+use Rattle.dispatch_log.specs.Health.{is_up_by, ups_of, results_of, with_result, without_last}
+use Rattle.dispatch_log.specs.Histories.{History, state_of, effective, begins_event, refuses_check, AddsEvent}
+use Rattle.dispatch_log.specs.Judgement.{Stage, checking, falling, granting, IsOver, MayGrant, MayCome, was_up, next_stage}
+use Rattle.dispatch_log.specs.Logs.{Recorded}
+use Rattle.dispatch_log.specs.Refusals.{first_of, lacks_room, is_checked}
+use Rattle.dispatch_log.specs.States.{State, after, after_all, opening_state}
+use Rattle.dispatch_log.specs.Words.{is_up}
+use Rattle.dispatch_log.proofs.Accepted.{none_refuses}
+use Rattle.dispatch_log.proofs.Judged.{after_all-push, stage_after-push, results_after}
+use Rattle.pend_queue.specs.Held.{Held}
+use Rattle.slot_ledger.specs.Ledgers.{Kept, with_up}
+use Rattle.dispatch_core.specs.Checks.{AreHealths, IsHealthBy, is_up_at, IsCore}
+use Rattle.dispatch_core.specs.Lines.{Waits, Lined}
+use Rattle.dispatch_core.specs.Steps.{with_entry, stage_of, scene_of, MayComeNext, MayBeginNext, IsOverNext, MayGrantNext}
+use Rattle.dispatch_core.specs.Traces.{history_of, noted, IsTrace}
+use Rattle.dispatch_core.proofs.Calls.{longer, same_setup, new_legal}
+use Rattle.dispatch_core.proofs.Healthy.{ups_set, up_at, results_set}
+use Rattle.dispatch_core.proofs.Holding.{trace_step}
+
+-- there are as many lists of results as servers
+results_all : (setup : Setup) (s : State) (es : List Entry) → length (after_all setup s es).results ≡ length s.results
+results_all setup s [] = refl
+results_all setup s (e ∷ es) = results_all setup (after setup s e) es ∙ results_after setup s e
+
+pub many_results : (h : History) → length (state_of h).results ≡ length h.setup.servers
+many_results h = results_all h.setup (opening_state h.setup) h.log ∙ length-replicate (length h.setup.servers) []
+
+-- inside an event no result comes
+no_result : (setup : Setup) (s : State) (e : Entry) → begins_event e ≡ false → (after setup s e).results ≡ s.results
+no_result setup s (Arrive m a) inside = cc
+no_result setup s (Done m u) inside = cc
+no_result setup s (Fail m u) inside = cc
+no_result setup s (Abort m u) inside = cc
+no_result setup s (Tick m) inside = cc
+no_result setup s (Check m v ok) inside = cc
+no_result setup s (Direct u v) inside = refl
+no_result setup s (Joined u q) inside = refl
+no_result setup s (Granted u q v) inside = refl
+no_result setup s (Moved u v) inside = refl
+no_result setup s (Freed u v) inside = refl
+no_result setup s (Retried u v k) inside = refl
+no_result setup s (Left u c) inside = refl
+no_result setup s (Health v up) inside = refl
+no_result setup s (Ended u) inside = refl
+
+no_results : (setup : Setup) (s : State) (es : List Entry) → All (λ entry. begins_event entry ≡ false) es → (after_all setup s es).results ≡ s.results
+no_results setup s [] inside = refl
+no_results setup s (e ∷ es) inside =
+    no_results setup (after setup s e) es (All-tail (λ (entry : Entry). begins_event entry ≡ false) e es inside)
+    ∙ no_result setup s e (All-head (λ (entry : Entry). begins_event entry ≡ false) e es inside)
+
+after_both : (setup : Setup) (s : State) (xs ys : List Entry) → after_all setup s (xs ++ ys) ≡ after_all setup (after_all setup s xs) ys
+after_both setup s [] ys = refl
+after_both setup s (x ∷ xs) ys = after_both setup (after setup s x) xs ys
+
+-- the results after an event are those that its first entry left
+results_added : (h now : History) (event : Entry) → AddsEvent h now event → (state_of now).results ≡ (after h.setup (state_of h) event).results
+results_added h now event added =
+    ap (λ (s : Setup). (after_all s (opening_state s) now.log).results) added.setup
+    ∙ ap (λ (l : List Entry). (after_all h.setup (opening_state h.setup) l).results) added.log
+    ∙ ap (λ (s : State). s.results) (after_both h.setup (opening_state h.setup) h.log (event ∷ added.brought))
+    ∙ no_results h.setup (after h.setup (state_of h) event) added.brought added.one_event
+
+-- a core after an event
+pub core_goes : (h now : History) (event : Entry) (healths next : List (Option Standing)) (spare left : Waits) (room more : ℕ) (expiring ready : Held ℕ (Unit {0})) → IsCore h healths spare room expiring → AddsEvent h now event
+    → AreHealths h.setup.servers (after h.setup (state_of h) event).results next → left ≡ [] → more ≡ room → ready.pairs ≡ [] → ready.room ≡ expiring.room → IsCore now next left more ready
+core_goes h now event healths next spare left room more expiring ready is added healthy empty same none kept = record {
+  legal = added.legal;
+  healthy =
+      subst (λ (l : List (List Bool)). AreHealths now.setup.servers l next) (sym (results_added h now event added))
+      (subst (λ (s : Setup). AreHealths s.servers (after h.setup (state_of h) event).results next) (sym added.setup) healthy);
+  empty = empty;
+  roomy = same ∙ is.roomy ∙ ap (λ (s : Setup). s.places) (sym added.setup);
+  none = none;
+  places =
+      let places : now.setup.places ≡ h.setup.places = ap (λ (s : Setup). s.places) added.setup in
+      let enough = is.places in
+      omega arith;
+}
+
+-- where the event is no check, the healths stay
+pub core_kept : (h now : History) (event : Entry) (healths : List (Option Standing)) (spare : Waits) (room : ℕ) (expiring ready : Held ℕ (Unit {0})) → IsCore h healths spare room expiring → AddsEvent h now event
+    → (after h.setup (state_of h) event).results ≡ (state_of h).results → ready.pairs ≡ [] → ready.room ≡ expiring.room → IsCore now healths spare room ready
+core_kept h now event healths spare room expiring ready is added same none kept =
+    core_goes h now event healths healths spare spare room room expiring ready is added
+    (subst (λ (l : List (List Bool)). AreHealths h.setup.servers l healths) (sym same) is.healthy) is.empty refl none kept
+
+-- a core without an entry
+pub core_new : (h : History) (setup : Setup) (healths : List (Option Standing)) (spare : Waits) (room : ℕ) (expiring : Held ℕ (Unit {0})) → h ≡ record { setup = setup; log = [] }
+    → AreHealths setup.servers (replicate (length setup.servers) []) healths → spare ≡ [] → room ≡ setup.places → expiring.pairs ≡ [] → expiring.room ≡ setup.places → IsCore h healths spare room expiring
+core_new h setup healths spare room expiring new are empty roomy none places = record {
+  legal = new_legal h setup new;
+  healthy = subst (λ (x : History). AreHealths x.setup.servers (state_of x).results healths) (sym new) are;
+  empty = empty;
+  roomy = roomy ∙ ap (λ (x : History). x.setup.places) (sym new);
+  none = none;
+  places =
+      let made : h.setup.places ≡ setup.places = ap (λ (x : History). x.setup.places) new in
+      omega arith;
+}
+
+-- what a check that nothing refuses may count on
+pub record Checked (h : History) (server : ℕ) : Type 0 where
+  pub room : lacks_room h.setup (length h.log) ≡ false
+  pub it : ServerSet
+  pub stands : slice_get h.setup.servers server ≡ Some it
+  pub rise_fall : ℕ × ℕ
+  pub checked : it.rise_fall ≡ Some rise_fall
+
+pub check_accepted : (h : History) (server : ℕ) → refuses_check h server ≡ None → Checked h server
+check_accepted h server e =
+    let first = none_refuses (lacks_room h.setup (length h.log)) LogFull ((nat_le (length h.setup.servers) server, NoSuchServer) ∷ (not (is_checked h.setup server), WrongPhase) ∷ []) e in
+    let second = none_refuses (nat_le (length h.setup.servers) server) NoSuchServer ((not (is_checked h.setup server), WrongPhase) ∷ []) first.1 in
+    let third = none_refuses (not (is_checked h.setup server)) WrongPhase [] second.1 in
+    by_server first.0 (slice_get h.setup.servers server) refl third.0
+  where
+    by_rise : lacks_room h.setup (length h.log) ≡ false → (it : ServerSet) → slice_get h.setup.servers server ≡ Some it → (r : Option (ℕ × ℕ)) → it.rise_fall ≡ r → not (is_some r) ≡ false → Checked h server
+    by_rise room it stands None is none = cc
+    by_rise room it stands (Some both) is some = record { room = room; it = it; stands = stands; rise_fall = both; checked = is }
+
+    by_server : lacks_room h.setup (length h.log) ≡ false → (it : Option ServerSet) → slice_get h.setup.servers server ≡ it → not (option_map_or (λ (x : ServerSet). is_some x.rise_fall) it false) ≡ false → Checked h server
+    by_server room None stands none = cc
+    by_server room (Some it) stands some = by_rise room it stands it.rise_fall refl some
+
+pub checked_within : (h : History) (server : ℕ) → refuses_check h server ≡ None → server < length h.setup.servers
+checked_within h server accepted = let it = check_accepted h server accepted in slice_get_within h.setup.servers server it.it it.stands
+
+-- a server that is checked has a health
+pub has_health : (h : History) (server : ℕ) (results : List (List Bool)) (healths : List (Option Standing)) → refuses_check h server ≡ None → AreHealths h.setup.servers results healths → (standing : Standing) × (slice_get healths server ≡ Some (Some standing))
+has_health h server results healths accepted are =
+    let it = check_accepted h server accepted in
+    let is = subst (λ (r : Option (ℕ × ℕ)). IsHealthBy r (results_of results server) (slice_index_or healths server None)) it.checked (are.each server it.it it.stands) in
+    let within : server < length healths = (let a = checked_within h server accepted in let b = are.each_one in omega arith) in
+    (is.0, slice_get-get_or healths server None within ∙ ap Some is.1)
+
+module _ {N : Type 0} (pair_of : N → Key × Unit {0}) where
+  pub check_kept : (kept : Kept N) (log : Recorded) (lined : Lined) (cursor last ticket server moment now : ℕ) (ok up : Bool) → IsTrace pair_of kept log lined cursor last ticket → MayBeginNext (history_of kept log) moment (refuses_check (history_of kept log) server) → now ≡ max last moment
+      → up ≡ is_up_at kept.setup.servers (with_result server ok (state_of (history_of kept log)).results) server
+      → IsTrace pair_of (with_up kept server up) (noted log (Check now server ok)) lined cursor now ticket
+  check_kept kept log lined cursor last ticket server moment now ok up is begins later told =
+      let h = history_of kept log in
+      let when : now ≡ effective h moment = later ∙ ap (λ n. max n moment) is.held.last_is in
+      let may : MayComeNext h (Check now server ok) = subst (λ n. MayComeNext h (Check n server ok)) (sym when) begins in
+      trace_step pair_of kept log lined lined (Check now server ok) (set kept.ups server up) kept.slots cursor last ticket cursor now ticket is may refl refl
+      (ap (λ (l : List Bool). set l server up) is.ups
+      ∙ ap (λ b. set (ups_of kept.setup.servers (state_of h).results) server b) told
+      ∙ sym (ups_set kept.setup.servers (state_of h).results server ok (many_results h)))
+      (record {
+        rows = is.held.rows;
+        nodes = is.held.nodes;
+        waiting = is.held.waiting;
+        cursor_is = is.held.cursor_is;
+        last_is = refl;
+        ticket_is = is.held.ticket_is;
+      })
+
+  pub health_kept : (kept : Kept N) (log : Recorded) (lined : Lined) (cursor last ticket server : ℕ) (up : Bool) → IsTrace pair_of kept log lined cursor last ticket → MayComeNext (history_of kept log) (Health server up) → IsTrace pair_of kept (noted log (Health server up)) lined cursor last ticket
+  health_kept kept log lined cursor last ticket server up is may = trace_step pair_of kept log lined lined (Health server up) kept.ups kept.slots cursor last ticket cursor last ticket is may refl refl is.ups is.held
+
+-- whether a server was up before its last result
+without_push : (l : List Bool) (b : Bool) → without_last (l ++ b ∷ []) ≡ l
+without_push [] b = refl
+without_push (x ∷ []) b = refl
+without_push (x ∷ y ∷ l) b = ap (λ (r : List Bool). x ∷ r) (without_push (y ∷ l) b)
+
+module _ (h one : History) (m server : ℕ) (ok : Bool) (accepted : refuses_check h server ≡ None) (begun : one ≡ with_entry h (Check m server ok)) where
+  checked_setup : one.setup ≡ h.setup
+  checked_setup = same_setup h one (Check m server ok) begun
+
+  checked_results : (state_of one).results ≡ with_result server ok (state_of h).results
+  checked_results = ap (λ (x : History). (state_of x).results) begun ∙ ap (λ (s : State). s.results) (after_all-push h.setup (opening_state h.setup) h.log (Check m server ok))
+
+  pub check_stage : stage_of one ≡ checking server
+  check_stage = ap stage_of begun ∙ stage_after-push granting h.log (Check m server ok)
+
+  pub was_up_is : was_up one.setup (state_of one) server ≡ is_up_at h.setup.servers (state_of h).results server
+  was_up_is =
+      let it = check_accepted h server accepted in
+      let long : server < length (state_of h).results = (let a = checked_within h server accepted in let b = many_results h in omega arith) in
+      ap (λ (s : Setup). was_up s (state_of one) server) checked_setup
+      ∙ ap (λ (x : Option ServerSet). option_map_or (λ (y : ServerSet). is_up_by y.rise_fall (without_last (results_of (state_of one).results server))) x false) it.stands
+      ∙ ap (λ (l : List (List Bool)). is_up_by it.it.rise_fall (without_last (results_of l server))) checked_results
+      ∙ ap (λ (l : List Bool). is_up_by it.it.rise_fall (without_last l)) (results_set (state_of h).results server ok long)
+      ∙ ap (λ (l : List Bool). is_up_by it.it.rise_fall l) (without_push (results_of (state_of h).results server) ok)
+      ∙ sym (up_at h.setup.servers (state_of h).results server it.it it.stands)
+
+  pub is_up_is : is_up (scene_of one) server ≡ is_up_at h.setup.servers (with_result server ok (state_of h).results) server
+  is_up_is = ap (λ (s : Setup). is_up_at s.servers (state_of one).results server) checked_setup ∙ ap (λ (l : List (List Bool)). is_up_at h.setup.servers l server) checked_results
+
+  pub check_change : (change : Change) → change ≡ change_between (is_up_at h.setup.servers (state_of h).results server) (is_up_at h.setup.servers (with_result server ok (state_of h).results) server) → change ≡ change_between (was_up one.setup (state_of one) server) (is_up (scene_of one) server)
+  check_change change is = is ∙ ap (λ b. change_between b (is_up_at h.setup.servers (with_result server ok (state_of h).results) server)) (sym was_up_is) ∙ ap (change_between (was_up one.setup (state_of one) server)) (sym is_up_is)
+
+  pub check_within : server < length one.setup.servers
+  check_within = subst (λ (s : Setup). server < length s.servers) (sym checked_setup) (checked_within h server accepted)
+
+  pub check_room : length one.log + 2 * one.setup.places + 3 ≤ one.setup.log
+  check_room =
+      let room : lacks_room h.setup (length h.log) ≡ false = (check_accepted h server accepted).room in
+      let fits : 2 * h.setup.places + 8 ≤ h.setup.log - length h.log = grind (arith, nat_tests) in
+      let a = longer h one (Check m server ok) begun in
+      let places : one.setup.places ≡ h.setup.places = ap (λ (s : Setup). s.places) checked_setup in
+      let most : one.setup.log ≡ h.setup.log = ap (λ (s : Setup). s.log) checked_setup in
+      omega arith

@@ -1,0 +1,268 @@
+-- Ticks, from one timeout to the next.
+use Rattle.std.proofs.Common.{IsTrue, if◌then◌else◌, max, ◌≡◌, ◌≢◌, ℕ, ◌+◌, ◌<◌, ◌≤◌, ◌==◌, Bool, true, false, List, [], ◌∷◌, ◌++◌, Option, None, Some, option_map, slice_get, drop, count_by, Contains, All, length, refl, ap, sym, ◌∙◌, subst, arith, append_assoc, nat_cmp, Equal, Greater, inl, inr}
+use Rattle.std.proofs.Math.ListN.{set}
+use Rattle.std.proofs.lemmas.Bool.Decides.{nat_tests, Decides-eqb}
+use Rattle.std.proofs.lemmas.Cmp.{nat_cmp_total}
+use Rattle.std.proofs.lemmas.List.{append-nil}
+use Rattle.std.proofs.lemmas.List.Elements.{All-nil, All-push}
+use Rattle.std.proofs.lemmas.Option.{same_Some, slice_get-map}
+use Rattle.dispatch_log.specs.declared.entry.Entry.{Entry}
+use Rattle.dispatch_log.specs.declared.entry.Entry.TheVariants.{Tick, Left}
+use Rattle.verdict.specs.declared.cause.Cause.TheVariants.{Timeout}
+use Rattle.dispatch_log.specs.declared.row.Phase.{Phase}
+use Rattle.dispatch_log.specs.declared.row.Phase.TheVariants.{Told}
+use Rattle.dispatch_log.specs.declared.row.Row.{Row}
+use Rattle.dispatch_log.specs.declared.refusal.Refusal.TheVariants.{LogFull}
+use Rattle.dispatch_log.specs.declared.setup.Setup.{Setup}
+use Rattle.dispatch_log.specs.Histories.{History, IsLegal, SomeExpires, state_of, effective, begins_event, AddsEvent}
+use Rattle.dispatch_log.specs.Judgement.{Stage, telling, granting, has_expired, IsExpired, IsFirstExpired, IsInPhase, IsOver, MayGrant, MayCome, next_stage}
+use Rattle.dispatch_log.specs.Refusals.{is_waiting, lacks_room, tick_refusal}
+use Rattle.dispatch_log.specs.Rows.{Rows, StandsAt, with_change, changed, in_phase}
+use Rattle.dispatch_log.specs.Grants.{IsSettled}
+use Rattle.dispatch_log.specs.States.{State, opening_state, scene}
+use Rattle.dispatch_log.specs.Words.{Scene}
+use Rattle.dispatch_log.proofs.Judged.{after_all-push, stage_after-push, judged_push}
+use Rattle.dispatch_log.proofs.Places.{tally, count-set}
+use Rattle.dispatch_log.proofs.RowLemmas.{with_change_own, with_change_other}
+use Rattle.pend_queue.specs.Pairs.{IsAscending}
+use Rattle.pend_queue.proofs.Ascending.{least_first, absent_from_rest, absent_at_member}
+use Rattle.pend_queue.proofs.Members.{Contains-nil, Contains-head, Contains-tail, Contains-cases}
+use Rattle.dispatch_core.specs.Steps.{with_entry, stage_of, scene_of, waits, waiting_of, IsJudged, MayComeNext, HasEntryRoom, Settles}
+use Rattle.dispatch_core.specs.Timeouts.{AreExpired, TimesOut}
+use Rattle.dispatch_core.proofs.Calls.{longer, same_setup, few_wait, adds}
+use Rattle.dispatch_core.proofs.Expiring.{expired_since}
+
+told_not_expired : (setup : Setup) (now : ℕ) (r : Row) (phase : Phase) → has_expired setup now r.phase → r.phase ≡ phase → is_waiting phase ≡ false → ⊥
+told_not_expired setup now r phase expired same idle =
+    let it = expired_since setup now r.phase expired in
+    true_false (sym (ap is_waiting (sym same ∙ it.waits)) ∙ idle)
+  where
+    true_false : true ≡ false → ⊥
+    true_false e = cc
+
+-- once a ticket is told, the rows that have expired are the other ones that had
+module _ (setup : Setup) (rows : Rows) (now t : ℕ) (phase : Phase) (idle : is_waiting phase ≡ false) where
+  still_expired : (p : ℕ) (r : Row) → StandsAt (changed t (in_phase phase) rows) p r → has_expired setup now r.phase → StandsAt rows p r × (r.key.ticket ≢ t)
+  still_expired p r stands expired = by_cell (slice_get rows p) refl (sym (slice_get-map (with_change t (in_phase phase)) rows p) ∙ stands)
+    where
+      by_row : (old : Row) (b : Bool) → (old.key.ticket == t) ≡ b → slice_get rows p ≡ Some (Some old) → with_change t (in_phase phase) (Some old) ≡ Some r → StandsAt rows p r × (r.key.ticket ≢ t)
+      by_row old true test at is =
+          let own = with_change_own t (in_phase phase) old ((Decides-eqb old.key.ticket t).0 test) in
+          let told : record old { phase = phase } ≡ r = same_Some (record old { phase = phase }) r (sym own ∙ is) in
+          absurd (told_not_expired setup now r phase expired (ap (λ (x : Row). x.phase) (sym told)) idle)
+      by_row old false test at is =
+          let other : old.key.ticket ≢ t = λ same. false_true (sym test ∙ (Decides-eqb old.key.ticket t).1 same) in
+          let kept : old ≡ r = same_Some old r (sym (with_change_other t (in_phase phase) old other) ∙ is) in
+          (at ∙ ap (λ (x : Row). Some (Some x)) kept, subst (λ (x : Row). x.key.ticket ≢ t) kept other)
+        where
+          false_true : false ≡ true → ⊥
+          false_true e = cc
+
+      by_cell : (cell : Option (Option Row)) → slice_get rows p ≡ cell → option_map (with_change t (in_phase phase)) cell ≡ Some (Some r) → StandsAt rows p r × (r.key.ticket ≢ t)
+      by_cell None at is = cc
+      by_cell (Some None) at is = cc
+      by_cell (Some (Some old)) at is = by_row old (old.key.ticket == t) refl at (same_Some (with_change t (in_phase phase) (Some old)) (Some r) is)
+
+  other_stands : (p : ℕ) (r : Row) → StandsAt rows p r → r.key.ticket ≢ t → StandsAt (changed t (in_phase phase) rows) p r
+  other_stands p r stands other = slice_get-map (with_change t (in_phase phase)) rows p ∙ ap (option_map (with_change t (in_phase phase))) stands ∙ ap Some (with_change_other t (in_phase phase) r other)
+
+-- a request that waits is counted
+some_waits : (rows : Rows) (t : ℕ) → IsInPhase is_waiting rows t → 0 < count_by waits rows
+some_waits rows t it =
+    let count : count_by waits (set rows it.live.0 None) + tally (waits (Some it.row)) ≡ count_by waits rows + tally (waits None) = count-set waits rows it.live.0 (Some it.row) None it.live.1 in
+    let one : tally (waits (Some it.row)) ≡ 1 = ap tally it.phase in
+    omega arith
+
+-- timeouts so far, and the tickets of those that are left
+pub record TellsSince (old now : History) (tickets : List (ℕ × Unit {0})) : Type 0 where
+  pub told : List Entry
+  pub log : now.log ≡ old.log ++ told
+  pub setup : now.setup ≡ old.setup
+  pub one_event : All (λ entry. begins_event entry ≡ false) told
+  pub stage : stage_of now ≡ telling
+  pub room : length now.log + waiting_of now ≤ now.setup.log
+  pub expired : AreExpired now tickets
+  pub ascending : IsAscending nat_cmp tickets
+
+pub tells_none : (h : History) (tickets : List (ℕ × Unit {0})) → stage_of h ≡ telling → length h.log + waiting_of h ≤ h.setup.log → AreExpired h tickets → IsAscending nat_cmp tickets → TellsSince h h tickets
+tells_none h tickets stage room expired up = record {
+  told = [];
+  log = sym (append-nil h.log);
+  setup = refl;
+  one_event = All-nil (λ (entry : Entry). begins_event entry ≡ false);
+  stage = stage;
+  room = room;
+  expired = expired;
+  ascending = up;
+}
+
+first_of : (tickets : List (ℕ × Unit {0})) (t : ℕ) (u : Unit {0}) → Some (t, u) ≡ slice_get tickets 0 → tickets ≡ (t, tt) ∷ drop 1 tickets
+first_of [] t u e = cc
+first_of (x ∷ later) t u e = ap (λ z. z ∷ later) (sym (same_Some (t, u) x e))
+
+pub fewer_tickets : (tickets rest : List (ℕ × Unit {0})) (t : ℕ) (u : Unit {0}) → Some (t, u) ≡ slice_get tickets 0 → rest ≡ drop 1 tickets → length rest < length tickets
+fewer_tickets tickets rest t u first left =
+    let a : length tickets ≡ length ((t, tt) ∷ drop 1 tickets) = ap length (first_of tickets t u first) in
+    let b : length ((t, tt) ∷ drop 1 tickets) ≡ length (drop 1 tickets) + 1 = omega arith in
+    let c : length rest ≡ length (drop 1 tickets) = ap length left in
+    omega arith
+
+module _ (old now : History) (tickets : List (ℕ × Unit {0})) (t : ℕ) (u : Unit {0}) (since : TellsSince old now tickets) (first : Some (t, u) ≡ slice_get tickets 0) where
+  tickets_are : tickets ≡ (t, tt) ∷ drop 1 tickets
+  tickets_are = first_of tickets t u first
+
+  ascending_are : IsAscending nat_cmp ((t, tt) ∷ drop 1 tickets)
+  ascending_are = subst (IsAscending nat_cmp) tickets_are since.ascending
+
+  its_row : (row : Row) × IsExpired now.setup (state_of now) row × (row.key.ticket ≡ t)
+  its_row = (since.expired t).0 (subst (λ (l : List (ℕ × Unit {0})). Contains l (t, tt)) (sym tickets_are) (Contains-head (t, tt) (drop 1 tickets)))
+
+  -- the first of them is told next
+  is_first : IsFirstExpired now.setup (state_of now) t
+  is_first = record {
+    row = its_row.0;
+    expired = its_row.1;
+    named = its_row.2;
+    first = λ other expired.
+        let among = subst (λ (l : List (ℕ × Unit {0})). Contains l (other.key.ticket, tt)) tickets_are ((since.expired other.key.ticket).1 (other, expired, refl)) in
+        let least : nat_cmp t other.key.ticket ≢ Greater = least_first nat_cmp_total (t, tt) (drop 1 tickets) (other.key.ticket, tt) ascending_are among in
+        grind (arith, nat_tests);
+  }
+
+  pub may_time_out : MayComeNext now (Left t Timeout)
+  may_time_out = subst (λ (x : Stage). MayCome now.setup (state_of now) (length now.log) x (Left t Timeout)) (sym since.stage) is_first
+
+  pub expired_waits : IsInPhase is_waiting (state_of now).rows t
+  expired_waits = record {
+    row = its_row.0;
+    live = its_row.1.0;
+    named = its_row.2;
+    phase = ap is_waiting (expired_since now.setup (state_of now).moment its_row.0.phase its_row.1.1).waits;
+  }
+
+  pub timeout_room : length now.log < now.setup.log
+  timeout_room =
+      let some = some_waits (state_of now).rows t expired_waits in
+      let room = since.room in
+      omega arith
+
+  module _ (next : History) (goes : next ≡ with_entry now (Left t Timeout)) where
+    state_next : (P : State → Type 0) → P (record { rows = changed t (in_phase (Told Timeout)) (state_of now).rows; results = (state_of now).results; moment = (state_of now).moment; ticket = (state_of now).ticket; cursor = (state_of now).cursor }) → P (state_of next)
+    state_next P h =
+        subst (λ (x : History). P (state_of x)) (sym goes)
+        (subst P (sym (after_all-push now.setup (opening_state now.setup) now.log (Left t Timeout))) h)
+
+    setup_next : next.setup ≡ now.setup
+    setup_next = same_setup now next (Left t Timeout) goes
+
+    left_expired : AreExpired next (drop 1 tickets)
+    left_expired ticket =
+        subst (λ (x : Setup). (Contains (drop 1 tickets) (ticket, tt) → (row : Row) × IsExpired x (state_of next) row × (row.key.ticket ≡ ticket)) × ((row : Row) × IsExpired x (state_of next) row × (row.key.ticket ≡ ticket) → Contains (drop 1 tickets) (ticket, tt))) (sym setup_next)
+        (state_next (λ (s : State). (Contains (drop 1 tickets) (ticket, tt) → (row : Row) × IsExpired now.setup s row × (row.key.ticket ≡ ticket)) × ((row : Row) × IsExpired now.setup s row × (row.key.ticket ≡ ticket) → Contains (drop 1 tickets) (ticket, tt))) (
+          λ among.
+              let it = (since.expired ticket).0 (subst (λ (l : List (ℕ × Unit {0})). Contains l (ticket, tt)) (sym tickets_are) (Contains-tail (t, tt) (drop 1 tickets) (ticket, tt) among)) in
+              let other : it.0.key.ticket ≢ t = λ same. others among (sym it.2 ∙ same) in
+              (it.0, ((it.1.0.0, other_stands now.setup (state_of now).rows (state_of now).moment t (Told Timeout) refl it.1.0.0 it.0 it.1.0.1 other), it.1.1), it.2),
+          λ its.
+              let was = still_expired now.setup (state_of now).rows (state_of now).moment t (Told Timeout) refl its.1.0.0 its.0 its.1.0.1 its.1.1 in
+              let among = subst (λ (l : List (ℕ × Unit {0})). Contains l (ticket, tt)) tickets_are ((since.expired ticket).1 (its.0, ((its.1.0.0, was.0), its.1.1), its.2)) in
+              elim (Contains-cases (t, tt) (drop 1 tickets) (ticket, tt) among) [
+                | inl e ↦ absurd (was.1 (its.2 ∙ ap (λ (x : ℕ × Unit {0}). x.0) (sym e)))
+                | inr e ↦ e
+              ],
+        ))
+      where
+        others : Contains (drop 1 tickets) (ticket, tt) → ticket ≡ t → ⊥
+        others among same =
+            let tied : nat_cmp ticket t ≡ Equal = grind (arith, nat_tests) in
+            absent_at_member nat_cmp t (drop 1 tickets) (ticket, tt) (absent_from_rest nat_cmp_total (t, tt) (drop 1 tickets) ascending_are) among tied
+
+    pub tells_more : (rest : List (ℕ × Unit {0})) → rest ≡ drop 1 tickets → waiting_of next + 1 ≡ waiting_of now → TellsSince old next rest
+    tells_more rest left fewer = subst (TellsSince old next) (sym left) (record {
+      told = since.told ++ Left t Timeout ∷ [];
+      log = ap (λ (x : History). x.log) goes ∙ ap (λ (l : List Entry). l ++ Left t Timeout ∷ []) since.log ∙ append_assoc old.log since.told (Left t Timeout ∷ []);
+      setup = setup_next ∙ since.setup;
+      one_event = All-push (λ (entry : Entry). begins_event entry ≡ false) since.told (Left t Timeout) since.one_event refl;
+      stage = ap stage_of goes ∙ stage_after-push granting now.log (Left t Timeout) ∙ ap (λ (x : Stage). next_stage x (Left t Timeout)) since.stage;
+      room =
+          let longer = longer now next (Left t Timeout) goes in
+          let limit : next.setup.log ≡ now.setup.log = ap (λ (x : Setup). x.log) setup_next in
+          let room = since.room in
+          omega arith;
+      expired = left_expired;
+      ascending = subst (λ (l : List (ℕ × Unit {0})). IsAscending nat_cmp (drop 1 l)) (sym tickets_are) ascending_are.1;
+    })
+
+-- where no ticket is left, nothing is owed but grants
+none_left : (tickets : List (ℕ × Unit {0})) → None ≡ slice_get tickets 0 → tickets ≡ []
+none_left [] e = refl
+none_left (x ∷ later) e = cc
+
+pub times_out : (old now : History) (tickets : List (ℕ × Unit {0})) → TellsSince old now tickets → None ≡ slice_get tickets 0 → TimesOut old now
+times_out old now tickets since none = record {
+  told = since.told;
+  log = since.log;
+  setup = since.setup;
+  one_event = since.one_event;
+  over = subst (λ (x : Stage). IsOver now.setup (state_of now) x) (sym since.stage) over;
+  may_grant = subst (λ (x : Stage). MayGrant now.setup (state_of now) x) (sym since.stage) over;
+  room = since.room;
+}
+  where
+    over : (row : Row) → IsExpired now.setup (state_of now) row → ⊥
+    over row expired = Contains-nil (row.key.ticket, tt) (subst (λ (l : List (ℕ × Unit {0})). Contains l (row.key.ticket, tt)) (none_left tickets none) ((since.expired row.key.ticket).1 (row, expired, refl)))
+
+-- the calls of a tick
+module _ (h one : History) (m : ℕ) (begun : one ≡ with_entry h (Tick m)) where
+  pub tick_tells : stage_of one ≡ telling
+  tick_tells = ap stage_of begun ∙ stage_after-push granting h.log (Tick m)
+
+  pub tick_room : HasEntryRoom h → length one.log + waiting_of one ≤ one.setup.log
+  tick_room room =
+      let longer = longer h one (Tick m) begun in
+      let few = few_wait one in
+      let places : one.setup.places ≡ h.setup.places = ap (λ (x : Setup). x.places) (same_setup h one (Tick m) begun) in
+      let most : one.setup.log ≡ h.setup.log = ap (λ (x : Setup). x.log) (same_setup h one (Tick m) begun) in
+      omega arith
+
+  pub tick_adds : (two now : History) → TimesOut one two → Settles two now → AddsEvent h now (Tick m)
+  tick_adds two now told settled =
+      adds h two now (Tick m) told.told
+      (told.log ∙ ap (λ (x : History). x.log ++ told.told) begun ∙ append_assoc h.log (Tick m ∷ []) told.told)
+      (told.setup ∙ same_setup h one (Tick m) begun)
+      told.one_event told.over settled
+
+  -- where no request has expired the event is over, and all is settled as it was
+  pub quiet_adds : (moment : ℕ) → m ≡ effective h moment → IsLegal h → HasEntryRoom h → (expired : Bool) → expired ≡ false → (SomeExpires one moment → IsTrue expired) → AddsEvent h one (Tick m)
+  quiet_adds moment later legal room expired is tells = record {
+    brought = [];
+    log = ap (λ (x : History). x.log) begun;
+    one_event = All-nil (λ (entry : Entry). begins_event entry ≡ false);
+    setup = same_setup h one (Tick m) begun;
+    legal = record {
+      judged = subst IsJudged (sym begun) (judged_push h.setup (opening_state h.setup) 0 granting h.log (Tick m) legal.judged (record { over = legal.whole; settled = legal.settled; accepted = accepted; later = later_than; }));
+      whole = subst (λ (x : Stage). IsOver one.setup (state_of one) x) (sym tick_tells) (λ row expired. none (row, expired.0, subst (λ n. has_expired one.setup n row.phase) (sym same_moment) expired.1));
+      settled = subst (λ (x : Scene). IsSettled x) (sym same_scene) legal.settled;
+    };
+  }
+    where
+      none : SomeExpires one moment → ⊥
+      none some = let it : IsTrue expired = tells some in cc
+
+      accepted : tick_refusal h.setup (0 + length h.log) ≡ None
+      accepted =
+          let count : 0 + length h.log ≡ length h.log = omega arith in
+          let fits : lacks_room h.setup (length h.log) ≡ false = grind (arith, nat_tests) in
+          ap (tick_refusal h.setup) count ∙ ap (λ (b : Bool). if b then Some LogFull else None) fits
+
+      later_than : (state_of h).moment ≤ m
+      later_than = let same = later in let bound : (state_of h).moment ≤ max (state_of h).moment moment = omega arith in omega arith
+
+      left : state_of one ≡ record (state_of h) { moment = m }
+      left = ap state_of begun ∙ after_all-push h.setup (opening_state h.setup) h.log (Tick m)
+
+      same_moment : effective one moment ≡ (state_of one).moment
+      same_moment = let is : (state_of one).moment ≡ m = ap (λ (s : State). s.moment) left in let at : m ≡ max (state_of h).moment moment = later in let both : effective one moment ≡ max (state_of one).moment moment = refl in omega arith
+
+      same_scene : scene_of one ≡ scene_of h
+      same_scene = ap (λ (x : Setup). scene x (state_of one)) (same_setup h one (Tick m) begun) ∙ ap (scene h.setup) left

@@ -1,0 +1,18 @@
+use Rattle.std.proofs.Common.{sym, ◌∙◌}
+use Rattle.dispatch_core.proofs.Following.{may_tell_down, fallen_stage, fallen_room, carries_down, carries_moved}
+use Rattle.dispatch_core.proofs.dispatcher.fall.Goals as goal
+
+pub tell_health-requires-clause-lawful : goal.tell_health-requires-clause-lawful
+tell_health-requires-clause-lawful g c = may_tell_down c.args.trace.now c.args.server c.requires.checking c.requires.was c.requires.down
+
+pub move_all-requires-clause-falling : goal.move_all-requires-clause-falling
+move_all-requires-clause-falling g c = fallen_stage c.args.trace.now c.args.server c.requires.checking c.tell_health.new.self c.tell_health.ensures
+
+pub move_all-requires-clause-room : goal.move_all-requires-clause-room
+move_all-requires-clause-room g c = fallen_room c.args.trace.now c.args.server c.requires.checking c.tell_health.new.self c.tell_health.ensures c.requires.room
+
+pub returns-then-redispatches-clause-carries : goal.returns-then-redispatches-clause-carries
+returns-then-redispatches-clause-carries g c = carries_moved c.args.trace.now c.args.server c.requires.checking c.tell_health.new.self c.tell_health.ensures c.move_all.new.self c.move_all.ensures.moves c.requires.room
+
+pub returns-else-redispatches-clause-carries : goal.returns-else-redispatches-clause-carries
+returns-else-redispatches-clause-carries g c = carries_down c.args.trace.now c.args.server c.requires.checking c.tell_health.new.self c.tell_health.ensures (sym c.redispatches.ensures ∙ c.if-redispatches.false) c.requires.room

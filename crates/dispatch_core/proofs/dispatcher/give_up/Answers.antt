@@ -1,0 +1,8 @@
+use Rattle.dispatch_core.proofs.Retrying.{may_tell_spent, carries_spent}
+use Rattle.dispatch_core.proofs.dispatcher.give_up.Goals as goal
+
+pub tell-requires-clause-lawful : goal.tell-requires-clause-lawful
+tell-requires-clause-lawful g c = may_tell_spent c.args.trace.now c.free.new.self c.args.ticket c.args.server c.requires.failing c.free.ensures c.requires.spent
+
+pub returns : goal.returns
+returns g c = carries_spent c.args.trace.now c.free.new.self c.args.ticket c.args.server c.requires.failing c.free.ensures c.tell.new.self c.tell.ensures c.requires.room

@@ -1,0 +1,65 @@
+-- What an event that nothing refuses may count on.
+use Rattle.std.proofs.Common.{◌≡◌, ℕ, suc, ◌==◌, Bool, true, false, cond, List, [], ◌∷◌, Option, None, Some, is_none, refl, ap, subst}
+use Rattle.std.specs.Option.{option_map_or}
+use Rattle.std.proofs.lemmas.Bool.Decides.{Decides-eqb}
+use Rattle.std.proofs.lemmas.Option.{same_Some}
+use Rattle.dispatch_log.specs.declared.refusal.Refusal.{Refusal}
+use Rattle.dispatch_log.specs.declared.refusal.Refusal.TheVariants.{LogFull, NoSuchTicket, WrongPhase}
+use Rattle.dispatch_log.specs.declared.row.Phase.{Phase}
+use Rattle.dispatch_log.specs.declared.row.Row.{Row}
+use Rattle.dispatch_log.specs.declared.setup.Setup.{Setup}
+use Rattle.dispatch_log.specs.Refusals.{first_of, lacks_room, ticket_refusal}
+use Rattle.dispatch_log.specs.Rows.{Rows, StandsAt, row_of}
+use Rattle.dispatch_log.specs.States.{State}
+
+-- where nothing refuses, the first test fails, and nothing behind it refuses
+pub none_refuses : (b : Bool) (r : Refusal) (rest : List (Bool × Refusal)) → first_of ((b, r) ∷ rest) ≡ None → (b ≡ false) × (first_of rest ≡ None)
+none_refuses true r rest e = cc
+none_refuses false r rest e = (refl, e)
+
+-- a ticket's row, where it stands
+pub record Stands (rows : Rows) (ticket : ℕ) (row : Row) : Type 0 where
+  pub place : ℕ
+  pub stands : StandsAt rows place row
+  pub named : row.key.ticket ≡ ticket
+
+pub row_of_found : (rows : Rows) (u : ℕ) (r : Row) → row_of u rows ≡ Some r → Stands rows u r
+row_of_found [] u r e = cc
+row_of_found (None ∷ rows) u r e = let it = row_of_found rows u r e in record { place = suc it.place; stands = it.stands; named = it.named }
+row_of_found (Some x ∷ rows) u r e = by_test (x.key.ticket == u) refl e (λ found. row_of_found rows u r found)
+  where
+    by_test : (b : Bool) → (x.key.ticket == u) ≡ b → row_of u (Some x ∷ rows) ≡ Some r → (row_of u rows ≡ Some r → Stands rows u r) → Stands (Some x ∷ rows) u r
+    by_test true test e later =
+        let it : x ≡ r = same_Some x r (subst (λ (b : Bool). cond {A = Option Row} b (Some x) (row_of u rows) ≡ Some r) test e) in
+        record { place = 0; stands = ap (λ (w : Row). Some (Some w)) it; named = subst (λ (w : Row). w.key.ticket ≡ u) it ((Decides-eqb (x.key.ticket) u).0 test) }
+    by_test false test e later =
+        let it = later (subst (λ (b : Bool). cond {A = Option Row} b (Some x) (row_of u rows) ≡ Some r) test e) in
+        record { place = suc it.place; stands = it.stands; named = it.named }
+
+-- the row of a ticket whose event nothing refuses
+pub record Accepted (wrong : Phase → Bool) (rows : Rows) (ticket : ℕ) : Type 0 where
+  pub row : Row
+  pub found : row_of ticket rows ≡ Some row
+  pub right : wrong row.phase ≡ false
+  pub place : ℕ
+  pub stands : StandsAt rows place row
+  pub named : row.key.ticket ≡ ticket
+
+pub row_of_accepted : (wrong : Phase → Bool) (setup : Setup) (s : State) (n u : ℕ) → ticket_refusal wrong setup s n u ≡ None → Accepted wrong s.rows u
+row_of_accepted wrong setup s n u e =
+    let wrongly = option_map_or (λ (it : Row). wrong it.phase) (row_of u s.rows) false in
+    let room = none_refuses (lacks_room setup n) LogFull ((is_none (row_of u s.rows), NoSuchTicket) ∷ (wrongly, WrongPhase) ∷ []) e in
+    let there = none_refuses (is_none (row_of u s.rows)) NoSuchTicket ((wrongly, WrongPhase) ∷ []) room.1 in
+    let right = none_refuses wrongly WrongPhase [] there.1 in
+    by_row (row_of u s.rows) refl there.0 right.0
+  where
+    by_row : (row : Option Row) → row_of u s.rows ≡ row → is_none row ≡ false → option_map_or (λ (it : Row). wrong it.phase) row false ≡ false → Accepted wrong s.rows u
+    by_row None e there right = cc
+    by_row (Some row) e there right =
+        let it = row_of_found s.rows u row e in
+        record { row = row; found = e; right = right; place = it.place; stands = it.stands; named = it.named }
+
+-- the log has room for an event that nothing refuses
+pub accepted_room : (wrong : Phase → Bool) (setup : Setup) (s : State) (n u : ℕ) → ticket_refusal wrong setup s n u ≡ None → lacks_room setup n ≡ false
+accepted_room wrong setup s n u e =
+    (none_refuses (lacks_room setup n) LogFull ((is_none (row_of u s.rows), NoSuchTicket) ∷ (option_map_or (λ (it : Row). wrong it.phase) (row_of u s.rows) false, WrongPhase) ∷ []) e).0

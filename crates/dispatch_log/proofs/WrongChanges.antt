@@ -1,0 +1,86 @@
+-- Why the worked logs of failures, waits that are too long, aborts and checks are not legal.
+use Rattle.std.proofs.Common.{◌≡◌, ◌≢◌, ℕ, ◌+◌, ◌≤◌, [], ◌∷◌, Option, None, Some, refl, arith, Greater}
+use Rattle.due_key.specs.Order.{key_cmp}
+use Rattle.dispatch_log.specs.declared.row.Phase.TheVariants.{Waiting, Serving}
+use Rattle.dispatch_log.specs.declared.queue.Queue.{Queue}
+use Rattle.dispatch_log.specs.declared.queue.Queue.TheVariants.{Backend, Server}
+use Rattle.dispatch_log.specs.declared.row.Row.{Row}
+use Rattle.dispatch_log.specs.Histories.{IsLegal}
+use Rattle.dispatch_log.specs.Judgement.{has_expired}
+use Rattle.dispatch_log.specs.Rows.{IsRow}
+use Rattle.dispatch_log.proofs.FourPlaces.{for_three_rows, first_row, second_row, third_row}
+use Rattle.dispatch_log.specs.Worked.{worked}
+use Rattle.dispatch_log.specs.WorkedChanges.{worked_with_checks, worked_in_time, retry_past_the_retries, failure_counted_twice, redispatch_keeps_the_pin, redispatch_to_the_failed_server, redispatch_before_the_grant, no_server_beside_a_usable_one, told_one_millisecond_early, told_by_falling_ticket, expired_and_not_told, abort_of_a_served_request, failure_of_a_waiting_request, fall_leaves_its_queue, moves_by_ticket, grant_before_the_moves, rise_grants_nothing, rise_is_not_told, down_after_its_rise, served_by_a_fallen_server}
+
+-- of the three, the row of ticket 2 hasn't the least key
+not_before_3 : (pin : Option ℕ) (queue : Queue) (row : Row) → IsRow (Some (first_row pin 0 (Serving 0)) ∷ Some (second_row pin (Waiting queue 1)) ∷ Some (third_row pin (Waiting queue 2)) ∷ None ∷ []) row
+    → row.key.ticket ≡ 2 → key_cmp row.key (third_row pin (Waiting queue 2)).key ≢ Greater → ⊥
+not_before_3 pin queue =
+    for_three_rows (λ r. r.key.ticket ≡ 2 → key_cmp r.key (third_row pin (Waiting queue 2)).key ≢ Greater → ⊥) (first_row pin 0 (Serving 0)) (second_row pin (Waiting queue 1)) (third_row pin (Waiting queue 2))
+    (λ named least. let e : 1 ≡ 2 = named in absurd (omega (arith, e)))
+    (λ named least. least refl)
+    (λ named least. let e : 3 ≡ 2 = named in absurd (omega (arith, e)))
+
+pub not_past_the_retries : IsLegal (worked retry_past_the_retries) → ⊥
+not_past_the_retries legal = let retried = legal.judged.1.1.1.1.1.1.1.1.1.0.3 in cc
+
+pub not_counted_twice : IsLegal (worked failure_counted_twice) → ⊥
+not_counted_twice legal = let counted : 1 ≡ 2 = legal.judged.1.1.1.0.2 in absurd (omega (arith, counted))
+
+pub not_with_the_pin : IsLegal (worked_with_checks redispatch_keeps_the_pin) → ⊥
+not_with_the_pin legal = let room = legal.judged.1.1.1.1.1.1.1.1.1.0.put.1.0.member.0 in cc
+
+pub not_to_the_failed : IsLegal (worked_with_checks redispatch_to_the_failed_server) → ⊥
+not_to_the_failed legal = let only : 1 ≡ 0 = legal.judged.1.1.1.1.0.put.1.0.member.1 refl 1 refl in absurd (omega (arith, only))
+
+pub not_before_the_grant : IsLegal (worked_with_checks redispatch_before_the_grant) → ⊥
+not_before_the_grant legal = legal.judged.1.1.1.1.1.1.1.1.0.settled 0 (refl, (_, (2, refl), refl))
+
+pub not_beside_a_usable_one : IsLegal (worked no_server_beside_a_usable_one) → ⊥
+not_beside_a_usable_one legal = legal.judged.1.0.1.1 0 refl
+
+pub not_early : IsLegal (worked_in_time told_one_millisecond_early) → ⊥
+not_early legal =
+    let first = legal.judged.1.1.1.1.1.1.1.0 in
+    for_three_rows (λ r. r.key.ticket ≡ 2 → has_expired (worked_in_time []).setup 5 r.phase → ⊥) (first_row None 0 (Serving 0)) (second_row None (Waiting Backend 1)) (third_row None (Waiting Backend 2))
+    (λ named expired. expired)
+    (λ named expired. let since : 1 + 5 ≤ 5 = expired.1 in absurd (omega arith))
+    (λ named expired. let e : 3 ≡ 2 = named in absurd (omega (arith, e)))
+    first.row first.expired.0 first.named first.expired.1
+
+pub not_by_falling_ticket : IsLegal (worked_in_time told_by_falling_ticket) → ⊥
+not_by_falling_ticket legal =
+    let first : 3 ≤ 2 = legal.judged.1.1.1.1.1.1.1.0.first (second_row None (Waiting Backend 1)) ((1, refl), (omega arith, omega arith)) in
+    absurd (omega arith)
+
+pub not_untold : IsLegal (worked_in_time expired_and_not_told) → ⊥
+not_untold legal = legal.whole (third_row None (Waiting Backend 2)) ((2, refl), (omega arith, omega arith))
+
+pub not_while_served : IsLegal (worked abort_of_a_served_request) → ⊥
+not_while_served legal = let accepted = legal.judged.1.1.1.1.1.1.0.accepted in cc
+
+pub not_while_waiting : IsLegal (worked failure_of_a_waiting_request) → ⊥
+not_while_waiting legal = let accepted = legal.judged.1.1.1.1.1.1.0.accepted in cc
+
+pub not_left_behind : IsLegal (worked_with_checks fall_leaves_its_queue) → ⊥
+not_left_behind legal = legal.whole refl (second_row (Some 0) (Waiting (Server 0) 1)) (1, refl) refl
+
+pub not_by_ticket : IsLegal (worked_with_checks moves_by_ticket) → ⊥
+not_by_ticket legal =
+    let moved = legal.judged.1.1.1.1.1.1.1.1.0.2 in
+    not_before_3 (Some 0) (Server 0) moved.row moved.live moved.named (moved.least (third_row (Some 0) (Waiting (Server 0) 2)) (2, refl) refl)
+
+pub not_before_the_moves : IsLegal (worked_with_checks grant_before_the_moves) → ⊥
+not_before_the_moves legal = legal.judged.1.1.1.1.1.1.1.1.1.0.0 refl (second_row (Some 0) (Waiting (Server 0) 1)) (1, refl) refl
+
+pub not_idle_after_a_rise : IsLegal (worked_with_checks rise_grants_nothing) → ⊥
+not_idle_after_a_rise legal = legal.settled 0 (refl, (_, (1, refl), refl))
+
+pub not_without_a_word : IsLegal (worked_with_checks rise_is_not_told) → ⊥
+not_without_a_word legal = let over = legal.judged.1.1.1.1.1.1.1.0.0 in cc
+
+pub not_down_after : IsLegal (worked_with_checks down_after_its_rise) → ⊥
+not_down_after legal = let up = legal.judged.1.1.1.1.1.1.1.0.1 in cc
+
+pub not_by_a_fallen_server : IsLegal (worked_with_checks served_by_a_fallen_server) → ⊥
+not_by_a_fallen_server legal = let up = legal.judged.1.1.1.0.1.0.member.0 in cc

@@ -1,0 +1,11 @@
+use Rattle.dispatch_log.proofs.RightLogs.{redispatch_is_legal, rising_is_legal, fall_is_legal}
+use Rattle.dispatch_log.proofs.laws.worked_logs_are_legal.Goals as goal
+
+pub returns-clause-redispatch_to_the_other_server : goal.returns-clause-redispatch_to_the_other_server
+returns-clause-redispatch_to_the_other_server c = redispatch_is_legal
+
+pub returns-clause-told_by_rising_ticket : goal.returns-clause-told_by_rising_ticket
+returns-clause-told_by_rising_ticket c = rising_is_legal
+
+pub returns-clause-fall_moves_its_queue : goal.returns-clause-fall_moves_its_queue
+returns-clause-fall_moves_its_queue c = fall_is_legal

@@ -1,0 +1,42 @@
+ghost use Rattle.std.specs.Prelude.{◌≡◌, ◌++◌, List, IfOk, IfErr, OnOk, string_bytes};
+ghost use Rattle.late_cert.specs.declared.report.Report.{Report};
+ghost use Rattle.script.specs.Reports.{reports_text};
+ghost use Rattle.replay.specs.Certificates.{IsCertified};
+
+use crate::fault::Fault;
+use crate::run::kept;
+use dispatch_core::Core;
+use due_key::Key;
+use late_cert::{Reports, certify};
+use pend_queue::PendQueue;
+use script::{Names, push_reports};
+use std::alloc::{AllocError, Global};
+
+/// The reports of all that a dispatcher decided so far: for each queue and class that has a grant, the least
+/// greatest lateness that any assignment of the same slots has, and the tickets that show it. `O(n log n)` in
+/// the grants; fails only where memory is refused.
+pub fn reports_of<Q: PendQueue<Key, ()>>(
+    alloc: Global,
+    core: &Core<Q>,
+) -> Result<Reports, AllocError>
+    ensures { IfOk result (IsCertified core.now) }
+{
+    certify(alloc, core.log())
+}
+
+// Writes the lines of a dispatcher's reports at the end.
+pub(crate) fn report<Q: PendQueue<Key, ()>>(
+    alloc: Global,
+    core: &Core<Q>,
+    names: &Names,
+    text: &mut String,
+) -> Result<(), Fault>
+    ensures ok { OnOk result ((reports : List Report) × IsCertified core.now reports
+        × (string_bytes text.new ≡ string_bytes text.old ++ reports_text names.now reports)) }
+    ensures err { IfErr result (λ fault. fault ≡ Fault.NoMemory) }
+{
+    let Ok(reports) = reports_of(alloc, core) else {
+        return Err(Fault::NoMemory);
+    };
+    kept(push_reports(text, names, reports.as_slice()))
+}

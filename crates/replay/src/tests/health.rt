@@ -1,0 +1,106 @@
+use super::expect;
+use std::test::Fail;
+
+#[test]
+fn a_pin_to_a_fallen_server_is_ignored(rt: HostRuntime) -> Result<(), Fail> {
+    expect(
+        &rt,
+        rt.alloc(),
+        "\
+server a 1 1 1
+server b 1 0 1 2 1
+0 arrive 0 0 a
+1 arrive 0 0 a
+2 arrive 0 0 a
+3 check b down
+4 arrive 0 0 b
+",
+        "\
+0 arrive 1 0 0 a
+  direct 1 a
+1 arrive 2 0 1 a
+  join 2 a
+2 arrive 3 0 2 a
+  direct 3 b
+3 check b down
+  health b down
+4 arrive 4 0 4 b
+  join 4 *
+",
+    )
+}
+
+#[test]
+fn the_queue_of_a_fallen_server_moves(rt: HostRuntime) -> Result<(), Fail> {
+    expect(
+        &rt,
+        rt.alloc(),
+        "\
+redispatch
+server a 1 0 1 2 3
+server b 1 0 1
+server c 1 0 1
+0 arrive 0 0 a
+1 arrive 0 0 a
+2 arrive 0 0 a
+3 arrive 0 -3 a
+4 check a down
+5 check a down
+6 check a down
+",
+        "\
+0 arrive 1 0 0 a
+  direct 1 a
+1 arrive 2 0 1 a
+  join 2 a
+2 arrive 3 0 2 a
+  join 3 a
+3 arrive 4 0 0 a
+  join 4 a
+4 check a down
+5 check a down
+6 check a down
+  health a down
+  move 4 a
+  move 2 a
+  move 3 a
+  grant 4 * b
+  grant 2 * c
+queue * class 0 granted 2 worst 6 due 0 after 0 to 16 critical 4
+",
+    )
+}
+
+#[test]
+fn without_redispatch_the_queue_of_a_fallen_server_stays(rt: HostRuntime) -> Result<(), Fail> {
+    expect(
+        &rt,
+        rt.alloc(),
+        "\
+server a 1 0 1 2 3
+server b 1 0 1
+server c 1 0 1
+0 arrive 0 0 a
+1 arrive 0 0 a
+2 arrive 0 0 a
+3 arrive 0 -3 a
+4 check a down
+5 check a down
+6 check a down
+",
+        "\
+0 arrive 1 0 0 a
+  direct 1 a
+1 arrive 2 0 1 a
+  join 2 a
+2 arrive 3 0 2 a
+  join 3 a
+3 arrive 4 0 0 a
+  join 4 a
+4 check a down
+5 check a down
+6 check a down
+  health a down
+",
+    )
+}

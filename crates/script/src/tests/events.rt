@@ -1,0 +1,157 @@
+use crate::{Step, step_of};
+
+// The moment, class, offset and pin of an arrival.
+fn arrival(line: &[u8]) -> Option<(u64, i64, i64, &str)> {
+    match step_of(line)? {
+        Step::Arrive {
+            moment,
+            class,
+            offset,
+            pin,
+        } => Some((
+            moment.get(),
+            class.get(),
+            offset.get(),
+            match pin {
+                None => "",
+                Some(name) => name.text(),
+            },
+        )),
+        _ => None,
+    }
+}
+
+// What happens to a ticket, the moment and the ticket.
+fn of_ticket(line: &[u8]) -> Option<(&'static str, u64, u64)> {
+    match step_of(line)? {
+        Step::Done { moment, ticket } => Some(("done", moment.get(), ticket)),
+        Step::Fail { moment, ticket } => Some(("fail", moment.get(), ticket)),
+        Step::Abort { moment, ticket } => Some(("abort", moment.get(), ticket)),
+        Step::Arrive { .. } | Step::Tick { .. } | Step::Check { .. } => None,
+    }
+}
+
+fn tick(line: &[u8]) -> Option<u64> {
+    match step_of(line)? {
+        Step::Tick { moment } => Some(moment.get()),
+        _ => None,
+    }
+}
+
+// The moment and the server of a check, and whether the server answered.
+fn check(line: &[u8]) -> Option<(u64, &str, bool)> {
+    match step_of(line)? {
+        Step::Check {
+            moment,
+            server,
+            answered,
+        } => Some((moment.get(), server.text(), answered)),
+        _ => None,
+    }
+}
+
+#[test]
+fn lines_ask_for_arrivals(rt: HostRuntime) {
+    assert_eq!(rt;
+        arrival(b"\t7  arrive 5000\t-600000 "),
+        Some((7, 2047, -524_287, ""))
+    );
+    assert_eq!(rt; arrival(b"7 arrive 0 0 s-1.x"), Some((7, 0, 0, "s-1.x")));
+    assert_eq!(rt; arrival(b"00 arrive -0 0"), Some((0, 0, 0, "")));
+}
+
+#[test]
+fn lines_ask_for_what_happens_to_a_ticket(rt: HostRuntime) {
+    assert_eq!(rt;
+        of_ticket(b"999999999999999999 done 000000000000000012"),
+        Some(("done", 999_999_999_999_999_999, 12))
+    );
+    assert_eq!(rt; of_ticket(b"3 fail 1"), Some(("fail", 3, 1)));
+    assert_eq!(rt;
+        of_ticket(b" 03\tabort  999999999999999999\t"),
+        Some(("abort", 3, 999_999_999_999_999_999))
+    );
+}
+
+#[test]
+fn lines_ask_for_ticks_and_checks(rt: HostRuntime) {
+    assert_eq!(rt; tick(b"14 tick"), Some(14));
+    assert_eq!(rt;
+        tick(b"\t999999999999999999 tick "),
+        Some(999_999_999_999_999_999)
+    );
+    assert_eq!(rt; check(b"4 check a down"), Some((4, "a", false)));
+    assert_eq!(rt; check(b"00  check\ts-1.x up "), Some((0, "s-1.x", true)));
+    assert_eq!(rt; check(b"5 check up down"), Some((5, "up", false)));
+}
+
+#[test]
+fn other_lines_ask_for_nothing(rt: HostRuntime) {
+    let lines = [
+        b"1000000000000000000 done 1".as_slice(),
+        b"1 done 0000000000000000001",
+        b"1 done -1",
+        b"1 done",
+        b"1 done 1 1",
+        b"1 arrive 0",
+        b"1 arrive 0 0 *",
+        b"1 arrive 0 0 s1 s2",
+        b"-1 arrive 0 0",
+        b"1 Arrive 0 0",
+        b"places 3",
+        b"",
+    ];
+    for line in lines {
+        assert!(rt; step_of(line).is_none());
+    }
+}
+
+#[test]
+fn lines_like_failures_and_aborts_ask_for_nothing(rt: HostRuntime) {
+    let lines = [
+        b"1 fail".as_slice(),
+        b"1 fail 1 2",
+        b"1 fail -1",
+        b"1 fail s1",
+        b"1 fail 1000000000000000000",
+        b"1000000000000000000 fail 1",
+        b"-1 fail 1",
+        b"1 failed 1",
+        b"fail 1",
+        b"1 abort",
+        b"1 abort 1 2",
+        b"1 abort -1",
+        b"1 abort 1000000000000000000",
+        b"1000000000000000000 abort 1",
+        b"1 aborted 1",
+    ];
+    for line in lines {
+        assert!(rt; step_of(line).is_none());
+    }
+}
+
+#[test]
+fn lines_like_ticks_and_checks_ask_for_nothing(rt: HostRuntime) {
+    let lines = [
+        b"tick".as_slice(),
+        b"1 tick 1",
+        b"-1 tick",
+        b"1000000000000000000 tick",
+        b"1 ticks",
+        b"1 check",
+        b"1 check s1",
+        b"1 check up",
+        b"1 check s1 up up",
+        b"1 check s1 Up",
+        b"1 check s1 downs",
+        b"1 check s1 1",
+        b"1 check up s1",
+        b"1 check * up",
+        b"-1 check s1 up",
+        b"1000000000000000000 check s1 down",
+        b"check s1 up",
+    ];
+    for line in lines {
+        assert!(rt; step_of(line).is_none());
+    }
+}

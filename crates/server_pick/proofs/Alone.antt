@@ -1,0 +1,77 @@
+-- The heads of the queues where one request waits.
+use Rattle.std.proofs.Common.{◌≡◌, ◌≢◌, ℕ, zero, suc, List, Option, None, Some, MatchOption, IsTrue, replicate, option_map, slice_get, refl, ap, sym, ◌∙◌, subst, inl, inr, Less, Greater}
+use Rattle.std.proofs.Math.ListN.{set}
+use Rattle.std.proofs.lemmas.Option.{same_Some, slice_get-map}
+use Rattle.due_key.specs.declared.key.Key.{Key}
+use Rattle.due_key.specs.Order.{key_cmp}
+use Rattle.due_key.proofs.KeyOrder.{key_cmp_total}
+use Rattle.pend_queue.proofs.Orders.{less_from_greater}
+use Rattle.dispatch_log.proofs.Places.{get-set_cases}
+use Rattle.dispatch_log.specs.declared.queue.Queue.{Queue}
+use Rattle.dispatch_log.specs.declared.queue.Queue.TheVariants.{Backend, Server}
+use Rattle.dispatch_log.specs.declared.row.Phase.{Phase}
+use Rattle.dispatch_log.specs.declared.row.Phase.TheVariants.{Waiting}
+use Rattle.dispatch_log.specs.declared.row.Row.{Row}
+use Rattle.dispatch_log.specs.Rows.{Rows, IsRow, StandsAt, phase_waits_in}
+use Rattle.slot_ledger.specs.declared.places.Slot.{Slot}
+use Rattle.slot_ledger.specs.Slots.{StandsIn, rows_in, with_slot}
+use Rattle.slot_ledger.proofs.Standing.{with_slot_at, put_stands, changed_stands}
+use Rattle.server_pick.specs.Heads.{Held, head_at, AreHeads, IsLeastIn, IsEmptyQueue}
+
+-- a key is not greater than itself
+not_above : (k : Key) → key_cmp k k ≢ Greater
+not_above k greater = let less : key_cmp k k ≡ Less = less_from_greater key_cmp_total k k greater in cc
+
+-- a queue's head is the one request's key, or there is none
+pub heads_of_one : (heads : Held) (servers : ℕ) (rows : Rows) (p : ℕ) (row : Row) (since : ℕ) → StandsAt rows p row → ((other : Row) → IsRow rows other → row ≡ other) → row.phase ≡ Waiting Backend since
+    → head_at heads Backend ≡ Some row.key → ((queue : Queue) → queue ≢ Backend → head_at heads queue ≡ None) → AreHeads heads servers rows
+heads_of_one heads servers rows p row since stands only phase head none Backend within =
+    subst (λ (h : Option Key). MatchOption h (IsEmptyQueue Backend rows) (IsLeastIn Backend rows)) (sym head) (record {
+      row = row;
+      live = (p, stands);
+      waits = subst (λ (it : Phase). IsTrue (phase_waits_in Backend it)) (sym phase) refl;
+      own = refl;
+      least = λ other live waits. subst (λ (r : Row). key_cmp row.key r.key ≢ Greater) (only other live) (not_above row.key);
+    })
+heads_of_one heads servers rows p row since stands only phase head none (Server server) within =
+    subst (λ (h : Option Key). MatchOption h (IsEmptyQueue (Server server) rows) (IsLeastIn (Server server) rows)) (sym (none (Server server) (λ e. cc)))
+    (λ other live waits. let own : IsTrue (phase_waits_in (Server server) (Waiting Backend since)) = subst (λ (it : Phase). IsTrue (phase_waits_in (Server server) it)) phase (subst (λ (r : Row). IsTrue (phase_waits_in (Server server) r.phase)) (sym (only other live)) waits) in cc)
+
+module _ {H : Type 0} where
+  -- a row is that of the request at its place
+  stands_as : (slots : List (Option (Slot H))) (p : ℕ) (s : Slot H) → StandsIn slots p s → StandsAt (rows_in slots) p s.row
+  stands_as slots p s stands = slice_get-map (option_map (λ (it : Slot H). it.row)) slots p ∙ ap (option_map (option_map (λ (it : Slot H). it.row))) stands
+
+  row_at : (slots : List (Option (Slot H))) (p : ℕ) (row : Row) → StandsAt (rows_in slots) p row → (s : Slot H) × StandsIn slots p s × (s.row ≡ row)
+  row_at slots p row stands = by_cell (slice_get slots p) refl (sym (slice_get-map (option_map (λ (it : Slot H). it.row)) slots p) ∙ stands)
+    where
+      by_cell : (cell : Option (Option (Slot H))) → slice_get slots p ≡ cell → option_map (option_map (λ (it : Slot H). it.row)) cell ≡ Some (Some row) → (s : Slot H) × StandsIn slots p s × (s.row ≡ row)
+      by_cell None at e = let f : None ≡ Some (Some row) = e in cc
+      by_cell (Some None) at e = let f : Some None ≡ Some (Some row) = e in cc
+      by_cell (Some (Some s)) at e = (s, at, same_Some s.row row (same_Some (Some s.row) (Some row) e))
+
+  none_yet : (n p : ℕ) (s : Slot H) → StandsIn (replicate n None) p s → ⊥
+  none_yet zero p s e = let f : None ≡ Some (Some s) = e in cc
+  none_yet (suc n) zero s e = let f : Some None ≡ Some (Some s) = e in cc
+  none_yet (suc n) (suc p) s e = none_yet n p s e
+
+  -- the first request that is put at a place and then changed is the only one
+  pub one_stands : (change : Slot H → Slot H) (empty first now : List (Option (Slot H))) (n p : ℕ) (slot : Slot H) → empty ≡ replicate n None → slice_get empty p ≡ Some None → first ≡ set empty p (Some slot) → now ≡ with_slot change first p
+      → StandsAt (rows_in now) p (change slot).row × ((other : Row) → IsRow (rows_in now) other → (change slot).row ≡ other)
+  one_stands change empty first now n p slot none free put changed = (stands_as now p (change slot) there, λ other live. alone other live.0 (row_at now live.0 other live.1))
+    where
+      before : StandsIn first p slot
+      before = put_stands empty first p slot free put
+
+      there : StandsIn now p (change slot)
+      there = changed_stands change first now p slot before changed
+
+      alone : (other : Row) (q : ℕ) → (s : Slot H) × StandsIn now q s × (s.row ≡ other) → (change slot).row ≡ other
+      alone other q it =
+          elim (get-set_cases first p q (Some slot) (Some (change slot)) (Some it.0) before (subst (λ (l : List (Option (Slot H))). StandsIn l q it.0) (changed ∙ with_slot_at change first p slot before) it.1)) [
+            | inl same ↦ ap (λ (s : Slot H). s.row) (same_Some (change slot) it.0 same.1) ∙ it.2
+            | inr elsewhere ↦ elim (get-set_cases empty p q None (Some slot) (Some it.0) free (subst (λ (l : List (Option (Slot H))). StandsIn l q it.0) put elsewhere.1)) [
+              | inl same ↦ absurd (elsewhere.0 same.0)
+              | inr older ↦ absurd (none_yet n q it.0 (subst (λ (l : List (Option (Slot H))). StandsIn l q it.0) none older.1))
+            ]
+          ]

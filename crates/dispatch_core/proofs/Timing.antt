@@ -240,7 +240,7 @@ module _ (h one : History) (m : ℕ) (begun : one ≡ with_entry h (Tick m)) whe
     one_event = All-nil (λ (entry : Entry). begins_event entry ≡ false);
     setup = same_setup h one (Tick m) begun;
     legal = record {
-      judged = subst IsJudged (sym begun) (judged_push h.setup (opening_state h.setup) 0 granting h.log (Tick m) legal.judged (record { over = legal.whole; settled = legal.settled; accepted = accepted; later = later_than; }));
+      judged = subst IsJudged (sym begun) (judged_push h.setup (opening_state h.setup) 0 granting h.log (Tick m) legal.judged (record { over = legal.whole; settled = legal.settled; accepted = accepted; later = later_than }));
       whole = subst (λ (x : Stage). IsOver one.setup (state_of one) x) (sym tick_tells) (λ row expired. none (row, expired.0, subst (λ n. has_expired one.setup n row.phase) (sym same_moment) expired.1));
       settled = subst (λ (x : Scene). IsSettled x) (sym same_scene) legal.settled;
     };

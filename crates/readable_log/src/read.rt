@@ -125,9 +125,7 @@ fn note_joining(
 ) -> Result<(), AllocError>
     ensures { OnOk result ((log : List Entry) (entry : Entry) → position ≡ length log + 1 → arrival_in entry ≡ None → joining_in entry ≡ Some (record { ticket = ticket; queue = queue }) → IsIndexOf log index.old → IsIndexOf (log ++ entry ∷ []) index.new) }
 {
-    index
-        .joinings
-        .insert((ticket, server_of(queue)), position)?;
+    index.joinings.insert((ticket, server_of(queue)), position)?;
     Ok(())
 }
 

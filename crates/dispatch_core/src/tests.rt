@@ -1,172 +1,124 @@
+mod calls;
 mod plain;
+mod setups;
 
-use crate::{Core, Phase, Queue, Refusal, ServerSet, Servers, Setup};
+use self::calls::{
+    Call, after, arrive, ask, ends_with, go_on, goes_on_with, is_refused, made, moment, pinned,
+};
+use self::setups::{alone, checked, of_servers, patient, server};
+use crate::{Phase, Queue, Refusal};
 use dispatch_log::{Arrival, Entry};
-use due_key::{Class, Due, Key, Moment, Offset};
-use pend_queue::ListQueue;
-use std::alloc::Global;
+use due_key::{Class, Due, Offset};
 use std::test::Fail;
 use verdict::Cause;
 
-fn server(limit: u32, maxqueue: u32, weight: u32) -> ServerSet {
-    ServerSet {
-        limit,
-        maxqueue,
-        weight,
-        rise_fall: None,
-    }
-}
-
-/// A dispatcher for these servers.
-fn core_of(
-    servers: Vec<ServerSet>,
-    alloc: Global,
-    places: usize,
-    log: usize,
-) -> Result<Core<ListQueue<Key, ()>>, Fail> {
-    made(
-        alloc,
-        Setup {
-            servers: Servers::new(servers),
-            places,
-            log,
-            retries: 3,
-            redispatch: false,
-            queue_timeout: 0,
-        },
-    )
-}
-
-/// One server that takes one request at a time, where requests wait so many milliseconds at most.
-fn patient_core(
-    alloc: Global,
-    places: usize,
-    queue_timeout: u64,
-) -> Result<Core<ListQueue<Key, ()>>, Fail> {
-    made(
-        alloc,
-        Setup {
-            servers: Servers::new(vec![in alloc; server(1, 0, 1)]?),
-            places,
-            log: 64,
-            retries: 3,
-            redispatch: false,
-            queue_timeout,
-        },
-    )
-}
-
-fn made(alloc: Global, setup: Setup) -> Result<Core<ListQueue<Key, ()>>, Fail> {
-    if !setup.sound() {
-        return Err(Fail::from("not a sound setup"));
-    }
-    Ok(Core::new(alloc, setup)?)
-}
-
-/// One server that takes one request at a time.
-fn core(alloc: Global, places: usize, log: usize) -> Result<Core<ListQueue<Key, ()>>, Fail> {
-    core_of(vec![in alloc; server(1, 0, 1)]?, alloc, places, log)
-}
-
-fn moment(number: u64) -> Result<Moment, Fail> {
-    Ok(Moment::new(number).ok_or("a moment out of range")?)
-}
-
-fn arrival(ticket: u64, class: i64, at: Moment, offset: i64, place: usize) -> Arrival {
-    Arrival {
+// The entry of an arrival of class 0 without a pin.
+fn arrived(at: u64, ticket: u64, offset: i64, place: usize) -> Entry {
+    let arrival = Arrival {
         ticket,
-        class: Class::clamp(class),
-        due: Due::of(at, Offset::clamp(offset)),
+        class: Class::clamp(0),
+        due: Due::of(moment(at), Offset::clamp(offset)),
         pin: None,
         place,
-    }
+    };
+    Entry::Arrive(moment(at), arrival)
 }
 
 #[test]
 fn overtaking_by_offset(rt: HostRuntime) -> Result<(), Fail> {
     let alloc = rt.alloc();
-    let mut core = core(alloc, 4, 64)?;
-    let (at, next, last) = (moment(0)?, moment(1)?, moment(2)?);
-    let (class, none) = (Class::clamp(0), Offset::clamp(0));
-    core.arrive(alloc, at, class, none, None)?;
-    core.arrive(alloc, next, class, none, None)?;
-    core.arrive(alloc, last, class, Offset::clamp(-5), None)?;
-    core.done(moment(10)?, 1)?;
+    let calls = [
+        (0, arrive(0, 0)),
+        (1, arrive(0, 0)),
+        (2, arrive(0, -5)),
+        (10, Call::Done(1)),
+    ];
+    let core = after(alloc, alone(alloc)?, &calls)?;
     let expected = [
-        Entry::Arrive(at, arrival(1, 0, at, 0, 0)),
+        arrived(0, 1, 0, 0),
         Entry::Direct(1, 0),
-        Entry::Arrive(next, arrival(2, 0, next, 0, 1)),
+        arrived(1, 2, 0, 1),
         Entry::Joined(2, Queue::Backend),
-        Entry::Arrive(last, arrival(3, 0, last, -5, 2)),
+        arrived(2, 3, -5, 2),
         Entry::Joined(3, Queue::Backend),
-        Entry::Done(moment(10)?, 1),
+        Entry::Done(moment(10), 1),
         Entry::Freed(1, 0),
         Entry::Ended(1),
         Entry::Granted(3, Queue::Backend, 0),
     ];
-    assert_eq!(rt; core.log().entries(), expected.as_slice());
-    let grant = core.log().grants().first().ok_or("a grant")?;
-    assert_eq!(rt; grant.class, class);
-    assert_eq!(rt; grant.moment, moment(10)?);
-    assert_eq!(rt; grant.stay.joined, 6);
-    assert_eq!(rt; grant.stay.slot, 10);
+    goes_on_with(&rt, &core, 0, &expected);
+    Ok(())
+}
+
+#[test]
+fn a_grant_is_noted(rt: HostRuntime) -> Result<(), Fail> {
+    let alloc = rt.alloc();
+    let calls = [(0, arrive(0, 0)), (1, arrive(0, 0)), (10, Call::Done(1))];
+    let core = after(alloc, alone(alloc)?, &calls)?;
+    let grant = core.log().grants().first().copied();
+    assert_eq!(rt; grant.map(|it| it.class), Some(Class::clamp(0)));
+    assert_eq!(rt; grant.map(|it| it.moment), Some(moment(10)));
+    assert_eq!(rt; grant.map(|it| it.stay.joined), Some(4));
+    assert_eq!(rt; grant.map(|it| it.stay.slot), Some(8));
     Ok(())
 }
 
 #[test]
 fn ties_go_by_ticket(rt: HostRuntime) -> Result<(), Fail> {
     let alloc = rt.alloc();
-    let mut core = core(alloc, 4, 64)?;
-    let class = Class::clamp(0);
-    core.arrive(alloc, moment(0)?, class, Offset::clamp(0), None)?;
-    core.arrive(alloc, moment(1)?, class, Offset::clamp(4), None)?;
-    core.arrive(alloc, moment(5)?, class, Offset::clamp(0), None)?;
-    core.done(moment(6)?, 1)?;
-    assert_eq!(rt;
-        core.log().entries().last(),
-        Some(&Entry::Granted(2, Queue::Backend, 0))
-    );
+    let calls = [
+        (0, arrive(0, 0)),
+        (1, arrive(0, 4)),
+        (5, arrive(0, 0)),
+        (6, Call::Done(1)),
+    ];
+    let core = after(alloc, alone(alloc)?, &calls)?;
+    ends_with(&rt, &core, &[Entry::Granted(2, Queue::Backend, 0)]);
     Ok(())
 }
 
 #[test]
 fn a_class_goes_before_a_due_date(rt: HostRuntime) -> Result<(), Fail> {
     let alloc = rt.alloc();
-    let mut core = core(alloc, 4, 64)?;
-    core.arrive(alloc, moment(0)?, Class::clamp(0), Offset::clamp(0), None)?;
-    core.arrive(alloc, moment(1)?, Class::clamp(0), Offset::clamp(-1), None)?;
-    core.arrive(alloc, moment(2)?, Class::clamp(-1), Offset::clamp(9), None)?;
-    core.done(moment(3)?, 1)?;
-    assert_eq!(rt;
-        core.log().entries().last(),
-        Some(&Entry::Granted(3, Queue::Backend, 0))
-    );
+    let calls = [
+        (0, arrive(0, 0)),
+        (1, arrive(0, -1)),
+        (2, arrive(-1, 9)),
+        (3, Call::Done(1)),
+    ];
+    let core = after(alloc, alone(alloc)?, &calls)?;
+    ends_with(&rt, &core, &[Entry::Granted(3, Queue::Backend, 0)]);
     Ok(())
 }
 
 #[test]
 fn an_earlier_moment_counts_as_the_last(rt: HostRuntime) -> Result<(), Fail> {
     let alloc = rt.alloc();
-    let mut core = core(alloc, 4, 64)?;
-    core.arrive(alloc, moment(7)?, Class::clamp(0), Offset::clamp(0), None)?;
-    let it = core.arrive(alloc, moment(3)?, Class::clamp(0), Offset::clamp(1), None)?;
-    let expected = Entry::Arrive(moment(7)?, arrival(2, 0, moment(7)?, 1, it.place));
-    assert_eq!(rt; core.log().entries().get(2), Some(&expected));
+    let core = after(
+        alloc,
+        alone(alloc)?,
+        &[(7, arrive(0, 0)), (3, arrive(0, 1))],
+    )?;
+    let expected = [arrived(7, 2, 1, 1), Entry::Joined(2, Queue::Backend)];
+    goes_on_with(&rt, &core, 2, &expected);
     Ok(())
 }
 
 #[test]
 fn tells_where_requests_stand(rt: HostRuntime) -> Result<(), Fail> {
     let alloc = rt.alloc();
-    let mut core = core(alloc, 4, 64)?;
-    let first = core.arrive(alloc, moment(0)?, Class::clamp(0), Offset::clamp(0), None)?;
-    let second = core.arrive(alloc, moment(3)?, Class::clamp(0), Offset::clamp(0), None)?;
-    assert_eq!(rt; core.phase(first.ticket), Some(Phase::Serving(0)));
+    let core = after(
+        alloc,
+        alone(alloc)?,
+        &[(0, arrive(0, 0)), (3, arrive(0, 0))],
+    )?;
+    assert_eq!(rt; core.phase(1), Some(Phase::Serving(0)));
     assert_eq!(rt;
-        core.phase(second.ticket),
-        Some(Phase::Waiting(Queue::Backend, moment(3)?))
+        core.phase(2),
+        Some(Phase::Waiting(Queue::Backend, moment(3)))
     );
     assert_eq!(rt; core.phase(3), None);
+    assert_eq!(rt; core.served(0), 1);
     assert_eq!(rt; core.queued(Queue::Backend), 1);
     assert_eq!(rt; core.queued(Queue::Server(0)), 0);
     assert!(rt; core.has_room());
@@ -176,31 +128,29 @@ fn tells_where_requests_stand(rt: HostRuntime) -> Result<(), Fail> {
 #[test]
 fn refusals_come_in_order(rt: HostRuntime) -> Result<(), Fail> {
     let alloc = rt.alloc();
-    let mut core = core(alloc, 2, 16)?;
-    let (at, class, none) = (moment(0)?, Class::clamp(0), Offset::clamp(0));
-    core.arrive(alloc, at, class, none, None)?;
-    core.arrive(alloc, at, class, none, None)?;
-    assert_eq!(rt;
-        core.arrive(alloc, at, class, none, None),
-        Err(Refusal::PlacesFull)
+    let mut setup = alone(alloc)?;
+    (setup.places, setup.log) = (2, 16);
+    let mut core = after(alloc, setup, &[(0, arrive(0, 0)), (0, arrive(0, 0))])?;
+    is_refused(&rt, alloc, &mut core, 0, arrive(0, 0), Refusal::PlacesFull);
+    is_refused(&rt, alloc, &mut core, 0, Call::Done(2), Refusal::WrongPhase);
+    is_refused(
+        &rt,
+        alloc,
+        &mut core,
+        0,
+        Call::Done(9),
+        Refusal::NoSuchTicket,
     );
-    assert_eq!(rt; core.done(at, 2), Err(Refusal::WrongPhase));
-    assert_eq!(rt; core.done(at, 9), Err(Refusal::NoSuchTicket));
-    core.done(at, 1)?;
-    assert_eq!(rt; core.log().len(), 8);
+    go_on(alloc, &mut core, &[(0, Call::Done(1))])?;
     assert_eq!(rt; core.has_room(), false);
-    assert_eq!(rt; core.done(at, 9), Err(Refusal::LogFull));
-    assert_eq!(rt;
-        core.arrive(alloc, at, class, none, None),
-        Err(Refusal::LogFull)
-    );
-    assert_eq!(rt; core.log().len(), 8);
+    is_refused(&rt, alloc, &mut core, 0, Call::Done(9), Refusal::LogFull);
+    is_refused(&rt, alloc, &mut core, 0, arrive(0, 0), Refusal::LogFull);
     Ok(())
 }
 
 #[test]
 fn a_new_core_serves_nothing(rt: HostRuntime) -> Result<(), Fail> {
-    let core = core(rt.alloc(), 4, 64)?;
+    let core = made(rt.alloc(), alone(rt.alloc())?)?;
     assert_eq!(rt; core.served(0), 0);
     assert!(rt; core.log().is_empty());
     Ok(())
@@ -209,43 +159,47 @@ fn a_new_core_serves_nothing(rt: HostRuntime) -> Result<(), Fail> {
 #[test]
 fn idle_servers_are_picked_in_turn(rt: HostRuntime) -> Result<(), Fail> {
     let alloc = rt.alloc();
-    let mut core = core_of(vec![in alloc; server(2, 0, 1); 2]?, alloc, 8, 64)?;
-    let (at, class, none) = (moment(0)?, Class::clamp(0), Offset::clamp(0));
-    core.arrive(alloc, at, class, none, None)?;
-    assert_eq!(rt; core.log().entries().last(), Some(&Entry::Direct(1, 0)));
-    core.arrive(alloc, at, class, none, None)?;
-    assert_eq!(rt; core.log().entries().last(), Some(&Entry::Direct(2, 1)));
-    core.arrive(alloc, at, class, none, Some(1))?;
-    assert_eq!(rt; core.log().entries().last(), Some(&Entry::Direct(3, 1)));
+    let mut core = made(
+        alloc,
+        of_servers(alloc, &[server(2, 0, 1), server(2, 0, 1)])?,
+    )?;
+    go_on(alloc, &mut core, &[(0, arrive(0, 0))])?;
+    ends_with(&rt, &core, &[Entry::Direct(1, 0)]);
+    go_on(alloc, &mut core, &[(0, arrive(0, 0))])?;
+    ends_with(&rt, &core, &[Entry::Direct(2, 1)]);
+    go_on(alloc, &mut core, &[(0, pinned(0, 1))])?;
+    ends_with(&rt, &core, &[Entry::Direct(3, 1)]);
     Ok(())
 }
 
 #[test]
 fn a_request_that_no_server_takes_is_told_so(rt: HostRuntime) -> Result<(), Fail> {
     let alloc = rt.alloc();
-    let mut core = core_of(vec![in alloc; server(1, 0, 0)]?, alloc, 8, 64)?;
-    core.arrive(alloc, moment(0)?, Class::clamp(0), Offset::clamp(0), None)?;
-    assert_eq!(rt;
-        core.log().entries().last(),
-        Some(&Entry::Left(1, Cause::NoServer))
-    );
+    let mut core = after(
+        alloc,
+        of_servers(alloc, &[server(1, 0, 0)])?,
+        &[(0, arrive(0, 0))],
+    )?;
+    ends_with(&rt, &core, &[Entry::Left(1, Cause::NoServer)]);
     assert_eq!(rt; core.phase(1), Some(Phase::Told(Cause::NoServer)));
-    core.done(moment(1)?, 1)?;
-    assert_eq!(rt; core.log().entries().last(), Some(&Entry::Ended(1)));
+    go_on(alloc, &mut core, &[(1, Call::Done(1))])?;
+    ends_with(&rt, &core, &[Entry::Ended(1)]);
     Ok(())
 }
 
 #[test]
 fn a_pin_to_no_server_is_refused(rt: HostRuntime) -> Result<(), Fail> {
     let alloc = rt.alloc();
-    let mut core = core(alloc, 4, 64)?;
-    let (at, class, none) = (moment(0)?, Class::clamp(0), Offset::clamp(0));
-    assert_eq!(rt;
-        core.arrive(alloc, at, class, none, Some(1)),
-        Err(Refusal::NoSuchServer)
+    let mut core = made(alloc, alone(alloc)?)?;
+    is_refused(
+        &rt,
+        alloc,
+        &mut core,
+        0,
+        pinned(0, 1),
+        Refusal::NoSuchServer,
     );
-    assert!(rt; core.log().is_empty());
-    core.arrive(alloc, at, class, none, Some(0))?;
+    go_on(alloc, &mut core, &[(0, pinned(0, 0))])?;
     assert_eq!(rt; core.log().len(), 2);
     Ok(())
 }
@@ -253,182 +207,177 @@ fn a_pin_to_no_server_is_refused(rt: HostRuntime) -> Result<(), Fail> {
 #[test]
 fn aborts(rt: HostRuntime) -> Result<(), Fail> {
     let alloc = rt.alloc();
-    let mut core = core(alloc, 4, 64)?;
-    let (at, class, none) = (moment(0)?, Class::clamp(0), Offset::clamp(0));
-    core.arrive(alloc, at, class, none, None)?;
-    core.arrive(alloc, at, class, none, None)?;
-    core.abort(moment(1)?, 2)?;
-    assert_eq!(rt;
-        core.log().entries().get(4),
-        Some(&Entry::Abort(moment(1)?, 2))
-    );
-    assert_eq!(rt;
-        core.log().entries().last(),
-        Some(&Entry::Left(2, Cause::Aborted))
-    );
+    let calls = [(0, arrive(0, 0)), (0, arrive(0, 0)), (1, Call::Abort(2))];
+    let mut core = after(alloc, alone(alloc)?, &calls)?;
+    let expected = [Entry::Abort(moment(1), 2), Entry::Left(2, Cause::Aborted)];
+    goes_on_with(&rt, &core, 4, &expected);
     assert_eq!(rt; core.queued(Queue::Backend), 0);
-    assert_eq!(rt; core.abort(moment(2)?, 2), Err(Refusal::WrongPhase));
-    core.done(moment(2)?, 2)?;
-    assert_eq!(rt; core.log().entries().last(), Some(&Entry::Ended(2)));
-    assert_eq!(rt; core.abort(moment(3)?, 1), Err(Refusal::WrongPhase));
-    assert_eq!(rt; core.abort(moment(4)?, 2), Err(Refusal::NoSuchTicket));
-    assert_eq!(rt; core.log().len(), 8);
+    is_refused(
+        &rt,
+        alloc,
+        &mut core,
+        2,
+        Call::Abort(2),
+        Refusal::WrongPhase,
+    );
+    go_on(alloc, &mut core, &[(2, Call::Done(2))])?;
+    ends_with(&rt, &core, &[Entry::Ended(2)]);
+    is_refused(
+        &rt,
+        alloc,
+        &mut core,
+        3,
+        Call::Abort(1),
+        Refusal::WrongPhase,
+    );
+    is_refused(
+        &rt,
+        alloc,
+        &mut core,
+        4,
+        Call::Abort(2),
+        Refusal::NoSuchTicket,
+    );
     Ok(())
 }
 
 #[test]
 fn a_stay_ends_at_the_first_tick_after_its_timeout(rt: HostRuntime) -> Result<(), Fail> {
     let alloc = rt.alloc();
-    let mut core = patient_core(alloc, 4, 10)?;
-    let (class, none) = (Class::clamp(0), Offset::clamp(0));
-    core.arrive(alloc, moment(0)?, class, none, None)?;
-    core.arrive(alloc, moment(5)?, class, none, None)?;
-    assert_eq!(rt; core.expired(moment(14)?), false);
-    core.tick(moment(14)?)?;
-    assert_eq!(rt;
-        core.log().entries().last(),
-        Some(&Entry::Tick(moment(14)?))
-    );
-    assert!(rt; core.expired(moment(15)?));
-    core.tick(moment(15)?)?;
-    assert_eq!(rt;
-        core.log().entries().get(5),
-        Some(&Entry::Tick(moment(15)?))
-    );
-    assert_eq!(rt;
-        core.log().entries().last(),
-        Some(&Entry::Left(2, Cause::Timeout))
-    );
-    assert_eq!(rt; core.expired(moment(99)?), false);
-    core.done(moment(16)?, 2)?;
-    assert_eq!(rt; core.log().entries().last(), Some(&Entry::Ended(2)));
-    assert_eq!(rt; core.done(moment(17)?, 2), Err(Refusal::NoSuchTicket));
+    let calls = [(0, arrive(0, 0)), (5, arrive(0, 0)), (14, Call::Tick)];
+    let mut core = after(alloc, patient(alloc)?, &calls)?;
+    ends_with(&rt, &core, &[Entry::Tick(moment(14))]);
+    assert_eq!(rt; core.expired(moment(14)), false);
+    assert!(rt; core.expired(moment(15)));
+    go_on(alloc, &mut core, &[(15, Call::Tick)])?;
+    let expected = [Entry::Tick(moment(15)), Entry::Left(2, Cause::Timeout)];
+    goes_on_with(&rt, &core, 5, &expected);
+    assert_eq!(rt; core.expired(moment(99)), false);
     Ok(())
 }
 
 #[test]
 fn timeouts_are_told_by_ticket(rt: HostRuntime) -> Result<(), Fail> {
     let alloc = rt.alloc();
-    let mut core = patient_core(alloc, 8, 10)?;
-    let (at, class) = (moment(0)?, Class::clamp(0));
-    for offset in [0, 3, 2, 1] {
-        core.arrive(alloc, at, class, Offset::clamp(offset), None)?;
-    }
-    core.arrive(alloc, moment(4)?, class, Offset::clamp(0), None)?;
-    core.tick(moment(10)?)?;
+    let calls = [
+        (0, arrive(0, 0)),
+        (0, arrive(0, 3)),
+        (0, arrive(0, 2)),
+        (0, arrive(0, 1)),
+        (4, arrive(0, 0)),
+        (10, Call::Tick),
+    ];
+    let core = after(alloc, patient(alloc)?, &calls)?;
     let expected = [
-        Entry::Tick(moment(10)?),
+        Entry::Tick(moment(10)),
         Entry::Left(2, Cause::Timeout),
         Entry::Left(3, Cause::Timeout),
         Entry::Left(4, Cause::Timeout),
     ];
-    assert_eq!(rt; core.log().entries().get(10..), Some(expected.as_slice()));
+    goes_on_with(&rt, &core, 10, &expected);
     assert_eq!(rt; core.queued(Queue::Backend), 1);
     Ok(())
-}
-
-/// Two servers that take one request at a time and go down and up at one result, with
-/// `option redispatch` and one retry.
-fn checked_core(alloc: Global) -> Result<Core<ListQueue<Key, ()>>, Fail> {
-    let checked = ServerSet {
-        limit: 1,
-        maxqueue: 0,
-        weight: 1,
-        rise_fall: Some((1, 1)),
-    };
-    made(
-        alloc,
-        Setup {
-            servers: Servers::new(vec![in alloc; checked; 2]?),
-            places: 4,
-            log: 64,
-            retries: 1,
-            redispatch: true,
-            queue_timeout: 0,
-        },
-    )
 }
 
 #[test]
 fn failures_are_retried_until_they_are_spent(rt: HostRuntime) -> Result<(), Fail> {
     let alloc = rt.alloc();
-    let mut core = core(alloc, 4, 64)?;
-    let (at, class, none) = (moment(0)?, Class::clamp(0), Offset::clamp(0));
-    core.arrive(alloc, at, class, none, None)?;
-    core.arrive(alloc, at, class, none, None)?;
-    assert_eq!(rt; core.failed(at, 2), Err(Refusal::WrongPhase));
+    let mut core = after(
+        alloc,
+        alone(alloc)?,
+        &[(0, arrive(0, 0)), (0, arrive(0, 0))],
+    )?;
+    is_refused(&rt, alloc, &mut core, 0, Call::Fail(2), Refusal::WrongPhase);
     for number in [1, 2, 3] {
-        core.failed(at, 1)?;
-        assert_eq!(rt;
-            core.log().entries().last(),
-            Some(&Entry::Retried(1, 0, number))
-        );
+        go_on(alloc, &mut core, &[(0, Call::Fail(1))])?;
+        ends_with(&rt, &core, &[Entry::Retried(1, 0, number)]);
     }
-    core.failed(moment(1)?, 1)?;
+    go_on(alloc, &mut core, &[(1, Call::Fail(1))])?;
     let expected = [
-        Entry::Fail(moment(1)?, 1),
+        Entry::Fail(moment(1), 1),
         Entry::Freed(1, 0),
         Entry::Left(1, Cause::Retries),
         Entry::Granted(2, Queue::Backend, 0),
     ];
-    assert_eq!(rt; core.log().entries().get(10..), Some(expected.as_slice()));
-    assert_eq!(rt; core.failed(at, 1), Err(Refusal::WrongPhase));
-    assert_eq!(rt; core.failed(at, 9), Err(Refusal::NoSuchTicket));
-    assert_eq!(rt; core.log().len(), 14);
+    goes_on_with(&rt, &core, 10, &expected);
+    is_refused(&rt, alloc, &mut core, 1, Call::Fail(1), Refusal::WrongPhase);
+    is_refused(
+        &rt,
+        alloc,
+        &mut core,
+        1,
+        Call::Fail(9),
+        Refusal::NoSuchTicket,
+    );
     Ok(())
 }
 
 #[test]
 fn the_last_retry_goes_to_another_server(rt: HostRuntime) -> Result<(), Fail> {
     let alloc = rt.alloc();
-    let mut core = checked_core(alloc)?;
-    let (at, class, none) = (moment(0)?, Class::clamp(0), Offset::clamp(0));
-    core.arrive(alloc, at, class, none, Some(0))?;
-    core.arrive(alloc, at, class, none, Some(0))?;
-    core.failed(moment(1)?, 1)?;
+    let calls = [(0, pinned(0, 0)), (0, pinned(0, 0)), (1, Call::Fail(1))];
+    let core = after(alloc, checked(alloc)?, &calls)?;
     let expected = [
-        Entry::Fail(moment(1)?, 1),
+        Entry::Fail(moment(1), 1),
         Entry::Freed(1, 0),
         Entry::Granted(2, Queue::Server(0), 0),
         Entry::Direct(1, 1),
     ];
-    assert_eq!(rt; core.log().entries().get(4..), Some(expected.as_slice()));
+    goes_on_with(&rt, &core, 4, &expected);
     Ok(())
 }
 
 #[test]
 fn a_fall_moves_a_queue_and_a_rise_grants(rt: HostRuntime) -> Result<(), Fail> {
     let alloc = rt.alloc();
-    let mut core = checked_core(alloc)?;
-    let (at, class) = (moment(0)?, Class::clamp(0));
-    for offset in [0, 2, 1] {
-        core.arrive(alloc, at, class, Offset::clamp(offset), Some(0))?;
-    }
-    core.check(moment(1)?, 0, false)?;
+    let calls = [
+        (0, pinned(0, 0)),
+        (0, pinned(2, 0)),
+        (0, pinned(1, 0)),
+        (1, Call::Check(0, false)),
+    ];
+    let mut core = after(alloc, checked(alloc)?, &calls)?;
     let fall = [
-        Entry::Check(moment(1)?, 0, false),
+        Entry::Check(moment(1), 0, false),
         Entry::Health(0, false),
         Entry::Moved(3, 0),
         Entry::Moved(2, 0),
         Entry::Granted(3, Queue::Backend, 1),
     ];
-    assert_eq!(rt; core.log().entries().get(6..), Some(fall.as_slice()));
-    core.done(moment(2)?, 1)?;
-    core.check(moment(3)?, 0, true)?;
+    goes_on_with(&rt, &core, 6, &fall);
+    go_on(
+        alloc,
+        &mut core,
+        &[(2, Call::Done(1)), (3, Call::Check(0, true))],
+    )?;
     let rise = [
-        Entry::Check(moment(3)?, 0, true),
+        Entry::Check(moment(3), 0, true),
         Entry::Health(0, true),
         Entry::Granted(2, Queue::Backend, 0),
     ];
-    assert_eq!(rt; core.log().entries().get(14..), Some(rise.as_slice()));
-    assert_eq!(rt; core.check(at, 2, true), Err(Refusal::NoSuchServer));
+    goes_on_with(&rt, &core, 14, &rise);
+    is_refused(
+        &rt,
+        alloc,
+        &mut core,
+        3,
+        Call::Check(2, true),
+        Refusal::NoSuchServer,
+    );
     Ok(())
 }
 
 #[test]
 fn a_server_without_checks_has_no_results(rt: HostRuntime) -> Result<(), Fail> {
-    let mut core = core(rt.alloc(), 4, 64)?;
-    assert_eq!(rt; core.check(moment(0)?, 0, true), Err(Refusal::WrongPhase));
-    assert!(rt; core.log().is_empty());
+    let alloc = rt.alloc();
+    let mut core = made(alloc, alone(alloc)?)?;
+    is_refused(
+        &rt,
+        alloc,
+        &mut core,
+        0,
+        Call::Check(0, true),
+        Refusal::WrongPhase,
+    );
     Ok(())
 }

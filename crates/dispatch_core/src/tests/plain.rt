@@ -5,34 +5,33 @@ mod state;
 mod words;
 
 use self::chance::Chance;
-use self::events::{Call, Stage};
+use self::events::Stage;
 use self::state::Plain;
-use crate::{Core, Queue, Refusal, ServerSet, Servers, Setup};
+use super::calls::{Call, OfLists, ask, made};
+use super::setups::server;
+use crate::{Queue, ServerSet, Servers, Setup};
 use dispatch_log::Entry;
-use due_key::{Key, Moment};
-use pend_queue::ListQueue;
+use due_key::Moment;
 use std::alloc::Global;
 use std::process::Abort;
 use std::test::Fail;
 use verdict::Cause;
 
-fn server(limit: u32, maxqueue: u32, weight: u32, rise_fall: Option<(u32, u32)>) -> ServerSet {
-    ServerSet {
-        limit,
-        maxqueue,
-        weight,
-        rise_fall,
-    }
+// A server whose health is checked.
+fn probed(limit: u32, maxqueue: u32, weight: u32, rise: u32, fall: u32) -> ServerSet {
+    let mut it = server(limit, maxqueue, weight);
+    it.rise_fall = Some((rise, fall));
+    it
 }
 
 // Each server that balancing may choose is checked, so that there are times without one.
-fn checked(alloc: Global) -> Result<Setup, Fail> {
+fn many_checks(alloc: Global) -> Result<Setup, Fail> {
     let list = [
-        server(2, 3, 2, Some((2, 3))),
-        server(1, 1, 1, Some((1, 1))),
-        server(3, 0, 5, Some((2, 2))),
-        server(1, 0, 0, None),
-        server(2, 2, 0, Some((2, 1))),
+        probed(2, 3, 2, 2, 3),
+        probed(1, 1, 1, 1, 1),
+        probed(3, 0, 5, 2, 2),
+        server(1, 0, 0),
+        probed(2, 2, 0, 2, 1),
     ];
     let mut servers = Vec::new(alloc);
     servers.extend_from_slice(&list)?;
@@ -47,11 +46,11 @@ fn checked(alloc: Global) -> Result<Setup, Fail> {
 }
 
 // A server has no limit, one isn't checked, what waits stays where it is, and the log ends early.
-fn mixed(alloc: Global) -> Result<Setup, Fail> {
+fn few_checks(alloc: Global) -> Result<Setup, Fail> {
     let list = [
-        server(0, 4, 1, Some((3, 1))),
-        server(2, 2, 2, None),
-        server(1, 5, 256, Some((1, 4))),
+        probed(0, 4, 1, 3, 1),
+        server(2, 2, 2),
+        probed(1, 5, 256, 1, 4),
     ];
     let mut servers = Vec::new(alloc);
     servers.extend_from_slice(&list)?;
@@ -63,27 +62,6 @@ fn mixed(alloc: Global) -> Result<Setup, Fail> {
         redispatch: false,
         queue_timeout: 0,
     })
-}
-
-// Asks a call of the dispatcher, and tells the place of an arrival.
-fn ask(
-    alloc: Global,
-    core: &mut Core<ListQueue<Key, ()>>,
-    moment: Moment,
-    call: Call,
-) -> Result<usize, Refusal> {
-    match call {
-        Call::Arrive(class, offset, pin) => {
-            let it = core.arrive(alloc, moment, class, offset, pin)?;
-            return Ok(it.place);
-        }
-        Call::Done(ticket) => core.done(moment, ticket)?,
-        Call::Fail(ticket) => core.failed(moment, ticket)?,
-        Call::Abort(ticket) => core.abort(moment, ticket)?,
-        Call::Tick => core.tick(moment)?,
-        Call::Check(server, ok) => core.check(moment, server, ok)?,
-    }
-    Ok(0)
 }
 
 // Each entry that was written is the one that the definitions say, and none is missing.
@@ -105,7 +83,7 @@ fn follow(rt: &impl Abort, plain: &mut Plain, event: Entry, written: &[Entry]) -
 fn agree(
     rt: &impl Abort,
     alloc: Global,
-    core: &mut Core<ListQueue<Key, ()>>,
+    core: &mut OfLists,
     plain: &mut Plain,
     moment: Moment,
     call: &Call,
@@ -131,7 +109,7 @@ fn agree(
 fn agree_on_all(
     rt: &impl Abort,
     alloc: Global,
-    core: &mut Core<ListQueue<Key, ()>>,
+    core: &mut OfLists,
     plain: &mut Plain,
     calls: u32,
 ) -> Result<(), Fail> {
@@ -145,38 +123,54 @@ fn agree_on_all(
     Ok(())
 }
 
-#[test]
-fn the_log_is_that_of_the_definitions(rt: HostRuntime) -> Result<(), Fail> {
-    let alloc = rt.alloc();
-    let core = both_agree(&rt, alloc, checked(alloc)?, checked(alloc)?, 20_000)?;
-    let log = core.log().entries();
+// So many calls are answered by a dispatcher of a setup, which is given twice, as the definitions say.
+fn both_agree(
+    rt: &impl Abort,
+    alloc: Global,
+    setup: Setup,
+    same: Setup,
+    calls: u32,
+) -> Result<OfLists, Fail> {
+    let mut core = made(alloc, setup)?;
+    let mut plain = Plain::new(alloc, same)?;
+    agree_on_all(rt, alloc, &mut core, &mut plain, calls)?;
+    Ok(core)
+}
+
+// The log has decisions of every kind.
+fn has_every_kind(rt: &impl Abort, log: &[Entry]) {
+    let of_server = |it: &Entry| matches!(it, Entry::Joined(_, Queue::Server(_)));
+    let of_backend = |it: &Entry| matches!(it, Entry::Joined(_, Queue::Backend));
+    let from_server = |it: &Entry| matches!(it, Entry::Granted(_, Queue::Server(_), _));
+    let from_backend = |it: &Entry| matches!(it, Entry::Granted(_, Queue::Backend, _));
     assert!(rt; log.iter().any(|it| matches!(it, Entry::Direct(_, _))));
-    assert!(rt;
-        log.iter()
-            .any(|it| matches!(it, Entry::Joined(_, Queue::Server(_))))
-    );
-    assert!(rt;
-        log.iter()
-            .any(|it| matches!(it, Entry::Joined(_, Queue::Backend)))
-    );
-    assert!(rt;
-        log.iter()
-            .any(|it| matches!(it, Entry::Granted(_, Queue::Server(_), _)))
-    );
-    assert!(rt;
-        log.iter()
-            .any(|it| matches!(it, Entry::Granted(_, Queue::Backend, _)))
-    );
+    assert!(rt; log.iter().any(of_server));
+    assert!(rt; log.iter().any(of_backend));
+    assert!(rt; log.iter().any(from_server));
+    assert!(rt; log.iter().any(from_backend));
     assert!(rt; log.iter().any(|it| matches!(it, Entry::Moved(_, _))));
     assert!(rt; log.iter().any(|it| matches!(it, Entry::Retried(_, _, _))));
     assert!(rt; log.iter().any(|it| matches!(it, Entry::Health(_, true))));
+}
+
+// Requests left for this cause.
+fn has_left_for(rt: &impl Abort, log: &[Entry], cause: Cause) {
+    assert!(rt; log.iter().any(|it| matches!(it, Entry::Left(_, of_it) if *of_it == cause)));
+}
+
+#[test]
+fn the_log_is_that_of_the_definitions(rt: HostRuntime) -> Result<(), Fail> {
+    let alloc = rt.alloc();
+    let core = both_agree(&rt, alloc, many_checks(alloc)?, many_checks(alloc)?, 20_000)?;
+    let log = core.log().entries();
+    has_every_kind(&rt, log);
     for cause in [
         Cause::Aborted,
         Cause::Timeout,
         Cause::Retries,
         Cause::NoServer,
     ] {
-        assert!(rt; log.iter().any(|it| matches!(it, Entry::Left(_, of_it) if *of_it == cause)));
+        has_left_for(&rt, log, cause);
     }
     Ok(())
 }
@@ -184,24 +178,7 @@ fn the_log_is_that_of_the_definitions(rt: HostRuntime) -> Result<(), Fail> {
 #[test]
 fn a_full_log_is_that_of_the_definitions(rt: HostRuntime) -> Result<(), Fail> {
     let alloc = rt.alloc();
-    let core = both_agree(&rt, alloc, mixed(alloc)?, mixed(alloc)?, 3000)?;
+    let core = both_agree(&rt, alloc, few_checks(alloc)?, few_checks(alloc)?, 3000)?;
     assert_eq!(rt; core.has_room(), false);
     Ok(())
-}
-
-// So many calls are answered by a dispatcher of a setup as the definitions say, who have it too.
-fn both_agree(
-    rt: &impl Abort,
-    alloc: Global,
-    setup: Setup,
-    same: Setup,
-    calls: u32,
-) -> Result<Core<ListQueue<Key, ()>>, Fail> {
-    if !setup.sound() {
-        return Err(Fail::from("not a sound setup"));
-    }
-    let mut core = Core::new(alloc, setup)?;
-    let mut plain = Plain::new(alloc, same)?;
-    agree_on_all(rt, alloc, &mut core, &mut plain, calls)?;
-    Ok(core)
 }

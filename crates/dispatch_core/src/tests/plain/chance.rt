@@ -1,4 +1,4 @@
-use super::events::Call;
+use super::super::calls::Call;
 use super::state::Plain;
 use dispatch_log::{Phase, Row};
 use due_key::{Class, Moment, Offset};

@@ -1,18 +1,8 @@
+use super::super::calls::Call;
 use super::state::Plain;
 use dispatch_log::{Arrival, Entry, Phase, Queue, Refusal};
-use due_key::{Class, Due, Moment, Offset};
+use due_key::{Due, Moment};
 use verdict::Cause;
-
-/// What is asked of a dispatcher.
-#[derive(Clone, Copy, Debug)]
-pub enum Call {
-    Arrive(Class, Offset, Option<usize>),
-    Done(u64),
-    Fail(u64),
-    Abort(u64),
-    Tick,
-    Check(usize, bool),
-}
 
 /// What comes next in an event.
 #[derive(Clone, Copy, Debug)]

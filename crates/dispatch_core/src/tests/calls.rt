@@ -1,0 +1,108 @@
+use crate::{Core, Refusal, Setup};
+use dispatch_log::Entry;
+use due_key::{Class, Key, Moment, Offset};
+use pend_queue::ListQueue;
+use std::alloc::Global;
+use std::process::Abort;
+use std::test::Fail;
+
+pub type OfLists = Core<ListQueue<Key, ()>>;
+
+/// What is asked of a dispatcher.
+#[derive(Clone, Copy, Debug)]
+pub enum Call {
+    Arrive(Class, Offset, Option<usize>),
+    Done(u64),
+    Fail(u64),
+    Abort(u64),
+    Tick,
+    Check(usize, bool),
+}
+
+/// An arrival without a pin.
+pub fn arrive(class: i64, offset: i64) -> Call {
+    Call::Arrive(Class::clamp(class), Offset::clamp(offset), None)
+}
+
+/// An arrival of class 0 that is bound to a server.
+pub fn pinned(offset: i64, server: usize) -> Call {
+    Call::Arrive(Class::clamp(0), Offset::clamp(offset), Some(server))
+}
+
+/// A moment; 0 for a number that is none.
+pub fn moment(number: u64) -> Moment {
+    Moment::new(number).unwrap_or(Moment::zero())
+}
+
+/// Asks a call of the dispatcher, and tells the place of an arrival.
+pub fn ask(
+    alloc: Global,
+    core: &mut OfLists,
+    moment: Moment,
+    call: Call,
+) -> Result<usize, Refusal> {
+    match call {
+        Call::Arrive(class, offset, pin) => {
+            let it = core.arrive(alloc, moment, class, offset, pin)?;
+            return Ok(it.place);
+        }
+        Call::Done(ticket) => core.done(moment, ticket)?,
+        Call::Fail(ticket) => core.failed(moment, ticket)?,
+        Call::Abort(ticket) => core.abort(moment, ticket)?,
+        Call::Tick => core.tick(moment)?,
+        Call::Check(server, ok) => core.check(moment, server, ok)?,
+    }
+    Ok(0)
+}
+
+/// A dispatcher without a request.
+pub fn made(alloc: Global, setup: Setup) -> Result<OfLists, Fail> {
+    if !setup.sound() {
+        return Err(Fail::from("not a sound setup"));
+    }
+    Ok(Core::new(alloc, setup)?)
+}
+
+/// These calls are accepted, each at its moment.
+pub fn go_on(alloc: Global, core: &mut OfLists, calls: &[(u64, Call)]) -> Result<(), Fail> {
+    for (at, call) in calls {
+        ask(alloc, core, moment(*at), *call)?;
+    }
+    Ok(())
+}
+
+/// A dispatcher that has accepted these calls.
+pub fn after(alloc: Global, setup: Setup, calls: &[(u64, Call)]) -> Result<OfLists, Fail> {
+    let mut core = made(alloc, setup)?;
+    go_on(alloc, &mut core, calls)?;
+    Ok(core)
+}
+
+/// The log has just these entries from a position on.
+pub fn goes_on_with(rt: &impl Abort, core: &OfLists, from: usize, entries: &[Entry]) {
+    assert_eq!(rt; core.log().entries().get(from..), Some(entries));
+}
+
+/// The log ends with these entries.
+pub fn ends_with(rt: &impl Abort, core: &OfLists, entries: &[Entry]) {
+    goes_on_with(
+        rt,
+        core,
+        core.log().len().saturating_sub(entries.len()),
+        entries,
+    );
+}
+
+/// The call is refused, and the log stays as it is.
+pub fn is_refused(
+    rt: &impl Abort,
+    alloc: Global,
+    core: &mut OfLists,
+    at: u64,
+    call: Call,
+    refusal: Refusal,
+) {
+    let before = core.log().len();
+    assert_eq!(rt; ask(alloc, core, moment(at), call), Err(refusal));
+    assert_eq!(rt; core.log().len(), before);
+}

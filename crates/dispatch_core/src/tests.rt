@@ -33,7 +33,7 @@ fn overtaking_by_offset(rt: HostRuntime) -> Result<(), Fail> {
         (2, arrive(0, -5)),
         (10, Call::Done(1)),
     ];
-    let core = after(alloc, alone(alloc)?, &calls)?;
+    let core = after(&rt, alloc, alone(alloc)?, &calls)?;
     let expected = [
         arrived(0, 1, 0, 0),
         Entry::Direct(1, 0),
@@ -54,7 +54,7 @@ fn overtaking_by_offset(rt: HostRuntime) -> Result<(), Fail> {
 fn a_grant_is_noted(rt: HostRuntime) -> Result<(), Fail> {
     let alloc = rt.alloc();
     let calls = [(0, arrive(0, 0)), (1, arrive(0, 0)), (10, Call::Done(1))];
-    let core = after(alloc, alone(alloc)?, &calls)?;
+    let core = after(&rt, alloc, alone(alloc)?, &calls)?;
     let grant = core.log().grants().first().copied();
     assert_eq!(rt; grant.map(|it| it.class), Some(Class::clamp(0)));
     assert_eq!(rt; grant.map(|it| it.moment), Some(moment(10)));
@@ -72,7 +72,7 @@ fn ties_go_by_ticket(rt: HostRuntime) -> Result<(), Fail> {
         (5, arrive(0, 0)),
         (6, Call::Done(1)),
     ];
-    let core = after(alloc, alone(alloc)?, &calls)?;
+    let core = after(&rt, alloc, alone(alloc)?, &calls)?;
     ends_with(&rt, &core, &[Entry::Granted(2, Queue::Backend, 0)]);
     Ok(())
 }
@@ -86,7 +86,7 @@ fn a_class_goes_before_a_due_date(rt: HostRuntime) -> Result<(), Fail> {
         (2, arrive(-1, 9)),
         (3, Call::Done(1)),
     ];
-    let core = after(alloc, alone(alloc)?, &calls)?;
+    let core = after(&rt, alloc, alone(alloc)?, &calls)?;
     ends_with(&rt, &core, &[Entry::Granted(3, Queue::Backend, 0)]);
     Ok(())
 }
@@ -95,6 +95,7 @@ fn a_class_goes_before_a_due_date(rt: HostRuntime) -> Result<(), Fail> {
 fn an_earlier_moment_counts_as_the_last(rt: HostRuntime) -> Result<(), Fail> {
     let alloc = rt.alloc();
     let core = after(
+        &rt,
         alloc,
         alone(alloc)?,
         &[(7, arrive(0, 0)), (3, arrive(0, 1))],
@@ -108,6 +109,7 @@ fn an_earlier_moment_counts_as_the_last(rt: HostRuntime) -> Result<(), Fail> {
 fn tells_where_requests_stand(rt: HostRuntime) -> Result<(), Fail> {
     let alloc = rt.alloc();
     let core = after(
+        &rt,
         alloc,
         alone(alloc)?,
         &[(0, arrive(0, 0)), (3, arrive(0, 0))],
@@ -130,7 +132,7 @@ fn refusals_come_in_order(rt: HostRuntime) -> Result<(), Fail> {
     let alloc = rt.alloc();
     let mut setup = alone(alloc)?;
     (setup.places, setup.log) = (2, 16);
-    let mut core = after(alloc, setup, &[(0, arrive(0, 0)), (0, arrive(0, 0))])?;
+    let mut core = after(&rt, alloc, setup, &[(0, arrive(0, 0)), (0, arrive(0, 0))])?;
     is_refused(&rt, alloc, &mut core, 0, arrive(0, 0), Refusal::PlacesFull);
     is_refused(&rt, alloc, &mut core, 0, Call::Done(2), Refusal::WrongPhase);
     is_refused(
@@ -141,7 +143,7 @@ fn refusals_come_in_order(rt: HostRuntime) -> Result<(), Fail> {
         Call::Done(9),
         Refusal::NoSuchTicket,
     );
-    go_on(alloc, &mut core, &[(0, Call::Done(1))])?;
+    go_on(&rt, alloc, &mut core, &[(0, Call::Done(1))]);
     assert_eq!(rt; core.has_room(), false);
     is_refused(&rt, alloc, &mut core, 0, Call::Done(9), Refusal::LogFull);
     is_refused(&rt, alloc, &mut core, 0, arrive(0, 0), Refusal::LogFull);
@@ -163,11 +165,11 @@ fn idle_servers_are_picked_in_turn(rt: HostRuntime) -> Result<(), Fail> {
         alloc,
         of_servers(alloc, &[server(2, 0, 1), server(2, 0, 1)])?,
     )?;
-    go_on(alloc, &mut core, &[(0, arrive(0, 0))])?;
+    go_on(&rt, alloc, &mut core, &[(0, arrive(0, 0))]);
     ends_with(&rt, &core, &[Entry::Direct(1, 0)]);
-    go_on(alloc, &mut core, &[(0, arrive(0, 0))])?;
+    go_on(&rt, alloc, &mut core, &[(0, arrive(0, 0))]);
     ends_with(&rt, &core, &[Entry::Direct(2, 1)]);
-    go_on(alloc, &mut core, &[(0, pinned(0, 1))])?;
+    go_on(&rt, alloc, &mut core, &[(0, pinned(0, 1))]);
     ends_with(&rt, &core, &[Entry::Direct(3, 1)]);
     Ok(())
 }
@@ -176,13 +178,14 @@ fn idle_servers_are_picked_in_turn(rt: HostRuntime) -> Result<(), Fail> {
 fn a_request_that_no_server_takes_is_told_so(rt: HostRuntime) -> Result<(), Fail> {
     let alloc = rt.alloc();
     let mut core = after(
+        &rt,
         alloc,
         of_servers(alloc, &[server(1, 0, 0)])?,
         &[(0, arrive(0, 0))],
     )?;
     ends_with(&rt, &core, &[Entry::Left(1, Cause::NoServer)]);
     assert_eq!(rt; core.phase(1), Some(Phase::Told(Cause::NoServer)));
-    go_on(alloc, &mut core, &[(1, Call::Done(1))])?;
+    go_on(&rt, alloc, &mut core, &[(1, Call::Done(1))]);
     ends_with(&rt, &core, &[Entry::Ended(1)]);
     Ok(())
 }
@@ -199,7 +202,7 @@ fn a_pin_to_no_server_is_refused(rt: HostRuntime) -> Result<(), Fail> {
         pinned(0, 1),
         Refusal::NoSuchServer,
     );
-    go_on(alloc, &mut core, &[(0, pinned(0, 0))])?;
+    go_on(&rt, alloc, &mut core, &[(0, pinned(0, 0))]);
     assert_eq!(rt; core.log().len(), 2);
     Ok(())
 }
@@ -208,7 +211,7 @@ fn a_pin_to_no_server_is_refused(rt: HostRuntime) -> Result<(), Fail> {
 fn aborts(rt: HostRuntime) -> Result<(), Fail> {
     let alloc = rt.alloc();
     let calls = [(0, arrive(0, 0)), (0, arrive(0, 0)), (1, Call::Abort(2))];
-    let mut core = after(alloc, alone(alloc)?, &calls)?;
+    let mut core = after(&rt, alloc, alone(alloc)?, &calls)?;
     let expected = [Entry::Abort(moment(1), 2), Entry::Left(2, Cause::Aborted)];
     goes_on_with(&rt, &core, 4, &expected);
     assert_eq!(rt; core.queued(Queue::Backend), 0);
@@ -220,7 +223,7 @@ fn aborts(rt: HostRuntime) -> Result<(), Fail> {
         Call::Abort(2),
         Refusal::WrongPhase,
     );
-    go_on(alloc, &mut core, &[(2, Call::Done(2))])?;
+    go_on(&rt, alloc, &mut core, &[(2, Call::Done(2))]);
     ends_with(&rt, &core, &[Entry::Ended(2)]);
     is_refused(
         &rt,
@@ -245,11 +248,11 @@ fn aborts(rt: HostRuntime) -> Result<(), Fail> {
 fn a_stay_ends_at_the_first_tick_after_its_timeout(rt: HostRuntime) -> Result<(), Fail> {
     let alloc = rt.alloc();
     let calls = [(0, arrive(0, 0)), (5, arrive(0, 0)), (14, Call::Tick)];
-    let mut core = after(alloc, patient(alloc)?, &calls)?;
+    let mut core = after(&rt, alloc, patient(alloc)?, &calls)?;
     ends_with(&rt, &core, &[Entry::Tick(moment(14))]);
     assert_eq!(rt; core.expired(moment(14)), false);
     assert!(rt; core.expired(moment(15)));
-    go_on(alloc, &mut core, &[(15, Call::Tick)])?;
+    go_on(&rt, alloc, &mut core, &[(15, Call::Tick)]);
     let expected = [Entry::Tick(moment(15)), Entry::Left(2, Cause::Timeout)];
     goes_on_with(&rt, &core, 5, &expected);
     assert_eq!(rt; core.expired(moment(99)), false);
@@ -267,7 +270,7 @@ fn timeouts_are_told_by_ticket(rt: HostRuntime) -> Result<(), Fail> {
         (4, arrive(0, 0)),
         (10, Call::Tick),
     ];
-    let core = after(alloc, patient(alloc)?, &calls)?;
+    let core = after(&rt, alloc, patient(alloc)?, &calls)?;
     let expected = [
         Entry::Tick(moment(10)),
         Entry::Left(2, Cause::Timeout),
@@ -283,16 +286,17 @@ fn timeouts_are_told_by_ticket(rt: HostRuntime) -> Result<(), Fail> {
 fn failures_are_retried_until_they_are_spent(rt: HostRuntime) -> Result<(), Fail> {
     let alloc = rt.alloc();
     let mut core = after(
+        &rt,
         alloc,
         alone(alloc)?,
         &[(0, arrive(0, 0)), (0, arrive(0, 0))],
     )?;
     is_refused(&rt, alloc, &mut core, 0, Call::Fail(2), Refusal::WrongPhase);
     for number in [1, 2, 3] {
-        go_on(alloc, &mut core, &[(0, Call::Fail(1))])?;
+        go_on(&rt, alloc, &mut core, &[(0, Call::Fail(1))]);
         ends_with(&rt, &core, &[Entry::Retried(1, 0, number)]);
     }
-    go_on(alloc, &mut core, &[(1, Call::Fail(1))])?;
+    go_on(&rt, alloc, &mut core, &[(1, Call::Fail(1))]);
     let expected = [
         Entry::Fail(moment(1), 1),
         Entry::Freed(1, 0),
@@ -316,7 +320,7 @@ fn failures_are_retried_until_they_are_spent(rt: HostRuntime) -> Result<(), Fail
 fn the_last_retry_goes_to_another_server(rt: HostRuntime) -> Result<(), Fail> {
     let alloc = rt.alloc();
     let calls = [(0, pinned(0, 0)), (0, pinned(0, 0)), (1, Call::Fail(1))];
-    let core = after(alloc, checked(alloc)?, &calls)?;
+    let core = after(&rt, alloc, checked(alloc)?, &calls)?;
     let expected = [
         Entry::Fail(moment(1), 1),
         Entry::Freed(1, 0),
@@ -336,7 +340,7 @@ fn a_fall_moves_a_queue_and_a_rise_grants(rt: HostRuntime) -> Result<(), Fail> {
         (0, pinned(1, 0)),
         (1, Call::Check(0, false)),
     ];
-    let mut core = after(alloc, checked(alloc)?, &calls)?;
+    let mut core = after(&rt, alloc, checked(alloc)?, &calls)?;
     let fall = [
         Entry::Check(moment(1), 0, false),
         Entry::Health(0, false),
@@ -346,10 +350,11 @@ fn a_fall_moves_a_queue_and_a_rise_grants(rt: HostRuntime) -> Result<(), Fail> {
     ];
     goes_on_with(&rt, &core, 6, &fall);
     go_on(
+        &rt,
         alloc,
         &mut core,
         &[(2, Call::Done(1)), (3, Call::Check(0, true))],
-    )?;
+    );
     let rise = [
         Entry::Check(moment(3), 0, true),
         Entry::Health(0, true),

@@ -1,25 +1,23 @@
 -- Checks on a trace, and what they change.
-use Rattle.std.proofs.Common.{◌≡◌, ◌≢◌, ℕ, zero, suc, ◌+◌, ◌-◌, ◌*◌, ◌<◌, ◌≤◌, max, nat_le, not, Bool, true, false, List, [], ◌∷◌, ◌++◌, Option, None, Some, is_some, slice_get, slice_index_or, All, length, replicate, refl, ap, sym, ◌∙◌, subst, arith, append_assoc}
-use Rattle.std.proofs.Math.ListN.{set, length-set, length-replicate}
+use Rattle.std.proofs.Common.{◌≡◌, ℕ, ◌+◌, ◌-◌, ◌*◌, ◌<◌, ◌≤◌, max, nat_le, not, Bool, false, List, [], ◌∷◌, ◌++◌, Option, None, Some, is_some, slice_get, slice_index_or, All, length, replicate, refl, ap, sym, ◌∙◌, subst, arith}
+use Rattle.std.proofs.Math.ListN.{set, length-replicate}
 use Rattle.std.specs.Option.{option_map_or}
 use Rattle.std.proofs.lemmas.Bool.Decides.{nat_tests}
 use Rattle.std.proofs.lemmas.List.Elements.{All-head, All-tail}
-use Rattle.std.proofs.lemmas.Option.{same_Some, slice_get_within, slice_get-get_or, get_or_from_slice_get}
+use Rattle.std.proofs.lemmas.Option.{slice_get_within, slice_get-get_or}
 use Rattle.check_state.specs.declared.health.Change.{Change}
-use Rattle.check_state.specs.declared.health.Change.TheVariants.{Stay, WentDown, WentUp}
 use Rattle.check_state.specs.Standing.{Standing, change_between}
 use Rattle.due_key.specs.declared.key.Key.{Key}
 use Rattle.dispatch_log.specs.declared.entry.Entry.{Entry}
 use Rattle.dispatch_log.specs.declared.entry.Entry.TheVariants.{Arrive, Done, Fail, Abort, Tick, Check, Direct, Joined, Granted, Moved, Freed, Retried, Left, Health, Ended}
-use Rattle.dispatch_log.specs.declared.refusal.Refusal.{Refusal}
 use Rattle.dispatch_log.specs.declared.refusal.Refusal.TheVariants.{LogFull, NoSuchServer, WrongPhase}
 use Rattle.dispatch_log.specs.declared.setup.ServerSet.{ServerSet}
 use Rattle.dispatch_log.specs.declared.setup.Setup.{Setup}
 use Rattle.dispatch_log.specs.Health.{is_up_by, ups_of, results_of, with_result, without_last}
 use Rattle.dispatch_log.specs.Histories.{History, state_of, effective, begins_event, refuses_check, AddsEvent}
-use Rattle.dispatch_log.specs.Judgement.{Stage, checking, falling, granting, IsOver, MayGrant, MayCome, was_up, next_stage}
+use Rattle.dispatch_log.specs.Judgement.{checking, granting, was_up}
 use Rattle.dispatch_log.specs.Logs.{Recorded}
-use Rattle.dispatch_log.specs.Refusals.{first_of, lacks_room, is_checked}
+use Rattle.dispatch_log.specs.Refusals.{lacks_room, is_checked}
 use Rattle.dispatch_log.specs.States.{State, after, after_all, opening_state}
 use Rattle.dispatch_log.specs.Words.{is_up}
 use Rattle.dispatch_log.proofs.Accepted.{none_refuses}
@@ -28,7 +26,7 @@ use Rattle.pend_queue.specs.Held.{Held}
 use Rattle.slot_ledger.specs.Ledgers.{Kept, with_up}
 use Rattle.dispatch_core.specs.Checks.{AreHealths, IsHealthBy, is_up_at, IsCore}
 use Rattle.dispatch_core.specs.Lines.{Waits, Lined}
-use Rattle.dispatch_core.specs.Steps.{with_entry, stage_of, scene_of, MayComeNext, MayBeginNext, IsOverNext, MayGrantNext}
+use Rattle.dispatch_core.specs.Steps.{with_entry, stage_of, scene_of, MayComeNext, MayBeginNext}
 use Rattle.dispatch_core.specs.Traces.{history_of, noted, IsTrace}
 use Rattle.dispatch_core.proofs.Calls.{longer, same_setup, new_legal}
 use Rattle.dispatch_core.proofs.Healthy.{ups_set, up_at, results_set}

@@ -1,9 +1,8 @@
 -- Failed connections, as the ledger counts them.
-use Rattle.std.proofs.Common.{◌≡◌, ℕ, zero, suc, ◌+◌, ◌<◌, ◌≤◌, ◌==◌, max, not, Bool, true, false, cond, List, [], ◌∷◌, Option, None, Some, option_map, slice_get, length, replicate, refl, ap, sym, ◌∙◌, subst, arith, ◌⊎◌, inl, inr}
+use Rattle.std.proofs.Common.{◌≡◌, ℕ, zero, suc, ◌+◌, ◌<◌, ◌≤◌, ◌==◌, max, not, Bool, true, false, cond, List, [], ◌∷◌, Option, None, Some, option_map, slice_get, length, refl, ap, sym, ◌∙◌, subst, arith, ◌⊎◌, inl, inr}
 use Rattle.std.proofs.Math.ListN.{set}
 use Rattle.std.proofs.lemmas.List.{set-set}
 use Rattle.std.proofs.lemmas.Option.{same_Some, slice_get-map}
-use Rattle.std.proofs.lemmas.Bool.Decides.{Decides-eqb}
 use Rattle.dispatch_log.specs.declared.entry.Entry.{Entry}
 use Rattle.dispatch_log.specs.declared.entry.Entry.TheVariants.{Arrive, Done, Fail, Abort, Tick, Check, Direct, Joined, Granted, Moved, Freed, Retried, Left, Health, Ended}
 use Rattle.dispatch_log.specs.declared.row.Phase.{Phase}

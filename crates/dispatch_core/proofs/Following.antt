@@ -1,5 +1,5 @@
 -- What follows from a check, as entries.
-use Rattle.std.proofs.Common.{◌≡◌, ◌≢◌, ℕ, ◌+◌, ◌*◌, ◌<◌, ◌≤◌, Bool, true, false, IsTrue, List, [], ◌∷◌, ◌++◌, All, length, refl, ap, sym, ◌∙◌, subst, arith, length-append}
+use Rattle.std.proofs.Common.{◌≡◌, ℕ, ◌+◌, ◌*◌, ◌≤◌, Bool, true, false, [], length, refl, ap, sym, ◌∙◌, subst, arith, length-append}
 use Rattle.std.proofs.lemmas.List.{append-nil}
 use Rattle.std.proofs.lemmas.List.Elements.{All-nil}
 use Rattle.check_state.specs.declared.health.Change.{Change}
@@ -9,11 +9,11 @@ use Rattle.dispatch_log.specs.declared.entry.Entry.{Entry}
 use Rattle.dispatch_log.specs.declared.entry.Entry.TheVariants.{Health}
 use Rattle.dispatch_log.specs.declared.setup.Setup.{Setup}
 use Rattle.dispatch_log.specs.Histories.{History, state_of, begins_event}
-use Rattle.dispatch_log.specs.Judgement.{Stage, checking, falling, granting, IsOver, MayGrant, MayCome, was_up, next_stage}
+use Rattle.dispatch_log.specs.Judgement.{Stage, checking, falling, granting, IsOver, MayGrant, MayCome, was_up}
 use Rattle.dispatch_log.specs.Words.{is_up}
 use Rattle.dispatch_log.proofs.Judged.{stage_after-push}
 use Rattle.dispatch_core.specs.Moves.{MovesAll}
-use Rattle.dispatch_core.specs.Steps.{with_entry, stage_of, scene_of, waiting_of, MayComeNext, IsOverNext, MayGrantNext, GoesOn, CarriesOn}
+use Rattle.dispatch_core.specs.Steps.{with_entry, stage_of, scene_of, waiting_of, MayComeNext, CarriesOn}
 use Rattle.dispatch_core.proofs.Calls.{few_wait, longer, same_setup, over_granting, may_granting}
 use Rattle.dispatch_core.proofs.Retrying.{goes_entry, goes_then}
 

@@ -1,5 +1,5 @@
 -- Stays that are moved from the queue of a server that went down into the backend's.
-use Rattle.std.proofs.Common.{◌≡◌, ◌≢◌, ℕ, zero, suc, ◌+◌, ◌<◌, ◌≤◌, Bool, true, false, List, [], ◌∷◌, ◌++◌, Option, None, Some, MatchOption, option_map, IsTrue, slice_get, slice_index_or, count_by, length, drop, Contains, refl, ap, sym, ◌∙◌, subst, arith, append_assoc, length-append, inl, inr, Less, Greater}
+use Rattle.std.proofs.Common.{◌≡◌, ◌≢◌, ℕ, zero, suc, ◌+◌, ◌<◌, ◌≤◌, Bool, true, false, List, [], ◌∷◌, ◌++◌, Option, None, Some, MatchOption, option_map, IsTrue, slice_get, slice_index_or, count_by, length, drop, Contains, refl, ap, sym, ◌∙◌, subst, arith, append_assoc, length-append, Less, Greater}
 use Rattle.std.proofs.Math.ListN.{set}
 use Rattle.std.proofs.lemmas.List.{set-set, append-nil}
 use Rattle.std.proofs.lemmas.Option.{same_Some}
@@ -26,7 +26,6 @@ use Rattle.dispatch_log.specs.Histories.{History, state_of, begins_event}
 use Rattle.dispatch_log.specs.Judgement.{Stage, falling, granting, MayCome, IsFirstIn, next_stage}
 use Rattle.dispatch_log.specs.Logs.{Recorded}
 use Rattle.dispatch_log.specs.Rows.{Rows, StandsAt, phase_waits_in, waits_in, queued, in_backend_since}
-use Rattle.dispatch_log.specs.States.{State}
 use Rattle.dispatch_log.proofs.Judged.{stage_after-push}
 use Rattle.dispatch_log.specs.Refusals.{is_waiting}
 use Rattle.dispatch_log.proofs.Places.{tally, get-set_same}
@@ -36,12 +35,11 @@ use Rattle.slot_ledger.specs.Ledgers.{Kept, with_slots}
 use Rattle.slot_ledger.specs.Slots.{StandsIn, HasRow, HasTicketAt, HasNoTicket, with_phase, unpinned}
 use Rattle.slot_ledger.proofs.Standing.{with_slot_at}
 use Rattle.server_pick.specs.Heads.{IsLeastIn, IsEmptyQueue}
-use Rattle.server_pick.proofs.Taking.{own_queue}
 use Rattle.stay_order.specs.Order.{Order, without, with_places}
 use Rattle.dispatch_core.specs.Stays.{AreStays}
 use Rattle.dispatch_core.specs.Lines.{Waits, Lined, waits_at, with_waits}
 use Rattle.dispatch_core.specs.Moves.{MovesAll, IsMoving}
-use Rattle.dispatch_core.specs.Steps.{with_entry, stage_of, waits, waiting_of, MayComeNext, GoesOn}
+use Rattle.dispatch_core.specs.Steps.{with_entry, stage_of, waits, waiting_of, MayComeNext}
 use Rattle.dispatch_core.specs.Traces.{HasItsNode, HoldsQueue, history_of, noted, IsTrace, AreJoinings, IsNoted}
 use Rattle.dispatch_core.proofs.Grants.{head_of}
 use Rattle.dispatch_core.proofs.Holding.{stands_row, found_row, not_missed, held_change, trace_consistent, trace_places, trace_step}

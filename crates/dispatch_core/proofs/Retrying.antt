@@ -1,5 +1,5 @@
 -- The calls of a failure as compositions of entries.
-use Rattle.std.proofs.Common.{◌≡◌, ℕ, ◌+◌, ◌-◌, ◌*◌, ◌<◌, ◌≤◌, ◌==◌, ◌||◌, ◌&&◌, not, cond, Bool, true, false, List, [], ◌∷◌, ◌++◌, Option, None, Some, option_map, IsTrue, All, length, refl, ap, sym, ◌∙◌, subst, arith, append_assoc, length-append, inl, inr}
+use Rattle.std.proofs.Common.{◌≡◌, ℕ, ◌+◌, ◌-◌, ◌*◌, ◌<◌, ◌≤◌, ◌||◌, not, cond, Bool, true, false, List, [], ◌∷◌, ◌++◌, Option, None, Some, option_map, IsTrue, length, refl, ap, sym, ◌∙◌, subst, arith, append_assoc, length-append, inl, inr}
 use Rattle.std.specs.Option.{option_map_or, option_and_then}
 use Rattle.std.proofs.Math.ListN.{set}
 use Rattle.std.proofs.lemmas.Bool.Decides.{nat_tests, Decides-eqb}
@@ -11,21 +11,18 @@ use Rattle.dispatch_log.specs.declared.row.Phase.{Phase}
 use Rattle.dispatch_log.specs.declared.row.Phase.TheVariants.{Loose, Waiting, Serving, Told}
 use Rattle.dispatch_log.specs.declared.row.Row.{Row}
 use Rattle.dispatch_log.specs.declared.setup.Setup.{Setup}
-use Rattle.dispatch_log.specs.Grants.{IsSettled}
 use Rattle.dispatch_log.specs.Histories.{History, IsLegal, state_of, begins_event, refuses_failure, AddsEvent}
-use Rattle.dispatch_log.specs.Judgement.{Stage, failing, leaving, granting, IsOver, MayGrant, MayCome, IsPut, next_stage, HasSlot}
+use Rattle.dispatch_log.specs.Judgement.{Stage, failing, leaving, granting, MayGrant, MayCome, next_stage, HasSlot}
 use Rattle.dispatch_log.specs.Refusals.{lacks_room, ticket_refusal, has_a_slot}
 use Rattle.dispatch_log.specs.Retries.{are_spent, are_redispatched, are_retried, failed_row, failed}
 use Rattle.dispatch_log.specs.Rows.{Rows, StandsAt, changed, in_phase, row_of, server_in, phase_is_served_by, pin_of, failures_of}
-use Rattle.dispatch_log.specs.States.{State, after, opening_state}
+use Rattle.dispatch_log.specs.States.{State, opening_state}
 use Rattle.std.proofs.lemmas.Option.{same_Some}
 use Rattle.dispatch_log.proofs.Accepted.{Accepted, accepted_room, row_of_accepted}
 use Rattle.dispatch_log.proofs.Judged.{after_all-push, stage_after-push}
 use Rattle.dispatch_log.proofs.Places.{get-set_same, get-set_cases}
 use Rattle.dispatch_log.proofs.RowLemmas.{HaveOwnTickets, changed_at, row_of_at}
-use Rattle.dispatch_core.specs.declared.fate.Fate.{Fate}
-use Rattle.dispatch_core.specs.Fates.{fate_of}
-use Rattle.dispatch_core.specs.Steps.{with_entry, stage_of, scene_of, waiting_of, MayComeNext, IsOverNext, MayGrantNext, MayPut, GoesOn, CarriesOn, Places, Settles}
+use Rattle.dispatch_core.specs.Steps.{with_entry, stage_of, waiting_of, MayComeNext, MayGrantNext, MayPut, GoesOn, CarriesOn, Places, Settles}
 use Rattle.dispatch_core.proofs.Calls.{legal_consistent, over_granting, may_granting, few_wait, longer, same_setup, adds}
 use Rattle.dispatch_core.proofs.Phases.{failures_stay, pins_stay}
 

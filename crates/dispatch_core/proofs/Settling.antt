@@ -1,6 +1,5 @@
 -- Grants until all is settled.
-use Rattle.std.proofs.Common.{◌≡◌, ◌+◌, ℕ, ◌≤◌, ◌==◌, Bool, true, false, cond, List, [], ◌∷◌, ◌++◌, Option, None, Some, IsTrue, All, length, refl, ap, sym, ◌∙◌, subst, arith, append_assoc, length-append}
-use Rattle.std.specs.Option.{option_map_or}
+use Rattle.std.proofs.Common.{◌≡◌, ◌+◌, ℕ, ◌≤◌, false, List, [], ◌∷◌, ◌++◌, IsTrue, All, length, refl, ap, sym, ◌∙◌, subst, arith, append_assoc, length-append}
 use Rattle.std.proofs.lemmas.List.{append-nil}
 use Rattle.std.proofs.lemmas.List.Elements.{All-nil, All-push}
 use Rattle.dispatch_log.specs.declared.entry.Entry.{Entry}
@@ -8,12 +7,11 @@ use Rattle.dispatch_log.specs.declared.entry.Entry.TheVariants.{Granted}
 use Rattle.dispatch_log.specs.Grants.{IsSettled}
 use Rattle.dispatch_log.specs.declared.queue.Queue.{Queue}
 use Rattle.dispatch_log.specs.declared.row.Phase.TheVariants.{Serving}
-use Rattle.dispatch_log.specs.declared.row.Row.{Row}
 use Rattle.dispatch_log.specs.declared.setup.Setup.{Setup}
 use Rattle.dispatch_log.specs.Histories.{History, state_of, begins_event}
 use Rattle.dispatch_log.specs.Judgement.{Stage, leaving, telling, checking, falling, granting, IsOver, MayGrant, next_stage}
 use Rattle.dispatch_log.specs.Retries.{are_redispatched}
-use Rattle.dispatch_log.specs.Rows.{pin_of, failures_of}
+use Rattle.dispatch_log.specs.Rows.{pin_of}
 use Rattle.dispatch_log.specs.States.{State, after, opening_state}
 use Rattle.dispatch_log.proofs.Judged.{stage_after-push, after_all-push}
 use Rattle.dispatch_core.proofs.Phases.{failures_stay, pins_stay}

@@ -1,7 +1,7 @@
 use Rattle.std.proofs.Common.{ap, sym, ◌∙◌, refl, subst}
 use Rattle.dispatch_log.specs.Dispatch.{IsDispatched}
 use Rattle.dispatch_log.specs.declared.entry.Entry.TheVariants.{Check}
-use Rattle.dispatch_log.specs.Histories.{History, state_of, effective, AddsEvent}
+use Rattle.dispatch_log.specs.Histories.{History, effective, AddsEvent}
 use Rattle.dispatch_log.proofs.Dispatched.{dispatched}
 use Rattle.dispatch_core.proofs.Calls.{added_dispatched}
 use Rattle.dispatch_core.proofs.Checking.{has_health, check_stage, check_change, check_within, check_room, core_goes}

@@ -1,4 +1,4 @@
-use Rattle.std.proofs.Common.{◌≡◌, ◌+◌, ℕ, length, rules, arith}
+use Rattle.std.proofs.Common.{◌≡◌, length, rules, arith}
 use Rattle.std.proofs.lemmas.Option.{slice_get-get_or}
 use Rattle.dispatch_core.proofs.Healthy.{one_more, all_made}
 use Rattle.dispatch_core.proofs.healths.Healths.new.Goals as goal

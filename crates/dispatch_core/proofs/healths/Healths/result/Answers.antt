@@ -1,4 +1,4 @@
-use Rattle.std.proofs.Common.{sym, ◌∙◌, ap, slice_set, Some}
+use Rattle.std.proofs.Common.{ap, slice_set, Some}
 use Rattle.dispatch_core.proofs.Healthy.{health_read, healths_after, change_is}
 use Rattle.dispatch_core.proofs.healths.Healths.result.Goals as goal
 

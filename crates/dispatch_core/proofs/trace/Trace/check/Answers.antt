@@ -1,4 +1,4 @@
-use Rattle.std.proofs.Common.{◌≡◌, ◌<◌, length, refl, ap, sym, ◌∙◌, subst}
+use Rattle.std.proofs.Common.{◌≡◌, refl, sym, subst}
 use Rattle.dispatch_log.specs.declared.entry.Entry.TheVariants.{Check}
 use Rattle.dispatch_log.specs.Health.{with_result}
 use Rattle.dispatch_log.specs.Histories.{History, state_of, refuses_check}

@@ -1,4 +1,4 @@
-use Rattle.std.proofs.Common.{◌≡◌, ◌<◌, length, refl, ap, sym, ◌∙◌, subst}
+use Rattle.std.proofs.Common.{◌<◌, length, refl, sym, subst}
 use Rattle.std.proofs.lemmas.Option.{MatchOption-at_none}
 use Rattle.dispatch_log.specs.declared.entry.Entry.TheVariants.{Fail}
 use Rattle.dispatch_log.specs.Histories.{History, refuses_failure}

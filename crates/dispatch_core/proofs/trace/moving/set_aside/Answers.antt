@@ -1,11 +1,10 @@
-use Rattle.std.proofs.Common.{◌≡◌, ◌+◌, ◌<◌, ◌≤◌, ℕ, drop, length, set, [], ◌∷◌, ◌++◌, Contains, refl, ap, sym, ◌∙◌, subst, arith}
+use Rattle.std.proofs.Common.{◌<◌, drop, length, [], ◌∷◌, ◌++◌, Contains, refl, ap, sym, ◌∙◌, subst, arith}
 use Rattle.std.proofs.lemmas.Option.{MatchOption-at_none}
 use Rattle.due_key.specs.declared.key.Key.{Key}
 use Rattle.dispatch_log.specs.declared.queue.Queue.TheVariants.{Backend, Server}
-use Rattle.dispatch_log.specs.declared.row.Phase.TheVariants.{Waiting}
 use Rattle.readable_log.proofs.Judged.{judged_follows}
 use Rattle.slot_ledger.specs.Ledgers.{Kept, with_slots}
-use Rattle.slot_ledger.specs.Slots.{HasTicketAt, HasNoTicket, unpinned, with_phase}
+use Rattle.slot_ledger.specs.Slots.{HasTicketAt, HasNoTicket, unpinned}
 use Rattle.slot_ledger.proofs.Standing.{still_stands}
 use Rattle.dispatch_log.specs.declared.entry.Entry.TheVariants.{Moved}
 use Rattle.readable_log.specs.Readable.{MayFollow}

@@ -1,4 +1,5 @@
 pub mod Standing
+pub mod Rising
 pub mod Keeping
 pub mod Finding
 pub mod Indexing

@@ -1,5 +1,5 @@
 -- The index of tickets, as a list of entries of which some have lost their place.
-use Rattle.std.specs.Prelude.{◌≡◌, ◌≢◌, ◌⊎◌, ℕ, ◌-◌, ◌<◌, ◌≤◌, ◌++◌, ◌∷◌, [], Bool, List, Option, Some, All, option_map, is_some, length, take, drop, slice_get}
+use Rattle.std.specs.Prelude.{◌≡◌, ◌≢◌, ◌⊎◌, ℕ, ◌+◌, ◌-◌, ◌<◌, ◌≤◌, ◌++◌, ◌∷◌, [], Bool, List, Option, Some, All, option_map, is_some, length, take, drop, slice_get}
 use Rattle.std.specs.List.{filter_map}
 use Rattle.slot_ledger.specs.declared.tickets.Entry.{Entry}
 
@@ -52,6 +52,13 @@ pub record AreStretches (kept next : ℕ) (entries : List Entry) : Type 0 where
   pub within : IsWithin kept next entries
   pub rising : IsRising (stretches kept next entries)
   pub last : 0 < length entries → next < length entries
+
+-- the entry at `next` is passed, and counts from then on only if it has a place
+pub record Passes (kept next more : ℕ) (old new : List Entry) : Type 0 where
+  pub within : IsWithin more (next + 1) new
+  pub rising : IsRising (stretches more (next + 1) new)
+  pub pairs : pairs_in (stretches more (next + 1) new) ≡ pairs_in (stretches kept next old)
+  pub len : length new ≡ length old
 
 -- the entry of a ticket is at a place of the list, and counts
 abbrev pub HasTicketAmong : ℕ → List Entry → ℕ → Type 0

@@ -1,5 +1,5 @@
 ghost use Rattle.std.specs.Prelude.{◌≡◌, ℕ, ◌+◌, ◌<◌, ◌≤◌, [], ◌∷◌, ◌++◌, true, IfOk, All, Contains, MatchOption, filter, length, slice_get, vec_len, vec_capacity};
-ghost use Rattle.slot_ledger.specs.Tickets.{AreStretches, HasTicketAmong, IsAboveLast, IsAbsent, IsInStretches, IsRising, IsWithin, Removes, has_place, pairs_in, stretches};
+ghost use Rattle.slot_ledger.specs.Tickets.{AreStretches, HasTicketAmong, IsAboveLast, IsAbsent, IsInStretches, IsRising, IsWithin, Passes, Removes, has_place, pairs_in, stretches};
 
 use std::alloc::{AllocError, Global};
 use std::marker::Model;
@@ -90,17 +90,14 @@ impl Tickets {
         }
     }
 
-    // Goes on by one entry, which stays only if it has a place.
+    // Passes one entry, and begins anew after the last one.
     fn sweep(&mut self)
         ensures { self.new ≡ self.old }
     {
-        let Some(entry) = self.entries.get(self.next).copied() else {
+        if self.entries.is_empty() {
             return;
-        };
-        if entry.place.is_some() {
-            self.entries[self.kept] = entry;
-            self.kept += 1;
         }
+        self.kept = pass(&mut self.entries, self.kept, self.next);
         self.next += 1;
         if self.next == self.entries.len() {
             self.entries.truncate(self.kept);
@@ -108,6 +105,20 @@ impl Tickets {
             self.next = 0;
         }
     }
+}
+
+// Keeps the entry at `next` if it has a place. Returns how many are kept then.
+fn pass(entries: &mut [Entry], kept: usize, next: usize) -> usize
+    requires within { next < length entries.old }
+    requires stretches { AreStretches kept next entries.old }
+    ensures { Passes kept next result entries.old entries.new }
+{
+    let entry = entries[next];
+    if entry.place.is_none() {
+        return kept;
+    }
+    entries[kept] = entry;
+    kept + 1
 }
 
 // Whether the ticket can go in at the end as it is.
@@ -125,8 +136,17 @@ fn compact(entries: &mut Vec<Entry>, kept: usize, next: usize)
     ensures items { entries.new.items ≡ filter has_place (stretches kept next entries.old.items) }
     ensures capacity { vec_capacity entries.new ≡ vec_capacity entries.old }
 {
-    entries.drain(kept..next);
+    cut(entries, kept, next);
     entries.retain(|entry| entry.place.is_some());
+}
+
+// Leaves out the entries from one place up to another.
+fn cut(entries: &mut Vec<Entry>, from: usize, to: usize)
+    requires { IsWithin from to entries.old.items }
+    ensures items { entries.new.items ≡ stretches from to entries.old.items }
+    ensures capacity { vec_capacity entries.new ≡ vec_capacity entries.old }
+{
+    entries.drain(from..to);
 }
 
 // Where the entry of a ticket is.

@@ -1,5 +1,5 @@
 -- What a search by ticket finds among entries by rising ticket.
-use Rattle.std.proofs.Common.{◌≡◌, ◌≢◌, ◌⊎◌, ℕ, zero, suc, ◌+◌, ◌-◌, ◌<◌, ◌≤◌, List, [], ◌∷◌, ◌++◌, Option, None, Some, Result, Ok, Err, Contains, MatchOption, length, get_or, set, take, drop, slice_get, All, inl, inr, refl, sym, ap, subst, ◌∙◌, arith, length-set, Equal, nat_cmp}
+use Rattle.std.proofs.Common.{◌≡◌, ◌≢◌, ℕ, zero, suc, ◌+◌, ◌<◌, ◌≤◌, List, [], ◌∷◌, ◌++◌, None, Some, Result, Ok, Err, Contains, MatchOption, length, get_or, set, take, drop, slice_get, inl, inr, refl, sym, ap, subst, ◌∙◌, arith, length-set, Equal, nat_cmp}
 use Rattle.std.specs.List.Sorted.{IsSearchInRange, IsBinarySearchResult, IsNonDecreasingBy}
 use Rattle.std.specs.Ordering.{ordering_index}
 use Rattle.std.specs.Result.{result_ok}

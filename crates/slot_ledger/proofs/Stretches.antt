@@ -1,11 +1,11 @@
 -- The entries of an index that count: those below one place and those from another on.
-use Rattle.std.proofs.Common.{◌≡◌, ◌≢◌, ◌⊎◌, ℕ, zero, suc, ◌+◌, ◌-◌, ◌<◌, ◌≤◌, List, [], ◌∷◌, ◌++◌, Option, None, Some, length, get_or, set, take, drop, slice_get, filter, All, inl, inr, refl, sym, ap, subst, ◌∙◌, arith, length-append, length-set, length-take, length-drop, append_assoc, append-nil}
+use Rattle.std.proofs.Common.{◌≡◌, ◌⊎◌, ℕ, suc, ◌+◌, ◌-◌, ◌<◌, ◌≤◌, List, [], ◌∷◌, ◌++◌, None, Some, length, get_or, set, take, drop, slice_get, filter, All, inl, inr, refl, sym, ap, subst, ◌∙◌, arith, length-append, length-take, length-drop, append_assoc}
 use Rattle.std.proofs.Math.Seq.{take-set-lt}
-use Rattle.std.proofs.lemmas.List.{set_split, set-get_or, take-set-le, drop-set-lt, drop-set-add, take-append-le, drop-append-le, take_more, take_more_set, take_all, drop_more, drop_all, nil_from_length}
+use Rattle.std.proofs.lemmas.List.{set_split, set-get_or, take-set-le, drop-set-lt, drop-set-add, take-append-le, drop-append-le, take_more, take_all, drop_more}
 use Rattle.std.proofs.lemmas.List.Elements.{All-append, All-cons, All-head, All-nil, All-weaker}
 use Rattle.std.proofs.lemmas.Option.{slice_get_within, get_or_from_slice_get, slice_get-get_or}
 use Rattle.slot_ledger.specs.declared.tickets.Entry.{Entry}
-use Rattle.slot_ledger.specs.Tickets.{Indexed, IsBelowAll, IsRising, IsWithin, AreStretches, Passes, IsAboveLast, has_place, pairs_in, stretches}
+use Rattle.slot_ledger.specs.Tickets.{IsBelowAll, IsRising, IsWithin, AreStretches, Passes, IsAboveLast, has_place, pairs_in, stretches}
 use Rattle.slot_ledger.proofs.Rising.{rising_parts, rising_without, rising_more, rising_filter, pairs_around, pairs_without, pairs_kept, each_kept}
 
 -- what stands around a place that counts, whatever is written there
@@ -14,26 +14,34 @@ pub record IsAround (kept next at : ℕ) (entries front back : List Entry) : Typ
 
 module _ (kept next at : ℕ) (entries : List Entry) (within : IsWithin kept next entries) (there : at < length entries) where
   around_low : at < kept → (front : List Entry) × (back : List Entry) × IsAround kept next at entries front back
-  around_low low = (take at (take kept entries), drop (suc at) (take kept entries) ++ drop next entries, record {
-    written = λ e.
-        let ordered = within.ordered in
-        let bound = within.within in
-        let long = length-take kept entries in
-        ap (λ (l : List Entry). l ++ drop next (set entries at e)) (take-set-lt kept entries at e low ∙ set_split (take kept entries) at e (omega arith))
-        ∙ ap (λ (l : List Entry). (take at (take kept entries) ++ e ∷ drop (suc at) (take kept entries)) ++ l) (drop-set-lt next entries at e (omega arith))
-        ∙ append_assoc (take at (take kept entries)) (e ∷ drop (suc at) (take kept entries)) (drop next entries);
-  })
+  around_low low = (
+    take at (take kept entries),
+    drop (suc at) (take kept entries) ++ drop next entries,
+    record {
+      written = λ e.
+          let ordered = within.ordered in
+          let bound = within.within in
+          let long = length-take kept entries in
+          ap (λ (l : List Entry). l ++ drop next (set entries at e)) (take-set-lt kept entries at e low ∙ set_split (take kept entries) at e (omega arith))
+          ∙ ap (λ (l : List Entry). (take at (take kept entries) ++ e ∷ drop (suc at) (take kept entries)) ++ l) (drop-set-lt next entries at e (omega arith))
+          ∙ append_assoc (take at (take kept entries)) (e ∷ drop (suc at) (take kept entries)) (drop next entries);
+    },
+  )
 
   around_high : (more : ℕ) → at ≡ next + more → (front : List Entry) × (back : List Entry) × IsAround kept next at entries front back
-  around_high more is = (take kept entries ++ take more (drop next entries), drop (suc more) (drop next entries), record {
-    written = λ e.
-        let ordered = within.ordered in
-        let long = length-drop next entries in
-        ap (λ (l : List Entry). l ++ drop next (set entries at e)) (take-set-le kept entries at e (omega arith))
-        ∙ ap (λ (n : ℕ). take kept entries ++ drop next (set entries n e)) is
-        ∙ ap (λ (l : List Entry). take kept entries ++ l) (drop-set-add next entries more e ∙ set_split (drop next entries) more e (omega arith))
-        ∙ sym (append_assoc (take kept entries) (take more (drop next entries)) (e ∷ drop (suc more) (drop next entries)));
-  })
+  around_high more is = (
+    take kept entries ++ take more (drop next entries),
+    drop (suc more) (drop next entries),
+    record {
+      written = λ e.
+          let ordered = within.ordered in
+          let long = length-drop next entries in
+          ap (λ (l : List Entry). l ++ drop next (set entries at e)) (take-set-le kept entries at e (omega arith))
+          ∙ ap (λ (n : ℕ). take kept entries ++ drop next (set entries n e)) is
+          ∙ ap (λ (l : List Entry). take kept entries ++ l) (drop-set-add next entries more e ∙ set_split (drop next entries) more e (omega arith))
+          ∙ sym (append_assoc (take kept entries) (take more (drop next entries)) (e ∷ drop (suc more) (drop next entries)));
+    },
+  )
 
   pub around : (at < kept) ⊎ (next ≤ at) → (front : List Entry) × (back : List Entry) × IsAround kept next at entries front back
   around side = elim side [
@@ -48,34 +56,13 @@ set_read entries at e is = ap (λ (x : Entry). set entries at x) (sym (get_or_fr
 pub read_around : (kept next at : ℕ) (entries front back : List Entry) (e : Entry) → IsAround kept next at entries front back → slice_get entries at ≡ Some e → stretches kept next entries ≡ front ++ e ∷ back
 read_around kept next at entries front back e is there = ap (stretches kept next) (sym (set_read entries at e there)) ∙ is.written e
 
--- an entry that is passed
+-- an entry without a place that is passed
 module _ (kept next : ℕ) (entries : List Entry) (e : Entry) (are : AreStretches kept next entries) (there : slice_get entries next ≡ Some e) where
   here : next < length entries
   here = slice_get_within entries next e there
 
   first_of_rest : drop next entries ≡ e ∷ drop (next + 1) entries
   first_of_rest = drop_more entries next e here ∙ ap (λ (x : Entry). x ∷ drop (next + 1) entries) (get_or_from_slice_get entries next e e there)
-
-  pub moved : stretches (kept + 1) (next + 1) (set entries kept e) ≡ stretches kept next entries
-  moved =
-      let ordered = are.within.ordered in
-      let in_range = here in
-      ap (λ (l : List Entry). l ++ drop (next + 1) (set entries kept e)) (take_more_set entries kept e (omega arith))
-      ∙ ap (λ (l : List Entry). (take kept entries ++ e ∷ []) ++ l) (drop-set-lt (next + 1) entries kept e (omega arith))
-      ∙ append_assoc (take kept entries) (e ∷ []) (drop (next + 1) entries)
-      ∙ ap (λ (l : List Entry). take kept entries ++ l) (sym first_of_rest)
-
-  pub pass_kept : Passes kept next (kept + 1) entries (set entries kept e)
-  pass_kept =
-      let ordered = are.within.ordered in
-      let in_range = here in
-      let long = length-set entries kept e in
-      record {
-        within = record { ordered = omega arith; within = omega arith };
-        rising = subst IsRising (sym moved) are.rising;
-        pairs = ap pairs_in moved;
-        len = long;
-      }
 
   pub pass_dropped : e.place ≡ None → Passes kept next kept entries entries
   pass_dropped none =
@@ -104,11 +91,11 @@ module _ (kept next ticket : ℕ) (entries : List Entry) (are : AreStretches kep
       let ordered = are.within.ordered in
       let long = length-take n entries in
       let whole_is : entries ≡ init ++ last ∷ [] =
-          sym (take_all (n + 1) entries (omega arith)) ∙ take_more entries n d (omega arith) in
+      sym (take_all (n + 1) entries (omega arith)) ∙ take_more entries n d (omega arith) in
       let parts : stretches kept next entries ≡ (take kept entries ++ drop next init) ++ last ∷ [] =
-          ap (λ (l : List Entry). take kept entries ++ drop next l) whole_is
-          ∙ ap (λ (l : List Entry). take kept entries ++ l) (drop-append-le next init (last ∷ []) (omega arith))
-          ∙ sym (append_assoc (take kept entries) (drop next init) (last ∷ [])) in
+      ap (λ (l : List Entry). take kept entries ++ drop next l) whole_is
+      ∙ ap (λ (l : List Entry). take kept entries ++ l) (drop-append-le next init (last ∷ []) (omega arith))
+      ∙ sym (append_assoc (take kept entries) (drop next init) (last ∷ [])) in
       let rising = rising_parts (take kept entries ++ drop next init) (last ∷ []) (subst IsRising parts are.rising) in
       let top : last.ticket < ticket = above last (slice_get-get_or entries n d (omega arith)) in
       subst (All (λ entry. entry.ticket < ticket)) (sym parts)
@@ -145,24 +132,6 @@ module _ (kept next : ℕ) (entries : List Entry) (e : Entry) (within : IsWithin
         rising = subst IsRising (sym stretches-push) (rising_more (stretches kept next entries) e up below);
         last = λ some. omega arith;
       }
-
--- after the last entry, the swept ones are all that there are
-module _ (kept next more : ℕ) (old new : List Entry) (passes : Passes kept next more old new) where
-  pub going_on : next + 1 ≢ length new → AreStretches more (next + 1) new
-  going_on other = let bound = passes.within.within in record { within = passes.within; rising = passes.rising; last = λ some. omega arith }
-
-  swept : length new ≤ next + 1 → stretches more (next + 1) new ≡ take more new
-  swept past = ap (λ (l : List Entry). take more new ++ l) (drop_all (next + 1) new past) ∙ append-nil (take more new)
-
-  pub swept_are : length new ≤ next + 1 → AreStretches 0 0 (take more new)
-  swept_are past = whole (take more new) (subst IsRising (swept past) passes.rising)
-
-  pub swept_pairs : length new ≤ next + 1 → pairs_in (stretches 0 0 (take more new)) ≡ pairs_in (stretches kept next old)
-  swept_pairs past = ap pairs_in (sym (swept past)) ∙ passes.pairs
-
--- what contracts see of an index
-pub same_index : (old new : Indexed) → new.pairs ≡ old.pairs → new.room ≡ old.room → new ≡ old
-same_index old new pairs room = ap (λ (l : List (ℕ × ℕ)). record { pairs = l; room = new.room }) pairs ∙ ap (λ (n : ℕ). record { pairs = old.pairs; room = n }) room
 
 -- entries that take one ticket more at their end: they have these pairs, all of lower tickets
 pub record AreReady (ticket kept next : ℕ) (entries : List Entry) (pairs : List (ℕ × ℕ)) : Type 0 where

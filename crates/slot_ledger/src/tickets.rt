@@ -11,15 +11,15 @@ struct Entry {
     place: Option<usize>,
 }
 
-/// The places of tickets. Each call is `O(log n)` while new tickets are above all that ever were.
-//
-// A removed ticket stays as an entry without a place, and each new ticket sweeps four entries on. A
-// sweep that begins with `f` entries is over after `f / 3` new tickets, rounded up, and leaves no
-// more than `places - 1 + f / 3` entries. So it begins with `3 / 2 * places` at most, and there are
-// never more than `2 * places`.
+/// The places of tickets. Each call is `O(log n)` while each new ticket is above all before it.
+///
+/// A removed ticket stays as an entry without a place until a sweep passes it, and each new ticket
+/// takes the sweep four entries on. With `p` tickets at most, a sweep that begins with `f` entries is
+/// over after `f / 3` new tickets, rounded up, and leaves at most `p - 1` entries and one for each of
+/// these. So none begins with more than `3p / 2`, and there are never more than `2p`.
 #[derive(Drop)]
 pub(crate) struct Tickets {
-    // By rising ticket: first those before `kept`, which are swept, and then those from `next` on.
+    // By rising ticket those before `kept`, which the sweep has passed, and then those from `next` on.
     entries: Vec<Entry>,
     kept: usize,
     next: usize,
@@ -37,7 +37,7 @@ impl Model for Tickets {
 }
 
 impl Tickets {
-    /// Has room for so many tickets. `O(1)`.
+    /// Room for so many tickets. `O(1)`.
     pub(crate) fn with_room(alloc: Global, places: usize) -> Result<Tickets, AllocError>
         ensures empty { IfOk result (λ index. index.pairs ≡ []) }
         ensures room { IfOk result (λ index. places ≤ index.room) }
@@ -57,8 +57,7 @@ impl Tickets {
         self.entries[at].place
     }
 
-    /// Takes a ticket in, above all others. `O(1)` where it is also above those that were removed,
-    /// else `O(n)`.
+    /// Takes a ticket in, above all others. `O(1)`, and `O(n)` where a higher one was removed.
     pub(crate) fn push(&mut self, ticket: u64, place: usize)
         requires room { length self.old.pairs < self.old.room }
         requires highest { All (λ pair. pair.0 < ticket) self.old.pairs }
@@ -126,8 +125,7 @@ fn takes(entries: &Vec<Entry>, ticket: u64) -> bool
     ensures room { result ≡ true → vec_len entries.now < vec_capacity entries.now }
     ensures highest { result ≡ true → IsAboveLast ticket entries.now.items }
 {
-    entries.len() < entries.capacity()
-        && entries.last().is_none_or(|last| last.ticket < ticket)
+    entries.len() < entries.capacity() && entries.last().is_none_or(|last| last.ticket < ticket)
 }
 
 // Leaves the entries that have a place. `O(n)`.

@@ -1,4 +1,4 @@
-use Rattle.std.proofs.Common.{◌<◌, None, MatchOption, length, drop, sym, subst, arith, length-drop}
+use Rattle.std.proofs.Common.{drop, arith, length-drop}
 use Rattle.std.proofs.lemmas.List.{take_rest}
 use Rattle.std.proofs.lemmas.Option.{slice_get_within}
 use Rattle.slot_ledger.proofs.Searching.{first_rises, second_rises, in_first, in_second, in_neither}

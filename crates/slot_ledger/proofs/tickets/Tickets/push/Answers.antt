@@ -1,5 +1,4 @@
-use Rattle.std.proofs.Common.{◌≡◌, ◌<◌, List, All, Some, length, vec_len, vec_capacity, refl, sym, ap, subst, ◌∙◌, arith}
-use Rattle.slot_ledger.specs.declared.tickets.Entry.{Entry}
+use Rattle.std.proofs.Common.{◌≡◌, ◌<◌, All, Some, length, vec_len, vec_capacity, refl, sym, ap, subst, ◌∙◌, arith}
 use Rattle.slot_ledger.specs.Tickets.{Indexed, pairs_in, stretches}
 use Rattle.slot_ledger.proofs.Rising.{length-kept}
 use Rattle.slot_ledger.proofs.Stretches.{AreReady, ready_as_they_are, ready_compacted, pushed_are, pushed_pairs}
@@ -27,10 +26,10 @@ invariant_of-self c =
     let same = c.self.view_is ∙ c.loop.invariant in
     let highest = subst (λ (i : Indexed). All (λ pair. pair.0 < c.args.ticket) i.pairs) (sym same) c.requires.highest in
     let ready : AreReady c.args.ticket now.kept now.next now.entries.items (pairs_in (stretches c.self.inside.kept c.self.inside.next c.self.inside.entries.items)) =
-        elim c.if-not-takes.branch [
-          | then-not-takes w ↦ rw (w.self-inside-is, w.compact.ensures.items) (ready_compacted c.args.ticket c.self.inside.kept c.self.inside.next c.self.inside.entries.items c.self.invariant highest)
-          | else-not-takes w ↦ rw w.self-inside-is (ready_as_they_are c.args.ticket c.self.inside.kept c.self.inside.next c.self.inside.entries.items c.self.invariant (c.takes.ensures.highest w.if-not-takes.false))
-        ] in
+    elim c.if-not-takes.branch [
+      | then-not-takes w ↦ rw (w.self-inside-is, w.compact.ensures.items) (ready_compacted c.args.ticket c.self.inside.kept c.self.inside.next c.self.inside.entries.items c.self.invariant highest)
+      | else-not-takes w ↦ rw w.self-inside-is (ready_as_they_are c.args.ticket c.self.inside.kept c.self.inside.next c.self.inside.entries.items c.self.invariant (c.takes.ensures.highest w.if-not-takes.false))
+    ] in
     rw c.push_reserved.ensures.items (pushed_are now.kept now.next now.entries.items (record { ticket = c.args.ticket; place = Some c.args.place }) c.args.place _ refl ready)
 
 pub returns-clause-pairs : goal.returns-clause-pairs
@@ -39,8 +38,8 @@ returns-clause-pairs c =
     let same = c.self.view_is ∙ c.loop.invariant in
     let highest = subst (λ (i : Indexed). All (λ pair. pair.0 < c.args.ticket) i.pairs) (sym same) c.requires.highest in
     let ready : AreReady c.args.ticket now.kept now.next now.entries.items (pairs_in (stretches c.self.inside.kept c.self.inside.next c.self.inside.entries.items)) =
-        elim c.if-not-takes.branch [
-          | then-not-takes w ↦ rw (w.self-inside-is, w.compact.ensures.items) (ready_compacted c.args.ticket c.self.inside.kept c.self.inside.next c.self.inside.entries.items c.self.invariant highest)
-          | else-not-takes w ↦ rw w.self-inside-is (ready_as_they_are c.args.ticket c.self.inside.kept c.self.inside.next c.self.inside.entries.items c.self.invariant (c.takes.ensures.highest w.if-not-takes.false))
-        ] in
+    elim c.if-not-takes.branch [
+      | then-not-takes w ↦ rw (w.self-inside-is, w.compact.ensures.items) (ready_compacted c.args.ticket c.self.inside.kept c.self.inside.next c.self.inside.entries.items c.self.invariant highest)
+      | else-not-takes w ↦ rw w.self-inside-is (ready_as_they_are c.args.ticket c.self.inside.kept c.self.inside.next c.self.inside.entries.items c.self.invariant (c.takes.ensures.highest w.if-not-takes.false))
+    ] in
     rw (c.push_reserved.ensures.items, ← same) (pushed_pairs now.kept now.next now.entries.items (record { ticket = c.args.ticket; place = Some c.args.place }) c.args.place _ refl ready)

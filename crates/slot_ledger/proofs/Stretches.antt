@@ -50,8 +50,8 @@ module _ (kept next at : ℕ) (entries : List Entry) (within : IsWithin kept nex
   ]
 
 -- what is read there is written there
-pub set_read : (entries : List Entry) (at : ℕ) (e : Entry) → slice_get entries at ≡ Some e → set entries at e ≡ entries
-set_read entries at e is = ap (λ (x : Entry). set entries at x) (sym (get_or_from_slice_get entries at e e is)) ∙ set-get_or entries at e
+pub set_read : {X : Type 0} (xs : List X) (at : ℕ) (x : X) → slice_get xs at ≡ Some x → set xs at x ≡ xs
+set_read {X} xs at x is = ap (λ (y : X). set xs at y) (sym (get_or_from_slice_get xs at x x is)) ∙ set-get_or xs at x
 
 pub read_around : (kept next at : ℕ) (entries front back : List Entry) (e : Entry) → IsAround kept next at entries front back → slice_get entries at ≡ Some e → stretches kept next entries ≡ front ++ e ∷ back
 read_around kept next at entries front back e is there = ap (stretches kept next) (sym (set_read entries at e there)) ∙ is.written e

@@ -68,10 +68,11 @@ impl<H: Drop> Places<H> {
     pub(crate) fn len(&self) -> usize
         ensures { result ≡ count_by is_some self.now }
     {
-        self.slots.len() - self.vacant.len()
+        self.places() - self.vacant.len()
     }
 
-    /// Puts a row at a free place, which is the answer. Its ticket is above all others. `O(1)`.
+    /// Puts a row at a free place, which is the answer. Its ticket is above all others. `O(1)`, and
+    /// `O(n)` where a higher ticket has ended.
     pub(crate) fn admit(&mut self, row: Row, node: H) -> usize
         requires room { count_by is_some self.old < length self.old }
         requires highest { AreBelow row.key.ticket self.old }
@@ -170,8 +171,7 @@ impl<H: Drop> Places<H> {
         slot.node = Some(node);
     }
 
-    /// The row is gone, and its place is free. `O(log n)` to find the ticket; what the index has
-    /// after it moves up.
+    /// The row is gone, and its place is free. `O(log n)`.
     pub(crate) fn end(&mut self, place: usize)
         requires { HasRow self.old place }
         ensures { self.new ≡ slice_set self.old place None }

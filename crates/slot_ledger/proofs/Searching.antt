@@ -96,13 +96,13 @@ module _ (ticket kept next at : ℕ) (entries : List Entry) (x : Entry) (are : A
       (subst (λ (n : ℕ). MatchOption x.place (IsAbsent n (pairs_in (parts.0 ++ x ∷ parts.1))) (λ place. Contains (pairs_in (parts.0 ++ x ∷ parts.1)) (n, place))) own_ticket
       (place_there parts.0 parts.1 x rising_there x.place refl))
 
-  pub still_stretches : (d : Entry) → d.ticket ≡ x.ticket → AreStretches kept next (set entries at d)
+  pub still_stretches : (d : Entry) → d.ticket ≡ ticket → AreStretches kept next (set entries at d)
   still_stretches d same =
       let long = length-set entries at d in
       let bound = are.within.within in
       record {
         within = record { ordered = are.within.ordered; within = omega arith };
-        rising = subst IsRising (sym (parts.2.written d)) (rising_changed parts.0 parts.1 x rising_there d same);
+        rising = subst IsRising (sym (parts.2.written d)) (rising_changed parts.0 parts.1 x rising_there d (same ∙ sym own_ticket));
         last = λ some. let last = are.last (omega arith) in omega arith;
       }
 

@@ -85,7 +85,10 @@ impl Tickets {
         ensures room { self.new.room ≡ self.old.room }
     {
         if let Some(at) = position(&self.entries, self.kept, self.next, ticket) {
-            self.entries[at].place = None;
+            self.entries[at] = Entry {
+                ticket,
+                place: None,
+            };
         }
     }
 

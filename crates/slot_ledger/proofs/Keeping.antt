@@ -2,12 +2,12 @@
 use Rattle.std.proofs.Common.{◌≡◌, ◌≢◌, ℕ, zero, suc, ◌+◌, ◌<◌, List, [], ◌∷◌, ◌++◌, Option, None, Some, is_some, length, count_by, slice_get, Contains, refl, ap, sym, ◌∙◌, subst, arith, ◌⊎◌, inl, inr, length-append}
 use Rattle.std.proofs.Math.ListN.{set, length-set}
 use Rattle.std.proofs.lemmas.Option.{same_Some, slice_get_within}
-use Rattle.std.specs.declared.cmp.Reverse.{Reverse}
+use Rattle.std.proofs.lemmas.List.Elements.{All-contains, Contains-append_left, Contains-append_right, Contains-append_cases, Contains-push, Contains-push_cases}
 use Rattle.dispatch_log.proofs.Places.{get-set_same, get-set_other, get-set_cases, count-set, same_or_other}
-use Rattle.pend_queue.specs.Held.{Held}
 use Rattle.slot_ledger.specs.declared.places.Slot.{Slot}
-use Rattle.slot_ledger.specs.Places.{IsKept, reversed}
+use Rattle.slot_ledger.specs.Places.{IsKept}
 use Rattle.slot_ledger.specs.Slots.{StandsIn, HasTicketAt, AreBelow}
+use Rattle.slot_ledger.specs.Tickets.{Indexed, Removes}
 
 module _ {X : Type 0} where
   -- what stands in a list with one more at its end
@@ -29,12 +29,42 @@ module _ {X : Type 0} where
 none_some : {A : Type 0} {x : A} {P : Type 0} → None ≡ Some x → P
 none_some e = cc
 
+-- what is in a list from which a ticket's pair was taken
+module _ (ticket : ℕ) (old new : List (ℕ × ℕ)) where
+  pub removed_old : (x : ℕ × ℕ) → Removes ticket old new → Contains new x → Contains old x
+  removed_old x is among =
+      subst (λ (l : List (ℕ × ℕ)). Contains l x) (sym is.before)
+      (elim (Contains-append_cases is.front is.back x (subst (λ (l : List (ℕ × ℕ)). Contains l x) is.after among)) [
+        | inl first ↦ Contains-append_left is.front ((ticket, is.place) ∷ is.back) x first
+        | inr second ↦ Contains-append_right is.front ((ticket, is.place) ∷ is.back) x (Contains-append_right ((ticket, is.place) ∷ []) is.back x second)
+      ])
+
+  pub removed_other : (x : ℕ × ℕ) → Removes ticket old new → Contains old x → x.0 ≢ ticket → Contains new x
+  removed_other x is among other =
+      subst (λ (l : List (ℕ × ℕ)). Contains l x) (sym is.after)
+      (elim (Contains-append_cases is.front ((ticket, is.place) ∷ is.back) x (subst (λ (l : List (ℕ × ℕ)). Contains l x) is.before among)) [
+        | inl first ↦ Contains-append_left is.front is.back x first
+        | inr second ↦ elim (Contains-append_cases ((ticket, is.place) ∷ []) is.back x second) [
+          | inl own ↦ absurd (other (sym (ap (λ (y : ℕ × ℕ). y.0) (one_only (ticket, is.place) x own))))
+          | inr later ↦ Contains-append_right is.front is.back x later
+        ]
+      ])
+    where
+      one_only : (y x : ℕ × ℕ) → Contains (y ∷ []) x → y ≡ x
+      one_only y x among = elim (Contains-push_cases [] y x among) [ inl none ↦ absurd (omega (arith, none.1)) | inr same ↦ same ]
+
+  pub removed_length : Removes ticket old new → length new + 1 ≡ length old
+  removed_length is =
+      let before : length old ≡ length is.front + length ((ticket, is.place) ∷ is.back) = ap length is.before ∙ length-append is.front ((ticket, is.place) ∷ is.back) in
+      let after : length new ≡ length is.front + length is.back = ap length is.after ∙ length-append is.front is.back in
+      omega arith
+
 module _ {H : Type 0} where
   free_not_taken : {P : Type 0} (slots : List (Option (Slot H))) (p : ℕ) (s : Slot H) → slice_get slots p ≡ Some None → StandsIn slots p s → P
   free_not_taken slots p s free stands = let e : Some None ≡ Some (Some s) = sym free ∙ stands in none_some (same_Some None (Some s) e)
 
   -- another row under the same ticket
-  pub kept_change : (slots : List (Option (Slot H))) (vacant : List ℕ) (capacity : ℕ) (index : Held (Reverse ℕ) ℕ) (p : ℕ) (s t : Slot H)
+  pub kept_change : (slots : List (Option (Slot H))) (vacant : List ℕ) (capacity : ℕ) (index : Indexed) (p : ℕ) (s t : Slot H)
       → IsKept slots vacant capacity index → StandsIn slots p s → t.row.key.ticket ≡ s.row.key.ticket → IsKept (set slots p (Some t)) vacant capacity index
   kept_change slots vacant capacity index p s t is stands same = record {
     free = λ at q e. elsewhere q (is.free at q e);
@@ -49,7 +79,7 @@ module _ {H : Type 0} where
     complete = λ q u there.
         elim (get-set_cases slots p q (Some s) (Some t) (Some u) stands there) [
           | inl e ↦ let tu : t ≡ u = same_Some t u e.1 in
-              subst (λ n. Contains index.pairs (reversed n, q)) (sym same ∙ ap (λ (x : Slot H). x.row.key.ticket) tu) (subst (λ n. Contains index.pairs (reversed s.row.key.ticket, n)) (sym e.0) (is.complete p s stands))
+              subst (λ n. Contains index.pairs (n, q)) (sym same ∙ ap (λ (x : Slot H). x.row.key.ticket) tu) (subst (λ n. Contains index.pairs (s.row.key.ticket, n)) (sym e.0) (is.complete p s stands))
           | inr e ↦ is.complete q u e.1
         ];
     own = λ q r u v a b e.
@@ -83,14 +113,11 @@ module _ {H : Type 0} where
           ]
 
   -- a new row, under the highest ticket, at the free place that was the last of the list
-  pub kept_admit : (slots : List (Option (Slot H))) (vacant rest : List ℕ) (capacity now : ℕ) (index new : Held (Reverse ℕ) ℕ) (p : ℕ) (t : Slot H)
+  pub kept_admit : (slots : List (Option (Slot H))) (vacant rest : List ℕ) (capacity now : ℕ) (index new : Indexed) (p : ℕ) (t : Slot H)
       → IsKept slots vacant capacity index → vacant ≡ rest ++ p ∷ [] → now ≡ capacity → AreBelow t.row.key.ticket slots
-      → ((x : Reverse ℕ × ℕ) → Contains new.pairs x → ((reversed t.row.key.ticket, p) ≡ x) ⊎ Contains index.pairs x)
-      → Contains new.pairs (reversed t.row.key.ticket, p)
-      → ((x : Reverse ℕ × ℕ) → Contains index.pairs x → Contains new.pairs x)
-      → length new.pairs ≡ length index.pairs + 1 → new.room ≡ index.room
+      → new.pairs ≡ index.pairs ++ (t.row.key.ticket, p) ∷ [] → new.room ≡ index.room
       → IsKept (set slots p (Some t)) rest now new
-  kept_admit slots vacant rest capacity now index new p t is parts kept below only mine others longer room = record {
+  kept_admit slots vacant rest capacity now index new p t is parts kept below pushed room = record {
     free = λ at q e. get-set_other slots p q (Some t) (not_mine at q e) ∙ is.free at q (old at q e);
     once = λ at other q a b. is.once at other q (old at q a) (old other q b);
     all =
@@ -101,19 +128,19 @@ module _ {H : Type 0} where
         omega arith;
     room = let len = length-set slots p (Some t) in let r = is.room in omega arith;
     indexed = λ ticket q among.
-        elim (only (reversed ticket, q) among) [
+        elim (Contains-push_cases index.pairs (t.row.key.ticket, p) (ticket, q) (subst (λ (l : List (ℕ × ℕ)). Contains l (ticket, q)) pushed among)) [
           | inl e ↦
-              let at : p ≡ q = ap (λ (x : Reverse ℕ × ℕ). x.1) e in
-              let own : t.row.key.ticket ≡ ticket = ap (λ (x : Reverse ℕ × ℕ). x.0.0) e in
-              (t, subst (λ n. StandsIn (set slots p (Some t)) n t) at (get-set_same slots p None (Some t) free), own)
-          | inr e ↦
               let has = is.indexed ticket q e in
               (has.0, get-set_other slots p q (Some t) (λ same. free_not_taken slots q has.0 (subst (λ n. slice_get slots n ≡ Some None) (sym same) free) has.1) ∙ has.1, has.2)
+          | inr e ↦
+              let at : p ≡ q = ap (λ (x : ℕ × ℕ). x.1) e in
+              let own : t.row.key.ticket ≡ ticket = ap (λ (x : ℕ × ℕ). x.0) e in
+              (t, subst (λ n. StandsIn (set slots p (Some t)) n t) at (get-set_same slots p None (Some t) free), own)
         ];
     complete = λ q u there.
         elim (get-set_cases slots p q None (Some t) (Some u) free there) [
-          | inl e ↦ subst (λ (x : Slot H). Contains new.pairs (reversed x.row.key.ticket, q)) (same_Some t u e.1) (subst (λ n. Contains new.pairs (reversed t.row.key.ticket, n)) (sym e.0) mine)
-          | inr e ↦ others (reversed u.row.key.ticket, q) (is.complete q u e.1)
+          | inl e ↦ subst (λ (x : Slot H). Contains new.pairs (x.row.key.ticket, q)) (same_Some t u e.1) (subst (λ n. Contains new.pairs (t.row.key.ticket, n)) (sym e.0) mine)
+          | inr e ↦ subst (λ (l : List (ℕ × ℕ)). Contains l (u.row.key.ticket, q)) (sym pushed) (Contains-append_left index.pairs ((t.row.key.ticket, p) ∷ []) (u.row.key.ticket, q) (is.complete q u e.1))
         ];
     own = λ q r u v a b e.
         elim (get-set_cases slots p q None (Some t) (Some u) free a) [
@@ -129,6 +156,7 @@ module _ {H : Type 0} where
     counted =
         let count : count_by is_some (set slots p (Some t)) + 0 ≡ count_by is_some slots + 1 = count-set is_some slots p None (Some t) free in
         let counted = is.counted in
+        let longer : length new.pairs ≡ length index.pairs + 1 = ap length pushed ∙ length-append index.pairs ((t.row.key.ticket, p) ∷ []) in
         omega arith;
     index_room = let len = length-set slots p (Some t) in let r = is.index_room in omega arith;
   }
@@ -148,17 +176,18 @@ module _ {H : Type 0} where
           let at_end : at ≡ length rest = is.once at (length rest) p (subst (λ n. slice_get vacant at ≡ Some n) same (old at q e)) last in
           absurd (omega arith)
 
+      mine : Contains new.pairs (t.row.key.ticket, p)
+      mine = subst (λ (l : List (ℕ × ℕ)). Contains l (t.row.key.ticket, p)) (sym pushed) (Contains-push index.pairs (t.row.key.ticket, p))
+
       older : (k : ℕ) (u : Slot H) → StandsIn slots k u → t.row.key.ticket ≢ u.row.key.ticket
       older k u there e = let h : u.row.key.ticket < t.row.key.ticket = below k u there in absurd (omega arith)
 
   -- a row goes, and its place is free again
-  pub kept_end : (slots : List (Option (Slot H))) (vacant more : List ℕ) (capacity now : ℕ) (index new : Held (Reverse ℕ) ℕ) (p : ℕ) (s : Slot H)
+  pub kept_end : (slots : List (Option (Slot H))) (vacant more : List ℕ) (capacity now : ℕ) (index new : Indexed) (p : ℕ) (s : Slot H)
       → IsKept slots vacant capacity index → StandsIn slots p s → more ≡ vacant ++ p ∷ [] → now ≡ capacity
-      → ((x : Reverse ℕ × ℕ) → Contains new.pairs x → Contains index.pairs x × (x.0.0 ≢ s.row.key.ticket))
-      → ((x : Reverse ℕ × ℕ) → Contains index.pairs x → x.0.0 ≢ s.row.key.ticket → Contains new.pairs x)
-      → length new.pairs + 1 ≡ length index.pairs → new.room ≡ index.room
+      → Removes s.row.key.ticket index.pairs new.pairs → new.room ≡ index.room
       → IsKept (set slots p None) more now new
-  kept_end slots vacant more capacity now index new p s is stands parts kept only others shorter room = record {
+  kept_end slots vacant more capacity now index new p s is stands parts kept removed room = record {
     free = λ at q e.
         elim (cases at q e) [
           | inl a ↦ get-set_other slots p q None (λ same. free_not_taken slots p s (subst (λ n. slice_get slots n ≡ Some None) same (is.free at q a)) stands) ∙ is.free at q a
@@ -183,18 +212,19 @@ module _ {H : Type 0} where
         omega arith;
     room = let len = length-set slots p None in let r = is.room in omega arith;
     indexed = λ ticket q among.
-        let old = only (reversed ticket, q) among in
-        let has = is.indexed ticket q old.0 in
-        (has.0, get-set_other slots p q None (λ same. old.1 (sym has.2 ∙ ap (λ (x : Slot H). x.row.key.ticket) (same_Some has.0 s (same_Some (Some has.0) (Some s) (sym (subst (λ n. StandsIn slots n has.0) same has.1) ∙ stands))))) ∙ has.1, has.2);
+        let has = is.indexed ticket q (removed_old s.row.key.ticket index.pairs new.pairs (ticket, q) removed among) in
+        let other : ticket ≢ s.row.key.ticket = All-contains (λ pair. pair.0 ≢ s.row.key.ticket) new.pairs (ticket, q) removed.gone among in
+        (has.0, get-set_other slots p q None (λ same. other (sym has.2 ∙ ap (λ (x : Slot H). x.row.key.ticket) (same_Some has.0 s (same_Some (Some has.0) (Some s) (sym (subst (λ n. StandsIn slots n has.0) same has.1) ∙ stands))))) ∙ has.1, has.2);
     complete = λ q u there.
         elim (get-set_cases slots p q (Some s) None (Some u) stands there) [
           | inl e ↦ none_some e.1
-          | inr e ↦ others (reversed u.row.key.ticket, q) (is.complete q u e.1) (λ same. e.0 (is.own q p u s e.1 stands same))
+          | inr e ↦ removed_other s.row.key.ticket index.pairs new.pairs (u.row.key.ticket, q) removed (is.complete q u e.1) (λ same. e.0 (is.own q p u s e.1 stands same))
         ];
     own = λ q r u v a b e. is.own q r u v (there q u a) (there r v b) e;
     counted =
         let count : count_by is_some (set slots p None) + 1 ≡ count_by is_some slots + 0 = count-set is_some slots p (Some s) None stands in
         let counted = is.counted in
+        let fewer = removed_length s.row.key.ticket index.pairs new.pairs removed in
         omega arith;
     index_room = let len = length-set slots p None in let r = is.index_room in omega arith;
   }

@@ -1,4 +1,7 @@
 pub mod Standing
+pub mod Rising
+pub mod Stretches
+pub mod Searching
 pub mod Keeping
 pub mod Finding
 pub mod Indexing

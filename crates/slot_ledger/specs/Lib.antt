@@ -1,4 +1,5 @@
 pub mod Slots
+pub mod Tickets
 pub mod Places
 pub mod Counts
 pub mod Ledgers

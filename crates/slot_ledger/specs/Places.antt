@@ -1,23 +1,18 @@
 -- How a ledger keeps its places.
 use Rattle.std.specs.Prelude.{◌≡◌, ℕ, ◌+◌, ◌≤◌, List, Option, None, Some, length, count_by, is_some, slice_get, Contains}
-use Rattle.std.specs.declared.cmp.Reverse.{Reverse}
-use Rattle.pend_queue.specs.Held.{Held}
 use Rattle.slot_ledger.specs.declared.places.Slot.{Slot}
 use Rattle.slot_ledger.specs.Slots.{StandsIn, HasTicketAt}
-
--- a ticket as the index orders it
-abbrev pub reversed : ℕ → Reverse ℕ
-reversed ticket = record { 0 = ticket }
+use Rattle.slot_ledger.specs.Tickets.{Indexed}
 
 -- the free places are the places without a request, each once; the index has the ticket of
 -- each request with its place, and no ticket has two
-pub record IsKept {H : Type 0} (slots : List (Option (Slot H))) (vacant : List ℕ) (capacity : ℕ) (index : Held (Reverse ℕ) ℕ) : Type 0 where
+pub record IsKept {H : Type 0} (slots : List (Option (Slot H))) (vacant : List ℕ) (capacity : ℕ) (index : Indexed) : Type 0 where
   pub free : (at place : ℕ) → slice_get vacant at ≡ Some place → slice_get slots place ≡ Some None
   pub once : (at other place : ℕ) → slice_get vacant at ≡ Some place → slice_get vacant other ≡ Some place → at ≡ other
   pub all : length vacant + count_by is_some slots ≡ length slots
   pub room : length slots ≤ capacity
-  pub indexed : (ticket place : ℕ) → Contains index.pairs (reversed ticket, place) → HasTicketAt ticket slots place
-  pub complete : (place : ℕ) (slot : Slot H) → StandsIn slots place slot → Contains index.pairs (reversed slot.row.key.ticket, place)
+  pub indexed : (ticket place : ℕ) → Contains index.pairs (ticket, place) → HasTicketAt ticket slots place
+  pub complete : (place : ℕ) (slot : Slot H) → StandsIn slots place slot → Contains index.pairs (slot.row.key.ticket, place)
   pub own : (place other : ℕ) (slot its : Slot H) → StandsIn slots place slot → StandsIn slots other its → slot.row.key.ticket ≡ its.row.key.ticket → place ≡ other
   pub counted : length index.pairs ≡ count_by is_some slots
   pub index_room : length slots ≤ index.room

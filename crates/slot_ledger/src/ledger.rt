@@ -111,7 +111,8 @@ impl<H: Drop> Ledger<H> {
         self.counts.queued(queue)
     }
 
-    /// Puts a row at a free place, which is the answer. Its ticket is above all others. `O(1)`.
+    /// Puts a row at a free place, which is the answer. Its ticket is above all others. `O(1)`, and
+    /// `O(n)` where a higher ticket has ended.
     pub fn admit(&mut self, row: Row, node: H) -> usize
         requires room { count_by is_some self.old.slots < length self.old.slots }
         requires highest { AreBelow row.key.ticket self.old.slots }
@@ -221,8 +222,7 @@ impl<H: Drop> Ledger<H> {
         self.places.loosen(place, node);
     }
 
-    /// The row is gone, and its place is free. `O(log n)` to find the ticket; what the index has
-    /// after it moves up.
+    /// The row is gone, and its place is free. `O(log n)`.
     pub fn end(&mut self, place: usize)
         requires { HasRow self.old.slots place }
         ensures { self.new ≡ with_slots self.old (slice_set self.old.slots place None) }

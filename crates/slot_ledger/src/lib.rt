@@ -5,6 +5,7 @@
 mod counts;
 mod ledger;
 mod places;
+mod tickets;
 
 pub use ledger::Ledger;
 pub use places::Slot;

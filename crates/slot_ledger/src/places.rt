@@ -1,11 +1,10 @@
 ghost use Rattle.std.specs.Prelude.{◌≡◌, ◌<◌, Some, None, IfOk, length, count_by, is_some, slice_get, slice_set, replicate, MatchOption};
 ghost use Rattle.dispatch_log.specs.declared.row.Phase.{Phase};
 
+use crate::tickets::Tickets;
 use dispatch_log::{Phase, Queue, Row};
 use due_key::Moment;
-use pend_queue::{ListQueue, PendQueue};
 use std::alloc::{AllocError, Global};
-use std::cmp::Reverse;
 use std::marker::Model;
 
 /// A live request.
@@ -21,8 +20,8 @@ pub struct Slot<H> {
 pub(crate) struct Places<H> {
     slots: Vec<Option<Slot<H>>>,
     vacant: Vec<usize>,
-    // The places of the tickets. A new ticket is the highest, and goes in at the cheap end.
-    index: ListQueue<Reverse<u64>, usize>,
+    // The places of the tickets.
+    index: Tickets,
 }
 
 impl<H> Model for Places<H> {
@@ -54,7 +53,7 @@ impl<H: Drop> Places<H> {
         Ok(Places {
             slots,
             vacant,
-            index: ListQueue::with_room(alloc, places)?,
+            index: Tickets::with_room(alloc, places)?,
         })
     }
 
@@ -69,10 +68,11 @@ impl<H: Drop> Places<H> {
     pub(crate) fn len(&self) -> usize
         ensures { result ≡ count_by is_some self.now }
     {
-        self.index.len()
+        self.places() - self.vacant.len()
     }
 
-    /// Puts a row at a free place, which is the answer. Its ticket is above all others. `O(1)`.
+    /// Puts a row at a free place, which is the answer. Its ticket is above all others. `O(1)`, and
+    /// `O(n)` where a higher ticket has ended.
     pub(crate) fn admit(&mut self, row: Row, node: H) -> usize
         requires room { count_by is_some self.old < length self.old }
         requires highest { AreBelow row.key.ticket self.old }
@@ -82,7 +82,7 @@ impl<H: Drop> Places<H> {
         let Some(place) = self.vacant.pop() else {
             unreachable!()
         };
-        self.index.push((Reverse(row.key.ticket), place));
+        self.index.push(row.key.ticket, place);
         self.slots[place] = Some(Slot {
             row,
             node: Some(node),
@@ -94,7 +94,7 @@ impl<H: Drop> Places<H> {
     pub(crate) fn find(&self, ticket: u64) -> Option<usize>
         ensures { MatchOption result (HasNoTicket ticket self.now) (λ place. HasTicketAt ticket self.now place) }
     {
-        self.index.get(&Reverse(ticket)).copied()
+        self.index.get(ticket)
     }
 
     /// The row at a place.
@@ -171,8 +171,7 @@ impl<H: Drop> Places<H> {
         slot.node = Some(node);
     }
 
-    /// The row is gone, and its place is free. `O(log n)` to find the ticket; what the index has
-    /// after it moves up.
+    /// The row is gone, and its place is free. `O(log n)`.
     pub(crate) fn end(&mut self, place: usize)
         requires { HasRow self.old place }
         ensures { self.new ≡ slice_set self.old place None }
@@ -180,7 +179,7 @@ impl<H: Drop> Places<H> {
         let Some(slot) = self.slots[place].take() else {
             unreachable!()
         };
-        let _ = self.index.remove(&Reverse(slot.row.key.ticket));
+        self.index.remove(slot.row.key.ticket);
         self.vacant.push_reserved(place);
     }
 }

@@ -1,5 +1,6 @@
-ghost use Rattle.std.specs.Prelude.{◌≡◌, IfOk, length};
+ghost use Rattle.std.specs.Prelude.{◌≡◌, ℕ, ◌<◌, IfOk, OnOk, length};
 ghost use Rattle.dispatch_log.specs.Setups.{IsSound};
+ghost use Rattle.slot_ledger.specs.Slots.{AreBelow};
 
 use crate::Ledger;
 use dispatch_log::{Phase, Queue, Row, ServerSet, Servers, Setup};
@@ -12,11 +13,11 @@ fn moment(number: u64) -> Result<Moment, Fail> {
     Ok(Moment::new(number).ok_or("a moment out of range")?)
 }
 
-// Two servers of one slot each, and two places.
-fn two_servers(alloc: Global) -> Result<Setup, Fail>
+// Two servers of one slot each.
+fn two_servers(alloc: Global, places: usize) -> Result<Setup, Fail>
     ensures sound { IfOk result (λ setup. IsSound setup) }
     ensures servers { IfOk result (λ setup. length setup.servers ≡ 2) }
-    ensures places { IfOk result (λ setup. setup.places ≡ 2) }
+    ensures places { IfOk result (λ setup. setup.places ≡ places) }
 {
     let server = ServerSet {
         limit: 1,
@@ -26,7 +27,7 @@ fn two_servers(alloc: Global) -> Result<Setup, Fail>
     };
     let setup = Setup {
         servers: Servers::new(vec![in alloc; server; 2]?),
-        places: 2,
+        places,
         log: 64,
         retries: 3,
         redispatch: false,
@@ -38,18 +39,102 @@ fn two_servers(alloc: Global) -> Result<Setup, Fail>
     Ok(setup)
 }
 
+fn key_of(ticket: u64) -> Result<Key, Fail>
+    ensures { IfOk result (λ key. key.ticket ≡ ticket) }
+{
+    Ok(Key {
+        class: Class::clamp(0),
+        due: Due::of(moment(0)?, Offset::clamp(0)),
+        ticket,
+    })
+}
+
+// Puts a row with the ticket at a free place.
+fn admit(ledger: &mut Ledger<char>, ticket: u64) -> Result<usize, Fail>
+    requires { AreBelow ticket ledger.old.slots }
+    ensures { OnOk result ((n : ℕ) → ticket < n → AreBelow n ledger.new.slots) }
+{
+    if ledger.len() == ledger.places() {
+        return Err(Fail::from("no free place"));
+    }
+    let row = Row {
+        key: key_of(ticket)?,
+        pin: None,
+        failures: 0,
+        phase: Phase::Loose,
+    };
+    Ok(ledger.admit(row, 'n'))
+}
+
+fn end(ledger: &mut Ledger<char>, ticket: u64) -> Result<(), Fail>
+    ensures { OnOk result ((n : ℕ) → AreBelow n ledger.old.slots → AreBelow n ledger.new.slots) }
+{
+    let place = ledger.find(ticket).ok_or("no such ticket")?;
+    ledger.end(place);
+    Ok(())
+}
+
+// A request that comes and goes.
+fn pass(ledger: &mut Ledger<char>, ticket: u64) -> Result<(), Fail>
+    requires { AreBelow ticket ledger.old.slots }
+    ensures { OnOk result (ledger.new ≡ ledger.old) }
+{
+    if ledger.len() == ledger.places() {
+        return Err(Fail::from("no free place"));
+    }
+    let row = Row {
+        key: key_of(ticket)?,
+        pin: None,
+        failures: 0,
+        phase: Phase::Loose,
+    };
+    let place = ledger.admit(row, 'n');
+    ledger.end(place);
+    Ok(())
+}
+
+#[test]
+fn an_old_ticket_is_found_after_many(rt: HostRuntime) -> Result<(), Fail> {
+    let alloc = rt.alloc();
+    let mut ledger: Ledger<char> = Ledger::new(alloc, two_servers(alloc, 4)?)?;
+    let place = admit(&mut ledger, 0)?;
+    for ticket in 1..200 {
+        admit(&mut ledger, ticket)?;
+        if ticket > 2 {
+            end(&mut ledger, ticket - 2)?;
+        }
+        assert_eq!(rt; ledger.find(0), Some(place));
+        assert_eq!(rt; ledger.find(ticket).is_some(), true);
+    }
+    assert_eq!(rt; ledger.len(), 3);
+    assert_eq!(rt; ledger.find(197), None);
+    assert_eq!(rt; ledger.find(198).is_some(), true);
+    Ok(())
+}
+
+#[test]
+fn a_lower_ticket_comes_after_a_higher_one(rt: HostRuntime) -> Result<(), Fail> {
+    let alloc = rt.alloc();
+    let mut ledger: Ledger<char> = Ledger::new(alloc, two_servers(alloc, 2)?)?;
+    let first = admit(&mut ledger, 3)?;
+    pass(&mut ledger, 9)?;
+    let second = admit(&mut ledger, 5)?;
+    assert_eq!(rt;
+        (ledger.find(3), ledger.find(5)),
+        (Some(first), Some(second))
+    );
+    assert_eq!(rt; ledger.find(9), None);
+    Ok(())
+}
+
 #[test]
 fn a_request_goes_its_way(rt: HostRuntime) -> Result<(), Fail> {
     let alloc = rt.alloc();
-    let mut ledger: Ledger<char> = Ledger::new(alloc, two_servers(alloc)?)?;
+    let mut ledger: Ledger<char> = Ledger::new(alloc, two_servers(alloc, 2)?)?;
     assert_eq!(rt; ledger.setup().servers.len(), 2);
     assert_eq!(rt; ledger.find(5), None);
     let row = Row {
-        key: Key {
-            class: Class::clamp(0),
-            due: Due::of(moment(0)?, Offset::clamp(0)),
-            ticket: 5,
-        },
+        key: key_of(5)?,
         pin: None,
         failures: 0,
         phase: Phase::Loose,
@@ -79,17 +164,13 @@ fn a_request_goes_its_way(rt: HostRuntime) -> Result<(), Fail> {
 #[test]
 fn a_server_goes_down_and_up(rt: HostRuntime) -> Result<(), Fail> {
     let alloc = rt.alloc();
-    let mut ledger: Ledger<char> = Ledger::new(alloc, two_servers(alloc)?)?;
+    let mut ledger: Ledger<char> = Ledger::new(alloc, two_servers(alloc, 2)?)?;
     assert_eq!(rt;
         (ledger.up(0), ledger.up(1), ledger.up(2)),
         (true, true, false)
     );
     let row = Row {
-        key: Key {
-            class: Class::clamp(0),
-            due: Due::of(moment(0)?, Offset::clamp(0)),
-            ticket: 5,
-        },
+        key: key_of(5)?,
         pin: Some(1),
         failures: 0,
         phase: Phase::Loose,

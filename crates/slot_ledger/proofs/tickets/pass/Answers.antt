@@ -1,0 +1,14 @@
+use Rattle.std.proofs.Common.{◌≡◌, ℕ, Option, None, Some, is_some, false, not, get_or, refl, ap, ◌∙◌}
+use Rattle.std.proofs.lemmas.Option.{slice_get-get_or}
+use Rattle.slot_ledger.proofs.Stretches.{pass_dropped}
+use Rattle.slot_ledger.proofs.tickets.pass.Goals as goal
+
+none_from_test : (o : Option ℕ) → is_some o ≡ false → o ≡ None
+none_from_test None is = refl
+none_from_test (Some place) is = cc
+
+-- an entry without a place stays behind
+pub returns-then-is_none : goal.returns-then-is_none
+returns-then-is_none c =
+    let entry = get_or c.args.entries.now c.args.next (record { ticket = 0; place = None }) in
+    pass_dropped c.args.kept c.args.next c.args.entries.now entry c.requires.stretches (slice_get-get_or c.args.entries.now c.args.next _ c.requires.within) (none_from_test entry.place (c.is_none.ensures ∙ ap not c.if-is_none.true))

@@ -1,4 +1,4 @@
-ghost use Rattle.std.specs.Prelude.{◌≡◌, ℕ, ◌+◌, ◌<◌, ◌≤◌, [], ◌∷◌, ◌++◌, true, IfOk, All, Contains, MatchOption, filter, length, slice_get, vec_len, vec_capacity};
+ghost use Rattle.std.specs.Prelude.{◌≡◌, ℕ, ◌<◌, ◌≤◌, [], ◌∷◌, ◌++◌, true, IfOk, All, Contains, MatchOption, filter, length, vec_len, vec_capacity};
 ghost use Rattle.slot_ledger.specs.Tickets.{AreStretches, HasTicketAmong, IsAboveLast, IsAbsent, IsInStretches, IsRising, IsWithin, Passes, Removes, has_place, pairs_in, stretches};
 
 use std::alloc::{AllocError, Global};
@@ -19,7 +19,8 @@ struct Entry {
 /// these. So none begins with more than `3p / 2`, and there are never more than `2p`.
 #[derive(Drop)]
 pub(crate) struct Tickets {
-    // By rising ticket those before `kept`, which the sweep has passed, and then those from `next` on.
+    // By rising ticket: those before `kept`, which the sweep has passed, and those from `next` on. What
+    // lies between is left over.
     entries: Vec<Entry>,
     kept: usize,
     next: usize,
@@ -67,6 +68,7 @@ impl Tickets {
         for _ in 0..4 {
             self.sweep();
         }
+        // A ticket above all removed ones always finds room.
         if !takes(&self.entries, ticket) {
             compact(&mut self.entries, self.kept, self.next);
             self.kept = 0;

@@ -1,5 +1,4 @@
 use Rattle.std.proofs.Common.{◌+◌, arith}
-use Rattle.slot_ledger.specs.Slots.{AreBelow}
 use Rattle.slot_ledger.proofs.tests.an_old_ticket_is_found_after_many.Goals as goal
 use Rattle.slot_ledger.proofs.tests.an_old_ticket_is_found_after_many.Goals.{then-ticket-gt2+in_ok-end, else-ticket-gt2}
 

@@ -2,15 +2,10 @@
 # Prints how long the reports of a log take whose 262,144 entries are nearly all used, beside the replay of the script that
 # leaves it, each the best of several runs, and the share: for one server and one class, and for 64 servers, each with a queue
 # of its own, and 63 classes.
-set -eu
-here=$(cd "$(dirname "$0")/.." && pwd)
-runs=${1:-9}
+. "$(dirname "$0")/common.sh"
 times=20
-folder=$(mktemp -d)
-trap 'rm -rf "$folder"' EXIT
-script=$folder/script
-crate=$here/crates/certify_bench
-program=$crate/out/certify_bench
+input=$folder/script
+program=$here/crates/certify_bench/out/certify_bench
 
 # Requests that arrive with offsets by a fixed sequence of numbers, of as many classes. Each server takes one request at a
 # time and has a queue of its own; after the first ones a request is over and another one bound to its server arrives.
@@ -46,31 +41,14 @@ write_script() {
             server = turn % servers + 1
             finish(server); arrive(server)
         }
-    }' >"$script"
-}
-
-# The least time of the runs of a command, in microseconds.
-best_of() {
-    local least= start end took
-    for _ in $(seq "$runs"); do
-        start=${EPOCHREALTIME/[.,]/}
-        "$@" <"$script" >"$folder/out"
-        end=${EPOCHREALTIME/[.,]/}
-        took=$((end - start))
-        if [ -z "$least" ] || [ "$took" -lt "$least" ]; then least=$took; fi
-    done
-    echo "$least"
+    }' >"$input"
 }
 
 compare() {
     local idle reported replayed
-    replayed=$(best_of "$here/crates/dueproxy/out/dueproxy" replay)
-    if grep -q '^refused' "$folder/out"; then
-        echo "an event was refused: the script is not what it should be" >&2
-        exit 1
-    fi
-    idle=$(best_of "$program" 0 "$script")
-    reported=$(best_of "$program" "$times" "$script")
+    replayed=$(best_of_replay)
+    idle=$(best_of "$program" 0 "$input")
+    reported=$(best_of "$program" "$times" "$input")
     echo "$1: $(cat "$folder/out"), best of $runs runs"
     awk -v replayed="$replayed" -v reported="$(((reported - idle) / times))" 'BEGIN {
         printf "dueproxy replay %d us\nreports of its log %d us\nshare %.3f\n", replayed, reported, reported / replayed
@@ -79,10 +57,7 @@ compare() {
 
 "$here/dueproxy" replay </dev/null
 write_script 1 1 62 43600
-(cd "$crate" && rt run -- 0 "$script") >"$folder/log" 2>&1 || {
-    tail -n 40 "$folder/log" >&2
-    exit 1
-}
+build certify_bench 0 "$input"
 compare "1 server, 1 class"
 write_script 64 63 7 43340
 compare "64 servers, 63 classes"

@@ -1,11 +1,7 @@
 #!/bin/bash
 # Prints how long `dueproxy check` takes for a configuration of 1 MB with 64 servers, 256 rules and 256 lines of ACLs,
 # and for one of half that length, beside `wc -w` on the same bytes, each the best of several runs, and the ratios.
-set -eu
-here=$(cd "$(dirname "$0")/.." && pwd)
-runs=${1:-9}
-folder=$(mktemp -d)
-trap 'rm -rf "$folder"' EXIT
+. "$(dirname "$0")/common.sh"
 program=$here/crates/dueproxy/out/dueproxy
 
 # A configuration of at most so many bytes: its ACL lines have so many values that it is nearly full.
@@ -21,19 +17,6 @@ write_configuration() {
         for (i = 0; i < 128; i++) print "    http-request set-priority-class int(" i ") if a" i " !a" i + 128
         for (i = 0; i < 128; i++) print "    use-server s" i % 64 " if a" i
     }'
-}
-
-# The least time of the runs of a command, in microseconds.
-best_of() {
-    local least= start end took
-    for _ in $(seq "$runs"); do
-        start=${EPOCHREALTIME/[.,]/}
-        "$@" >"$folder/out"
-        end=${EPOCHREALTIME/[.,]/}
-        took=$((end - start))
-        if [ -z "$least" ] || [ "$took" -lt "$least" ]; then least=$took; fi
-    done
-    echo "$least"
 }
 
 compare() {

@@ -2,14 +2,9 @@
 # Prints how many decisions a second `decide` makes of 256 rules and a head of 64 fields, beside how many views of that
 # head `view` makes, each the best of several runs, and the ratio of the two times. Each rule asks for a field of its
 # own, and no `use-server` rule applies, so that all are asked.
-set -eu
-here=$(cd "$(dirname "$0")/.." && pwd)
-runs=${1:-9}
+. "$(dirname "$0")/common.sh"
 times=20000
-folder=$(mktemp -d)
-trap 'rm -rf "$folder"' EXIT
-crate=$here/crates/decide_bench
-program=$crate/out/decide_bench
+program=$here/crates/decide_bench/out/decide_bench
 
 awk 'BEGIN {
     print "listen front\n    bind :8080\n    server a 127.0.0.1:9001"
@@ -24,25 +19,14 @@ awk 'BEGIN {
 }' >"$folder/head"
 
 # The least time of the runs of so many decisions or views, in microseconds.
-best_of() {
-    local least= start end took
-    for _ in $(seq "$runs"); do
-        start=${EPOCHREALTIME/[.,]/}
-        "$program" "$1" "$2" "$folder/configuration" "$folder/head" >"$folder/out"
-        end=${EPOCHREALTIME/[.,]/}
-        took=$((end - start))
-        if [ -z "$least" ] || [ "$took" -lt "$least" ]; then least=$took; fi
-    done
-    echo "$least"
+best_of_times() {
+    best_of "$program" "$1" "$2" "$folder/configuration" "$folder/head"
 }
 
-(cd "$crate" && rt run -- decide 0 "$folder/configuration" "$folder/head") >"$folder/log" 2>&1 || {
-    tail -n 40 "$folder/log" >&2
-    exit 1
-}
-idle=$(best_of decide 0)
-decided=$(($(best_of decide "$times") - idle))
-viewed=$(($(best_of view "$times") - idle))
+build decide_bench decide 0 "$folder/configuration" "$folder/head"
+idle=$(best_of_times decide 0)
+decided=$(($(best_of_times decide "$times") - idle))
+viewed=$(($(best_of_times view "$times") - idle))
 echo "rules $(grep -c 'http-request\|use-server' "$folder/configuration"), fields $(grep -c : "$folder/head"), bytes of the head $(wc -c <"$folder/head"), best of $runs runs of $times"
 awk -v n="$times" -v a="$decided" -v b="$viewed" 'BEGIN {
     printf "decide %.0f a second, %.1f us each\n", n * 1000000 / a, a / n

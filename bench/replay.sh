@@ -2,13 +2,8 @@
 # Prints how long `dueproxy replay` takes for scripts of 60,000 events, beside `gzip -1` on the same bytes, each the
 # best of several runs, and the ratio of the two: one server and 64 places, of which 63 stay taken nearly all the time,
 # and 16 servers and 4,096 places, nearly all taken, with requests in the servers' queues and in the backend's.
-set -eu
-here=$(cd "$(dirname "$0")/.." && pwd)
-runs=${1:-9}
-folder=$(mktemp -d)
-trap 'rm -rf "$folder"' EXIT
-script=$folder/script
-program=$here/crates/dueproxy/out/dueproxy
+. "$(dirname "$0")/common.sh"
+input=$folder/script
 
 # Arrivals with offsets by a fixed sequence of numbers, and the return of the slot that is taken. The ticket that has
 # the slot is known by keeping the waiting due dates here.
@@ -89,35 +84,18 @@ write_many_servers() {
     }'
 }
 
-# The least time of the runs of a command over the script, in microseconds.
-best_of() {
-    local least= start end took
-    for _ in $(seq "$runs"); do
-        start=${EPOCHREALTIME/[.,]/}
-        "$@" <"$script" >"$folder/out"
-        end=${EPOCHREALTIME/[.,]/}
-        took=$((end - start))
-        if [ -z "$least" ] || [ "$took" -lt "$least" ]; then least=$took; fi
-    done
-    echo "$least"
-}
-
 compare() {
     local replayed zipped
-    replayed=$(best_of "$program" replay)
-    if grep -q '^refused' "$folder/out"; then
-        echo "an event was refused: the script is not what it should be" >&2
-        exit 1
-    fi
+    replayed=$(best_of_replay)
     zipped=$(best_of gzip -1)
-    echo "$1: lines $(wc -l <"$script"), bytes $(wc -c <"$script"), best of $runs runs"
+    echo "$1: lines $(wc -l <"$input"), bytes $(wc -c <"$input"), best of $runs runs"
     echo "dueproxy replay $replayed us"
     echo "gzip -1 $zipped us"
     awk -v a="$replayed" -v b="$zipped" 'BEGIN { printf "ratio %.2f\n", a / b }'
 }
 
 "$here/dueproxy" replay </dev/null
-write_one_server >"$script"
+write_one_server >"$input"
 compare "1 server, 64 places"
-write_many_servers >"$script"
+write_many_servers >"$input"
 compare "16 servers, 4096 places"

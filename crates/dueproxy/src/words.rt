@@ -15,9 +15,25 @@ pub(crate) enum Asked {
 }
 
 const SCRIPT_HELP: &str = "\
-A script has one event a line; a line that begins with # is a comment:
-  M arrive C O    at moment M (ms) a request of class C comes, due O ms later
-  M done T        at moment M the request with ticket T is over
+A script may begin with header lines, and then has one event a line. A line that
+begins with # is a comment. The header lines, and what stands without them:
+  places N               the greatest number of live requests (64)
+  log N                  the greatest number of log entries (262144)
+  retries N              further tries where a connection fails (3)
+  redispatch             the last try goes elsewhere, and so does the queue of a
+                         server that goes down (off)
+  queue-timeout N        the longest stay in a queue in ms, 0 for no limit (0)
+  server NAME MAXCONN MAXQUEUE WEIGHT [RISE FALL]
+                         one more server, checked where it has RISE and FALL
+                         (server s1 1 0 1)
+The events:
+  M arrive C O [NAME]    at moment M (ms) a request of class C comes, due O ms
+                         later, bound to the server NAME or to none
+  M done T               the request with ticket T is over
+  M fail T               a connection of ticket T, which has a slot, failed
+  M abort T              the client of ticket T, which waits, gave up
+  M tick                 time has passed: stays that lasted too long end
+  M check NAME up|down   a check of the server was answered, or not
 
 For example, dueproxy replay reads
   0 arrive 0 0

@@ -1,0 +1,9 @@
+pub mod Members
+pub mod Rings
+pub mod Cells
+pub mod Lining
+pub mod Queueing
+pub mod Weights
+pub mod Lineup
+pub mod Orders
+pub mod Changes

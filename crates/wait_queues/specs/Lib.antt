@@ -1,0 +1,5 @@
+pub mod Order
+pub mod Links
+pub mod Lines
+pub mod Waitlists
+pub mod Kept

@@ -1,0 +1,41 @@
+-- The keys of the waiting requests with their places, queue by queue.
+use Rattle.std.specs.Prelude.{◌≡◌, ℕ, List, [], Some, slice_get, slice_index_or, slice_set}
+use Rattle.due_key.specs.declared.key.Key.{Key}
+use Rattle.due_key.specs.Order.{key_cmp}
+use Rattle.dispatch_log.specs.declared.queue.Queue.{Queue}
+use Rattle.dispatch_log.specs.declared.queue.Queue.TheVariants.{Backend, Server}
+use Rattle.pend_queue.specs.Pairs.{merged}
+
+-- what a queue holds: keys with places
+abbrev pub Line : Type 0
+Line = List (Key × ℕ)
+
+-- the servers' queues, the backend's, what was moved into it and isn't merged yet, and the room of each
+pub record Lined : Type 0 where
+  pub own : List Line
+  pub backend : Line
+  pub moved : Line
+  pub room : ℕ
+
+-- what is in one of the queues
+abbrev pub line_at : Lined → Queue → Line
+line_at lined Backend = lined.backend
+line_at lined (Server server) = slice_index_or lined.own server []
+
+-- the same with something else in one of them
+abbrev pub with_line : Lined → Queue → Line → Lined
+with_line lined Backend line = record { own = lined.own; backend = line; moved = lined.moved; room = lined.room }
+with_line lined (Server server) line = record { own = slice_set lined.own server line; backend = lined.backend; moved = lined.moved; room = lined.room }
+
+abbrev pub with_moved : Lined → Line → Lined
+with_moved lined line = record { own = lined.own; backend = lined.backend; moved = line; room = lined.room }
+
+-- the same once what was moved is merged
+abbrev pub gathered : Lined → Lined
+gathered lined = record { own = lined.own; backend = merged key_cmp lined.backend lined.moved; moved = []; room = lined.room }
+
+-- each queue has this room
+pub record HaveRoom (room : ℕ) (own : List ℕ) (backend moved : ℕ) : Type 0 where
+  pub servers : (server its : ℕ) → slice_get own server ≡ Some its → its ≡ room
+  pub backends : backend ≡ room
+  pub moveds : moved ≡ room

@@ -1,0 +1,30 @@
+-- An order of places, as contracts see it.
+use Rattle.std.specs.Prelude.{ℕ, ◌<◌, ◌==◌, not, List, [], ◌∷◌, Option, None, Contains, filter, slice_get, if◌then◌else◌}
+
+-- the places, the one that joined first at the front, and below which number each is
+pub record Order : Type 0 where
+  pub places : List ℕ
+  pub room : ℕ
+
+-- no place comes twice
+abbrev pub ComeOnce : List ℕ → Type 0
+ComeOnce [] = Unit {0}
+ComeOnce (place ∷ later) = ¬ (Contains later place) × ComeOnce later
+
+-- no place comes twice, and each is below the room
+pub record IsOrder (order : Order) : Type 0 where
+  pub once : ComeOnce order.places
+  pub below : (place : ℕ) → Contains order.places place → place < order.room
+
+-- the places without one of them
+abbrev pub without : ℕ → List ℕ → List ℕ
+without place places = filter (λ other. not (other == place)) places
+
+-- the place that follows one
+abbrev pub next_after : ℕ → List ℕ → Option ℕ
+next_after place [] = None
+next_after place (other ∷ later) = if other == place then slice_get later 0 else next_after place later
+
+-- the same room with other places
+abbrev pub with_places : Order → List ℕ → Order
+with_places order places = record { places = places; room = order.room }

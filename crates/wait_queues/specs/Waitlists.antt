@@ -1,0 +1,69 @@
+-- The requests that wait, as contracts see them.
+use Rattle.std.specs.Prelude.{◌≡◌, ◌≢◌, ℕ, ◌++◌, ◌∷◌, [], List, Option, None, Some, MatchOption, Contains, slice_get, slice_set}
+use Rattle.std.specs.declared.cmp.Ordering.TheVariants.{Greater}
+use Rattle.due_key.specs.declared.key.Key.{Key}
+use Rattle.due_key.specs.Order.{key_cmp}
+use Rattle.dispatch_log.specs.declared.queue.Queue.{Queue}
+use Rattle.dispatch_log.specs.declared.queue.Queue.TheVariants.{Backend}
+use Rattle.slot_ledger.specs.Counts.{IsQueueOf}
+use Rattle.server_pick.specs.Heads.{Held, head_at}
+use Rattle.wait_queues.specs.declared.waiters.Waiter.{Waiter}
+use Rattle.wait_queues.specs.Order.{ComeOnce, without}
+
+-- the places, each empty or with a request that waits
+abbrev pub Waiters : Type 0
+Waiters = List (Option Waiter)
+
+-- a request waits at a place
+abbrev pub WaitsAt : Waiters → ℕ → Waiter → Type 0
+WaitsAt waiters place waiter = slice_get waiters place ≡ Some (Some waiter)
+
+-- the requests that wait, by place; their places in the order in which they joined; and how many servers have a queue
+pub record Waitlist : Type 0 where
+  pub waiters : Waiters
+  pub order : List ℕ
+  pub servers : ℕ
+
+-- one request more waits, as the last that joined
+abbrev pub with_waiter : Waitlist → ℕ → Waiter → Waitlist
+with_waiter list place waiter = record { waiters = slice_set list.waiters place (Some waiter); order = list.order ++ place ∷ []; servers = list.servers }
+
+-- the request at a place waits no more
+abbrev pub without_waiter : Waitlist → ℕ → Waitlist
+without_waiter list place = record { waiters = slice_set list.waiters place None; order = without place list.order; servers = list.servers }
+
+-- the request at a place waits anew, as the last that joined
+abbrev pub with_waiter_anew : Waitlist → ℕ → Waiter → Waitlist
+with_waiter_anew list place waiter = record { waiters = slice_set list.waiters place (Some waiter); order = without place list.order ++ place ∷ []; servers = list.servers }
+
+-- no request that waits has the key
+abbrev pub HasNoKey : Waiters → Key → Type 0
+HasNoKey waiters key = (place : ℕ) (waiter : Waiter) → WaitsAt waiters place waiter → waiter.key ≢ key
+
+-- no request waits in a queue
+abbrev pub NoneWaitsIn : Queue → Waiters → Type 0
+NoneWaitsIn queue waiters = (place : ℕ) (waiter : Waiter) → WaitsAt waiters place waiter → waiter.queue ≢ queue
+
+-- the request at a place waits in a queue, and no other there has a lower key
+pub record IsFirstIn (queue : Queue) (waiters : Waiters) (place : ℕ) (waiter : Waiter) : Type 0 where
+  pub waits : WaitsAt waiters place waiter
+  pub its : waiter.queue ≡ queue
+  pub least : (other : ℕ) (its : Waiter) → WaitsAt waiters other its → its.queue ≡ queue → key_cmp waiter.key its.key ≢ Greater
+
+-- a key is that of a queue's first request
+abbrev pub IsFirstKey : Queue → Waiters → Key → Type 0
+IsFirstKey queue waiters key = (place : ℕ) × (waiter : Waiter) × IsFirstIn queue waiters place waiter × (waiter.key ≡ key)
+
+-- heads are the keys of the queues' first requests
+abbrev pub AreFirst : Held → Waitlist → Type 0
+AreFirst heads list = (queue : Queue) → IsQueueOf list.servers queue → MatchOption (head_at heads queue) (NoneWaitsIn queue list.waiters) (IsFirstKey queue list.waiters)
+
+-- the order has just the places of those that wait, each once
+pub record IsOrderOf (waiters : Waiters) (order : List ℕ) : Type 0 where
+  pub once : ComeOnce order
+  pub waits : (place : ℕ) → Contains order place → (waiter : Waiter) × WaitsAt waiters place waiter
+  pub all : (place : ℕ) (waiter : Waiter) → WaitsAt waiters place waiter → Contains order place
+
+-- the waiter that was moved into the backend's queue, by the entry at a position
+abbrev pub moved_waiter : Waiter → ℕ → Waiter
+moved_waiter waiter joined = record { key = waiter.key; queue = Backend; joined = joined }

@@ -1,0 +1,121 @@
+ghost use Rattle.std.specs.Prelude.{◌≡◌, ℕ, ◌+◌, ◌<◌, ◌≤◌, [], IfOk, length, replicate, drop, slice_get, option_map};
+ghost use Rattle.due_key.specs.Order.{key_cmp};
+ghost use Rattle.slot_ledger.specs.Counts.{IsQueueOf};
+
+use dispatch_log::Queue;
+use due_key::Key;
+use pend_queue::PendQueue;
+use server_pick::Heads;
+use std::alloc::{AllocError, Global};
+use std::marker::Model;
+
+/// The queue of each server, and the backend's, with room for all requests in each.
+#[derive(Drop)]
+pub(crate) struct Queues<Q: PendQueue<Key, usize>> {
+    own: Vec<Q>,
+    backend: Q,
+    // Requests that were moved into the backend's queue and aren't merged into it yet.
+    moved: Q,
+    places: usize,
+}
+
+impl<Q: PendQueue<Key, usize>> Model for Queues<Q> {
+    ghost use Rattle.std.specs.Prelude.{map};
+    ghost use Rattle.wait_queues.specs.Lines.{Lined, HaveRoom};
+
+    ghost Value = { Lined };
+
+    ghost view = { λ queues. record { own = map Q.pairs queues.own.items; backend = Q.pairs queues.backend; moved = Q.pairs queues.moved; room = queues.places } };
+
+    ghost invariant = { λ queues. HaveRoom queues.places (map Q.room queues.own.items) (Q.room queues.backend) (Q.room queues.moved) };
+}
+
+impl<Q: PendQueue<Key, usize>> Queues<Q> {
+    ghost use Rattle.wait_queues.specs.Lines.{line_at, with_line, with_moved, gathered};
+    ghost use Rattle.server_pick.specs.Heads.{head_at};
+    ghost use Rattle.pend_queue.specs.Pairs.{IsAbsent, HaveNoCommonKey, inserted, pair_at, without};
+
+    /// Empty queues of so many servers and of the backend.
+    pub(crate) fn new(alloc: Global, servers: usize, places: usize) -> Result<Queues<Q>, AllocError>
+        ensures { IfOk result (λ queues. queues ≡ record { own = replicate servers []; backend = []; moved = []; room = places }) }
+    {
+        let mut own = Vec::with_capacity(alloc, servers)?;
+        for server in 0..servers {
+            own.push_reserved(Q::with_room(alloc, places)?);
+        }
+        Ok(Queues {
+            own,
+            backend: Q::with_room(alloc, places)?,
+            moved: Q::with_room(alloc, places)?,
+            places,
+        })
+    }
+
+    /// The least key of each queue.
+    pub(crate) fn heads(&self) -> Heads
+        requires { length self.now.own ≤ 64 }
+        ensures { (queue : Queue) → IsQueueOf (length self.now.own) queue → head_at result queue ≡ option_map (λ pair. pair.0) (slice_get (line_at self.now queue) 0) }
+    {
+        let mut heads = Heads::new();
+        heads.set(Queue::Backend, self.backend.first().copied());
+        for server in 0..self.own.len() {
+            heads.set(Queue::Server(server), self.own[server].first().copied());
+        }
+        heads
+    }
+
+    /// Puts a request in a queue.
+    pub(crate) fn push(&mut self, queue: Queue, node: Q::Node)
+        requires within { IsQueueOf (length self.old.own) queue }
+        requires room { length (line_at self.old queue) < self.old.room }
+        requires absent { IsAbsent key_cmp (Q.pair_of node).0 (line_at self.old queue) }
+        ensures { self.new ≡ with_line self.old queue (inserted key_cmp (Q.pair_of node) (line_at self.old queue)) }
+    {
+        match queue {
+            Queue::Backend => self.backend.push(node),
+            Queue::Server(server) => self.own[server].push(node),
+        }
+    }
+
+    /// Takes the first request out of a queue.
+    pub(crate) fn pop(&mut self, queue: Queue) -> Option<Q::Node>
+        requires { IsQueueOf (length self.old.own) queue }
+        ensures first { option_map Q.pair_of result ≡ slice_get (line_at self.old queue) 0 }
+        ensures rest { self.new ≡ with_line self.old queue (drop 1 (line_at self.old queue)) }
+    {
+        match queue {
+            Queue::Backend => self.backend.pop(),
+            Queue::Server(server) => self.own[server].pop(),
+        }
+    }
+
+    /// Takes the request of a key out of a queue.
+    pub(crate) fn remove(&mut self, queue: Queue, key: &Key) -> Option<Q::Node>
+        requires { IsQueueOf (length self.old.own) queue }
+        ensures its { option_map Q.pair_of result ≡ pair_at key_cmp key.now (line_at self.old queue) }
+        ensures rest { self.new ≡ with_line self.old queue (without key_cmp key.now (line_at self.old queue)) }
+    {
+        match queue {
+            Queue::Backend => self.backend.remove(key),
+            Queue::Server(server) => self.own[server].remove(key),
+        }
+    }
+
+    /// Keeps a request that was moved apart, until those are merged.
+    pub(crate) fn set_aside(&mut self, node: Q::Node)
+        requires room { length self.old.moved < self.old.room }
+        requires absent { IsAbsent key_cmp (Q.pair_of node).0 self.old.moved }
+        ensures { self.new ≡ with_moved self.old (inserted key_cmp (Q.pair_of node) self.old.moved) }
+    {
+        self.moved.push(node);
+    }
+
+    /// Merges those that were moved into the backend's queue.
+    pub(crate) fn gather(&mut self)
+        requires room { length self.old.backend + length self.old.moved ≤ self.old.room }
+        requires apart { HaveNoCommonKey key_cmp self.old.backend self.old.moved }
+        ensures { self.new ≡ gathered self.old }
+    {
+        self.backend.merge(&mut self.moved);
+    }
+}

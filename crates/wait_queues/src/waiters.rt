@@ -1,0 +1,13 @@
+use dispatch_log::Queue;
+use due_key::Key;
+
+/// A request that waits.
+#[derive(Clone, Copy, Debug, PartialEq, Eq)]
+pub struct Waiter {
+    /// Its class, due date and ticket.
+    pub key: Key,
+    /// The queue that it waits in.
+    pub queue: Queue,
+    /// The position in the log of the entry by which it joined that queue; the first entry's is 1.
+    pub joined: usize,
+}

@@ -1,0 +1,176 @@
+ghost use Rattle.std.specs.Prelude.{◌≡◌, ◌<◌, ◌≤◌, [], None, Some, IfOk, MatchOption, Contains, replicate, slice_get};
+ghost use Rattle.dispatch_log.specs.declared.queue.Queue.TheVariants.{Server};
+ghost use Rattle.slot_ledger.specs.Counts.{IsQueueOf};
+ghost use Rattle.wait_queues.specs.Order.{next_after};
+ghost use Rattle.wait_queues.specs.Waitlists.{WaitsAt, HasNoKey, NoneWaitsIn, IsFirstIn, AreFirst, IsOrderOf, with_waiter, without_waiter, with_waiter_anew, moved_waiter};
+
+use crate::by_place::{empty, put, take};
+use crate::order::JoinOrder;
+use crate::queues::Queues;
+use crate::waiters::Waiter;
+use dispatch_log::Queue;
+use due_key::Key;
+use pend_queue::PendQueue;
+use server_pick::Heads;
+use std::alloc::{AllocError, Global};
+use std::marker::Model;
+
+/// The requests that wait.
+#[derive(Drop)]
+pub struct WaitQueues<Q: PendQueue<Key, usize>> {
+    queues: Queues<Q>,
+    // By place.
+    waiters: Vec<Option<Waiter>>,
+    order: JoinOrder,
+}
+
+/// A request that was taken out of its queue, with the node that it waited with.
+#[derive(Drop)]
+pub struct Taken<N> {
+    pub place: usize,
+    pub waiter: Waiter,
+    pub node: N,
+}
+
+impl<Q: PendQueue<Key, usize>> Model for WaitQueues<Q> {
+    ghost use Rattle.std.specs.Prelude.{length};
+    ghost use Rattle.wait_queues.specs.Waitlists.{Waitlist};
+    ghost use Rattle.wait_queues.specs.Kept.{AreWaiting};
+
+    ghost Value = { Waitlist };
+
+    ghost view = { λ it. record { waiters = it.waiters.items; order = it.order.places; servers = length it.queues.own } };
+
+    ghost invariant = { λ it. AreWaiting it.queues it.waiters.items it.order };
+}
+
+impl<Q: PendQueue<Key, usize>> WaitQueues<Q> {
+    ghost use Rattle.wait_queues.specs.declared.waiters.Waiter.{Waiter};
+
+    /// Nobody waits, in the queues of so many servers and in the backend's, each with room for all
+    /// places. `O(s n)` in the servers and places.
+    pub fn new(
+        alloc: Global,
+        servers: usize,
+        places: usize,
+    ) -> Result<WaitQueues<Q>, AllocError>
+        ensures { IfOk result (λ made. made ≡ record { waiters = replicate places None; order = []; servers = servers }) }
+    {
+        Ok(WaitQueues {
+            queues: Queues::new(alloc, servers, places)?,
+            waiters: empty(alloc, places)?,
+            order: JoinOrder::with_room(alloc, places)?,
+        })
+    }
+
+    /// The request at a place waits from now on. The queue's own cost beside `O(1)`.
+    pub fn join(&mut self, place: usize, waiter: Waiter, node: Q::Node)
+        requires vacant { slice_get self.old.waiters place ≡ Some None }
+        requires within { IsQueueOf self.old.servers waiter.queue }
+        requires own_key { HasNoKey self.old.waiters waiter.key }
+        requires pair { Q.pair_of node ≡ (waiter.key, place) }
+        ensures { self.new ≡ with_waiter self.old place waiter }
+    {
+        self.queues.gather();
+        self.queues.push(waiter.queue, node);
+        put(&mut self.waiters, place, Some(waiter));
+        self.order.append(place);
+    }
+
+    /// The key of each queue's first request. `O(s)` in the servers.
+    pub fn heads(&mut self) -> Heads
+        requires { self.old.servers ≤ 64 }
+        ensures heads { AreFirst result self.new }
+        ensures same { self.new ≡ self.old }
+    {
+        self.queues.gather();
+        self.queues.heads()
+    }
+
+    /// Takes the first request of a queue out; the queue's own cost beside `O(1)`. None only where
+    /// nobody waits in it.
+    pub fn take(&mut self, queue: Queue) -> Option<Taken<Q::Node>>
+        requires { IsQueueOf self.old.servers queue }
+        ensures first { MatchOption result (NoneWaitsIn queue self.old.waiters) (λ it. IsFirstIn queue self.old.waiters it.place it.waiter) }
+        ensures pair { MatchOption result Unit (λ it. Q.pair_of it.node ≡ (it.waiter.key, it.place)) }
+        ensures left { MatchOption result (self.new ≡ self.old) (λ it. self.new ≡ without_waiter self.old it.place) }
+    {
+        self.queues.gather();
+        let Some(node) = self.queues.pop(queue) else {
+            return None;
+        };
+        let place = *Q::pair(&node).1;
+        let Some(waiter) = take(&mut self.waiters, place) else {
+            unreachable!()
+        };
+        self.order.remove(place);
+        Some(Taken {
+            place,
+            waiter,
+            node,
+        })
+    }
+
+    /// The request at a place waits no more. The queue's own cost beside `O(1)`.
+    pub fn leave(&mut self, place: usize) -> Q::Node
+        requires { (waiter : Waiter) × WaitsAt self.old.waiters place waiter }
+        ensures pair { (waiter : Waiter) × WaitsAt self.old.waiters place waiter × (Q.pair_of result ≡ (waiter.key, place)) }
+        ensures left { self.new ≡ without_waiter self.old place }
+    {
+        self.queues.gather();
+        let Some(waiter) = take(&mut self.waiters, place) else {
+            unreachable!()
+        };
+        let Some(node) = self.queues.remove(waiter.queue, &waiter.key) else {
+            unreachable!()
+        };
+        self.order.remove(place);
+        node
+    }
+
+    /// Moves the first request of a server's queue into the backend's, by the entry at a position
+    /// of the log, and answers its place. The nodes of all that are moved one after the other are
+    /// merged into the backend's queue together, at the next call that looks at it.
+    pub fn shift(&mut self, server: usize, joined: usize) -> Option<usize>
+        requires { server < self.old.servers }
+        ensures { MatchOption result (NoneWaitsIn (Server server) self.old.waiters × (self.new ≡ self.old)) (λ place. (waiter : Waiter) × IsFirstIn (Server server) self.old.waiters place waiter × (self.new ≡ with_waiter_anew self.old place (moved_waiter waiter joined))) }
+    {
+        let Some(node) = self.queues.pop(Queue::Server(server)) else {
+            return None;
+        };
+        let (key, place) = Q::pair(&node);
+        let (key, place) = (*key, *place);
+        self.queues.set_aside(node);
+        put(&mut self.waiters, place, Some(moved(key, joined)));
+        self.order.remove(place);
+        self.order.append(place);
+        Some(place)
+    }
+
+    /// The place of the request that joined first, of all queues. `O(1)`.
+    pub fn oldest(&self) -> Option<usize>
+        ensures oldest { result ≡ slice_get self.now.order 0 }
+        ensures order { IsOrderOf self.now.waiters self.now.order }
+    {
+        self.order.first()
+    }
+
+    /// The place of the request that joined next after the one at a place. `O(1)`.
+    pub fn after(&self, place: usize) -> Option<usize>
+        requires { Contains self.now.order place }
+        ensures { result ≡ next_after place self.now.order }
+    {
+        self.order.after(place)
+    }
+}
+
+/// A request in the backend's queue.
+fn moved(key: Key, joined: usize) -> Waiter
+    ensures { result ≡ record { key = key; queue = Queue.Backend; joined = joined } }
+{
+    Waiter {
+        key,
+        queue: Queue::Backend,
+        joined,
+    }
+}

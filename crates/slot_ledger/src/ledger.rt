@@ -111,17 +111,17 @@ impl<H: Drop> Ledger<H> {
         self.counts.queued(queue)
     }
 
-    /// Puts a row at a free place, which is the answer. Its ticket is above all others. `O(1)`, and
-    /// `O(n)` where a higher ticket has ended.
-    pub fn admit(&mut self, row: Row, node: H) -> usize
+    /// Puts a row at a free place, which is the answer, without a node; `loosen` gives it one. Its
+    /// ticket is above all others. `O(1)`, and `O(n)` where a higher ticket has ended.
+    pub fn admit(&mut self, row: Row) -> usize
         requires room { count_by is_some self.old.slots < length self.old.slots }
         requires highest { AreBelow row.key.ticket self.old.slots }
         requires within { IsPhaseOf (length self.old.setup.servers) row.phase }
         ensures vacant { slice_get self.old.slots result ≡ Some None }
-        ensures admitted { self.new ≡ with_slots self.old (slice_set self.old.slots result (Some (record { row = row; node = Some node }))) }
+        ensures admitted { self.new ≡ with_slots self.old (slice_set self.old.slots result (Some (record { row = row; node = None }))) }
     {
         self.counts.pass(Phase::Loose, row.phase);
-        self.places.admit(row, node)
+        self.places.admit(row)
     }
 
     /// The place of a ticket's row. `O(log n)`.

@@ -73,11 +73,11 @@ impl<H: Drop> Places<H> {
 
     /// Puts a row at a free place, which is the answer. Its ticket is above all others. `O(1)`, and
     /// `O(n)` where a higher ticket has ended.
-    pub(crate) fn admit(&mut self, row: Row, node: H) -> usize
+    pub(crate) fn admit(&mut self, row: Row) -> usize
         requires room { count_by is_some self.old < length self.old }
         requires highest { AreBelow row.key.ticket self.old }
         ensures vacant { slice_get self.old result ≡ Some None }
-        ensures admitted { self.new ≡ slice_set self.old result (Some (record { row = row; node = Some node })) }
+        ensures admitted { self.new ≡ slice_set self.old result (Some (record { row = row; node = None })) }
     {
         let Some(place) = self.vacant.pop() else {
             unreachable!()
@@ -85,7 +85,7 @@ impl<H: Drop> Places<H> {
         self.index.push(row.key.ticket, place);
         self.slots[place] = Some(Slot {
             row,
-            node: Some(node),
+            node: None,
         });
         place
     }

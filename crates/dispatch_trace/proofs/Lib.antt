@@ -1,0 +1,16 @@
+pub mod Resting
+pub mod Turns
+pub mod Waits
+pub mod Stepping
+pub mod Entries
+pub mod Healthy
+pub mod Beginning
+pub mod Failures
+pub mod Checks
+pub mod Expiring
+pub mod Waiters
+pub mod Admitting
+pub mod Within
+pub mod Grants
+pub mod Joining
+pub mod Moves

@@ -1,0 +1,15 @@
+-- What becomes of a request whose connection failed.
+use Rattle.std.specs.Prelude.{ℕ, if◌then◌else◌}
+use Rattle.dispatch_log.specs.declared.setup.Setup.{Setup}
+use Rattle.dispatch_log.specs.Retries.{are_spent, are_redispatched, failed_row}
+use Rattle.slot_ledger.specs.declared.places.Slot.{Slot}
+use Rattle.dispatch_trace.specs.declared.failing.Fate.{Fate}
+use Rattle.dispatch_trace.specs.declared.failing.Fate.TheVariants.{Retried, Spent, Redispatched}
+
+-- it is retried unless its retries are spent or the last one goes to another server
+abbrev pub fate_of : Setup → ℕ → Fate
+fate_of setup failures = if are_spent setup failures then Spent else (if are_redispatched setup failures then Redispatched else Retried)
+
+-- its slot, with one failure more
+abbrev pub failed_slot : {H : Type 0} → Setup → Slot H → Slot H
+failed_slot setup slot = record { row = failed_row setup slot.row; node = slot.node }

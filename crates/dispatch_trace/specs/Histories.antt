@@ -1,0 +1,97 @@
+-- A history that goes on by one entry.
+use Rattle.std.specs.Prelude.{◌≡◌, ℕ, ◌+◌, ◌-◌, ◌*◌, ◌≤◌, List, [], ◌∷◌, ◌++◌, Option, None, Some, Bool, IsTrue, length, count_by, false}
+use Rattle.dispatch_log.specs.declared.entry.Entry.{Entry}
+use Rattle.dispatch_log.specs.declared.entry.Entry.TheVariants.{Granted, Moved}
+use Rattle.dispatch_log.specs.declared.queue.Queue.{Queue}
+use Rattle.dispatch_log.specs.declared.queue.Queue.TheVariants.{Server}
+use Rattle.dispatch_log.specs.declared.refusal.Refusal.{Refusal}
+use Rattle.dispatch_log.specs.Histories.{History, state_of, effective}
+use Rattle.dispatch_log.specs.declared.row.Row.{Row}
+use Rattle.dispatch_log.specs.Refusals.{is_waiting}
+use Rattle.dispatch_log.specs.Rows.{Rows, IsRow, StandsAt, phase_waits_in, queued}
+use Rattle.dispatch_log.specs.Judgement.{Stage, granting, next_stage, stage_after, IsPut, IsOver, MayGrant, MayCome, AllMayCome, MayBegin}
+use Rattle.dispatch_log.specs.States.{scene, after, opening_state}
+use Rattle.dispatch_log.specs.Words.{Scene}
+use Rattle.dispatch_trace.specs.declared.position.Ticketed.{Ticketed}
+
+-- a history with an entry more
+abbrev pub with_entry : History → Entry → History
+with_entry history entry = record { setup = history.setup; log = history.log ++ entry ∷ [] }
+
+-- the stage at a history's end
+abbrev pub stage_of : History → Stage
+stage_of history = stage_after granting history.log
+
+-- an entry may come at a history's end
+abbrev pub MayComeNext : History → Entry → Type 0
+MayComeNext history entry = MayCome history.setup (state_of history) (length history.log) (stage_of history) entry
+
+-- a request in no place may be put anywhere that its pin and the server to avoid let it, and its event owes nothing then
+abbrev pub MayPut : History → Option ℕ → Option ℕ → ℕ → Type 0
+MayPut history pin avoid ticket =
+    (entry : Entry) → IsPut (scene history.setup (state_of history)) (state_of history).cursor pin avoid ticket entry
+    → MayComeNext history entry × (next_stage (stage_of history) entry ≡ granting)
+
+-- an event may begin at a history's end
+abbrev pub MayBeginNext : History → ℕ → Option Refusal → Type 0
+MayBeginNext history moment refused = MayBegin history.setup (state_of history) (stage_of history) (effective history moment) refused
+
+-- the last event owes nothing but grants at a history's end, and grants may come there
+abbrev pub IsOverNext : History → Type 0
+IsOverNext history = IsOver history.setup (state_of history) (stage_of history)
+
+abbrev pub MayGrantNext : History → Type 0
+MayGrantNext history = MayGrant history.setup (state_of history) (stage_of history)
+
+-- the log has room for the longest event
+abbrev pub HasEntryRoom : History → Type 0
+HasEntryRoom history = 2 * history.setup.places + 8 ≤ history.setup.log - length history.log
+
+-- whether a place's row waits, and how many do
+abbrev pub waits : Option Row → Bool
+waits None = false
+waits (Some row) = is_waiting row.phase
+
+abbrev pub waiting_of : History → ℕ
+waiting_of history = count_by waits (state_of history).rows
+
+-- what a decision at a history's end looks at
+abbrev pub scene_of : History → Scene
+scene_of history = scene history.setup (state_of history)
+
+-- the cursor that an entry at a history's end leaves
+abbrev pub cursor_after : History → Entry → ℕ
+cursor_after history entry = (after history.setup (state_of history) entry).cursor
+
+-- a history goes on by one lawful grant, and one request less waits
+pub record IsGrant (old new : History) : Type 0 where
+  pub ticket : ℕ
+  pub queue : Queue
+  pub server : ℕ
+  pub grants : new ≡ with_entry old (Granted ticket queue server)
+  pub lawful : MayComeNext old (Granted ticket queue server)
+  pub fewer : waiting_of new + 1 ≡ waiting_of old
+
+-- each entry may come where it stands
+abbrev pub IsJudged : History → Type 0
+IsJudged history = AllMayCome history.setup (opening_state history.setup) 0 granting history.log
+
+-- a live request is at its place
+abbrev pub IsAt : Rows → Ticketed → Type 0
+IsAt rows it = (row : Row) × StandsAt rows it.place row × (row.key.ticket ≡ it.ticket)
+
+-- the live request with a ticket was found
+pub record IsFound (rows : Rows) (ticket : ℕ) (it : Ticketed) : Type 0 where
+  pub named : it.ticket ≡ ticket
+  pub at : IsAt rows it
+
+-- a history goes on by the move of one request from a server's queue into the backend's
+pub record IsMove (server : ℕ) (old new : History) : Type 0 where
+  pub ticket : ℕ
+  pub moves : new ≡ with_entry old (Moved ticket server)
+  pub lawful : MayComeNext old (Moved ticket server)
+  pub fewer : queued (Server server) (state_of new).rows + 1 ≡ queued (Server server) (state_of old).rows
+
+-- nobody waits in a server's queue
+abbrev pub IsEmptied : ℕ → History → Type 0
+IsEmptied server history = (row : Row) → IsRow (state_of history).rows row → IsTrue (phase_waits_in (Server server) row.phase) → ⊥

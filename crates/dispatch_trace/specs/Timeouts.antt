@@ -1,0 +1,19 @@
+-- Requests that have waited as long as they may.
+use Rattle.std.specs.Prelude.{◌≡◌, ℕ, ◌+◌, ◌≤◌, ◌↔◌, List, ◌++◌, Contains, All, length, false}
+use Rattle.dispatch_log.specs.declared.entry.Entry.{Entry}
+use Rattle.dispatch_log.specs.declared.row.Row.{Row}
+use Rattle.dispatch_log.specs.Histories.{History, state_of, begins_event}
+use Rattle.dispatch_log.specs.Judgement.{has_expired, IsExpired}
+use Rattle.dispatch_log.specs.Rows.{StandsAt}
+
+-- a place has a request
+abbrev pub HasRowAt : History → ℕ → Type 0
+HasRowAt history place = (row : Row) × StandsAt (state_of history).rows place row
+
+-- the request at a place has waited, at a moment, as long as it may
+abbrev pub ExpiresAt : History → ℕ → ℕ → Type 0
+ExpiresAt history now place = (row : Row) × StandsAt (state_of history).rows place row × has_expired history.setup now row.phase
+
+-- tickets with places are just those of the expired requests
+abbrev pub AreExpired : History → List (ℕ × ℕ) → Type 0
+AreExpired history tickets = (ticket place : ℕ) → Contains tickets (ticket, place) ↔ ((row : Row) × StandsAt (state_of history).rows place row × has_expired history.setup (state_of history).moment row.phase × (row.key.ticket ≡ ticket))

@@ -1,0 +1,88 @@
+-- How a trace keeps what its log says.
+use Rattle.std.specs.Prelude.{◌≡◌, ℕ, Bool, false, List, [], ◌∷◌, ◌++◌, Option, None, Some, length, map, slice_index_or}
+use Rattle.due_key.specs.declared.key.Key.{Key}
+use Rattle.dispatch_log.specs.declared.entry.Entry.{Entry}
+use Rattle.dispatch_log.specs.declared.row.Phase.{Phase}
+use Rattle.dispatch_log.specs.declared.row.Phase.TheVariants.{Loose, Waiting, Serving, Told}
+use Rattle.dispatch_log.specs.declared.row.Row.{Row}
+use Rattle.dispatch_log.specs.declared.setup.ServerSet.{ServerSet}
+use Rattle.dispatch_log.specs.Health.{ups_of}
+use Rattle.dispatch_log.specs.Histories.{History, state_of}
+use Rattle.dispatch_log.specs.Judgement.{granting, AllMayCome}
+use Rattle.dispatch_log.specs.Logs.{Recorded}
+use Rattle.dispatch_log.specs.Rows.{Rows}
+use Rattle.dispatch_log.specs.Setups.{IsSound}
+use Rattle.dispatch_log.specs.States.{State, opening_state}
+use Rattle.readable_log.specs.Grants.{joining_of}
+use Rattle.slot_ledger.specs.declared.places.Slot.{Slot}
+use Rattle.slot_ledger.specs.Ledgers.{Kept}
+use Rattle.slot_ledger.specs.Slots.{rows_in, StandsIn}
+use Rattle.wait_queues.specs.declared.waiters.Waiter.{Waiter}
+use Rattle.wait_queues.specs.Waitlists.{Waitlist, Waiters}
+use Rattle.dispatch_trace.specs.declared.position.Position.{Position}
+use Rattle.dispatch_trace.specs.Turns.{WaitsSince, AreInTurn}
+
+-- what a trace holds: the live requests, the log, those that wait, and how far it has come
+pub record Traced (N : Type 0) : Type 0 where
+  pub kept : Kept N
+  pub log : Recorded
+  pub waits : Waitlist
+  pub position : Position
+
+-- its history
+abbrev pub history_of : {N : Type 0} → Traced N → History
+history_of trace = record { setup = trace.kept.setup; log = trace.log.entries }
+
+-- a log with an entry more
+abbrev pub noted : Recorded → Entry → Recorded
+noted log entry = record { entries = log.entries ++ entry ∷ []; room = log.room }
+
+-- whether a server is up by the results
+abbrev pub is_up_at : List ServerSet → List (List Bool) → ℕ → Bool
+is_up_at servers results server = slice_index_or (ups_of servers results) server false
+
+-- a row that doesn't wait has the node with which it will, for its key and place
+abbrev pub HasItsNode : {N : Type 0} → (N → Key × ℕ) → ℕ → Phase → Slot N → Type 0
+HasItsNode {N} pair_of place (Waiting queue since) slot = Unit {0}
+HasItsNode {N} pair_of place Loose slot = (node : N) × (slot.node ≡ Some node) × (pair_of node ≡ (slot.row.key, place))
+HasItsNode {N} pair_of place (Serving server) slot = (node : N) × (slot.node ≡ Some node) × (pair_of node ≡ (slot.row.key, place))
+HasItsNode {N} pair_of place (Told cause) slot = (node : N) × (slot.node ≡ Some node) × (pair_of node ≡ (slot.row.key, place))
+
+-- how a row waits, if it does: in which queue, and where in the log it joined it
+abbrev pub waiter_in : List Entry → Key → Phase → Option Waiter
+waiter_in log key (Waiting queue since) = Some (record { key = key; queue = queue; joined = joining_of key.ticket queue log })
+waiter_in log key Loose = None
+waiter_in log key (Serving server) = None
+waiter_in log key (Told cause) = None
+
+abbrev pub waiter_of : List Entry → Option Row → Option Waiter
+waiter_of log None = None
+waiter_of log (Some row) = waiter_in log row.key row.phase
+
+abbrev pub waiters_of : List Entry → Rows → Waiters
+waiters_of log rows = map (waiter_of log) rows
+
+-- how far a state is
+abbrev pub position_of : State → Position
+position_of state = record { cursor = state.cursor; last = state.moment; ticket = state.ticket }
+
+-- each row that doesn't wait has its node
+abbrev pub HaveNodes : {N : Type 0} → (N → Key × ℕ) → List (Option (Slot N)) → Type 0
+HaveNodes {N} pair_of slots = (place : ℕ) (slot : Slot N) → StandsIn slots place slot → HasItsNode pair_of place slot.row.phase slot
+
+-- what a trace holds is what a state says that its entries leave
+pub record Holds {N : Type 0} (pair_of : N → Key × ℕ) (trace : Traced N) (entries : List Entry) (state : State) : Type 0 where
+  pub rows : rows_in trace.kept.slots ≡ state.rows
+  pub nodes : HaveNodes pair_of trace.kept.slots
+  pub ups : trace.kept.ups ≡ ups_of trace.kept.setup.servers state.results
+  pub waiters : trace.waits.waiters ≡ waiters_of entries state.rows
+  pub in_turn : AreInTurn (WaitsSince state.rows) state.moment trace.waits.order
+  pub position : trace.position ≡ position_of state
+
+-- a trace holds what its log leaves, and its log is judged
+pub record IsTrace {N : Type 0} (pair_of : N → Key × ℕ) (trace : Traced N) : Type 0 where
+  pub sound : IsSound trace.kept.setup
+  pub judged : AllMayCome trace.kept.setup (opening_state trace.kept.setup) 0 granting trace.log.entries
+  pub holds : Holds pair_of trace trace.log.entries (state_of (history_of trace))
+  pub servers : trace.waits.servers ≡ length trace.kept.setup.servers
+  pub log_room : trace.log.room ≡ trace.kept.setup.log

@@ -1,0 +1,78 @@
+ghost use Rattle.std.specs.Prelude.{◌≡◌, ◌<◌, ◌≤◌, ◌^◌, ◌↔◌, [], length, Some, IsTrue, MatchOption};
+ghost use Rattle.std.specs.Option.{IfSome};
+ghost use Rattle.std.specs.Ordering.{nat_cmp};
+ghost use Rattle.dispatch_log.specs.declared.entry.Entry.TheVariants.{Tick};
+ghost use Rattle.dispatch_log.specs.Histories.{effective, refuses_tick, SomeExpires};
+ghost use Rattle.dispatch_log.specs.Judgement.{has_expired};
+ghost use Rattle.pend_queue.specs.Pairs.{IsAscending};
+ghost use Rattle.dispatch_trace.specs.Histories.{with_entry, MayBeginNext};
+ghost use Rattle.dispatch_trace.specs.Timeouts.{HasRowAt, ExpiresAt, AreExpired};
+
+use crate::trace::Trace;
+use dispatch_log::{Entry, Phase, Setup};
+use due_key::{Key, Moment};
+use pend_queue::{ListQueue, PendQueue};
+
+/// Requests that have waited as long as they may (`timeout queue`).
+impl<Q: PendQueue<Key, usize>> Trace<Q> {
+    /// A tick begins.
+    pub fn tick(&mut self, moment: Moment)
+        requires begins { MayBeginNext self.old moment (refuses_tick self.old) }
+        requires room { length self.old.log < self.old.setup.log }
+        ensures { self.new ≡ with_entry self.old (Tick (effective self.old moment)) }
+    {
+        let now = self.position.last.later(moment);
+        self.log.note(Entry::Tick(now));
+        self.position.last = now;
+    }
+
+    /// Whether some request has, at a moment. `O(1)`.
+    pub fn expired(&self, moment: Moment) -> bool
+        ensures { IsTrue result ↔ SomeExpires self.now moment }
+    {
+        self.if_expired(self.waiting.oldest(), self.position.last.later(moment))
+            .is_some()
+    }
+
+    /// A place, where its request has.
+    fn if_expired(&self, place: Option<usize>, now: Moment) -> Option<usize>
+        requires { IfSome place (HasRowAt self.now) }
+        ensures { MatchOption result (IfSome place (λ at. ¬ (ExpiresAt self.now now at))) (λ at. (place ≡ Some at) × ExpiresAt self.now now at) }
+    {
+        let at = place?;
+        if has_expired(self.ledger.setup(), self.ledger.row(at).phase, now) {
+            Some(at)
+        } else {
+            None
+        }
+    }
+
+    /// Puts those that have into an empty queue, by ticket with their places. Looks at one request more than
+    /// there are.
+    pub fn gather(&self, tickets: &mut ListQueue<u64, usize>)
+        requires none { tickets.old.pairs ≡ [] }
+        requires room { self.now.setup.places ≤ tickets.old.room }
+        ensures expired { AreExpired self.now tickets.new.pairs }
+        ensures ascending { IsAscending nat_cmp tickets.new.pairs }
+        ensures room { tickets.new.room ≡ tickets.old.room }
+    {
+        let mut oldest = self.if_expired(self.waiting.oldest(), self.position.last);
+        'walking: while let Some(place) = oldest {
+            tickets.push((self.ledger.row(place).key.ticket, place));
+            oldest = self.if_expired(self.waiting.after(place), self.position.last);
+        }
+    }
+}
+
+/// Whether a request in this phase has waited as long as it may.
+fn has_expired(setup: &Setup, phase: Phase, now: Moment) -> bool
+    requires { setup.now.queue_timeout < 2 ^ 62 }
+    ensures { IsTrue result ↔ has_expired setup.now now phase }
+{
+    match phase {
+        Phase::Waiting(_, since) => {
+            setup.queue_timeout > 0 && since.get() + setup.queue_timeout <= now.get()
+        }
+        Phase::Loose | Phase::Serving(_) | Phase::Told(_) => false,
+    }
+}

@@ -1,0 +1,37 @@
+ghost use Rattle.std.specs.Prelude.{◌≡◌, ◌+◌, ◌<◌, ◌≤◌, IsTrue, length};
+ghost use Rattle.std.specs.Bool.{OnTrue, OnFalse};
+ghost use Rattle.dispatch_log.specs.declared.queue.Queue.TheVariants.{Server};
+ghost use Rattle.dispatch_log.specs.Histories.{state_of};
+ghost use Rattle.dispatch_log.specs.Judgement.{falling};
+ghost use Rattle.dispatch_log.specs.Rows.{queued};
+ghost use Rattle.dispatch_trace.specs.Histories.{stage_of, IsMove, IsEmptied};
+
+use crate::trace::Trace;
+use dispatch_log::Entry;
+use due_key::Key;
+use pend_queue::PendQueue;
+
+/// The queue of a server that went down (`option redispatch`).
+impl<Q: PendQueue<Key, usize>> Trace<Q> {
+    /// Moves the first request of a server's queue into the backend's. Answers whether there was one.
+    /// The queue's own cost beside `O(1)`.
+    pub fn move_first(&mut self, server: usize) -> bool
+        requires falling { stage_of self.old ≡ falling server }
+        requires redispatch { IsTrue self.old.setup.redispatch }
+        requires within { server < length self.old.setup.servers }
+        requires room { length self.old.log + queued (Server server) (state_of self.old).rows ≤ self.old.setup.log }
+        ensures moved { OnTrue result (IsMove server self.old self.new) }
+        ensures emptied { OnFalse result (IsEmptied server self.old) }
+        ensures unchanged { OnFalse result (self.new ≡ self.old) }
+    {
+        let joined = self.log.len() + 1;
+        let Some(place) = self.waiting.shift(server, joined) else {
+            return false;
+        };
+        let ticket = self.ledger.row(place).key.ticket;
+        self.ledger.shift(place, self.position.last);
+        self.ledger.unpin(place);
+        self.log.note(Entry::Moved(ticket, server));
+        true
+    }
+}

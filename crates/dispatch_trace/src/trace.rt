@@ -1,0 +1,211 @@
+ghost use Rattle.std.specs.Prelude.{◌≡◌, ◌<◌, ◌≤◌, ◌↔◌, [], length, None, Some, IfOk, IfErr, IsTrue, MatchOption, option_map, slice_get};
+ghost use Rattle.dispatch_log.specs.Grants.{IsSettled};
+ghost use Rattle.dispatch_log.specs.Histories.{state_of, refuses_arrival, refuses_done, refuses_failure, refuses_abort};
+ghost use Rattle.dispatch_log.specs.Refusals.{pins_to_none};
+ghost use Rattle.dispatch_log.specs.Rows.{row_of, served, queued};
+ghost use Rattle.dispatch_log.specs.Setups.{IsSound};
+ghost use Rattle.server_pick.specs.Picked.{IsPlacement, cursor_placed};
+ghost use Rattle.dispatch_trace.specs.Histories.{IsAt, IsFound, scene_of, HasEntryRoom};
+
+use crate::position::{Position, Ticketed};
+use dispatch_log::{Phase, Queue, Refusal, Setup};
+use due_key::{Key, Moment};
+use pend_queue::PendQueue;
+use readable_log::Log;
+use server_pick::{Cursor, Placement};
+use slot_ledger::Ledger;
+use std::alloc::{AllocError, Global};
+use std::marker::Model;
+use wait_queues::WaitQueues;
+
+/// A log that goes on entry by entry, with what it leaves.
+#[derive(Drop)]
+pub struct Trace<Q: PendQueue<Key, usize>> {
+    pub(crate) log: Log,
+    pub(crate) ledger: Ledger<Q::Node>,
+    pub(crate) waiting: WaitQueues<Q>,
+    pub(crate) position: Position,
+}
+
+impl<Q: PendQueue<Key, usize>> Model for Trace<Q> {
+    ghost use Rattle.dispatch_log.specs.Histories.{History};
+
+    ghost Value = { History };
+
+    ghost use Rattle.dispatch_trace.specs.Traces.{history_of, IsTrace};
+
+    ghost view = { λ it. history_of (record { kept = it.ledger; log = it.log; waits = it.waiting; position = it.position }) };
+
+    ghost invariant = { λ it. IsTrace Q.pair_of (record { kept = it.ledger; log = it.log; waits = it.waiting; position = it.position }) };
+}
+
+impl<Q: PendQueue<Key, usize>> Trace<Q> {
+    /// A trace without an entry.
+    pub fn new(alloc: Global, setup: Setup) -> Result<Trace<Q>, AllocError>
+        requires { IsSound setup }
+        ensures { IfOk result (λ trace. trace ≡ record { setup = setup; log = [] }) }
+    {
+        let servers = setup.servers.len();
+        let log = Log::with_room(alloc, setup.log)?;
+        let waiting = WaitQueues::new(alloc, servers, setup.places)?;
+        let ledger = Ledger::new(alloc, setup)?;
+        Ok(Trace {
+            log,
+            ledger,
+            waiting,
+            position: Position {
+                cursor: Cursor::new(servers),
+                last: Moment::zero(),
+                ticket: 0,
+            },
+        })
+    }
+
+    /// What it was made for.
+    pub fn setup(&self) -> &Setup
+        ensures setup { result.now ≡ self.now.setup }
+        ensures sound { IsSound self.now.setup }
+    {
+        self.ledger.setup()
+    }
+
+    pub fn log(&self) -> &Log
+        ensures { result.now.entries ≡ self.now.log }
+    {
+        &self.log
+    }
+
+    /// Whether the log has room for the longest event. `O(1)`.
+    pub fn has_room(&self) -> bool
+        ensures { IsTrue result ↔ HasEntryRoom self.now }
+    {
+        let setup = self.ledger.setup();
+        setup.log.saturating_sub(self.log.len()) >= 2 * setup.places + 8
+    }
+
+    /// The live request with a ticket. `O(log n)`, the one look that a call takes.
+    pub fn find(&self, ticket: u64) -> Option<Ticketed>
+        ensures { MatchOption result (row_of ticket (state_of self.now).rows ≡ None) (λ it. IsFound (state_of self.now).rows ticket it) }
+    {
+        let Some(place) = self.ledger.find(ticket) else {
+            return None;
+        };
+        Some(Ticketed { place, ticket })
+    }
+
+    /// Where a live request stands. `O(1)`.
+    pub fn phase(&self, it: Ticketed) -> Phase
+        requires { IsAt (state_of self.now).rows it }
+        ensures { option_map (λ row. row.phase) (row_of it.ticket (state_of self.now).rows) ≡ Some result }
+    {
+        self.ledger.row(it.place).phase
+    }
+
+    /// Why an arrival with a pin is refused, memory aside. `O(1)`.
+    pub fn refuses_arrival(&self, pin: Option<usize>) -> Option<Refusal>
+        ensures { result ≡ refuses_arrival self.now pin }
+    {
+        if !self.has_room() {
+            return Some(Refusal::LogFull);
+        }
+        if self.pins_to_none(pin) {
+            return Some(Refusal::NoSuchServer);
+        }
+        if self.position.ticket >= (1 << 40) - 1 {
+            return Some(Refusal::TicketsSpent);
+        }
+        if self.ledger.len() >= self.ledger.setup().places {
+            return Some(Refusal::PlacesFull);
+        }
+        None
+    }
+
+    /// Whether no server has the number of a pin.
+    fn pins_to_none(&self, pin: Option<usize>) -> bool
+        ensures { result ≡ pins_to_none self.now.setup pin }
+    {
+        match pin {
+            None => false,
+            Some(server) => self.ledger.setup().servers.len() <= server,
+        }
+    }
+
+    /// The request whose return is accepted now, or why it is refused.
+    pub fn accept_done(&self, ticket: u64) -> Result<Ticketed, Refusal>
+        ensures refused { IfErr result (λ refusal. refuses_done self.now ticket ≡ Some refusal) }
+        ensures accepted { IfOk result (λ it. refuses_done self.now ticket ≡ None) }
+        ensures found { IfOk result (λ it. IsFound (state_of self.now).rows ticket it) }
+    {
+        if !self.has_room() {
+            return Err(Refusal::LogFull);
+        }
+        let Some(it) = self.find(ticket) else {
+            return Err(Refusal::NoSuchTicket);
+        };
+        match self.phase(it) {
+            Phase::Waiting(_, _) => Err(Refusal::WrongPhase),
+            _ => Ok(it),
+        }
+    }
+
+    /// The request whose failure is accepted now, or why it is refused.
+    pub fn accept_failure(&self, ticket: u64) -> Result<Ticketed, Refusal>
+        ensures refused { IfErr result (λ refusal. refuses_failure self.now ticket ≡ Some refusal) }
+        ensures accepted { IfOk result (λ it. refuses_failure self.now ticket ≡ None) }
+        ensures found { IfOk result (λ it. IsFound (state_of self.now).rows ticket it) }
+    {
+        if !self.has_room() {
+            return Err(Refusal::LogFull);
+        }
+        let Some(it) = self.find(ticket) else {
+            return Err(Refusal::NoSuchTicket);
+        };
+        match self.phase(it) {
+            Phase::Serving(_) => Ok(it),
+            _ => Err(Refusal::WrongPhase),
+        }
+    }
+
+    /// The request whose abort is accepted now, or why it is refused.
+    pub fn accept_abort(&self, ticket: u64) -> Result<Ticketed, Refusal>
+        ensures refused { IfErr result (λ refusal. refuses_abort self.now ticket ≡ Some refusal) }
+        ensures accepted { IfOk result (λ it. refuses_abort self.now ticket ≡ None) }
+        ensures found { IfOk result (λ it. IsFound (state_of self.now).rows ticket it) }
+    {
+        if !self.has_room() {
+            return Err(Refusal::LogFull);
+        }
+        let Some(it) = self.find(ticket) else {
+            return Err(Refusal::NoSuchTicket);
+        };
+        match self.phase(it) {
+            Phase::Waiting(_, _) => Ok(it),
+            _ => Err(Refusal::WrongPhase),
+        }
+    }
+
+    /// Where a request in no place goes, bound to this pin and with this server to avoid, and the
+    /// cursor that this leaves. `O(s)` in the servers.
+    pub fn placement(&self, pin: Option<usize>, avoid: Option<usize>) -> (Placement, Cursor)
+        ensures placed { IsPlacement (scene_of self.now) (state_of self.now).cursor pin avoid result.0 }
+        ensures cursor { result.1 ≡ cursor_placed pin result.0 (state_of self.now).cursor }
+    {
+        let mut cursor = self.position.cursor;
+        let placement = server_pick::place(&self.ledger, &mut cursor, pin, avoid);
+        (placement, cursor)
+    }
+
+    /// How many requests a server serves. `O(1)`.
+    pub fn served(&self, server: usize) -> usize
+        ensures { result ≡ served server (state_of self.now).rows }
+    {
+        self.ledger.served(server)
+    }
+
+    /// How many requests wait in a queue. `O(1)`.
+    pub fn queued(&self, queue: Queue) -> usize
+        ensures { result ≡ queued queue (state_of self.now).rows }
+    {
+        self.ledger.queued(queue)
+    }
+}

@@ -29,7 +29,8 @@ use Rattle.dispatch_log.proofs.Consistency.{IsConsistent}
 use Rattle.dispatch_log.proofs.Dispatched.{dispatched, opening_consistent}
 use Rattle.dispatch_log.proofs.Runs.{empty_legal}
 use Rattle.dispatch_log.proofs.Judged.{after_all-push, stage_after-push, over_none, places_all, consistent_all}
-use Rattle.dispatch_core.specs.Steps.{with_entry, stage_of, scene_of, waits, waiting_of, IsReturn, MayComeNext, MayBeginNext, IsOverNext, MayGrantNext, MayPut, Places, Leaves, Settles}
+use Rattle.dispatch_core.specs.Steps.{IsReturn, Places, Leaves, Settles}
+use Rattle.dispatch_trace.specs.Histories.{with_entry, stage_of, scene_of, waits, waiting_of, MayComeNext, MayBeginNext, IsOverNext, MayGrantNext, MayPut}
 
 -- an entry may come after another
 pub may_next : (h : History) (e next : Entry) (t : Stage) → next_stage (stage_of h) e ≡ t → MayCome h.setup (after h.setup (state_of h) e) (length (h.log ++ e ∷ [])) t next → MayComeNext (with_entry h e) next

@@ -16,29 +16,18 @@ use Rattle.dispatch_log.specs.declared.setup.Setup.{Setup}
 use Rattle.dispatch_log.specs.Health.{is_up_by, ups_of, results_of, with_result, without_last}
 use Rattle.dispatch_log.specs.Histories.{History, state_of, effective, begins_event, refuses_check, AddsEvent}
 use Rattle.dispatch_log.specs.Judgement.{checking, granting, was_up}
-use Rattle.dispatch_log.specs.Logs.{Recorded}
 use Rattle.dispatch_log.specs.Refusals.{lacks_room, is_checked}
 use Rattle.dispatch_log.specs.States.{State, after, after_all, opening_state}
 use Rattle.dispatch_log.specs.Words.{is_up}
 use Rattle.dispatch_log.proofs.Accepted.{none_refuses}
 use Rattle.dispatch_log.proofs.Judged.{after_all-push, stage_after-push, results_after}
 use Rattle.pend_queue.specs.Held.{Held}
-use Rattle.slot_ledger.specs.Ledgers.{Kept, with_up}
-use Rattle.dispatch_core.specs.Checks.{AreHealths, IsHealthBy, is_up_at, IsCore}
-use Rattle.dispatch_core.specs.Lines.{Waits, Lined}
-use Rattle.dispatch_core.specs.Steps.{with_entry, stage_of, scene_of, MayComeNext, MayBeginNext}
-use Rattle.dispatch_core.specs.Traces.{history_of, noted, IsTrace}
+use Rattle.dispatch_core.specs.Checks.{AreHealths, IsHealthBy, IsCore}
+use Rattle.dispatch_trace.specs.Traces.{is_up_at}
+use Rattle.dispatch_trace.specs.Histories.{with_entry, stage_of, scene_of, MayComeNext, MayBeginNext}
 use Rattle.dispatch_core.proofs.Calls.{longer, same_setup, new_legal}
-use Rattle.dispatch_core.proofs.Healthy.{ups_set, up_at, results_set}
-use Rattle.dispatch_core.proofs.Holding.{trace_step}
-
--- there are as many lists of results as servers
-results_all : (setup : Setup) (s : State) (es : List Entry) → length (after_all setup s es).results ≡ length s.results
-results_all setup s [] = refl
-results_all setup s (e ∷ es) = results_all setup (after setup s e) es ∙ results_after setup s e
-
-pub many_results : (h : History) → length (state_of h).results ≡ length h.setup.servers
-many_results h = results_all h.setup (opening_state h.setup) h.log ∙ length-replicate (length h.setup.servers) []
+use Rattle.dispatch_core.proofs.Healthy.{up_at, results_set}
+use Rattle.dispatch_trace.proofs.Healthy.{many_results}
 
 -- inside an event no result comes
 no_result : (setup : Setup) (s : State) (e : Entry) → begins_event e ≡ false → (after setup s e).results ≡ s.results
@@ -77,15 +66,13 @@ results_added h now event added =
     ∙ no_results h.setup (after h.setup (state_of h) event) added.brought added.one_event
 
 -- a core after an event
-pub core_goes : (h now : History) (event : Entry) (healths next : List (Option Standing)) (spare left : Waits) (room more : ℕ) (expiring ready : Held ℕ (Unit {0})) → IsCore h healths spare room expiring → AddsEvent h now event
-    → AreHealths h.setup.servers (after h.setup (state_of h) event).results next → left ≡ [] → more ≡ room → ready.pairs ≡ [] → ready.room ≡ expiring.room → IsCore now next left more ready
-core_goes h now event healths next spare left room more expiring ready is added healthy empty same none kept = record {
+pub core_goes : (h now : History) (event : Entry) (healths next : List (Option Standing)) (expiring ready : Held ℕ ℕ) → IsCore h healths expiring → AddsEvent h now event
+    → AreHealths h.setup.servers (after h.setup (state_of h) event).results next → ready.pairs ≡ [] → ready.room ≡ expiring.room → IsCore now next ready
+core_goes h now event healths next expiring ready is added healthy none kept = record {
   legal = added.legal;
   healthy =
       subst (λ (l : List (List Bool)). AreHealths now.setup.servers l next) (sym (results_added h now event added))
       (subst (λ (s : Setup). AreHealths s.servers (after h.setup (state_of h) event).results next) (sym added.setup) healthy);
-  empty = empty;
-  roomy = same ∙ is.roomy ∙ ap (λ (s : Setup). s.places) (sym added.setup);
   none = none;
   places =
       let places : now.setup.places ≡ h.setup.places = ap (λ (s : Setup). s.places) added.setup in
@@ -94,20 +81,18 @@ core_goes h now event healths next spare left room more expiring ready is added 
 }
 
 -- where the event is no check, the healths stay
-pub core_kept : (h now : History) (event : Entry) (healths : List (Option Standing)) (spare : Waits) (room : ℕ) (expiring ready : Held ℕ (Unit {0})) → IsCore h healths spare room expiring → AddsEvent h now event
-    → (after h.setup (state_of h) event).results ≡ (state_of h).results → ready.pairs ≡ [] → ready.room ≡ expiring.room → IsCore now healths spare room ready
-core_kept h now event healths spare room expiring ready is added same none kept =
-    core_goes h now event healths healths spare spare room room expiring ready is added
-    (subst (λ (l : List (List Bool)). AreHealths h.setup.servers l healths) (sym same) is.healthy) is.empty refl none kept
+pub core_kept : (h now : History) (event : Entry) (healths : List (Option Standing)) (expiring ready : Held ℕ ℕ) → IsCore h healths expiring → AddsEvent h now event
+    → (after h.setup (state_of h) event).results ≡ (state_of h).results → ready.pairs ≡ [] → ready.room ≡ expiring.room → IsCore now healths ready
+core_kept h now event healths expiring ready is added same none kept =
+    core_goes h now event healths healths expiring ready is added
+    (subst (λ (l : List (List Bool)). AreHealths h.setup.servers l healths) (sym same) is.healthy) none kept
 
 -- a core without an entry
-pub core_new : (h : History) (setup : Setup) (healths : List (Option Standing)) (spare : Waits) (room : ℕ) (expiring : Held ℕ (Unit {0})) → h ≡ record { setup = setup; log = [] }
-    → AreHealths setup.servers (replicate (length setup.servers) []) healths → spare ≡ [] → room ≡ setup.places → expiring.pairs ≡ [] → expiring.room ≡ setup.places → IsCore h healths spare room expiring
-core_new h setup healths spare room expiring new are empty roomy none places = record {
+pub core_new : (h : History) (setup : Setup) (healths : List (Option Standing)) (expiring : Held ℕ ℕ) → h ≡ record { setup = setup; log = [] }
+    → AreHealths setup.servers (replicate (length setup.servers) []) healths → expiring.pairs ≡ [] → expiring.room ≡ setup.places → IsCore h healths expiring
+core_new h setup healths expiring new are none places = record {
   legal = new_legal h setup new;
   healthy = subst (λ (x : History). AreHealths x.setup.servers (state_of x).results healths) (sym new) are;
-  empty = empty;
-  roomy = roomy ∙ ap (λ (x : History). x.setup.places) (sym new);
   none = none;
   places =
       let made : h.setup.places ≡ setup.places = ap (λ (x : History). x.setup.places) new in
@@ -147,30 +132,6 @@ has_health h server results healths accepted are =
     let is = subst (λ (r : Option (ℕ × ℕ)). IsHealthBy r (results_of results server) (slice_index_or healths server None)) it.checked (are.each server it.it it.stands) in
     let within : server < length healths = (let a = checked_within h server accepted in let b = are.each_one in omega arith) in
     (is.0, slice_get-get_or healths server None within ∙ ap Some is.1)
-
-module _ {N : Type 0} (pair_of : N → Key × Unit {0}) where
-  pub check_kept : (kept : Kept N) (log : Recorded) (lined : Lined) (cursor last ticket server moment now : ℕ) (ok up : Bool) → IsTrace pair_of kept log lined cursor last ticket → MayBeginNext (history_of kept log) moment (refuses_check (history_of kept log) server) → now ≡ max last moment
-      → up ≡ is_up_at kept.setup.servers (with_result server ok (state_of (history_of kept log)).results) server
-      → IsTrace pair_of (with_up kept server up) (noted log (Check now server ok)) lined cursor now ticket
-  check_kept kept log lined cursor last ticket server moment now ok up is begins later told =
-      let h = history_of kept log in
-      let when : now ≡ effective h moment = later ∙ ap (λ n. max n moment) is.held.last_is in
-      let may : MayComeNext h (Check now server ok) = subst (λ n. MayComeNext h (Check n server ok)) (sym when) begins in
-      trace_step pair_of kept log lined lined (Check now server ok) (set kept.ups server up) kept.slots cursor last ticket cursor now ticket is may refl refl
-      (ap (λ (l : List Bool). set l server up) is.ups
-      ∙ ap (λ b. set (ups_of kept.setup.servers (state_of h).results) server b) told
-      ∙ sym (ups_set kept.setup.servers (state_of h).results server ok (many_results h)))
-      (record {
-        rows = is.held.rows;
-        nodes = is.held.nodes;
-        waiting = is.held.waiting;
-        cursor_is = is.held.cursor_is;
-        last_is = refl;
-        ticket_is = is.held.ticket_is;
-      })
-
-  pub health_kept : (kept : Kept N) (log : Recorded) (lined : Lined) (cursor last ticket server : ℕ) (up : Bool) → IsTrace pair_of kept log lined cursor last ticket → MayComeNext (history_of kept log) (Health server up) → IsTrace pair_of kept (noted log (Health server up)) lined cursor last ticket
-  health_kept kept log lined cursor last ticket server up is may = trace_step pair_of kept log lined lined (Health server up) kept.ups kept.slots cursor last ticket cursor last ticket is may refl refl is.ups is.held
 
 -- whether a server was up before its last result
 without_push : (l : List Bool) (b : Bool) → without_last (l ++ b ∷ []) ≡ l

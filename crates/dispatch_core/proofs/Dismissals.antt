@@ -18,7 +18,8 @@ use Rattle.dispatch_log.specs.Rows.{row_of}
 use Rattle.dispatch_log.specs.States.{State, opening_state}
 use Rattle.dispatch_log.proofs.Accepted.{none_refuses, row_of_accepted}
 use Rattle.dispatch_log.proofs.Judged.{after_all-push, stage_after-push}
-use Rattle.dispatch_core.specs.Steps.{with_entry, stage_of, waiting_of, MayComeNext, MayGrantNext, Settles}
+use Rattle.dispatch_core.specs.Steps.{Settles}
+use Rattle.dispatch_trace.specs.Histories.{with_entry, stage_of, waiting_of, MayComeNext, MayGrantNext}
 use Rattle.dispatch_core.proofs.Calls.{may_next, longer, same_setup, few_wait, over_granting, may_granting, adds}
 
 -- where the log isn't refused, it has room for the longest event

@@ -12,8 +12,9 @@ use Rattle.dispatch_log.specs.Histories.{History, state_of, begins_event}
 use Rattle.dispatch_log.specs.Judgement.{Stage, checking, falling, granting, IsOver, MayGrant, MayCome, was_up}
 use Rattle.dispatch_log.specs.Words.{is_up}
 use Rattle.dispatch_log.proofs.Judged.{stage_after-push}
-use Rattle.dispatch_core.specs.Moves.{MovesAll}
-use Rattle.dispatch_core.specs.Steps.{with_entry, stage_of, scene_of, waiting_of, MayComeNext, CarriesOn}
+use Rattle.dispatch_core.specs.Steps.{MovesAll}
+use Rattle.dispatch_core.specs.Steps.{CarriesOn}
+use Rattle.dispatch_trace.specs.Histories.{with_entry, stage_of, scene_of, waiting_of, MayComeNext}
 use Rattle.dispatch_core.proofs.Calls.{few_wait, longer, same_setup, over_granting, may_granting}
 use Rattle.dispatch_core.proofs.Retrying.{goes_entry, goes_then}
 

@@ -10,19 +10,8 @@ use Rattle.dispatch_log.specs.declared.setup.Setup.{Setup}
 use Rattle.dispatch_log.specs.Health.{is_up_by, ups_of, results_of, with_result}
 use Rattle.dispatch_log.specs.States.{opening_state}
 use Rattle.dispatch_log.proofs.Places.{same_or_other}
-use Rattle.dispatch_core.specs.Checks.{IsHealthBy, AreHealths, is_up_at}
-
--- a server without a result is up
-up_at_first : (it : Option (ℕ × ℕ)) → is_up_by it [] ≡ true
-up_at_first None = refl
-up_at_first (Some it) = refl
-
-all_up : (servers : List ServerSet) → replicate (length servers) true ≡ ups_of servers (replicate (length servers) [])
-all_up [] = refl
-all_up (server ∷ servers) = ap (λ (l : List Bool). true ∷ l) (all_up servers) ∙ ap (λ (b : Bool). b ∷ ups_of servers (replicate (length servers) [])) (sym (up_at_first server.rise_fall))
-
-pub opening_ups : (setup : Setup) → replicate (length setup.servers) true ≡ ups_of setup.servers (opening_state setup).results
-opening_ups setup = all_up setup.servers
+use Rattle.dispatch_core.specs.Checks.{IsHealthBy, AreHealths}
+use Rattle.dispatch_trace.specs.Traces.{is_up_at}
 
 -- what stands in a list of lists without an element
 none_of : (n k : ℕ) → results_of (replicate n []) k ≡ []
@@ -187,11 +176,3 @@ change_is servers results healths server ok standing change are at tells =
     tells own.rise own.fall (results_of results server) own.health
     ∙ ap (λ b. change_between b (is_up own.rise own.fall (results_of results server ++ ok ∷ []))) (sym (up_at servers results server own.it own.stands ∙ ap (λ (r : Option (ℕ × ℕ)). is_up_by r (results_of results server)) own.checked))
     ∙ ap (λ b. change_between (is_up_at servers results server) b) (sym (up_at servers (with_result server ok results) server own.it own.stands ∙ ap (λ (l : List Bool). is_up_by own.it.rise_fall l) (results_set results server ok long) ∙ ap (λ (r : Option (ℕ × ℕ)). is_up_by r (results_of results server ++ ok ∷ [])) own.checked))
-
--- which servers are up after a result
-pub ups_set : (servers : List ServerSet) (results : List (List Bool)) (server : ℕ) (ok : Bool) → length results ≡ length servers → ups_of servers (with_result server ok results) ≡ set (ups_of servers results) server (is_up_at servers (with_result server ok results) server)
-ups_set [] [] server ok long = refl
-ups_set [] (own ∷ results) server ok long = absurd (omega arith)
-ups_set (first ∷ servers) [] server ok long = absurd (omega arith)
-ups_set (first ∷ servers) (own ∷ results) zero ok long = refl
-ups_set (first ∷ servers) (own ∷ results) (suc server) ok long = ap (λ (l : List Bool). is_up_by first.rise_fall own ∷ l) (ups_set servers results server ok (omega arith))

@@ -22,7 +22,8 @@ use Rattle.dispatch_log.proofs.Accepted.{Accepted, accepted_room, row_of_accepte
 use Rattle.dispatch_log.proofs.Judged.{after_all-push, stage_after-push}
 use Rattle.dispatch_log.proofs.Places.{get-set_same, get-set_cases}
 use Rattle.dispatch_log.proofs.RowLemmas.{HaveOwnTickets, changed_at, row_of_at}
-use Rattle.dispatch_core.specs.Steps.{with_entry, stage_of, waiting_of, MayComeNext, MayGrantNext, MayPut, GoesOn, CarriesOn, Places, Settles}
+use Rattle.dispatch_core.specs.Steps.{GoesOn, CarriesOn, Places, Settles}
+use Rattle.dispatch_trace.specs.Histories.{with_entry, stage_of, waiting_of, MayComeNext, MayGrantNext, MayPut}
 use Rattle.dispatch_core.proofs.Calls.{legal_consistent, over_granting, may_granting, few_wait, longer, same_setup, adds}
 use Rattle.dispatch_core.proofs.Phases.{failures_stay, pins_stay}
 

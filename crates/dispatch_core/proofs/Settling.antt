@@ -11,11 +11,14 @@ use Rattle.dispatch_log.specs.declared.setup.Setup.{Setup}
 use Rattle.dispatch_log.specs.Histories.{History, state_of, begins_event}
 use Rattle.dispatch_log.specs.Judgement.{Stage, leaving, telling, checking, falling, granting, IsOver, MayGrant, next_stage}
 use Rattle.dispatch_log.specs.Retries.{are_redispatched}
-use Rattle.dispatch_log.specs.Rows.{pin_of}
+use Rattle.dispatch_log.specs.Rows.{pin_of, in_phase}
 use Rattle.dispatch_log.specs.States.{State, after, opening_state}
 use Rattle.dispatch_log.proofs.Judged.{stage_after-push, after_all-push}
 use Rattle.dispatch_core.proofs.Phases.{failures_stay, pins_stay}
-use Rattle.dispatch_core.specs.Steps.{with_entry, stage_of, scene_of, waiting_of, IsOverNext, MayGrantNext, IsGrant, IsJudged, Settles}
+use Rattle.dispatch_core.proofs.Standing.{at_changed, at_after}
+use Rattle.dispatch_trace.specs.declared.position.Ticketed.{Ticketed}
+use Rattle.dispatch_core.specs.Steps.{Settles}
+use Rattle.dispatch_trace.specs.Histories.{with_entry, stage_of, scene_of, waiting_of, IsOverNext, MayGrantNext, IsGrant, IsJudged, IsAt}
 
 -- a grant owes nothing after it
 grant_over : (setup : Setup) (s : State) (t : Stage) (u v : ℕ) (q : Queue) → IsOver setup s t → IsOver setup (after setup s (Granted u q v)) (next_stage t (Granted u q v))
@@ -46,6 +49,7 @@ pub record GrantsSince (old now : History) : Type 0 where
   pub room : length now.log + waiting_of now ≤ now.setup.log
   pub counted : length grants + waiting_of now ≡ waiting_of old
   pub pins : (ticket : ℕ) → pin_of ticket (state_of now).rows ≡ pin_of ticket (state_of old).rows
+  pub places : (it : Ticketed) → IsAt (state_of old).rows it → IsAt (state_of now).rows it
 
 pub since_none : (h : History) → MayGrantNext h → length h.log + waiting_of h ≤ h.setup.log → GrantsSince h h
 since_none h may_grant room = record {
@@ -59,6 +63,7 @@ since_none h may_grant room = record {
   room = room;
   counted = omega arith;
   pins = λ ticket. refl;
+  places = λ it at. at;
 }
 
 pub since_more : (old now next : History) → GrantsSince old now → IsGrant now next → GrantsSince old next
@@ -84,6 +89,7 @@ since_more old now next since grant =
           let counted = since.counted in
           omega arith;
       pins = λ ticket. same_pins ticket ∙ since.pins ticket;
+      places = λ it at. at_after now next e it grant.grants (at_changed (state_of now).rows grant.ticket (in_phase (Serving grant.server)) it (λ r. (record r { phase = Serving grant.server }, refl, refl))) (since.places it at);
     }
   where
     same_pins : (ticket : ℕ) → pin_of ticket (state_of next).rows ≡ pin_of ticket (state_of now).rows
@@ -111,6 +117,7 @@ settles old now last since same judged settled = subst (λ (h : History). Settle
   may_grant = since.may_grant;
   few = (let counted = since.counted in omega arith);
   pins = λ ticket. since.pins ticket;
+  places = since.places;
   judged = subst IsJudged same judged;
   settled = settled;
 })

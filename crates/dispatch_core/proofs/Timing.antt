@@ -27,10 +27,12 @@ use Rattle.dispatch_log.proofs.RowLemmas.{with_change_own, with_change_other}
 use Rattle.pend_queue.specs.Pairs.{IsAscending}
 use Rattle.pend_queue.proofs.Ascending.{least_first, absent_from_rest, absent_at_member}
 use Rattle.pend_queue.proofs.Members.{Contains-nil, Contains-head, Contains-tail, Contains-cases}
-use Rattle.dispatch_core.specs.Steps.{with_entry, stage_of, scene_of, waits, waiting_of, IsJudged, MayComeNext, HasEntryRoom, Settles}
-use Rattle.dispatch_core.specs.Timeouts.{AreExpired, TimesOut}
+use Rattle.dispatch_core.specs.Steps.{Settles}
+use Rattle.dispatch_trace.specs.Histories.{with_entry, stage_of, scene_of, waits, waiting_of, IsJudged, MayComeNext, HasEntryRoom, IsAt}
+use Rattle.dispatch_core.specs.Steps.{TimesOut}
+use Rattle.dispatch_trace.specs.Timeouts.{AreExpired}
 use Rattle.dispatch_core.proofs.Calls.{longer, same_setup, few_wait, adds}
-use Rattle.dispatch_core.proofs.Expiring.{expired_since}
+use Rattle.dispatch_trace.proofs.Expiring.{expired_since}
 
 told_not_expired : (setup : Setup) (now : ℕ) (r : Row) (phase : Phase) → has_expired setup now r.phase → r.phase ≡ phase → is_waiting phase ≡ false → ⊥
 told_not_expired setup now r phase expired same idle =
@@ -74,7 +76,7 @@ some_waits rows t it =
     omega arith
 
 -- timeouts so far, and the tickets of those that are left
-pub record TellsSince (old now : History) (tickets : List (ℕ × Unit {0})) : Type 0 where
+pub record TellsSince (old now : History) (tickets : List (ℕ × ℕ)) : Type 0 where
   pub told : List Entry
   pub log : now.log ≡ old.log ++ told
   pub setup : now.setup ≡ old.setup
@@ -84,7 +86,7 @@ pub record TellsSince (old now : History) (tickets : List (ℕ × Unit {0})) : T
   pub expired : AreExpired now tickets
   pub ascending : IsAscending nat_cmp tickets
 
-pub tells_none : (h : History) (tickets : List (ℕ × Unit {0})) → stage_of h ≡ telling → length h.log + waiting_of h ≤ h.setup.log → AreExpired h tickets → IsAscending nat_cmp tickets → TellsSince h h tickets
+pub tells_none : (h : History) (tickets : List (ℕ × ℕ)) → stage_of h ≡ telling → length h.log + waiting_of h ≤ h.setup.log → AreExpired h tickets → IsAscending nat_cmp tickets → TellsSince h h tickets
 tells_none h tickets stage room expired up = record {
   told = [];
   log = sym (append-nil h.log);
@@ -96,36 +98,39 @@ tells_none h tickets stage room expired up = record {
   ascending = up;
 }
 
-first_of : (tickets : List (ℕ × Unit {0})) (t : ℕ) (u : Unit {0}) → Some (t, u) ≡ slice_get tickets 0 → tickets ≡ (t, tt) ∷ drop 1 tickets
+first_of : (tickets : List (ℕ × ℕ)) (t u : ℕ) → Some (t, u) ≡ slice_get tickets 0 → tickets ≡ (t, u) ∷ drop 1 tickets
 first_of [] t u e = cc
 first_of (x ∷ later) t u e = ap (λ z. z ∷ later) (sym (same_Some (t, u) x e))
 
-pub fewer_tickets : (tickets rest : List (ℕ × Unit {0})) (t : ℕ) (u : Unit {0}) → Some (t, u) ≡ slice_get tickets 0 → rest ≡ drop 1 tickets → length rest < length tickets
+pub fewer_tickets : (tickets rest : List (ℕ × ℕ)) (t u : ℕ) → Some (t, u) ≡ slice_get tickets 0 → rest ≡ drop 1 tickets → length rest < length tickets
 fewer_tickets tickets rest t u first left =
-    let a : length tickets ≡ length ((t, tt) ∷ drop 1 tickets) = ap length (first_of tickets t u first) in
-    let b : length ((t, tt) ∷ drop 1 tickets) ≡ length (drop 1 tickets) + 1 = omega arith in
+    let a : length tickets ≡ length ((t, u) ∷ drop 1 tickets) = ap length (first_of tickets t u first) in
+    let b : length ((t, u) ∷ drop 1 tickets) ≡ length (drop 1 tickets) + 1 = omega arith in
     let c : length rest ≡ length (drop 1 tickets) = ap length left in
     omega arith
 
-module _ (old now : History) (tickets : List (ℕ × Unit {0})) (t : ℕ) (u : Unit {0}) (since : TellsSince old now tickets) (first : Some (t, u) ≡ slice_get tickets 0) where
-  tickets_are : tickets ≡ (t, tt) ∷ drop 1 tickets
+module _ (old now : History) (tickets : List (ℕ × ℕ)) (t u : ℕ) (since : TellsSince old now tickets) (first : Some (t, u) ≡ slice_get tickets 0) where
+  tickets_are : tickets ≡ (t, u) ∷ drop 1 tickets
   tickets_are = first_of tickets t u first
 
-  ascending_are : IsAscending nat_cmp ((t, tt) ∷ drop 1 tickets)
+  ascending_are : IsAscending nat_cmp ((t, u) ∷ drop 1 tickets)
   ascending_are = subst (IsAscending nat_cmp) tickets_are since.ascending
 
-  its_row : (row : Row) × IsExpired now.setup (state_of now) row × (row.key.ticket ≡ t)
-  its_row = (since.expired t).0 (subst (λ (l : List (ℕ × Unit {0})). Contains l (t, tt)) (sym tickets_are) (Contains-head (t, tt) (drop 1 tickets)))
+  its_row : (row : Row) × StandsAt (state_of now).rows u row × has_expired now.setup (state_of now).moment row.phase × (row.key.ticket ≡ t)
+  its_row = (since.expired t u).0 (subst (λ (l : List (ℕ × ℕ)). Contains l (t, u)) (sym tickets_are) (Contains-head (t, u) (drop 1 tickets)))
+
+  pub its_place : IsAt (state_of now).rows (record { place = u; ticket = t })
+  its_place = (its_row.0, its_row.1, its_row.3)
 
   -- the first of them is told next
   is_first : IsFirstExpired now.setup (state_of now) t
   is_first = record {
     row = its_row.0;
-    expired = its_row.1;
-    named = its_row.2;
+    expired = ((u, its_row.1), its_row.2);
+    named = its_row.3;
     first = λ other expired.
-        let among = subst (λ (l : List (ℕ × Unit {0})). Contains l (other.key.ticket, tt)) tickets_are ((since.expired other.key.ticket).1 (other, expired, refl)) in
-        let least : nat_cmp t other.key.ticket ≢ Greater = least_first nat_cmp_total (t, tt) (drop 1 tickets) (other.key.ticket, tt) ascending_are among in
+        let among = subst (λ (l : List (ℕ × ℕ)). Contains l (other.key.ticket, expired.0.0)) tickets_are ((since.expired other.key.ticket expired.0.0).1 (other, expired.0.1, expired.1, refl)) in
+        let least : nat_cmp t other.key.ticket ≢ Greater = least_first nat_cmp_total (t, u) (drop 1 tickets) (other.key.ticket, expired.0.0) ascending_are among in
         grind (arith, nat_tests);
   }
 
@@ -135,9 +140,9 @@ module _ (old now : History) (tickets : List (ℕ × Unit {0})) (t : ℕ) (u : U
   pub expired_waits : IsInPhase is_waiting (state_of now).rows t
   expired_waits = record {
     row = its_row.0;
-    live = its_row.1.0;
-    named = its_row.2;
-    phase = ap is_waiting (expired_since now.setup (state_of now).moment its_row.0.phase its_row.1.1).waits;
+    live = (u, its_row.1);
+    named = its_row.3;
+    phase = ap is_waiting (expired_since now.setup (state_of now).moment its_row.0.phase its_row.2).waits;
   }
 
   pub timeout_room : length now.log < now.setup.log
@@ -156,28 +161,28 @@ module _ (old now : History) (tickets : List (ℕ × Unit {0})) (t : ℕ) (u : U
     setup_next = same_setup now next (Left t Timeout) goes
 
     left_expired : AreExpired next (drop 1 tickets)
-    left_expired ticket =
-        subst (λ (x : Setup). (Contains (drop 1 tickets) (ticket, tt) → (row : Row) × IsExpired x (state_of next) row × (row.key.ticket ≡ ticket)) × ((row : Row) × IsExpired x (state_of next) row × (row.key.ticket ≡ ticket) → Contains (drop 1 tickets) (ticket, tt))) (sym setup_next)
-        (state_next (λ (s : State). (Contains (drop 1 tickets) (ticket, tt) → (row : Row) × IsExpired now.setup s row × (row.key.ticket ≡ ticket)) × ((row : Row) × IsExpired now.setup s row × (row.key.ticket ≡ ticket) → Contains (drop 1 tickets) (ticket, tt))) (
+    left_expired ticket place =
+        subst (λ (x : Setup). (Contains (drop 1 tickets) (ticket, place) → (row : Row) × StandsAt (state_of next).rows place row × has_expired x (state_of next).moment row.phase × (row.key.ticket ≡ ticket)) × ((row : Row) × StandsAt (state_of next).rows place row × has_expired x (state_of next).moment row.phase × (row.key.ticket ≡ ticket) → Contains (drop 1 tickets) (ticket, place))) (sym setup_next)
+        (state_next (λ (s : State). (Contains (drop 1 tickets) (ticket, place) → (row : Row) × StandsAt s.rows place row × has_expired now.setup s.moment row.phase × (row.key.ticket ≡ ticket)) × ((row : Row) × StandsAt s.rows place row × has_expired now.setup s.moment row.phase × (row.key.ticket ≡ ticket) → Contains (drop 1 tickets) (ticket, place))) (
           λ among.
-              let it = (since.expired ticket).0 (subst (λ (l : List (ℕ × Unit {0})). Contains l (ticket, tt)) (sym tickets_are) (Contains-tail (t, tt) (drop 1 tickets) (ticket, tt) among)) in
-              let other : it.0.key.ticket ≢ t = λ same. others among (sym it.2 ∙ same) in
-              (it.0, ((it.1.0.0, other_stands now.setup (state_of now).rows (state_of now).moment t (Told Timeout) refl it.1.0.0 it.0 it.1.0.1 other), it.1.1), it.2),
+              let it = (since.expired ticket place).0 (subst (λ (l : List (ℕ × ℕ)). Contains l (ticket, place)) (sym tickets_are) (Contains-tail (t, u) (drop 1 tickets) (ticket, place) among)) in
+              let other : it.0.key.ticket ≢ t = λ same. others among (sym it.3 ∙ same) in
+              (it.0, other_stands now.setup (state_of now).rows (state_of now).moment t (Told Timeout) refl place it.0 it.1 other, it.2, it.3),
           λ its.
-              let was = still_expired now.setup (state_of now).rows (state_of now).moment t (Told Timeout) refl its.1.0.0 its.0 its.1.0.1 its.1.1 in
-              let among = subst (λ (l : List (ℕ × Unit {0})). Contains l (ticket, tt)) tickets_are ((since.expired ticket).1 (its.0, ((its.1.0.0, was.0), its.1.1), its.2)) in
-              elim (Contains-cases (t, tt) (drop 1 tickets) (ticket, tt) among) [
-                | inl e ↦ absurd (was.1 (its.2 ∙ ap (λ (x : ℕ × Unit {0}). x.0) (sym e)))
+              let was = still_expired now.setup (state_of now).rows (state_of now).moment t (Told Timeout) refl place its.0 its.1 its.2 in
+              let among = subst (λ (l : List (ℕ × ℕ)). Contains l (ticket, place)) tickets_are ((since.expired ticket place).1 (its.0, was.0, its.2, its.3)) in
+              elim (Contains-cases (t, u) (drop 1 tickets) (ticket, place) among) [
+                | inl e ↦ absurd (was.1 (its.3 ∙ ap (λ (x : ℕ × ℕ). x.0) (sym e)))
                 | inr e ↦ e
               ],
         ))
       where
-        others : Contains (drop 1 tickets) (ticket, tt) → ticket ≡ t → ⊥
+        others : Contains (drop 1 tickets) (ticket, place) → ticket ≡ t → ⊥
         others among same =
             let tied : nat_cmp ticket t ≡ Equal = grind (arith, nat_tests) in
-            absent_at_member nat_cmp t (drop 1 tickets) (ticket, tt) (absent_from_rest nat_cmp_total (t, tt) (drop 1 tickets) ascending_are) among tied
+            absent_at_member nat_cmp t (drop 1 tickets) (ticket, place) (absent_from_rest nat_cmp_total (t, u) (drop 1 tickets) ascending_are) among tied
 
-    pub tells_more : (rest : List (ℕ × Unit {0})) → rest ≡ drop 1 tickets → waiting_of next + 1 ≡ waiting_of now → TellsSince old next rest
+    pub tells_more : (rest : List (ℕ × ℕ)) → rest ≡ drop 1 tickets → waiting_of next + 1 ≡ waiting_of now → TellsSince old next rest
     tells_more rest left fewer = subst (TellsSince old next) (sym left) (record {
       told = since.told ++ Left t Timeout ∷ [];
       log = ap (λ (x : History). x.log) goes ∙ ap (λ (l : List Entry). l ++ Left t Timeout ∷ []) since.log ∙ append_assoc old.log since.told (Left t Timeout ∷ []);
@@ -190,15 +195,15 @@ module _ (old now : History) (tickets : List (ℕ × Unit {0})) (t : ℕ) (u : U
           let room = since.room in
           omega arith;
       expired = left_expired;
-      ascending = subst (λ (l : List (ℕ × Unit {0})). IsAscending nat_cmp (drop 1 l)) (sym tickets_are) ascending_are.1;
+      ascending = subst (λ (l : List (ℕ × ℕ)). IsAscending nat_cmp (drop 1 l)) (sym tickets_are) ascending_are.1;
     })
 
 -- where no ticket is left, nothing is owed but grants
-none_left : (tickets : List (ℕ × Unit {0})) → None ≡ slice_get tickets 0 → tickets ≡ []
+none_left : (tickets : List (ℕ × ℕ)) → None ≡ slice_get tickets 0 → tickets ≡ []
 none_left [] e = refl
 none_left (x ∷ later) e = cc
 
-pub times_out : (old now : History) (tickets : List (ℕ × Unit {0})) → TellsSince old now tickets → None ≡ slice_get tickets 0 → TimesOut old now
+pub times_out : (old now : History) (tickets : List (ℕ × ℕ)) → TellsSince old now tickets → None ≡ slice_get tickets 0 → TimesOut old now
 times_out old now tickets since none = record {
   told = since.told;
   log = since.log;
@@ -210,7 +215,7 @@ times_out old now tickets since none = record {
 }
   where
     over : (row : Row) → IsExpired now.setup (state_of now) row → ⊥
-    over row expired = Contains-nil (row.key.ticket, tt) (subst (λ (l : List (ℕ × Unit {0})). Contains l (row.key.ticket, tt)) (none_left tickets none) ((since.expired row.key.ticket).1 (row, expired, refl)))
+    over row expired = Contains-nil (row.key.ticket, expired.0.0) (subst (λ (l : List (ℕ × ℕ)). Contains l (row.key.ticket, expired.0.0)) (none_left tickets none) ((since.expired row.key.ticket expired.0.0).1 (row, expired.0.1, expired.1, refl)))
 
 -- the calls of a tick
 module _ (h one : History) (m : ℕ) (begun : one ≡ with_entry h (Tick m)) where

@@ -1,11 +1,10 @@
 -- The healths of servers, by the results of their checks.
-use Rattle.std.specs.Prelude.{◌≡◌, ℕ, ◌≤◌, Bool, false, List, [], Option, None, Some, MatchOption, length, slice_get, slice_index_or}
+use Rattle.std.specs.Prelude.{◌≡◌, ℕ, ◌≤◌, Bool, List, [], Option, None, Some, MatchOption, length, slice_get, slice_index_or}
 use Rattle.check_state.specs.Standing.{Standing, IsHealthOf}
 use Rattle.dispatch_log.specs.declared.setup.ServerSet.{ServerSet}
-use Rattle.dispatch_log.specs.Health.{results_of, ups_of}
+use Rattle.dispatch_log.specs.Health.{results_of}
 use Rattle.dispatch_log.specs.Histories.{History, IsLegal, state_of}
 use Rattle.pend_queue.specs.Held.{Held}
-use Rattle.dispatch_core.specs.Lines.{Waits}
 
 -- the health of a server that is checked by rise and fall is that of its results; one that isn't checked has none
 abbrev pub IsHealthBy : Option (ℕ × ℕ) → List Bool → Option Standing → Type 0
@@ -18,15 +17,9 @@ pub record AreHealths (servers : List ServerSet) (results : List (List Bool)) (h
   pub each_one : length healths ≡ length servers
   pub each : (server : ℕ) (it : ServerSet) → slice_get servers server ≡ Some it → IsHealthBy it.rise_fall (results_of results server) (slice_index_or healths server None)
 
--- whether a server is up by the results
-abbrev pub is_up_at : List ServerSet → List (List Bool) → ℕ → Bool
-is_up_at servers results server = slice_index_or (ups_of servers results) server false
-
--- a core's log is legal, it keeps the servers' healths, and its two spare queues are empty and have room for all requests
-pub record IsCore (history : History) (healths : List (Option Standing)) (spare : Waits) (room : ℕ) (expiring : Held ℕ (Unit {0})) : Type 0 where
+-- a core's log is legal, it keeps the servers' healths, and its queue of expired requests is empty and has room for all
+pub record IsCore (history : History) (healths : List (Option Standing)) (expiring : Held ℕ ℕ) : Type 0 where
   pub legal : IsLegal history
   pub healthy : AreHealths history.setup.servers (state_of history).results healths
-  pub empty : spare ≡ []
-  pub roomy : room ≡ history.setup.places
   pub none : expiring.pairs ≡ []
   pub places : history.setup.places ≤ expiring.room

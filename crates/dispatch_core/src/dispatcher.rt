@@ -3,19 +3,18 @@ ghost use Rattle.dispatch_log.specs.declared.entry.Entry.TheVariants.{Arrive, Do
 ghost use Rattle.dispatch_log.specs.Dispatch.{IsDispatched};
 ghost use Rattle.dispatch_log.specs.Histories.{History, IsLegal, state_of, effective, refuses_arrival, refuses_done, refuses_failure, refuses_abort, refuses_tick, refuses_check, SomeExpires, AddsEvent, RefusedOrNoMemory};
 ghost use Rattle.check_state.specs.Standing.{change_between};
-ghost use Rattle.dispatch_log.specs.Judgement.{returning, failing, checking, telling, was_up, HasSlot};
+ghost use Rattle.dispatch_log.specs.Judgement.{returning, failing, checking, falling, telling, was_up, HasSlot};
 ghost use Rattle.dispatch_log.specs.Words.{is_up};
 ghost use Rattle.dispatch_log.specs.Retries.{are_spent, are_redispatched};
 ghost use Rattle.dispatch_log.specs.Rows.{row_of, pin_of, failures_of, served, queued};
 ghost use Rattle.dispatch_log.specs.Setups.{IsSound};
-ghost use Rattle.dispatch_core.specs.Timeouts.{TimesOut};
-ghost use Rattle.dispatch_core.specs.Steps.{stage_of, scene_of, waiting_of, MayPut, MayGrantNext, IsReturn, HasEntryRoom, Places, Leaves, Settles, CarriesOn};
+ghost use Rattle.dispatch_core.specs.Steps.{IsReturn, Places, Leaves, Settles, CarriesOn, MovesAll, TimesOut};
+ghost use Rattle.dispatch_trace.specs.Histories.{stage_of, scene_of, waiting_of, IsAt, MayPut, MayGrantNext, HasEntryRoom};
 
-use crate::fate::Fate;
 use crate::healths::Healths;
-use crate::trace::{Ticketed, Trace};
 use check_state::Change;
 use dispatch_log::{Phase, Queue, Refusal, Setup};
+use dispatch_trace::{Fate, Ticketed, Trace};
 use due_key::{Class, Key, Moment, Offset};
 use pend_queue::{ListQueue, PendQueue};
 use readable_log::Log;
@@ -27,16 +26,14 @@ use verdict::Cause;
 /// A dispatcher. Each call that is accepted adds one event to its log, which is legal after every
 /// call; a call that is refused changes nothing.
 #[derive(Drop)]
-pub struct Core<Q: PendQueue<Key, ()>> {
+pub struct Core<Q: PendQueue<Key, usize>> {
     trace: Trace<Q>,
     healths: Healths,
-    // An empty queue, for the requests of a server that goes down while they are moved.
-    spare: Q,
-    // The tickets of the requests that a tick times out; empty between calls.
-    expiring: ListQueue<u64, ()>,
+    // The requests that a tick times out, by ticket with their places; empty between calls.
+    expiring: ListQueue<u64, usize>,
 }
 
-impl<Q: PendQueue<Key, ()>> Model for Core<Q> {
+impl<Q: PendQueue<Key, usize>> Model for Core<Q> {
     ghost use Rattle.dispatch_log.specs.Histories.{History};
     ghost use Rattle.dispatch_core.specs.Checks.{IsCore};
 
@@ -44,10 +41,10 @@ impl<Q: PendQueue<Key, ()>> Model for Core<Q> {
 
     ghost view = { λ core. core.trace };
 
-    ghost invariant = { λ core. IsCore core.trace core.healths (Q.pairs core.spare) (Q.room core.spare) core.expiring };
+    ghost invariant = { λ core. IsCore core.trace core.healths core.expiring };
 }
 
-impl<Q: PendQueue<Key, ()>> Core<Q> {
+impl<Q: PendQueue<Key, usize>> Core<Q> {
     /// A dispatcher without a request, all servers up. Rows, queues and log are reserved here, so that it fails
     /// only where memory is refused; the setup is gone then.
     pub fn new(alloc: Global, setup: Setup) -> Result<Core<Q>, AllocError>
@@ -55,12 +52,10 @@ impl<Q: PendQueue<Key, ()>> Core<Q> {
         ensures { IfOk result (λ core. core ≡ record { setup = setup; log = [] }) }
     {
         let healths = Healths::new(alloc, setup.servers.as_slice())?;
-        let spare = Q::with_room(alloc, setup.places)?;
         let expiring = ListQueue::with_room(alloc, setup.places)?;
         Ok(Core {
             trace: Trace::new(alloc, setup)?,
             healths,
-            spare,
             expiring,
         })
     }
@@ -88,7 +83,7 @@ impl<Q: PendQueue<Key, ()>> Core<Q> {
         let Ok(it) = self.trace.arrive(alloc, moment, class, offset, pin) else {
             return Err(Refusal::NoMemory);
         };
-        place(&mut self.trace, it.ticket, pin, None);
+        place(&mut self.trace, it, pin, None);
         settle(&mut self.trace);
         Ok(it)
     }
@@ -103,12 +98,13 @@ impl<Q: PendQueue<Key, ()>> Core<Q> {
         ensures unchanged { OnErr result (self.new ≡ self.old) }
         ensures dispatched { IsDispatched self.new }
     {
-        if let Some(refusal) = self.trace.refuses_done(ticket) {
-            return Err(refusal);
-        }
-        let server = self.trace.server_of(ticket);
-        self.trace.done(moment, ticket);
-        leave(&mut self.trace, ticket, server);
+        let it = match self.trace.accept_done(ticket) {
+            Ok(it) => it,
+            Err(refusal) => return Err(refusal),
+        };
+        let server = self.trace.phase(it).server();
+        self.trace.done(moment, it);
+        leave(&mut self.trace, it, server);
         settle(&mut self.trace);
         Ok(())
     }
@@ -125,14 +121,15 @@ impl<Q: PendQueue<Key, ()>> Core<Q> {
         ensures unchanged { OnErr result (self.new ≡ self.old) }
         ensures dispatched { IsDispatched self.new }
     {
-        if let Some(refusal) = self.trace.refuses_failure(ticket) {
-            return Err(refusal);
-        }
-        let Some(server) = self.trace.server_of(ticket) else {
+        let it = match self.trace.accept_failure(ticket) {
+            Ok(it) => it,
+            Err(refusal) => return Err(refusal),
+        };
+        let Some(server) = self.trace.phase(it).server() else {
             unreachable!()
         };
-        let failures = self.trace.fail(moment, ticket);
-        carry_on(&mut self.trace, ticket, server, failures);
+        let failures = self.trace.fail(moment, it);
+        carry_on(&mut self.trace, it, server, failures);
         settle(&mut self.trace);
         Ok(())
     }
@@ -148,11 +145,12 @@ impl<Q: PendQueue<Key, ()>> Core<Q> {
         ensures unchanged { OnErr result (self.new ≡ self.old) }
         ensures dispatched { IsDispatched self.new }
     {
-        if let Some(refusal) = self.trace.refuses_abort(ticket) {
-            return Err(refusal);
-        }
-        self.trace.abort(moment, ticket);
-        self.trace.dismiss(ticket, Cause::Aborted);
+        let it = match self.trace.accept_abort(ticket) {
+            Ok(it) => it,
+            Err(refusal) => return Err(refusal),
+        };
+        self.trace.abort(moment, it);
+        self.trace.dismiss(it, Cause::Aborted);
         settle(&mut self.trace);
         Ok(())
     }
@@ -196,7 +194,7 @@ impl<Q: PendQueue<Key, ()>> Core<Q> {
         let change = self.healths.result(server, ok);
         let up = self.healths.up(server);
         self.trace.check(moment, server, ok, up);
-        follow(&mut self.trace, &mut self.spare, server, change);
+        follow(&mut self.trace, server, change);
         settle(&mut self.trace);
         Ok(())
     }
@@ -221,7 +219,10 @@ impl<Q: PendQueue<Key, ()>> Core<Q> {
     pub fn phase(&self, ticket: u64) -> Option<Phase>
         ensures { result ≡ option_map (λ row. row.phase) (row_of ticket (state_of self.now).rows) }
     {
-        self.trace.phase(ticket)
+        match self.trace.find(ticket) {
+            None => None,
+            Some(it) => Some(self.trace.phase(it)),
+        }
     }
 
     /// How many requests a server serves. `O(1)`.
@@ -248,133 +249,147 @@ impl<Q: PendQueue<Key, ()>> Core<Q> {
 
 /// Puts a request that is in no place on a server or into a queue, or tells it that no server could
 /// take it.
-fn place<Q: PendQueue<Key, ()>>(
+fn place<Q: PendQueue<Key, usize>>(
     trace: &mut Trace<Q>,
-    ticket: u64,
+    it: Ticketed,
     pin: Option<usize>,
     avoid: Option<usize>,
 )
-    requires may_put { MayPut trace.old pin avoid ticket }
-    requires pin { pin_of ticket (state_of trace.old).rows ≡ pin }
+    requires at { IsAt (state_of trace.old).rows it }
+    requires may_put { MayPut trace.old pin avoid it.ticket }
+    requires pin { pin_of it.ticket (state_of trace.old).rows ≡ pin }
     requires room { length trace.old.log < trace.old.setup.log }
     ensures { Places trace.old trace.new }
 {
     let (placement, cursor) = trace.placement(pin, avoid);
     match placement {
-        Placement::Slot(server) => trace.direct(ticket, server, cursor),
-        Placement::OwnQueue(server) => trace.join(ticket, Queue::Server(server), cursor),
-        Placement::BackendQueue => trace.join(ticket, Queue::Backend, cursor),
-        Placement::Nowhere => trace.tell(ticket, Cause::NoServer),
+        Placement::Slot(server) => trace.direct(it, server, cursor),
+        Placement::OwnQueue(server) => trace.join(it, Queue::Server(server), cursor),
+        Placement::BackendQueue => trace.join(it, Queue::Backend, cursor),
+        Placement::Nowhere => trace.tell(it, Cause::NoServer),
     }
 }
 
 /// Ends a request, and gives its slot back where it has one.
-fn leave<Q: PendQueue<Key, ()>>(trace: &mut Trace<Q>, ticket: u64, server: Option<usize>)
-    requires returning { stage_of trace.old ≡ returning ticket }
-    requires row { IsReturn (state_of trace.old).rows ticket server }
+fn leave<Q: PendQueue<Key, usize>>(trace: &mut Trace<Q>, it: Ticketed, server: Option<usize>)
+    requires at { IsAt (state_of trace.old).rows it }
+    requires returning { stage_of trace.old ≡ returning it.ticket }
+    requires row { IsReturn (state_of trace.old).rows it.ticket server }
     requires room { length trace.old.log + 2 ≤ trace.old.setup.log }
     ensures { Leaves trace.old trace.new }
 {
     match server {
-        Some(server) => give_back(trace, ticket, server),
-        None => trace.end(ticket),
+        Some(server) => give_back(trace, it, server),
+        None => trace.end(it),
     }
 }
 
 /// Gives a request's slot back, and ends the request.
-fn give_back<Q: PendQueue<Key, ()>>(trace: &mut Trace<Q>, ticket: u64, server: usize)
-    requires returning { stage_of trace.old ≡ returning ticket }
-    requires slot { HasSlot (state_of trace.old).rows ticket server }
+fn give_back<Q: PendQueue<Key, usize>>(trace: &mut Trace<Q>, it: Ticketed, server: usize)
+    requires at { IsAt (state_of trace.old).rows it }
+    requires returning { stage_of trace.old ≡ returning it.ticket }
+    requires slot { HasSlot (state_of trace.old).rows it.ticket server }
     requires room { length trace.old.log + 2 ≤ trace.old.setup.log }
     ensures { Leaves trace.old trace.new }
 {
-    trace.free(ticket, server);
-    trace.end(ticket);
+    trace.free(it, server);
+    trace.end(it);
 }
 
 /// Tries a request again whose connection failed, or tells it that its retries are spent.
-fn carry_on<Q: PendQueue<Key, ()>>(trace: &mut Trace<Q>, ticket: u64, server: usize, failures: u32)
-    requires failing { stage_of trace.old ≡ failing ticket }
-    requires slot { HasSlot (state_of trace.old).rows ticket server }
-    requires failures { failures_of ticket (state_of trace.old).rows ≡ failures }
-    requires pin { IsTrue (are_redispatched trace.old.setup failures) → pin_of ticket (state_of trace.old).rows ≡ None }
+fn carry_on<Q: PendQueue<Key, usize>>(
+    trace: &mut Trace<Q>,
+    it: Ticketed,
+    server: usize,
+    failures: u32,
+)
+    requires at { IsAt (state_of trace.old).rows it }
+    requires failing { stage_of trace.old ≡ failing it.ticket }
+    requires slot { HasSlot (state_of trace.old).rows it.ticket server }
+    requires failures { failures_of it.ticket (state_of trace.old).rows ≡ failures }
+    requires pin { IsTrue (are_redispatched trace.old.setup failures) → pin_of it.ticket (state_of trace.old).rows ≡ None }
     requires room { length trace.old.log + 2 * trace.old.setup.places + 3 ≤ trace.old.setup.log }
     ensures { CarriesOn trace.old trace.new }
 {
     match trace.fate(failures) {
-        Fate::Retried => trace.retry(ticket, server, failures),
-        Fate::Spent => give_up(trace, ticket, server),
-        Fate::Redispatched => redispatch(trace, ticket, server),
+        Fate::Retried => trace.retry(it.ticket, server, failures),
+        Fate::Spent => give_up(trace, it, server),
+        Fate::Redispatched => redispatch(trace, it, server),
     }
 }
 
 /// Gives a request's slot back, and tells it that its retries are spent.
-fn give_up<Q: PendQueue<Key, ()>>(trace: &mut Trace<Q>, ticket: u64, server: usize)
-    requires failing { stage_of trace.old ≡ failing ticket }
-    requires slot { HasSlot (state_of trace.old).rows ticket server }
-    requires spent { IsTrue (are_spent trace.old.setup (failures_of ticket (state_of trace.old).rows)) }
+fn give_up<Q: PendQueue<Key, usize>>(trace: &mut Trace<Q>, it: Ticketed, server: usize)
+    requires at { IsAt (state_of trace.old).rows it }
+    requires failing { stage_of trace.old ≡ failing it.ticket }
+    requires slot { HasSlot (state_of trace.old).rows it.ticket server }
+    requires spent { IsTrue (are_spent trace.old.setup (failures_of it.ticket (state_of trace.old).rows)) }
     requires room { length trace.old.log + 2 * trace.old.setup.places + 3 ≤ trace.old.setup.log }
     ensures { CarriesOn trace.old trace.new }
 {
-    trace.free(ticket, server);
-    trace.tell(ticket, Cause::Retries);
+    trace.free(it, server);
+    trace.tell(it, Cause::Retries);
 }
 
 /// Gives a request's slot back, which others take first, and puts the request anew, away from the
 /// server where it can be.
-fn redispatch<Q: PendQueue<Key, ()>>(trace: &mut Trace<Q>, ticket: u64, server: usize)
-    requires failing { stage_of trace.old ≡ failing ticket }
-    requires slot { HasSlot (state_of trace.old).rows ticket server }
-    requires redispatched { IsTrue (are_redispatched trace.old.setup (failures_of ticket (state_of trace.old).rows)) }
-    requires pin { pin_of ticket (state_of trace.old).rows ≡ None }
+fn redispatch<Q: PendQueue<Key, usize>>(trace: &mut Trace<Q>, it: Ticketed, server: usize)
+    requires at { IsAt (state_of trace.old).rows it }
+    requires failing { stage_of trace.old ≡ failing it.ticket }
+    requires slot { HasSlot (state_of trace.old).rows it.ticket server }
+    requires redispatched { IsTrue (are_redispatched trace.old.setup (failures_of it.ticket (state_of trace.old).rows)) }
+    requires pin { pin_of it.ticket (state_of trace.old).rows ≡ None }
     requires room { length trace.old.log + 2 * trace.old.setup.places + 3 ≤ trace.old.setup.log }
     ensures { CarriesOn trace.old trace.new }
 {
-    trace.free(ticket, server);
+    trace.free(it, server);
     settle(trace);
-    place(trace, ticket, None, Some(server));
+    place(trace, it, None, Some(server));
 }
 
 /// Notes what a check changed of a server's health, and what follows from it.
-fn follow<Q: PendQueue<Key, ()>>(trace: &mut Trace<Q>, spare: &mut Q, server: usize, change: Change)
+fn follow<Q: PendQueue<Key, usize>>(trace: &mut Trace<Q>, server: usize, change: Change)
     requires checking { stage_of trace.old ≡ checking server }
     requires change { change ≡ change_between (was_up trace.old.setup (state_of trace.old) server) (is_up (scene_of trace.old) server) }
     requires within { server < length trace.old.setup.servers }
     requires room { length trace.old.log + 2 * trace.old.setup.places + 3 ≤ trace.old.setup.log }
-    requires empty { Q.pairs spare.old ≡ [] }
-    requires spare_room { Q.room spare.old ≡ trace.old.setup.places }
-    ensures carries { CarriesOn trace.old trace.new }
-    ensures emptied { Q.pairs spare.new ≡ [] }
-    ensures kept { Q.room spare.new ≡ Q.room spare.old }
+    ensures { CarriesOn trace.old trace.new }
 {
     match change {
         Change::Stay => {}
         Change::WentUp => trace.tell_health(server, true),
-        Change::WentDown => fall(trace, spare, server),
+        Change::WentDown => fall(trace, server),
     }
 }
 
 /// Notes that a server went down, and moves its requests where they are to be moved.
-fn fall<Q: PendQueue<Key, ()>>(trace: &mut Trace<Q>, spare: &mut Q, server: usize)
+fn fall<Q: PendQueue<Key, usize>>(trace: &mut Trace<Q>, server: usize)
     requires checking { stage_of trace.old ≡ checking server }
     requires was { was_up trace.old.setup (state_of trace.old) server ≡ true }
     requires down { is_up (scene_of trace.old) server ≡ false }
     requires within { server < length trace.old.setup.servers }
     requires room { length trace.old.log + 2 * trace.old.setup.places + 3 ≤ trace.old.setup.log }
-    requires empty { Q.pairs spare.old ≡ [] }
-    requires spare_room { Q.room spare.old ≡ trace.old.setup.places }
-    ensures carries { CarriesOn trace.old trace.new }
-    ensures emptied { Q.pairs spare.new ≡ [] }
-    ensures kept { Q.room spare.new ≡ Q.room spare.old }
+    ensures { CarriesOn trace.old trace.new }
 {
     trace.tell_health(server, false);
-    if trace.redispatches() {
-        trace.move_all(server, spare);
+    if trace.setup().redispatch {
+        move_all(trace, server);
     }
 }
 
+/// Moves the requests of a server's queue into the backend's, by rising key.
+fn move_all<Q: PendQueue<Key, usize>>(trace: &mut Trace<Q>, server: usize)
+    requires falling { stage_of trace.old ≡ falling server }
+    requires redispatch { IsTrue trace.old.setup.redispatch }
+    requires within { server < length trace.old.setup.servers }
+    requires room { length trace.old.log + waiting_of trace.old ≤ trace.old.setup.log }
+    ensures { MovesAll server trace.old trace.new }
+{
+    'moving: while trace.move_first(server) {}
+}
+
 /// Grants slots until all is settled.
-fn settle<Q: PendQueue<Key, ()>>(trace: &mut Trace<Q>)
+fn settle<Q: PendQueue<Key, usize>>(trace: &mut Trace<Q>)
     requires may_grant { MayGrantNext trace.old }
     requires room { length trace.old.log + waiting_of trace.old ≤ trace.old.setup.log }
     ensures { Settles trace.old trace.new }
@@ -383,7 +398,7 @@ fn settle<Q: PendQueue<Key, ()>>(trace: &mut Trace<Q>)
 }
 
 /// Tells the requests that have waited as long as they may, by rising ticket.
-fn time_out<Q: PendQueue<Key, ()>>(trace: &mut Trace<Q>, tickets: &mut ListQueue<u64, ()>)
+fn time_out<Q: PendQueue<Key, usize>>(trace: &mut Trace<Q>, tickets: &mut ListQueue<u64, usize>)
     requires telling { stage_of trace.old ≡ telling }
     requires room { length trace.old.log + waiting_of trace.old ≤ trace.old.setup.log }
     requires none { tickets.old.pairs ≡ [] }
@@ -393,7 +408,7 @@ fn time_out<Q: PendQueue<Key, ()>>(trace: &mut Trace<Q>, tickets: &mut ListQueue
     ensures kept { tickets.new.room ≡ tickets.old.room }
 {
     trace.gather(tickets);
-    'telling: while let Some((ticket, _)) = tickets.pop() {
-        trace.dismiss(ticket, Cause::Timeout);
+    'telling: while let Some((ticket, place)) = tickets.pop() {
+        trace.dismiss(Ticketed { place, ticket }, Cause::Timeout);
     }
 }

@@ -3,7 +3,8 @@ ghost use Rattle.check_state.specs.Standing.{Standing, change_between};
 ghost use Rattle.dispatch_log.specs.declared.setup.ServerSet.{ServerSet};
 ghost use Rattle.dispatch_log.specs.Health.{with_result};
 ghost use Rattle.dispatch_log.specs.Setups.{is_within};
-ghost use Rattle.dispatch_core.specs.Checks.{AreHealths, IsHealthBy, is_up_at};
+ghost use Rattle.dispatch_core.specs.Checks.{AreHealths, IsHealthBy};
+ghost use Rattle.dispatch_trace.specs.Traces.{is_up_at};
 
 use check_state::{Change, Health};
 use dispatch_log::ServerSet;

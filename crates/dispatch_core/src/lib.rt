@@ -4,14 +4,11 @@
 #![tactic(auto)]
 
 mod dispatcher;
-mod fate;
 mod healths;
-mod queues;
-mod trace;
 
 pub use crate::dispatcher::Core;
-pub use crate::trace::Ticketed;
 pub use dispatch_log::{Phase, Queue, Refusal, ServerSet, Servers, Setup};
+pub use dispatch_trace::Ticketed;
 pub use readable_log::Log;
 
 #[cfg(test)]

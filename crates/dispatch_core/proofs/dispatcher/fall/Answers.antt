@@ -1,4 +1,5 @@
-use Rattle.std.proofs.Common.{sym, ◌∙◌}
+use Rattle.std.proofs.Common.{ap, sym, ◌∙◌}
+use Rattle.dispatch_log.specs.declared.setup.Setup.{Setup}
 use Rattle.dispatch_core.proofs.Following.{may_tell_down, fallen_stage, fallen_room, carries_down, carries_moved}
 use Rattle.dispatch_core.proofs.dispatcher.fall.Goals as goal
 
@@ -11,8 +12,8 @@ move_all-requires-clause-falling g c = fallen_stage c.args.trace.now c.args.serv
 pub move_all-requires-clause-room : goal.move_all-requires-clause-room
 move_all-requires-clause-room g c = fallen_room c.args.trace.now c.args.server c.requires.checking c.tell_health.new.self c.tell_health.ensures c.requires.room
 
-pub returns-then-redispatches-clause-carries : goal.returns-then-redispatches-clause-carries
-returns-then-redispatches-clause-carries g c = carries_moved c.args.trace.now c.args.server c.requires.checking c.tell_health.new.self c.tell_health.ensures c.move_all.new.self c.move_all.ensures.moves c.requires.room
+pub returns-then-setup : goal.returns-then-setup
+returns-then-setup g c = carries_moved c.args.trace.now c.args.server c.requires.checking c.tell_health.new.self c.tell_health.ensures c.move_all.new.trace c.move_all.ensures c.requires.room
 
-pub returns-else-redispatches-clause-carries : goal.returns-else-redispatches-clause-carries
-returns-else-redispatches-clause-carries g c = carries_down c.args.trace.now c.args.server c.requires.checking c.tell_health.new.self c.tell_health.ensures (sym c.redispatches.ensures ∙ c.if-redispatches.false) c.requires.room
+pub returns-else-setup : goal.returns-else-setup
+returns-else-setup g c = carries_down c.args.trace.now c.args.server c.requires.checking c.tell_health.new.self c.tell_health.ensures (ap (λ (s : Setup). s.redispatch) (sym c.setup.ensures.setup) ∙ c.if-setup.false) c.requires.room

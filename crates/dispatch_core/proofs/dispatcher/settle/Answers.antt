@@ -1,4 +1,4 @@
-use Rattle.dispatch_core.proofs.Settling.{since_none, since_more}
+use Rattle.dispatch_core.proofs.Settling.{since_none, since_more, settles}
 use Rattle.dispatch_core.proofs.dispatcher.settle.Goals as goal
 
 pub granting-preserved : goal.granting-preserved
@@ -6,3 +6,6 @@ granting-preserved g c = since_more _ _ _ c.granting.invariant c.granting-test.e
 
 pub granting-init : goal.granting-init
 granting-init g c = since_none c.args.trace.now c.requires.may_grant c.requires.room
+
+pub returns : goal.returns
+returns g c = settles c.args.trace.now c.granting.trace _ c.granting.invariant c.granting-test.ensures.unchanged c.granting-test.ensures.judged c.granting-test.ensures.settled

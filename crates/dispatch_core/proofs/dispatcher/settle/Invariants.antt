@@ -1,4 +1,4 @@
-use Rattle.dispatch_core.specs.Steps.{waiting_of}
+use Rattle.dispatch_trace.specs.Histories.{waiting_of}
 use Rattle.dispatch_core.proofs.Settling.{GrantsSince}
 use Rattle.dispatch_core.proofs.dispatcher.settle.Given as goal
 

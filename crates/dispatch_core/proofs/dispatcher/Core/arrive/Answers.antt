@@ -25,5 +25,5 @@ returns-clause-dispatched g c = added_dispatched c.self.inside.trace c.settle.ne
 
 pub invariant_of-self-2 : goal.invariant_of-self-2
 invariant_of-self-2 g c =
-    core_kept c.self.inside.trace c.settle.new.trace _ _ _ _ _ _ c.self.invariant
+    core_kept c.self.inside.trace c.settle.new.trace _ _ _ _ c.self.invariant
     (arrive_adds c.self.inside.trace c.arrive.new.self c.place.new.trace c.settle.new.trace _ _ c.in-Ok.ensures.ok c.place.ensures c.settle.ensures) refl c.self.invariant.none refl

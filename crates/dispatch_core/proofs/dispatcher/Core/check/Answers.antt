@@ -29,20 +29,17 @@ follow-requires-clause-within g c = check_within c.self.inside.trace c.check.new
 pub follow-requires-clause-room : goal.follow-requires-clause-room
 follow-requires-clause-room g c = check_room c.self.inside.trace c.check.new.self _ c.args.server c.args.ok (sym c.refuses_check.ensures ∙ c.in_default.is) c.check.ensures
 
-pub follow-requires-clause-spare_room : goal.follow-requires-clause-spare_room
-follow-requires-clause-spare_room g c = c.self.invariant.roomy ∙ ap (λ (h : History). h.setup.places) (sym c.check.ensures)
-
 pub invariant_of-self : goal.invariant_of-self
 invariant_of-self g c =
-    core_goes c.self.inside.trace c.settle.new.trace _ c.self.inside.healths c.result-change.new.self _ _ _ _ _ c.self.inside.expiring c.self.invariant
-    (carried_adds c.self.inside.trace c.check.new.self c.follow.new.trace c.settle.new.trace _ c.check.ensures c.follow.ensures.carries c.settle.ensures)
-    (c.result-change.ensures.healths _ _ c.self.invariant.healthy) c.follow.ensures.emptied c.follow.ensures.kept c.self.invariant.none refl
+    core_goes c.self.inside.trace c.settle.new.trace _ c.self.inside.healths c.result-change.new.self _ c.self.inside.expiring c.self.invariant
+    (carried_adds c.self.inside.trace c.check.new.self c.follow.new.trace c.settle.new.trace _ c.check.ensures c.follow.ensures c.settle.ensures)
+    (c.result-change.ensures.healths _ _ c.self.invariant.healthy) c.self.invariant.none refl
 
 pub returns-clause-ok : goal.returns-clause-ok
 returns-clause-ok g c =
     subst (λ (h : History). AddsEvent h c.settle.new.trace (Check (effective h c.args.moment) c.args.server c.args.ok)) c.self.view_is
-    (carried_adds c.self.inside.trace c.check.new.self c.follow.new.trace c.settle.new.trace _ c.check.ensures c.follow.ensures.carries c.settle.ensures)
+    (carried_adds c.self.inside.trace c.check.new.self c.follow.new.trace c.settle.new.trace _ c.check.ensures c.follow.ensures c.settle.ensures)
 
 pub returns-clause-dispatched : goal.returns-clause-dispatched
 returns-clause-dispatched g c =
-    added_dispatched c.self.inside.trace c.settle.new.trace _ (carried_adds c.self.inside.trace c.check.new.self c.follow.new.trace c.settle.new.trace _ c.check.ensures c.follow.ensures.carries c.settle.ensures)
+    added_dispatched c.self.inside.trace c.settle.new.trace _ (carried_adds c.self.inside.trace c.check.new.self c.follow.new.trace c.settle.new.trace _ c.check.ensures c.follow.ensures c.settle.ensures)

@@ -19,7 +19,7 @@ time_out-requires-clause-room g c = tick_room c.self.inside.trace c.tick.new.sel
 
 pub invariant_of-self-2 : goal.invariant_of-self-2
 invariant_of-self-2 g c =
-    core_kept c.self.inside.trace c.settle.new.trace _ _ _ _ _ _ c.self.invariant
+    core_kept c.self.inside.trace c.settle.new.trace _ _ _ _ c.self.invariant
     (tick_adds c.self.inside.trace c.tick.new.self _ c.tick.ensures c.time_out.new.trace c.settle.new.trace c.time_out.ensures.told c.settle.ensures)
     refl c.time_out.ensures.none c.time_out.ensures.kept
 
@@ -35,7 +35,7 @@ returns-clause-dispatched g c =
 
 pub invariant_of-self : goal.invariant_of-self
 invariant_of-self g c =
-    core_kept c.self.inside.trace c.tick.new.self _ _ _ _ _ _ c.self.invariant
+    core_kept c.self.inside.trace c.tick.new.self _ _ _ _ c.self.invariant
     (quiet_adds c.self.inside.trace c.tick.new.self _ c.tick.ensures c.args.moment refl c.self.invariant.legal (c.has_room.ensures.0 c.if-not-has_room.false) _ c.if-not-expired.true c.expired.ensures.1)
     refl c.self.invariant.none refl
 

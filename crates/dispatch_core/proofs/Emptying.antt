@@ -1,0 +1,99 @@
+-- Moves until a server's queue is empty.
+use Rattle.std.proofs.Common.{◌≡◌, ℕ, ◌+◌, ◌<◌, ◌≤◌, false, List, [], ◌∷◌, ◌++◌, IsTrue, All, length, count_by, refl, ap, sym, ◌∙◌, subst, arith, append_assoc, length-append, Bool, true, Option, None, Some}
+use Rattle.std.proofs.lemmas.List.{append-nil}
+use Rattle.std.proofs.lemmas.List.Elements.{All-nil, All-push}
+use Rattle.std.proofs.lemmas.List.Sums.{sum_by-cons}
+use Rattle.dispatch_log.specs.declared.entry.Entry.{Entry}
+use Rattle.dispatch_log.specs.declared.entry.Entry.TheVariants.{Moved}
+use Rattle.dispatch_log.specs.declared.queue.Queue.{Queue}
+use Rattle.dispatch_log.specs.declared.queue.Queue.TheVariants.{Server}
+use Rattle.dispatch_log.specs.declared.row.Phase.{Phase}
+use Rattle.dispatch_log.specs.declared.row.Phase.TheVariants.{Loose, Waiting, Serving, Told}
+use Rattle.dispatch_log.specs.declared.row.Row.{Row}
+use Rattle.dispatch_log.specs.declared.setup.Setup.{Setup}
+use Rattle.dispatch_log.specs.Histories.{History, state_of, begins_event}
+use Rattle.dispatch_log.specs.Judgement.{Stage, falling, granting, next_stage}
+use Rattle.dispatch_log.specs.Refusals.{is_waiting}
+use Rattle.dispatch_log.specs.Rows.{Rows, queued, waits_in, phase_waits_in}
+use Rattle.dispatch_log.proofs.Judged.{stage_after-push}
+use Rattle.dispatch_log.proofs.Places.{tally}
+use Rattle.dispatch_core.specs.Steps.{GoesOn, MovesAll}
+use Rattle.dispatch_trace.specs.Histories.{with_entry, stage_of, waits, waiting_of, IsMove, IsEmptied}
+
+one_of : (a b : Bool) → (a ≡ true → b ≡ true) → tally a ≤ tally b
+one_of true b h = let e : tally b ≡ 1 = ap tally (h refl) in omega arith
+one_of false b h = omega arith
+
+-- no more wait in one queue than in all
+waits_counted : (queue : Queue) (cell : Option Row) → waits_in queue cell ≡ true → waits cell ≡ true
+waits_counted queue None e = cc
+waits_counted queue (Some row) e = by_phase row.phase e
+  where
+    by_phase : (phase : Phase) → phase_waits_in queue phase ≡ true → is_waiting phase ≡ true
+    by_phase (Waiting q m) h = refl
+    by_phase Loose h = cc
+    by_phase (Serving v) h = cc
+    by_phase (Told c) h = cc
+
+few_queued : (queue : Queue) (rows : Rows) → queued queue rows ≤ count_by waits rows
+few_queued queue [] = omega arith
+few_queued queue (cell ∷ rows) =
+    let rest : queued queue rows ≤ count_by waits rows = few_queued queue rows in
+    let one = one_of (waits_in queue cell) (waits cell) (waits_counted queue cell) in
+    let a : queued queue (cell ∷ rows) ≡ tally (waits_in queue cell) + queued queue rows = sum_by-cons (λ x. tally (waits_in queue x)) cell rows in
+    let b : count_by waits (cell ∷ rows) ≡ tally (waits cell) + count_by waits rows = sum_by-cons (λ x. tally (waits x)) cell rows in
+    omega arith
+
+-- moves so far, and room for those that are left
+pub record MovesSince (server : ℕ) (old now : History) : Type 0 where
+  pub goes : GoesOn old now
+  pub stage : stage_of now ≡ falling server
+  pub redispatch : IsTrue now.setup.redispatch
+  pub within : server < length now.setup.servers
+  pub counted : length goes.entries + queued (Server server) (state_of now).rows ≡ queued (Server server) (state_of old).rows
+  pub room : length now.log + queued (Server server) (state_of now).rows ≤ now.setup.log
+
+pub moves_none : (server : ℕ) (h : History) → stage_of h ≡ falling server → IsTrue h.setup.redispatch → server < length h.setup.servers → length h.log + waiting_of h ≤ h.setup.log → MovesSince server h h
+moves_none server h stage redispatch within room = record {
+  goes = record { entries = []; log = sym (append-nil h.log); setup = refl; one_event = All-nil (λ (entry : Entry). begins_event entry ≡ false) };
+  stage = stage;
+  redispatch = redispatch;
+  within = within;
+  counted = omega arith;
+  room = let few = few_queued (Server server) (state_of h).rows in omega arith;
+}
+
+pub moves_more : (server : ℕ) (old now next : History) → MovesSince server old now → IsMove server now next → MovesSince server old next
+moves_more server old now next since move =
+    let e : Entry = Moved move.ticket server in
+    let setup : next.setup ≡ now.setup = ap (λ (h : History). h.setup) move.moves in
+    record {
+      goes = record {
+        entries = since.goes.entries ++ e ∷ [];
+        log = ap (λ (h : History). h.log) move.moves ∙ ap (λ (l : List Entry). l ++ e ∷ []) since.goes.log ∙ append_assoc old.log since.goes.entries (e ∷ []);
+        setup = setup ∙ since.goes.setup;
+        one_event = All-push (λ (entry : Entry). begins_event entry ≡ false) since.goes.entries e since.goes.one_event refl;
+      };
+      stage = ap stage_of move.moves ∙ stage_after-push granting now.log e ∙ ap (λ (t : Stage). next_stage t e) since.stage;
+      redispatch = subst (λ (s : Setup). IsTrue s.redispatch) (sym setup) since.redispatch;
+      within = subst (λ (s : Setup). server < length s.servers) (sym setup) since.within;
+      counted =
+          let longer : length (since.goes.entries ++ e ∷ []) ≡ length since.goes.entries + 1 = length-append since.goes.entries (e ∷ []) in
+          let fewer = move.fewer in
+          let counted = since.counted in
+          omega arith;
+      room =
+          let longer : length next.log ≡ length now.log + 1 = ap (λ (h : History). length h.log) move.moves ∙ length-append now.log (e ∷ []) in
+          let limit : next.setup.log ≡ now.setup.log = ap (λ (s : Setup). s.log) setup in
+          let fewer = move.fewer in
+          let room = since.room in
+          omega arith;
+    }
+
+pub moves_all : (server : ℕ) (old now last : History) → MovesSince server old now → last ≡ now → IsEmptied server now → MovesAll server old last
+moves_all server old now last since same none = subst (MovesAll server old) (sym same) (record {
+  goes = since.goes;
+  stage = since.stage;
+  few = (let few = few_queued (Server server) (state_of old).rows in let counted = since.counted in omega arith);
+  none = none;
+})

@@ -1,8 +1,0 @@
-use Rattle.dispatch_core.proofs.Events.{placed_here, cursor_here}
-use Rattle.dispatch_core.proofs.trace.Trace.placement.Goals as goal
-
-pub returns-clause-placed : goal.returns-clause-placed
-returns-clause-placed g c = placed_here g.Q.PendQueue.pair_of _ _ _ _ _ _ c.args.pin c.args.avoid _ c.args.self.now c.self.invariant.trace c.self.view_is c.place-placement.ensures.placed
-
-pub returns-clause-cursor : goal.returns-clause-cursor
-returns-clause-cursor g c = cursor_here g.Q.PendQueue.pair_of _ _ _ _ _ _ _ c.args.pin _ c.args.self.now c.self.invariant.trace c.self.view_is c.place-placement.ensures.cursor

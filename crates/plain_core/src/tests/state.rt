@@ -1,0 +1,189 @@
+use dispatch_log::{Arrival, Entry, Phase, Queue, Row, Setup};
+use due_key::{Key, Moment};
+use std::alloc::{AllocError, Global};
+
+/// What a log leaves: the rows in a list and the results of the checks in lists, with no count, heap or index beside them.
+#[derive(Drop)]
+pub struct Plain {
+    pub setup: Setup,
+    pub rows: Vec<Option<Row>>,
+    pub results: Vec<Vec<bool>>,
+    /// Which servers are up, by their results.
+    pub ups: Vec<bool>,
+    pub moment: Moment,
+    pub ticket: u64,
+    /// The server that balancing picked last.
+    pub cursor: usize,
+    /// How many entries the log has.
+    pub used: usize,
+}
+
+impl Plain {
+    pub fn new(alloc: Global, setup: Setup) -> Result<Plain, AllocError> {
+        let servers = setup.servers.len();
+        let mut results = Vec::new(alloc);
+        for _ in 0..servers {
+            results.push(Vec::new(alloc))?;
+        }
+        Ok(Plain {
+            rows: vacant(alloc, setup.places)?,
+            results,
+            ups: vec![in alloc; true; servers]?,
+            moment: Moment::zero(),
+            ticket: 0,
+            cursor: servers.saturating_sub(1),
+            used: 0,
+            setup,
+        })
+    }
+
+    pub fn row_of(&self, ticket: u64) -> Option<&Row> {
+        self.rows
+            .iter()
+            .flatten()
+            .find(|row| row.key.ticket == ticket)
+    }
+
+    pub fn pin_of(&self, ticket: u64) -> Option<usize> {
+        self.row_of(ticket)?.pin
+    }
+
+    /// Takes in what an entry leaves.
+    pub fn take(&mut self, entry: Entry) -> Result<(), AllocError> {
+        self.used = self.used.saturating_add(1);
+        match entry {
+            Entry::Arrive(moment, arrival) => self.arrive(moment, arrival),
+            Entry::Done(moment, _) | Entry::Abort(moment, _) | Entry::Tick(moment) => {
+                self.moment = moment;
+            }
+            Entry::Fail(moment, ticket) => {
+                self.moment = moment;
+                self.fail(ticket);
+            }
+            Entry::Check(moment, server, ok) => {
+                self.moment = moment;
+                self.add_result(server, ok)?;
+            }
+            Entry::Direct(ticket, server) => {
+                self.put_on(ticket, server);
+                self.enter(ticket, Phase::Serving(server));
+            }
+            Entry::Joined(ticket, queue) => {
+                if let Queue::Server(server) = queue {
+                    self.put_on(ticket, server);
+                }
+                self.enter(ticket, Phase::Waiting(queue, self.moment));
+            }
+            Entry::Granted(ticket, _, server) => {
+                if self.weight(server) != 0 {
+                    self.cursor = server;
+                }
+                self.enter(ticket, Phase::Serving(server));
+            }
+            Entry::Moved(ticket, _) => {
+                self.unpin(ticket);
+                self.enter(ticket, Phase::Waiting(Queue::Backend, self.moment));
+            }
+            Entry::Freed(ticket, _) => self.enter(ticket, Phase::Loose),
+            Entry::Left(ticket, cause) => self.enter(ticket, Phase::Told(cause)),
+            Entry::Ended(ticket) => self.set(ticket, None),
+            Entry::Retried(_, _, _) | Entry::Health(_, _) => {}
+        }
+        Ok(())
+    }
+
+    /// The weight of a server; 0 where no server has the number.
+    pub fn weight(&self, server: usize) -> u32 {
+        self.setup
+            .servers
+            .as_slice()
+            .get(server)
+            .map_or(0, |it| it.weight)
+    }
+
+    fn set(&mut self, ticket: u64, row: Option<Row>) {
+        let has_it = |place: &Option<Row>| match place {
+            Some(row) => row.key.ticket == ticket,
+            None => false,
+        };
+        if let Some(place) = self.rows.iter().position(has_it) {
+            self.fill(place, row);
+        }
+    }
+
+    fn arrive(&mut self, moment: Moment, arrival: Arrival) {
+        self.moment = moment;
+        self.ticket = arrival.ticket;
+        let row = Row {
+            key: Key {
+                class: arrival.class,
+                due: arrival.due,
+                ticket: arrival.ticket,
+            },
+            pin: arrival.pin,
+            failures: 0,
+            phase: Phase::Loose,
+        };
+        self.fill(arrival.place, Some(row));
+    }
+
+    fn fill(&mut self, place: usize, row: Option<Row>) {
+        if let Some(cell) = self.rows.get_mut(place) {
+            *cell = row;
+        }
+    }
+
+    fn add_result(&mut self, server: usize, ok: bool) -> Result<(), AllocError> {
+        if let Some(results) = self.results.get_mut(server) {
+            results.push(ok)?;
+        }
+        let up = self.is_up_by_results(server, false);
+        if let Some(cell) = self.ups.get_mut(server) {
+            *cell = up;
+        }
+        Ok(())
+    }
+
+    // One failure more; a request that is redispatched has no pin any more.
+    fn fail(&mut self, ticket: u64) {
+        if let Some(&row) = self.row_of(ticket) {
+            let failures = row.failures.saturating_add(1);
+            self.set(ticket, Some(Row { failures, ..row }));
+            if self.is_redispatched(failures) {
+                self.unpin(ticket);
+            }
+        }
+    }
+
+    /// Whether the retry after so many failures is the last one and goes to another server.
+    pub fn is_redispatched(&self, failures: u32) -> bool {
+        self.setup.redispatch && failures == self.setup.retries
+    }
+
+    fn unpin(&mut self, ticket: u64) {
+        if let Some(&row) = self.row_of(ticket) {
+            self.set(ticket, Some(Row { pin: None, ..row }));
+        }
+    }
+
+    fn enter(&mut self, ticket: u64, phase: Phase) {
+        if let Some(&row) = self.row_of(ticket) {
+            self.set(ticket, Some(Row { phase, ..row }));
+        }
+    }
+
+    // A request that is put on the server of its pin is no pick of balancing.
+    fn put_on(&mut self, ticket: u64, server: usize) {
+        if self.pin_of(ticket) != Some(server) {
+            self.cursor = server;
+        }
+    }
+}
+
+fn vacant<T: Drop>(alloc: Global, places: usize) -> Result<Vec<Option<T>>, AllocError> {
+    let mut rows = Vec::new(alloc);
+    for _ in 0..places {
+        rows.push(None)?;
+    }
+    Ok(rows)
+}

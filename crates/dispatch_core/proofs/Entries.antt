@@ -19,7 +19,7 @@ use Rattle.dispatch_log.specs.Rows.{phase_waits_in, phase_is_served_by, phase_is
 use Rattle.dispatch_log.specs.States.{scene}
 use Rattle.dispatch_log.proofs.Consistency.{IsLoose}
 use Rattle.dispatch_log.proofs.Judged.{direct_row, joined_row, loose_left, ended_row, freed_slot}
-use Rattle.dispatch_log.proofs.Places.{tally, count-set}
+use Rattle.list_facts.proofs.Places.{tally, count-set}
 use Rattle.pend_queue.specs.Pairs.{IsAbsent, inserted}
 use Rattle.slot_ledger.specs.declared.places.Slot.{Slot}
 use Rattle.slot_ledger.specs.Counts.{IsQueueOf}

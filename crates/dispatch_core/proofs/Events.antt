@@ -27,9 +27,9 @@ use Rattle.dispatch_log.specs.Setups.{IsSound}
 use Rattle.dispatch_log.specs.States.{scene, arrived}
 use Rattle.dispatch_log.specs.Words.{Scene, of_server, is_up, is_free, takes_pinned, working_pin}
 use Rattle.dispatch_log.proofs.Dispatched.{none_stands}
-use Rattle.dispatch_log.proofs.Places.{tally, get-set_same, get-set_cases, count_none}
+use Rattle.list_facts.proofs.Places.{tally, get-set_same, get-set_cases, count_none}
 use Rattle.dispatch_log.proofs.RowLemmas.{row_of_at, row_of_none}
-use Rattle.pend_queue.proofs.Members.{Contains-nil}
+use Rattle.list_facts.proofs.Members.{Contains-nil}
 use Rattle.slot_ledger.specs.declared.places.Slot.{Slot}
 use Rattle.slot_ledger.specs.Counts.{IsQueueOf}
 use Rattle.slot_ledger.specs.Ledgers.{Kept, with_slots}
@@ -37,7 +37,7 @@ use Rattle.slot_ledger.specs.Slots.{rows_in, StandsIn, HasTicketAt, HasNoTicket}
 use Rattle.slot_ledger.proofs.Counting.{row_in}
 use Rattle.server_pick.specs.declared.placement.Placement.{Placement}
 use Rattle.server_pick.specs.Picked.{IsPlacement, cursor_placed}
-use Rattle.server_pick.proofs.Both.{and_second}
+use Rattle.list_facts.proofs.Both.{and_second}
 use Rattle.server_pick.proofs.Chosen.{room_within}
 use Rattle.server_pick.proofs.Filled.{free_within, server_within}
 use Rattle.dispatch_core.specs.Lines.{Waits, Lined, waits_at}

@@ -15,12 +15,12 @@ use Rattle.dispatch_log.specs.Refusals.{is_waiting}
 use Rattle.dispatch_log.specs.Rows.{Rows, StandsAt}
 use Rattle.dispatch_log.specs.States.{granted_by}
 use Rattle.dispatch_log.specs.Words.{Scene, is_up, may_take}
-use Rattle.pend_queue.proofs.Members.{Contains-head}
+use Rattle.list_facts.proofs.Members.{Contains-head}
 use Rattle.slot_ledger.specs.Counts.{IsQueueOf}
 use Rattle.slot_ledger.specs.Ledgers.{Kept, with_slots}
 use Rattle.slot_ledger.specs.Slots.{rows_in, HasTicketAt, HasNoTicket, with_phase, loosened}
 use Rattle.server_pick.specs.Heads.{Held, head_at, AreHeads, IsLawfulTake, IsEmptyQueue, IsLeastIn}
-use Rattle.server_pick.proofs.Both.{and_second}
+use Rattle.list_facts.proofs.Both.{and_second}
 use Rattle.server_pick.proofs.Filled.{free_within}
 use Rattle.dispatch_core.specs.Lines.{Waits, Lined, waits_at, with_waits}
 use Rattle.dispatch_core.specs.Steps.{with_entry, scene_of, waiting_of, MayComeNext, MayGrantNext, IsGrant}

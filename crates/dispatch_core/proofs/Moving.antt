@@ -12,7 +12,7 @@ use Rattle.std.specs.Ordering.{is_lt, is_gt}
 use Rattle.std.proofs.lemmas.List.Elements.{All-nil}
 use Rattle.std.proofs.lemmas.List.Sums.{count_by-le-length, sum_by-cons}
 use Rattle.pend_queue.proofs.Ascending.{ascending_parts, absent_from_members, apart_from_members}
-use Rattle.pend_queue.proofs.Members.{Contains-nil, Contains-head, each_from_members, filter_all, filter_none}
+use Rattle.list_facts.proofs.Members.{Contains-nil, Contains-head, each_from_members, filter_all, filter_none}
 use Rattle.pend_queue.proofs.Merged.{merged-inserted, length-merged}
 use Rattle.dispatch_log.specs.declared.entry.Entry.{Entry}
 use Rattle.dispatch_log.specs.declared.entry.Entry.TheVariants.{Moved}
@@ -28,7 +28,7 @@ use Rattle.dispatch_log.specs.Logs.{Recorded}
 use Rattle.dispatch_log.specs.Rows.{Rows, StandsAt, phase_waits_in, waits_in, queued, in_backend_since}
 use Rattle.dispatch_log.proofs.Judged.{stage_after-push}
 use Rattle.dispatch_log.specs.Refusals.{is_waiting}
-use Rattle.dispatch_log.proofs.Places.{tally, get-set_same}
+use Rattle.list_facts.proofs.Places.{tally, get-set_same}
 use Rattle.dispatch_log.proofs.RowLemmas.{HaveOwnTickets}
 use Rattle.slot_ledger.specs.declared.places.Slot.{Slot}
 use Rattle.slot_ledger.specs.Ledgers.{Kept, with_slots}

@@ -18,7 +18,7 @@ use Rattle.dispatch_log.specs.Rows.{StandsAt, IsRow, phase_waits_in, same_queue}
 use Rattle.dispatch_log.specs.States.{State, after, opening_state}
 use Rattle.dispatch_log.proofs.Dispatched.{none_stands}
 use Rattle.dispatch_log.proofs.Judged.{after_all-push}
-use Rattle.dispatch_log.proofs.Places.{get-set_same, get-set_other, same_or_other}
+use Rattle.list_facts.proofs.Places.{get-set_same, get-set_other, same_or_other}
 use Rattle.dispatch_log.proofs.RowLemmas.{HaveOwnTickets}
 use Rattle.readable_log.specs.Grants.{Wait, joining_in, joins, joining_of}
 use Rattle.readable_log.specs.Readable.{HasArrived}

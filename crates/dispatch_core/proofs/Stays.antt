@@ -22,9 +22,9 @@ use Rattle.dispatch_log.proofs.Accepted.{row_of_accepted}
 use Rattle.dispatch_log.proofs.Consistency.{IsConsistent, IsLoose}
 use Rattle.dispatch_log.proofs.Dispatched.{opening_consistent, none_stands}
 use Rattle.dispatch_log.proofs.Judged.{after_all-push, consistent_all, direct_row, loose_left, ended_row, freed_slot}
-use Rattle.dispatch_log.proofs.Places.{tally, get-set_same, count-set}
+use Rattle.list_facts.proofs.Places.{tally, get-set_same, count-set}
 use Rattle.dispatch_log.proofs.RowLemmas.{HaveOwnTickets, changed_at}
-use Rattle.pend_queue.proofs.Members.{Contains-nil, Contains-filter}
+use Rattle.list_facts.proofs.Members.{Contains-nil, Contains-filter}
 use Rattle.stay_order.specs.Order.{Order, without, with_places}
 use Rattle.verdict.specs.declared.cause.Cause.TheVariants.{Aborted, Timeout}
 use Rattle.dispatch_core.specs.Steps.{with_entry, stage_of, waits, waiting_of, IsJudged}

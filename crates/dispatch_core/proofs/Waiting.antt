@@ -15,12 +15,12 @@ use Rattle.dispatch_log.specs.declared.row.Phase.TheVariants.{Loose, Waiting, Se
 use Rattle.dispatch_log.specs.declared.row.Row.{Row}
 use Rattle.dispatch_log.specs.Refusals.{is_waiting}
 use Rattle.dispatch_log.specs.Rows.{Rows, StandsAt, phase_waits_in, waits_in, queued}
-use Rattle.dispatch_log.proofs.Places.{tally, get-set_same, get-set_other, get-set_cases, count-set}
+use Rattle.list_facts.proofs.Places.{tally, get-set_same, get-set_other, get-set_cases, count-set}
 use Rattle.dispatch_log.proofs.RowLemmas.{HaveOwnTickets}
 use Rattle.pend_queue.specs.Pairs.{IsAbsent, inserted, pair_at, without}
 use Rattle.pend_queue.proofs.Ascending.{absent_from_members, least_first, pair_at-member}
 use Rattle.pend_queue.proofs.Inserted.{Contains-inserted, Contains-inserted_new, Contains-inserted_old, length-inserted, IsAscending-inserted}
-use Rattle.pend_queue.proofs.Members.{Contains-nil, Contains-head}
+use Rattle.list_facts.proofs.Members.{Contains-nil, Contains-head}
 use Rattle.pend_queue.proofs.Without.{IsAscending-without, Contains-without, Contains-without_other, length-without, without-head}
 use Rattle.slot_ledger.specs.Counts.{IsQueueOf}
 use Rattle.server_pick.specs.Heads.{IsEmptyQueue, IsLeastIn}

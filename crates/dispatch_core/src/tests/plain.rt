@@ -36,7 +36,7 @@ fn many_checks(alloc: Global) -> Result<Setup, Fail> {
     let mut servers = Vec::new(alloc);
     servers.extend_from_slice(&list)?;
     Ok(Setup {
-        servers: Servers::new(servers),
+        servers: Servers::from_vec(servers),
         places: 24,
         log: 262_144,
         retries: 2,
@@ -55,7 +55,7 @@ fn few_checks(alloc: Global) -> Result<Setup, Fail> {
     let mut servers = Vec::new(alloc);
     servers.extend_from_slice(&list)?;
     Ok(Setup {
-        servers: Servers::new(servers),
+        servers: Servers::from_vec(servers),
         places: 20,
         log: 4000,
         retries: 1,

@@ -1,6 +1,8 @@
--- What a list contains, by cases on the list and after a filter.
-use Rattle.std.proofs.Common.{◌≡◌, zero, suc, ◌⊎◌, Bool, true, false, cond, List, [], ◌∷◌, ◌++◌, filter, Contains, refl, sym, ap, subst, ◌∙◌, inl, inr, true≢false, arith}
+-- What a list contains, by cases on the list, around one item and after a filter; which filters keep all or none; what holds of each
+-- item.
+use Rattle.std.proofs.Common.{◌≡◌, ℕ, zero, suc, ◌<◌, ◌⊎◌, Bool, true, false, cond, List, [], ◌∷◌, ◌++◌, length, map, take, drop, filter, Contains, refl, sym, ap, subst, ◌∙◌, inl, inr, true≢false, arith}
 use Rattle.std.specs.List.{AllByRecursion}
+use Rattle.std.proofs.lemmas.List.Elements.{Contains-append_left, Contains-append_right, Contains-append_cases}
 
 module _ {X : Type 0} where
   pub Contains-nil : (x : X) → Contains [] x → ⊥
@@ -15,6 +17,25 @@ module _ {X : Type 0} where
   pub Contains-cases : (y : X) (xs : List X) (x : X) → Contains (y ∷ xs) x → (y ≡ x) ⊎ Contains xs x
   Contains-cases y xs x (zero, in_range, is) = inl is
   Contains-cases y xs x (suc k, in_range, is) = inr (k, omega arith, is)
+
+  -- an item of either part, or the one between
+  pub Contains-middle : (xs : List X) (x : X) (ys : List X) → Contains (xs ++ x ∷ ys) x
+  Contains-middle xs x ys = Contains-append_right xs (x ∷ ys) x (Contains-head x ys)
+
+  pub Contains-around : (xs : List X) (x : X) (ys : List X) (y : X) → Contains (xs ++ ys) y → Contains (xs ++ x ∷ ys) y
+  Contains-around xs x ys y among = elim (Contains-append_cases xs ys y among) [
+    | inl left ↦ Contains-append_left xs (x ∷ ys) y left
+    | inr right ↦ Contains-append_right xs (x ∷ ys) y (Contains-tail x ys y right)
+  ]
+
+  pub Contains-around_cases : (xs : List X) (x : X) (ys : List X) (y : X) → Contains (xs ++ x ∷ ys) y → (x ≡ y) ⊎ Contains (xs ++ ys) y
+  Contains-around_cases xs x ys y among = elim (Contains-append_cases xs (x ∷ ys) y among) [
+    | inl left ↦ inr (Contains-append_left xs ys y left)
+    | inr right ↦ elim (Contains-cases x ys y right) [
+      | inl same ↦ inl same
+      | inr later ↦ inr (Contains-append_right xs ys y later)
+    ]
+  ]
 
   -- what holds of each element, from each element to the list and back
   pub each_from_members : (P : X → Type 0) (xs : List X) → ((x : X) → Contains xs x → P x) → AllByRecursion P xs
@@ -55,13 +76,6 @@ module _ {X : Type 0} where
   Contains-filter_kept test [] x among passes = absurd (Contains-nil x among)
   Contains-filter_kept test (y ∷ xs) x among passes = filter_kept_step test y xs x (test y) refl passes (λ later. Contains-filter_kept test xs x later passes) among
 
-  pub AllByRecursion-filter : (P : X → Type 0) (test : X → Bool) (xs : List X) → AllByRecursion P xs → AllByRecursion P (filter test xs)
-  AllByRecursion-filter P test xs each = each_from_members P (filter test xs) (λ x among. let kept = Contains-filter test xs x among in each_at_member P xs x each kept.0)
-
-  pub AllByRecursion-append : (P : X → Type 0) (xs ys : List X) → AllByRecursion P xs → AllByRecursion P ys → AllByRecursion P (xs ++ ys)
-  AllByRecursion-append P [] ys first second = second
-  AllByRecursion-append P (x ∷ xs) ys first second = (first.0, AllByRecursion-append P xs ys first.1 second)
-
   pub filter_all : (test : X → Bool) (xs : List X) → AllByRecursion (λ x. test x ≡ true) xs → filter test xs ≡ xs
   filter_all test [] each = refl
   filter_all test (x ∷ xs) each = let passes = each.0 in rw passes (ap (λ l. x ∷ l) (filter_all test xs each.1))
@@ -74,3 +88,50 @@ module _ {X : Type 0} where
   pub filter_alike : (test other : X → Bool) (xs : List X) → AllByRecursion (λ x. test x ≡ other x) xs → filter test xs ≡ filter other xs
   filter_alike test other [] each = refl
   filter_alike test other (x ∷ xs) each = let same = each.0 in rw same (ap (λ l. cond (other x) (x ∷ l) l) (filter_alike test other xs each.1))
+
+  -- what holds of each item, of other lists
+  pub all_weaker : (P Q : X → Type 0) → ((x : X) → P x → Q x) → (xs : List X) → AllByRecursion P xs → AllByRecursion Q xs
+  all_weaker P Q f [] all = tt
+  all_weaker P Q f (x ∷ xs) all = (f x all.0, all_weaker P Q f xs all.1)
+
+  pub all_both : (P Q : X → Type 0) (xs : List X) → AllByRecursion P xs → AllByRecursion Q xs → AllByRecursion (λ x. P x × Q x) xs
+  all_both P Q [] a b = tt
+  all_both P Q (x ∷ xs) a b = ((a.0, b.0), all_both P Q xs a.1 b.1)
+
+  pub all_map : {Y : Type 0} (f : X → Y) (P : X → Type 0) (Q : Y → Type 0) → ((x : X) → P x → Q (f x)) → (xs : List X) → AllByRecursion P xs → AllByRecursion Q (map f xs)
+  all_map f P Q g [] all = tt
+  all_map f P Q g (x ∷ xs) all = (g x all.0, all_map f P Q g xs all.1)
+
+  pub all_append : (P : X → Type 0) (xs ys : List X) → AllByRecursion P xs → AllByRecursion P ys → AllByRecursion P (xs ++ ys)
+  all_append P [] ys a b = b
+  all_append P (x ∷ xs) ys a b = (a.0, all_append P xs ys a.1 b)
+
+  pub all_push : (P : X → Type 0) (xs : List X) (x : X) → AllByRecursion P xs → P x → AllByRecursion P (xs ++ x ∷ [])
+  all_push P xs x all last = all_append P xs (x ∷ []) all (last, tt)
+
+  pub all_take : (P : X → Type 0) (n : ℕ) (xs : List X) → AllByRecursion P xs → AllByRecursion P (take n xs)
+  all_take P zero xs all = tt
+  all_take P (suc n) [] all = tt
+  all_take P (suc n) (x ∷ xs) all = (all.0, all_take P n xs all.1)
+
+  pub all_drop : (P : X → Type 0) (n : ℕ) (xs : List X) → AllByRecursion P xs → AllByRecursion P (drop n xs)
+  all_drop P zero xs all = all
+  all_drop P (suc n) [] all = tt
+  all_drop P (suc n) (x ∷ xs) all = all_drop P n xs all.1
+
+  pub all_filter : (P : X → Type 0) (p : X → Bool) (xs : List X) → AllByRecursion P xs → AllByRecursion P (filter p xs)
+  all_filter P p [] all = tt
+  all_filter P p (x ∷ xs) all = go (p x) (all_filter P p xs all.1)
+    where
+      go : (b : Bool) → AllByRecursion P (filter p xs) → AllByRecursion P (cond b (x ∷ filter p xs) (filter p xs))
+      go true rest = (all.0, rest)
+      go false rest = rest
+
+  -- what passes a test has one with each fact of all
+  pub one_of : (P : X → Type 0) (p : X → Bool) (xs : List X) → 0 < length (filter p xs) → AllByRecursion P xs → (x : X) × (p x ≡ true) × P x
+  one_of P p [] some all = absurd (omega arith)
+  one_of P p (x ∷ xs) some all = go (p x) refl some (λ s. one_of P p xs s all.1)
+    where
+      go : (b : Bool) → p x ≡ b → 0 < length (cond b (x ∷ filter p xs) (filter p xs)) → (0 < length (filter p xs) → (y : X) × (p y ≡ true) × P y) → (y : X) × (p y ≡ true) × P y
+      go true e s rest = (x, e, all.0)
+      go false e s rest = rest s

@@ -1,14 +1,12 @@
-//! A list that contracts see as its items.
-
 ghost use Rattle.std.specs.Prelude.{◌≡◌, ◌==◌, ◌∷◌, [], ◌++◌, List, length, OnOk, OnErr, IfOk};
 
 use std::alloc::{AllocError, Global};
 use std::marker::Model;
 
-/// A list that grows at its end.
+/// A list that grows at its end. It is made of a `Vec`, and gives it back, without taking memory.
 #[derive(Debug, Drop)]
 pub struct Items<T> {
-    pub(crate) items: Vec<T>,
+    items: Vec<T>,
 }
 
 impl<T> Model for Items<T> {
@@ -18,6 +16,12 @@ impl<T> Model for Items<T> {
 }
 
 impl<T> Items<T> {
+    pub fn new(alloc: Global) -> Self
+        ensures { result ≡ [] }
+    {
+        Items::from_vec(Vec::new(alloc))
+    }
+
     pub fn from_vec(items: Vec<T>) -> Self
         ensures { result ≡ items.items }
     {
@@ -48,16 +52,11 @@ impl<T> Items<T> {
     {
         self.items.len()
     }
-
-    pub(crate) fn new(alloc: Global) -> Self
-        ensures { result ≡ [] }
-    {
-        Items::from_vec(Vec::new(alloc))
-    }
 }
 
 impl<T: Drop> Items<T> {
-    pub(crate) fn push(&mut self, item: T) -> Result<(), AllocError>
+    /// Where memory is refused the list stays as it is.
+    pub fn push(&mut self, item: T) -> Result<(), AllocError>
         ensures ok { OnOk result (self.new ≡ self.old ++ item ∷ []) }
         ensures err { OnErr result (self.new ≡ self.old) }
     {
@@ -66,11 +65,11 @@ impl<T: Drop> Items<T> {
     }
 }
 
-impl Items<u8> {
-    pub(crate) fn copied(alloc: Global, bytes: &[u8]) -> Result<Self, AllocError>
-        ensures { IfOk result (λ text. text ≡ bytes.now) }
+impl<T: Copy> Items<T> {
+    pub fn copied(alloc: Global, items: &[T]) -> Result<Self, AllocError>
+        ensures { IfOk result (λ list. list ≡ items.now) }
     {
-        Ok(Items::from_vec(Vec::from_slice(alloc, bytes)?))
+        Ok(Items::from_vec(Vec::from_slice(alloc, items)?))
     }
 }
 
@@ -81,12 +80,13 @@ mod tests {
 
     #[test]
     fn a_list_is_a_vec_and_back(rt: HostRuntime) -> Result<(), Fail> {
-        let mut list = Items::from_vec([1, 2].to_vec(rt.alloc())?);
+        let mut list = Items::copied(rt.alloc(), &[1, 2])?;
         list.push(3)?;
         assert_eq!(rt; list.as_slice(), [1, 2, 3].as_slice());
         assert_eq!(rt; list.len(), 3);
         assert!(rt; !list.is_empty());
         assert_eq!(rt; list.into_vec().as_slice(), [1, 2, 3].as_slice());
+        assert!(rt; Items::<u8>::new(rt.alloc()).is_empty());
         Ok(())
     }
 }

@@ -1,0 +1,5 @@
+pub mod Members
+pub mod Places
+pub mod Orders
+pub mod Never
+pub mod Both

@@ -6,7 +6,8 @@ use std::marker::Model;
 /// A list that grows at its end. It is made of a `Vec`, and gives it back, without taking memory.
 #[derive(Debug, Drop)]
 pub struct Items<T> {
-    items: Vec<T>,
+    /// Here an item can be changed in its place.
+    pub items: Vec<T>,
 }
 
 impl<T> Model for Items<T> {

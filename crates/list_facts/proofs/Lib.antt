@@ -3,3 +3,4 @@ pub mod Places
 pub mod Orders
 pub mod Never
 pub mod Both
+pub mod Found

@@ -1,7 +1,7 @@
 -- The entries of an index that count: those below one place and those from another on.
 use Rattle.std.proofs.Common.{◌≡◌, ◌⊎◌, ℕ, suc, ◌+◌, ◌-◌, ◌<◌, ◌≤◌, List, [], ◌∷◌, ◌++◌, None, Some, length, get_or, set, take, drop, slice_get, filter, All, inl, inr, refl, sym, ap, subst, ◌∙◌, arith, length-append, length-take, length-drop, append_assoc}
 use Rattle.std.proofs.Math.Seq.{take-set-lt}
-use Rattle.std.proofs.lemmas.List.{set_split, set-get_or, take-set-le, drop-set-lt, drop-set-add, take-append-le, drop-append-le, take_more, take_all, drop_more}
+use Rattle.std.proofs.lemmas.List.{set_split, take-set-le, drop-set-lt, drop-set-add, take-append-le, drop-append-le, take_more, take_all, drop_more}
 use Rattle.std.proofs.lemmas.List.Elements.{All-append, All-cons, All-head, All-nil, All-weaker}
 use Rattle.std.proofs.lemmas.Option.{slice_get_within, get_or_from_slice_get, slice_get-get_or}
 use Rattle.list_facts.proofs.Places.{set_read}

@@ -14,6 +14,7 @@ use script::{Header, Names, ScriptError, read};
 use std::alloc::Global;
 
 /// What the events of a script leave.
+#[derive(Drop)]
 pub struct Replayed<Q: PendQueue<Key, ()>> {
     /// The dispatcher after the last event.
     pub core: Core<Q>,

@@ -1,5 +1,6 @@
 -- What is found in a list: the last item, the first one that passes a test, and its place.
-use Rattle.std.proofs.Common.{◌≡◌, ◌+◌, ◌∙◌, ◌||◌, Bool, true, false, not, nat_lt, cond, Option, Some, None, IfSome, option_map, List, [], ◌∷◌, ◌++◌, length, map, refl, sym, ap}
+use Rattle.std.proofs.Common.{◌≡◌, ◌+◌, ◌∙◌, ◌||◌, Bool, true, false, not, nat_lt, cond, Option, Some, None, IfSome, option_map, List, [], ◌∷◌, ◌++◌}
+use Rattle.std.proofs.Common.{length, map, refl, sym, ap}
 use Rattle.std.specs.List.{All, last_or, find, filter_map, flat_map, list_any, cons_option, position, position_or_len, prefix_len}
 use Rattle.std.specs.Option.{option_or}
 use Rattle.std.proofs.lemmas.List.{length-map}

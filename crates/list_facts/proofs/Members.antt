@@ -1,6 +1,7 @@
 -- What a list contains, by cases on the list, around one item and after a filter; which filters keep all or none; what holds of each
 -- item.
-use Rattle.std.proofs.Common.{◌≡◌, ℕ, zero, suc, ◌<◌, ◌⊎◌, Bool, true, false, cond, List, [], ◌∷◌, ◌++◌, length, map, take, drop, filter, Contains, refl, sym, ap, subst, ◌∙◌, inl, inr, true≢false, arith}
+use Rattle.std.proofs.Common.{◌≡◌, ℕ, zero, suc, ◌<◌, ◌⊎◌, Bool, true, false, cond, List, [], ◌∷◌, ◌++◌, length, map, take, drop, filter, Contains}
+use Rattle.std.proofs.Common.{refl, sym, ap, subst, ◌∙◌, inl, inr, true≢false, arith}
 use Rattle.std.specs.List.{AllByRecursion}
 use Rattle.std.proofs.lemmas.List.Elements.{Contains-append_left, Contains-append_right, Contains-append_cases}
 
@@ -51,14 +52,16 @@ module _ {X : Type 0} where
 
   -- a filter keeps what passes, and nothing else
   module _ (test : X → Bool) (y : X) (xs : List X) (x : X) where
-    filter_step : (b : Bool) → test y ≡ b → (Contains (filter test xs) x → Contains xs x × (test x ≡ true)) → Contains (cond b (y ∷ filter test xs) (filter test xs)) x → Contains (y ∷ xs) x × (test x ≡ true)
+    filter_step : (b : Bool) → test y ≡ b → (Contains (filter test xs) x → Contains xs x × (test x ≡ true))
+        → Contains (cond b (y ∷ filter test xs) (filter test xs)) x → Contains (y ∷ xs) x × (test x ≡ true)
     filter_step true passes tail among = elim (Contains-cases y (filter test xs) x among) [
       | inl same ↦ (subst (Contains (y ∷ xs)) same (Contains-head y xs), ap test (sym same) ∙ passes)
       | inr later ↦ let kept = tail later in (Contains-tail y xs x kept.0, kept.1)
     ]
     filter_step false fails tail among = let kept = tail among in (Contains-tail y xs x kept.0, kept.1)
 
-    filter_kept_step : (b : Bool) → test y ≡ b → test x ≡ true → (Contains xs x → Contains (filter test xs) x) → Contains (y ∷ xs) x → Contains (cond b (y ∷ filter test xs) (filter test xs)) x
+    filter_kept_step : (b : Bool) → test y ≡ b → test x ≡ true → (Contains xs x → Contains (filter test xs) x)
+        → Contains (y ∷ xs) x → Contains (cond b (y ∷ filter test xs) (filter test xs)) x
     filter_kept_step true here passes tail among = elim (Contains-cases y xs x among) [
       | inl same ↦ subst (Contains (y ∷ filter test xs)) same (Contains-head y (filter test xs))
       | inr later ↦ Contains-tail y (filter test xs) x (tail later)
@@ -74,7 +77,8 @@ module _ {X : Type 0} where
 
   pub Contains-filter_kept : (test : X → Bool) (xs : List X) (x : X) → Contains xs x → test x ≡ true → Contains (filter test xs) x
   Contains-filter_kept test [] x among passes = absurd (Contains-nil x among)
-  Contains-filter_kept test (y ∷ xs) x among passes = filter_kept_step test y xs x (test y) refl passes (λ later. Contains-filter_kept test xs x later passes) among
+  Contains-filter_kept test (y ∷ xs) x among passes =
+      filter_kept_step test y xs x (test y) refl passes (λ later. Contains-filter_kept test xs x later passes) among
 
   pub filter_all : (test : X → Bool) (xs : List X) → AllByRecursion (λ x. test x ≡ true) xs → filter test xs ≡ xs
   filter_all test [] each = refl
@@ -98,7 +102,8 @@ module _ {X : Type 0} where
   all_both P Q [] a b = tt
   all_both P Q (x ∷ xs) a b = ((a.0, b.0), all_both P Q xs a.1 b.1)
 
-  pub all_map : {Y : Type 0} (f : X → Y) (P : X → Type 0) (Q : Y → Type 0) → ((x : X) → P x → Q (f x)) → (xs : List X) → AllByRecursion P xs → AllByRecursion Q (map f xs)
+  pub all_map : {Y : Type 0} (f : X → Y) (P : X → Type 0) (Q : Y → Type 0) → ((x : X) → P x → Q (f x))
+      → (xs : List X) → AllByRecursion P xs → AllByRecursion Q (map f xs)
   all_map f P Q g [] all = tt
   all_map f P Q g (x ∷ xs) all = (g x all.0, all_map f P Q g xs all.1)
 
@@ -132,6 +137,7 @@ module _ {X : Type 0} where
   one_of P p [] some all = absurd (omega arith)
   one_of P p (x ∷ xs) some all = go (p x) refl some (λ s. one_of P p xs s all.1)
     where
-      go : (b : Bool) → p x ≡ b → 0 < length (cond b (x ∷ filter p xs) (filter p xs)) → (0 < length (filter p xs) → (y : X) × (p y ≡ true) × P y) → (y : X) × (p y ≡ true) × P y
+      go : (b : Bool) → p x ≡ b → 0 < length (cond b (x ∷ filter p xs) (filter p xs))
+          → (0 < length (filter p xs) → (y : X) × (p y ≡ true) × P y) → (y : X) × (p y ≡ true) × P y
       go true e s rest = (x, e, all.0)
       go false e s rest = rest s

@@ -1,5 +1,6 @@
 -- One place of a list: read, written, counted and cut at.
-use Rattle.std.proofs.Common.{◌≡◌, ◌≢◌, ℕ, zero, suc, ◌+◌, ◌==◌, Bool, true, false, cond, List, [], ◌∷◌, ◌++◌, take, drop, None, Some, slice_get, count_by, refl, sym, ap, subst, arith, ◌∙◌, ◌⊎◌, inl, inr}
+use Rattle.std.proofs.Common.{◌≡◌, ◌≢◌, ℕ, zero, suc, ◌+◌, ◌==◌, Bool, true, false, cond, List, [], ◌∷◌, ◌++◌, take, drop, None, Some, slice_get, count_by}
+use Rattle.std.proofs.Common.{refl, sym, ap, subst, arith, ◌∙◌, ◌⊎◌, inl, inr}
 use Rattle.std.proofs.Math.ListN.{set}
 use Rattle.std.proofs.lemmas.List.{set-get_or}
 use Rattle.std.proofs.lemmas.Option.{same_Some, slice_get_within, get_or_from_slice_get}
@@ -48,7 +49,8 @@ module _ {X : Type 0} where
   get-set (w ∷ ws) (suc i) zero y z g = inr g
   get-set (w ∷ ws) (suc i) (suc j) y z g = get-set ws i j y z g
 
-  pub get-set_cases : (xs : List X) (i j : ℕ) (x y z : X) → slice_get xs i ≡ Some x → slice_get (set xs i y) j ≡ Some z → ((j ≡ i) × (y ≡ z)) ⊎ ((j ≢ i) × (slice_get xs j ≡ Some z))
+  pub get-set_cases : (xs : List X) (i j : ℕ) (x y z : X) → slice_get xs i ≡ Some x → slice_get (set xs i y) j ≡ Some z
+      → ((j ≡ i) × (y ≡ z)) ⊎ ((j ≢ i) × (slice_get xs j ≡ Some z))
   get-set_cases [] i j x y z h g = cc
   get-set_cases (w ∷ ws) zero zero x y z h g = inl (refl, same_Some y z g)
   get-set_cases (w ∷ ws) zero (suc j) x y z h g = inr ((λ e. cc), g)

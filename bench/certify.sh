@@ -5,7 +5,7 @@
 . "$(dirname "$0")/common.sh"
 times=20
 input=$folder/script
-program=$here/crates/certify_bench/out/certify_bench
+program=$here/crates/bench_certify/out/bench_certify
 
 # Requests that arrive with offsets by a fixed sequence of numbers, of as many classes. Each server takes one request at a
 # time and has a queue of its own; after the first ones a request is over and another one bound to its server arrives.
@@ -57,7 +57,7 @@ compare() {
 
 "$here/dueproxy" replay </dev/null
 write_script 1 1 62 43600
-build certify_bench 0 "$input"
+build bench_certify 0 "$input"
 compare "1 server, 1 class"
 write_script 64 63 7 43340
 compare "64 servers, 63 classes"

@@ -4,7 +4,7 @@
 # own, and no `use-server` rule applies, so that all are asked.
 . "$(dirname "$0")/common.sh"
 times=20000
-program=$here/crates/decide_bench/out/decide_bench
+program=$here/crates/bench_decide/out/bench_decide
 
 awk 'BEGIN {
     print "listen front\n    bind :8080\n    server a 127.0.0.1:9001"
@@ -23,7 +23,7 @@ best_of_times() {
     best_of "$program" "$1" "$2" "$folder/configuration" "$folder/head"
 }
 
-build decide_bench decide 0 "$folder/configuration" "$folder/head"
+build bench_decide decide 0 "$folder/configuration" "$folder/head"
 idle=$(best_of_times decide 0)
 decided=$(($(best_of_times decide "$times") - idle))
 viewed=$(($(best_of_times view "$times") - idle))

@@ -16,7 +16,7 @@ use Rattle.dispatch_log.specs.Judgement.{Stage, falling, granting, next_stage}
 use Rattle.dispatch_log.specs.Refusals.{is_waiting}
 use Rattle.dispatch_log.specs.Rows.{Rows, queued, waits_in, phase_waits_in}
 use Rattle.dispatch_log.proofs.Judged.{stage_after-push}
-use Rattle.dispatch_log.proofs.Places.{tally}
+use Rattle.list_facts.proofs.Places.{tally}
 use Rattle.dispatch_core.specs.Steps.{GoesOn, MovesAll}
 use Rattle.dispatch_trace.specs.Histories.{with_entry, stage_of, waits, waiting_of, IsMove, IsEmptied}
 

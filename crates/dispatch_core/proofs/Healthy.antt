@@ -9,7 +9,7 @@ use Rattle.dispatch_log.specs.declared.setup.ServerSet.{ServerSet}
 use Rattle.dispatch_log.specs.declared.setup.Setup.{Setup}
 use Rattle.dispatch_log.specs.Health.{is_up_by, ups_of, results_of, with_result}
 use Rattle.dispatch_log.specs.States.{opening_state}
-use Rattle.dispatch_log.proofs.Places.{same_or_other}
+use Rattle.list_facts.proofs.Places.{same_or_other}
 use Rattle.dispatch_core.specs.Checks.{IsHealthBy, AreHealths}
 use Rattle.dispatch_trace.specs.Traces.{is_up_at}
 

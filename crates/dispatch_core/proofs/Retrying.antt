@@ -20,7 +20,7 @@ use Rattle.dispatch_log.specs.States.{State, opening_state}
 use Rattle.std.proofs.lemmas.Option.{same_Some}
 use Rattle.dispatch_log.proofs.Accepted.{Accepted, accepted_room, row_of_accepted}
 use Rattle.dispatch_log.proofs.Judged.{after_all-push, stage_after-push}
-use Rattle.dispatch_log.proofs.Places.{get-set_same, get-set_cases}
+use Rattle.list_facts.proofs.Places.{get-set_same, get-set_cases}
 use Rattle.dispatch_log.proofs.RowLemmas.{HaveOwnTickets, changed_at, row_of_at}
 use Rattle.dispatch_core.specs.Steps.{GoesOn, CarriesOn, Places, Settles}
 use Rattle.dispatch_trace.specs.Histories.{with_entry, stage_of, waiting_of, MayComeNext, MayGrantNext, MayPut}

@@ -22,11 +22,11 @@ use Rattle.dispatch_log.specs.Grants.{IsSettled}
 use Rattle.dispatch_log.specs.States.{State, opening_state, scene}
 use Rattle.dispatch_log.specs.Words.{Scene}
 use Rattle.dispatch_log.proofs.Judged.{after_all-push, stage_after-push, judged_push}
-use Rattle.dispatch_log.proofs.Places.{tally, count-set}
+use Rattle.list_facts.proofs.Places.{tally, count-set}
 use Rattle.dispatch_log.proofs.RowLemmas.{with_change_own, with_change_other}
 use Rattle.pend_queue.specs.Pairs.{IsAscending}
 use Rattle.pend_queue.proofs.Ascending.{least_first, absent_from_rest, absent_at_member}
-use Rattle.pend_queue.proofs.Members.{Contains-nil, Contains-head, Contains-tail, Contains-cases}
+use Rattle.list_facts.proofs.Members.{Contains-nil, Contains-head, Contains-tail, Contains-cases}
 use Rattle.dispatch_core.specs.Steps.{Settles}
 use Rattle.dispatch_trace.specs.Histories.{with_entry, stage_of, scene_of, waits, waiting_of, IsJudged, MayComeNext, HasEntryRoom, IsAt}
 use Rattle.dispatch_core.specs.Steps.{TimesOut}

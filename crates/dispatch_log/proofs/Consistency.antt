@@ -7,7 +7,8 @@ use Rattle.dispatch_log.specs.declared.row.Phase.TheVariants.{Loose}
 use Rattle.dispatch_log.specs.declared.row.Row.{Row}
 use Rattle.dispatch_log.specs.Judgement.{Stage, placing, ending, leaving}
 use Rattle.dispatch_log.specs.Rows.{Rows, StandsAt, IsVacant}
-use Rattle.dispatch_log.proofs.Places.{get-set_same, get-set_other, get-set_cases}
+use Rattle.list_facts.proofs.Places.{get-set_same, get-set_other, get-set_cases}
+use Rattle.list_facts.proofs.Never.{none_some}
 use Rattle.dispatch_log.proofs.RowLemmas.{HaveOwnTickets}
 
 -- the ticket whose row is in no place at a stage
@@ -59,9 +60,6 @@ write rows last old new p r cell is stands named loose owed = record {
   loose = loose;
   owed = owed;
 }
-
-none_some : {A : Type 0} {x : A} {P : Type 0} → None ≡ Some x → P
-none_some e = cc
 
 -- where the same ticket, or none, is in no place at both stages
 pub at_stage : (rows : Rows) (last : ℕ) (old new : Stage) → IsConsistent rows last old → loose_ticket old ≡ loose_ticket new → IsConsistent rows last new

@@ -23,7 +23,8 @@ use Rattle.dispatch_log.specs.Words.{Scene, is_free}
 use Rattle.dispatch_log.proofs.Accepted.{row_of_accepted}
 use Rattle.dispatch_log.proofs.Consistency.{IsConsistent, loose_ticket}
 use Rattle.dispatch_log.proofs.Judged.{consistent_after, consistent_all, over_none}
-use Rattle.dispatch_log.proofs.Places.{tally, count-set}
+use Rattle.list_facts.proofs.Places.{tally, count-set}
+use Rattle.list_facts.proofs.Never.{false_true}
 use Rattle.dispatch_log.proofs.RowLemmas.{HaveOwnTickets, changed_at}
 
 -- the scene of a decision about slots, to which health is nothing
@@ -68,9 +69,6 @@ left setup rows e no_arrival no_end = inr (record { same = refl; no_arrival = no
 slot_was_free : (setup : Setup) (rows : Rows) (v w : ℕ) → is_free (slots setup rows) v ≡ true → (v == w) ≡ true → is_free (slots setup rows) w ≡ true
 slot_was_free setup rows v w free same = subst (λ x. is_free (slots setup rows) x ≡ true) ((Decides-eqb v w).0 same) free
 
-no_slot : {P : Type 0} → false ≡ true → P
-no_slot e = cc
-
 ended : (ticket own u : ℕ) → own ≡ u → tally (own == ticket) + 0 ≡ 0 + tally (u == ticket)
 ended ticket own u e = subst (λ x. tally (own == ticket) + 0 ≡ 0 + tally (x == ticket)) e (omega arith)
 
@@ -84,11 +82,11 @@ put_writes setup s t old (Direct u v) cursor ups pin avoid is one put =
 put_writes setup s t old (Joined u q) cursor ups pin avoid is one put =
     let it = is.owed t one in
     named setup s.rows (Joined u q) u it.place it.row (in_phase (Waiting q s.moment)) is.tickets it.stands (it.named ∙ sym put.0)
-    (λ server e. no_slot e) (λ ticket. refl)
+    (λ server e. false_true e) (λ ticket. refl)
 put_writes setup s t old (Left u NoServer) cursor ups pin avoid is one put =
     let it = is.owed t one in
     named setup s.rows (Left u NoServer) u it.place it.row (in_phase (Told NoServer)) is.tickets it.stands (it.named ∙ sym put.0)
-    (λ server e. no_slot e) (λ ticket. refl)
+    (λ server e. false_true e) (λ ticket. refl)
 put_writes setup s t old e cursor ups pin avoid is one put = absurd put
 
 -- what every entry does that is judged
@@ -99,7 +97,7 @@ writes_of setup s n t (Arrive m a) is may = inl (record {
   cell = Some (arrived a);
   stood = may.1.vacant;
   written = refl;
-  takes = λ server e. no_slot e;
+  takes = λ server e. false_true e;
   balanced = λ ticket. omega arith;
 })
 writes_of setup s n t (Done m u) is may = left setup s.rows (Done m u) (λ ticket. refl) (λ ticket. refl)
@@ -117,7 +115,7 @@ writes_of setup s n (placing t) e is may = put_writes setup s t (placing t) e s.
 writes_of setup s n (leaving t w) (Left u Retries) is may =
     let it = is.owed t refl in
     named setup s.rows (Left u Retries) u it.place it.row (in_phase (Told Retries)) is.tickets it.stands (it.named ∙ sym may.0)
-    (λ server e. no_slot e) (λ ticket. refl)
+    (λ server e. false_true e) (λ ticket. refl)
 writes_of setup s n (leaving t w) (Direct u v) is may = put_writes setup s t (leaving t w) (Direct u v) s.cursor (scene setup s).ups None (Some w) is refl may.put
 writes_of setup s n (leaving t w) (Joined u q) is may = put_writes setup s t (leaving t w) (Joined u q) s.cursor (scene setup s).ups None (Some w) is refl may.put
 writes_of setup s n (leaving t w) (Left u NoServer) is may = put_writes setup s t (leaving t w) (Left u NoServer) s.cursor (scene setup s).ups None (Some w) is refl may.put
@@ -125,32 +123,32 @@ writes_of setup s n (leaving t w) e is may = absurd may.put
 writes_of setup s n (returning t) (Freed u v) is may =
     let slot = may.1 in
     named setup s.rows (Freed u v) u slot.live.0 slot.row (in_phase Loose) is.tickets slot.live.1 slot.named
-    (λ server e. no_slot e) (λ ticket. refl)
+    (λ server e. false_true e) (λ ticket. refl)
 writes_of setup s n (failing t) (Freed u v) is may =
     let slot = may.1 in
     named setup s.rows (Freed u v) u slot.live.0 slot.row (in_phase Loose) is.tickets slot.live.1 slot.named
-    (λ server e. no_slot e) (λ ticket. refl)
+    (λ server e. false_true e) (λ ticket. refl)
 writes_of setup s n (failing t) (Retried u v k) is may = left setup s.rows (Retried u v k) (λ ticket. refl) (λ ticket. refl)
 writes_of setup s n (ending t) (Ended u) is may =
     let it = is.owed t refl in
     named setup s.rows (Ended u) u it.place it.row gone is.tickets it.stands (it.named ∙ sym may)
-    (λ server e. no_slot e) (λ ticket. ended ticket it.row.key.ticket u (it.named ∙ sym may))
+    (λ server e. false_true e) (λ ticket. ended ticket it.row.key.ticket u (it.named ∙ sym may))
 writes_of setup s n (returning t) (Ended u) is may =
     let told = may.1 in
     named setup s.rows (Ended u) u told.live.0 told.row gone is.tickets told.live.1 told.named
-    (λ server e. no_slot e) (λ ticket. ended ticket told.row.key.ticket u told.named)
+    (λ server e. false_true e) (λ ticket. ended ticket told.row.key.ticket u told.named)
 writes_of setup s n (aborting t) (Left u Aborted) is may =
     let it = may.1 in
     named setup s.rows (Left u Aborted) u it.live.0 it.row (in_phase (Told Aborted)) is.tickets it.live.1 it.named
-    (λ server e. no_slot e) (λ ticket. refl)
+    (λ server e. false_true e) (λ ticket. refl)
 writes_of setup s n telling (Left u Timeout) is may =
     named setup s.rows (Left u Timeout) u may.expired.0.0 may.row (in_phase (Told Timeout)) is.tickets may.expired.0.1 may.named
-    (λ server e. no_slot e) (λ ticket. refl)
+    (λ server e. false_true e) (λ ticket. refl)
 writes_of setup s n (checking w) (Health v up) is may = left setup s.rows (Health v up) (λ ticket. refl) (λ ticket. refl)
 writes_of setup s n (falling w) (Moved u v) is may =
     let it = may.2 in
     named setup s.rows (Moved u v) u it.live.0 it.row (in_backend_since s.moment) is.tickets it.live.1 it.named
-    (λ server e. no_slot e) (λ ticket. refl)
+    (λ server e. false_true e) (λ ticket. refl)
 writes_of setup s n t e is may = absurd may
 
 -- a free server serves fewer than its limit
@@ -158,7 +156,7 @@ free_below : (setup : Setup) (rows : Rows) (server : ℕ) → is_free (slots set
 free_below setup rows server free some = by_server (slice_get setup.servers server) free some
   where
     by_server : (it : Option ServerSet) → option_map_or (λ (x : ServerSet). (x.limit == 0) || nat_lt (served server rows) x.limit) it false ≡ true → 0 < option_map_or (λ (x : ServerSet). x.limit) it 0 → served server rows < option_map_or (λ (x : ServerSet). x.limit) it 0
-    by_server None free some = no_slot free
+    by_server None free some = false_true free
     by_server (Some x) free some = grind (arith, nat_tests)
 
 -- limits are kept by a write whose slots were free, or the row's already

@@ -1,4 +1,3 @@
-pub mod Places
 pub mod RowLemmas
 pub mod Accepted
 pub mod Consistency

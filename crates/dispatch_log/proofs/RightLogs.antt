@@ -2,6 +2,7 @@
 use Rattle.std.proofs.Common.{◌≡◌, ◌≢◌, ℕ, zero, suc, ◌+◌, ◌≤◌, pos, negsuc, Bool, true, false, List, [], ◌∷◌, None, Some, IsTrue, refl, sym, ◌∙◌, arith, Greater}
 use Rattle.std.proofs.lemmas.Int.{ints}
 use Rattle.std.proofs.lemmas.Option.{same_Some}
+use Rattle.list_facts.proofs.Never.{false_true}
 use Rattle.verdict.specs.declared.cause.Cause.TheVariants.{Timeout}
 use Rattle.due_key.specs.Order.{key_cmp}
 use Rattle.due_key.specs.Range.{IsBetween}
@@ -19,9 +20,6 @@ use Rattle.dispatch_log.specs.Worked.{plain_server}
 use Rattle.dispatch_log.specs.WorkedChanges.{checked_server, worked_with_checks, worked_in_time}
 use Rattle.dispatch_log.proofs.FourPlaces.{for_no_row, for_one_row, for_two_rows, for_three_rows, first_row, second_row, third_row}
 use Rattle.dispatch_log.specs.WorkedRight.{redispatch_to_the_other_server, told_by_rising_ticket, fall_moves_its_queue}
-
-never : {X : Type 0} → false ≡ true → X
-never e = cc
 
 up_by : (m n : ℕ) → m ≤ m + n
 up_by m n = omega arith
@@ -47,7 +45,7 @@ five_less = record { lower = omega (arith, ints); upper = omega (arith, ints) }
 settled_alone : (servers : List ServerSet) (ups : List Bool) (a : Row) → ((server : ℕ) → may_go_to (record { servers = servers; ups = ups; rows = Some a ∷ None ∷ None ∷ None ∷ [] }) server a.phase ≡ false)
     → IsSettled (record { servers = servers; ups = ups; rows = Some a ∷ None ∷ None ∷ None ∷ [] })
 settled_alone servers ups a none server can =
-    for_one_row (λ r. IsTrue (may_go_to (record { servers = servers; ups = ups; rows = Some a ∷ None ∷ None ∷ None ∷ [] }) server r.phase) → ⊥) a (λ goes. never (sym (none server) ∙ goes)) can.1.0 can.1.1 can.1.2
+    for_one_row (λ r. IsTrue (may_go_to (record { servers = servers; ups = ups; rows = Some a ∷ None ∷ None ∷ None ∷ [] }) server r.phase) → ⊥) a (λ goes. false_true (sym (none server) ∙ goes)) can.1.0 can.1.1 can.1.2
 
 pub redispatch_is_legal : IsLegal (worked_with_checks redispatch_to_the_other_server)
 redispatch_is_legal = record {
@@ -58,7 +56,7 @@ redispatch_is_legal = record {
       (
         record { over = tt; settled = settled_alone (checked_server ∷ plain_server ∷ []) (true ∷ true ∷ []) (first_row (Some 0) 0 (Serving 0)) (λ server. refl); accepted = refl; later = up_by 0 1 },
         (
-          (refl, record { row = first_row None 1 (Serving 0); live = (0, refl); named = refl; phase = refl }, λ retried. never retried),
+          (refl, record { row = first_row None 1 (Serving 0); live = (0, refl); named = refl; phase = refl }, λ retried. false_true retried),
           (
             record {
               redispatched = refl;
@@ -68,8 +66,8 @@ redispatch_is_legal = record {
                 (
                   record {
                     member = (refl, λ avoids. let e : 0 ≡ 1 = same_Some 0 1 avoids in absurd (omega (arith, e)));
-                    least = for_two_servers _ (λ it. up_by 0 0) (λ it. up_by 0 0) (λ n it. never it.0);
-                    nearest = for_two_servers _ (λ it first. let e : 1 ≡ 0 = it.1 refl 1 refl in absurd (omega (arith, e))) (λ it first. up_by 2 0) (λ n it first. never it.0);
+                    least = for_two_servers _ (λ it. up_by 0 0) (λ it. up_by 0 0) (λ n it. false_true it.0);
+                    nearest = for_two_servers _ (λ it first. let e : 1 ≡ 0 = it.1 refl 1 refl in absurd (omega (arith, e))) (λ it first. up_by 2 0) (λ n it first. false_true it.0);
                   },
                   refl,
                 ),
@@ -95,8 +93,8 @@ rising_is_legal = record {
         (
           record {
             member = (refl, λ avoids. let e : None ≡ Some 0 = avoids in cc);
-            least = for_one_server _ (λ it. up_by 0 0) (λ n it. never it.0);
-            nearest = for_one_server _ (λ it first. up_by 1 0) (λ n it first. never it.0);
+            least = for_one_server _ (λ it. up_by 0 0) (λ n it. false_true it.0);
+            nearest = for_one_server _ (λ it first. up_by 1 0) (λ n it first. false_true it.0);
           },
           refl,
         ),
@@ -104,13 +102,13 @@ rising_is_legal = record {
       (
         (record { over = tt; settled = settled_alone (plain_server ∷ []) (true ∷ []) (first_row None 0 (Serving 0)) (λ server. refl); accepted = refl; later = up_by 0 1 }, record { numbered = refl; vacant = refl; due = (pos 0, no_offset, refl) }),
         (
-          (refl, (refl, (0, refl), for_one_server _ never (λ n. never))),
+          (refl, (refl, (0, refl), for_one_server _ false_true (λ n. false_true))),
           (
-            (record { over = tt; settled = for_one_server _ (λ can. never can.0) (λ n can. never can.0); accepted = refl; later = up_by 1 1 }, record { numbered = refl; vacant = refl; due = (negsuc 4, five_less, refl) }),
+            (record { over = tt; settled = for_one_server _ (λ can. false_true can.0) (λ n can. false_true can.0); accepted = refl; later = up_by 1 1 }, record { numbered = refl; vacant = refl; due = (negsuc 4, five_less, refl) }),
             (
-              (refl, (refl, (0, refl), for_one_server _ never (λ n. never))),
+              (refl, (refl, (0, refl), for_one_server _ false_true (λ n. false_true))),
               (
-                record { over = tt; settled = for_one_server _ (λ can. never can.0) (λ n can. never can.0); accepted = refl; later = up_by 2 5 },
+                record { over = tt; settled = for_one_server _ (λ can. false_true can.0) (λ n can. false_true can.0); accepted = refl; later = up_by 2 5 },
                 (
                   record {
                     row = second_row None (Waiting Backend 1);
@@ -142,7 +140,7 @@ rising_is_legal = record {
   whole = λ row is.
       for_three_rows (λ r. has_expired (worked_in_time []).setup 7 r.phase → ⊥) (first_row None 0 (Serving 0)) (second_row None (Told Timeout)) (third_row None (Told Timeout))
       (λ expired. expired) (λ expired. expired) (λ expired. expired) row is.0 is.1;
-  settled = for_one_server _ (λ can. never can.0) (λ n can. never can.0);
+  settled = for_one_server _ (λ can. false_true can.0) (λ n can. false_true can.0);
 }
 
 -- before the first server is checked, and once 2 is moved
@@ -169,18 +167,18 @@ fall_is_legal = record {
       (
         (record { over = tt; settled = settled_alone (checked_server ∷ plain_server ∷ []) (true ∷ true ∷ []) (first_row (Some 0) 0 (Serving 0)) (λ server. refl); accepted = refl; later = up_by 0 1 }, record { numbered = refl; vacant = refl; due = (pos 0, no_offset, refl) }),
         (
-          (refl, (refl, λ free. never free)),
+          (refl, (refl, λ free. false_true free)),
           (
             record {
               over = tt;
-              settled = for_two_servers _ (λ can. never can.0)
-                  (λ can. for_two_rows (λ r. IsTrue (may_go_to before_the_check 1 r.phase) → ⊥) (first_row (Some 0) 0 (Serving 0)) (second_row (Some 0) (Waiting (Server 0) 1)) never never can.1.0 can.1.1 can.1.2)
-                  (λ n can. never can.0);
+              settled = for_two_servers _ (λ can. false_true can.0)
+                  (λ can. for_two_rows (λ r. IsTrue (may_go_to before_the_check 1 r.phase) → ⊥) (first_row (Some 0) 0 (Serving 0)) (second_row (Some 0) (Waiting (Server 0) 1)) false_true false_true can.1.0 can.1.1 can.1.2)
+                  (λ n can. false_true can.0);
               accepted = refl;
               later = up_by 1 1;
             },
             (
-              (refl, refl, λ e. never (sym e)),
+              (refl, refl, λ e. false_true (sym e)),
               (
                 (
                   refl,
@@ -191,12 +189,12 @@ fall_is_legal = record {
                     named = refl;
                     waits = refl;
                     least = for_two_rows (λ r. IsTrue (phase_waits_in (Server 0) r.phase) → key_cmp (second_row (Some 0) Loose).key r.key ≢ Greater) (first_row (Some 0) 0 (Serving 0)) (second_row (Some 0) (Waiting (Server 0) 1))
-                        never (λ waits e. cc);
+                        false_true (λ waits e. cc);
                   },
                 ),
                 (
                   (
-                    λ redispatch. for_two_rows (λ r. IsTrue (phase_waits_in (Server 0) r.phase) → ⊥) (first_row (Some 0) 0 (Serving 0)) (second_row None (Waiting Backend 2)) never never,
+                    λ redispatch. for_two_rows (λ r. IsTrue (phase_waits_in (Server 0) r.phase) → ⊥) (first_row (Some 0) 0 (Serving 0)) (second_row None (Waiting Backend 2)) false_true false_true,
                     record {
                       row = second_row None (Waiting Backend 2);
                       live = (1, refl);
@@ -205,15 +203,15 @@ fall_is_legal = record {
                       taken = refl;
                       next = record {
                         takes = (refl, (second_row None (Waiting Backend 2), (1, refl), refl));
-                        weightless_first = for_two_servers _ (λ weightless can. never can.0) (λ weightless can. let e : 1 ≡ 0 = weightless in absurd (omega (arith, e))) (λ n weightless can. never can.0);
+                        weightless_first = for_two_servers _ (λ weightless can. false_true can.0) (λ weightless can. let e : 1 ≡ 0 = weightless in absurd (omega (arith, e))) (λ n weightless can. false_true can.0);
                         picked = λ heavy. record {
                           member = (refl, (second_row None (Waiting Backend 2), (1, refl), refl));
-                          least = for_two_servers _ (λ can. never can.0) (λ can. up_by 0 0) (λ n can. never can.0);
-                          nearest = for_two_servers _ (λ can first. never can.0) (λ can first. up_by 2 0) (λ n can first. never can.0);
+                          least = for_two_servers _ (λ can. false_true can.0) (λ can. up_by 0 0) (λ n can. false_true can.0);
+                          nearest = for_two_servers _ (λ can first. false_true can.0) (λ can first. up_by 2 0) (λ n can first. false_true can.0);
                         };
                       };
                       least = for_two_rows (λ r. IsTrue (may_go_to once_moved 1 r.phase) → key_cmp (second_row None Loose).key r.key ≢ Greater) (first_row (Some 0) 0 (Serving 0)) (second_row None (Waiting Backend 2))
-                          never (λ goes e. cc);
+                          false_true (λ goes e. cc);
                     },
                   ),
                   tt,
@@ -226,5 +224,5 @@ fall_is_legal = record {
     ),
   );
   whole = tt;
-  settled = for_two_servers _ (λ can. never can.0) (λ can. never can.0) (λ n can. never can.0);
+  settled = for_two_servers _ (λ can. false_true can.0) (λ can. false_true can.0) (λ n can. false_true can.0);
 }

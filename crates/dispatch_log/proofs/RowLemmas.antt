@@ -5,7 +5,7 @@ use Rattle.std.proofs.lemmas.Option.{same_Some, slice_get-map}
 use Rattle.std.proofs.lemmas.Bool.Decides.{Decides-eqb}
 use Rattle.dispatch_log.specs.declared.row.Row.{Row}
 use Rattle.dispatch_log.specs.Rows.{Rows, StandsAt, with_change, changed, row_of}
-use Rattle.dispatch_log.proofs.Places.{get-set_same, get-set_other, same_places}
+use Rattle.list_facts.proofs.Places.{get-set_same, get-set_other, same_places}
 
 -- no ticket has two rows
 pub record HaveOwnTickets (rows : Rows) : Type 0 where

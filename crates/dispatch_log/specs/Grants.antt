@@ -1,12 +1,18 @@
 -- Which request a slot goes to.
-use Rattle.std.specs.Prelude.{◌≡◌, ◌≢◌, ℕ, ◌<◌, ◌≤◌, IsTrue}
+use Rattle.std.specs.Prelude.{◌≡◌, ◌≢◌, Bool, ℕ, ◌<◌, ◌≤◌, IsTrue}
 use Rattle.std.specs.declared.cmp.Ordering.TheVariants.{Greater}
+use Rattle.due_key.specs.declared.key.Key.{Key}
 use Rattle.due_key.specs.Order.{key_cmp}
 use Rattle.dispatch_log.specs.declared.queue.Queue.{Queue}
+use Rattle.dispatch_log.specs.declared.row.Phase.{Phase}
 use Rattle.dispatch_log.specs.declared.row.Row.{Row}
 use Rattle.dispatch_log.specs.Picks.{weight_of, IsPick}
-use Rattle.dispatch_log.specs.Rows.{IsRow, phase_waits_in}
+use Rattle.dispatch_log.specs.Rows.{Rows, IsRow, phase_waits_in}
 use Rattle.dispatch_log.specs.Words.{Scene, is_free, may_take, may_go_to}
+
+-- a key is the least of the rows whose phase passes a test: none of them has a smaller one
+abbrev pub IsLeastOf : (Phase → Bool) → Rows → Key → Type 0
+IsLeastOf test rows key = (other : Row) → IsRow rows other → IsTrue (test other.phase) → key_cmp key other.key ≢ Greater
 
 -- a server can take: it is free, and a request waits that its slot may go to
 abbrev pub CanTake : Scene → ℕ → Type 0
@@ -32,4 +38,4 @@ pub record IsLawfulGrant (scene : Scene) (cursor ticket : ℕ) (queue : Queue) (
   pub waits : IsTrue (phase_waits_in queue row.phase)
   pub taken : IsTrue (may_take scene server queue)
   pub next : IsNextTaker scene cursor server
-  pub least : (other : Row) → IsRow scene.rows other → IsTrue (may_go_to scene server other.phase) → key_cmp row.key other.key ≢ Greater
+  pub least : IsLeastOf (may_go_to scene server) scene.rows row.key

@@ -1,8 +1,6 @@
 -- Legal logs, judged entry by entry.
 use Rattle.std.specs.Prelude.{◌≡◌, ◌≢◌, ℕ, ◌+◌, ◌<◌, ◌≤◌, ℤ, pos, ◌+ℤ◌, Bool, true, false, IsTrue, List, [], ◌∷◌, Option, None, Some, slice_get}
 use Rattle.std.specs.Option.{option_map_or}
-use Rattle.std.specs.declared.cmp.Ordering.TheVariants.{Greater}
-use Rattle.due_key.specs.Order.{key_cmp}
 use Rattle.due_key.specs.Range.{IsBetween}
 use Rattle.due_key.specs.declared.offset.TheConstants.{LOWEST_OFFSET, HIGHEST_OFFSET}
 use Rattle.dispatch_log.specs.declared.entry.Arrival.{Arrival}
@@ -23,7 +21,7 @@ use Rattle.dispatch_log.specs.Rows.{Rows, IsRow, IsVacant, phase_is_served_by, p
 use Rattle.dispatch_log.specs.States.{State, scene, after, after_all}
 use Rattle.dispatch_log.specs.Words.{Scene, is_up}
 use Rattle.dispatch_log.specs.Placement.{IsDirect, IsJoining, IsTurnedAway}
-use Rattle.dispatch_log.specs.Grants.{IsSettled, IsLawfulGrant}
+use Rattle.dispatch_log.specs.Grants.{IsLeastOf, IsSettled, IsLawfulGrant}
 
 -- a ticket's row is in a phase that passes a test
 pub record IsInPhase (test : Phase → Bool) (rows : Rows) (ticket : ℕ) : Type 0 where
@@ -72,7 +70,7 @@ pub record IsFirstIn (queue : Queue) (rows : Rows) (ticket : ℕ) : Type 0 where
   pub live : IsRow rows row
   pub named : row.key.ticket ≡ ticket
   pub waits : IsTrue (phase_waits_in queue row.phase)
-  pub least : (other : Row) → IsRow rows other → IsTrue (phase_waits_in queue other.phase) → key_cmp row.key other.key ≢ Greater
+  pub least : IsLeastOf (phase_waits_in queue) rows row.key
 
 -- whether a server was up before the last result of its checks
 abbrev pub was_up : Setup → State → ℕ → Bool

@@ -1,7 +1,7 @@
-ghost use Rattle.std.specs.Prelude.{◌≡◌, ◌↔◌, IsTrue, length};
+ghost use Rattle.std.specs.Prelude.{◌≡◌, ◌↔◌, IsTrue};
 ghost use Rattle.dispatch_log.specs.Setups.{IsSound};
 
-use std::marker::Model;
+use list_facts::Items;
 
 /// What a server may take.
 #[derive(Clone, Copy, Debug, PartialEq, Eq)]
@@ -17,45 +17,7 @@ pub struct ServerSet {
 }
 
 /// The servers in file order.
-#[derive(Debug, Drop)]
-pub struct Servers {
-    list: Vec<ServerSet>,
-}
-
-impl Model for Servers {
-    ghost use Rattle.std.specs.Prelude.{List};
-    ghost use Rattle.dispatch_log.specs.declared.setup.ServerSet.{ServerSet};
-
-    ghost Value = { List ServerSet };
-
-    ghost view = { λ servers. servers.list.items };
-}
-
-impl Servers {
-    pub fn new(list: Vec<ServerSet>) -> Servers
-        ensures { result ≡ list.items }
-    {
-        Servers { list }
-    }
-
-    pub fn as_slice(&self) -> &[ServerSet]
-        ensures { result.now ≡ self.now }
-    {
-        self.list.as_slice()
-    }
-
-    pub fn len(&self) -> usize
-        ensures { result ≡ length self.now }
-    {
-        self.list.len()
-    }
-
-    pub fn is_empty(&self) -> bool
-        ensures { IsTrue result ↔ (length self.now ≡ 0) }
-    {
-        self.list.is_empty()
-    }
-}
+pub type Servers = Items<ServerSet>;
 
 /// What a dispatcher is made for.
 #[derive(Debug, Drop)]

@@ -9,7 +9,7 @@ fn servers_stand_in_file_order(rt: HostRuntime) -> Result<(), Fail> {
         weight: 1,
         rise_fall: None,
     };
-    let servers = Servers::new(vec![in rt.alloc(); server]?);
+    let servers = Servers::from_vec(vec![in rt.alloc(); server]?);
     assert_eq!(rt; servers.len(), 1);
     assert!(rt; !servers.is_empty());
     assert_eq!(rt; servers.as_slice().first().copied(), Some(server));

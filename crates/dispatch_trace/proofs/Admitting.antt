@@ -5,7 +5,7 @@ use Rattle.std.proofs.lemmas.List.{set-set}
 use Rattle.dispatch_log.specs.declared.row.Phase.{Phase}
 use Rattle.dispatch_log.specs.declared.row.Phase.TheVariants.{Loose}
 use Rattle.dispatch_log.specs.declared.row.Row.{Row}
-use Rattle.dispatch_log.proofs.Places.{get-set_same}
+use Rattle.list_facts.proofs.Places.{get-set_same}
 use Rattle.slot_ledger.specs.declared.places.Slot.{Slot}
 use Rattle.slot_ledger.specs.Ledgers.{Kept, with_slots}
 use Rattle.slot_ledger.specs.Slots.{StandsIn, HasRow, loosened}

@@ -25,9 +25,9 @@ use Rattle.dispatch_log.specs.Setups.{IsSound}
 use Rattle.dispatch_log.specs.States.{State, after, arrived, opening_state}
 use Rattle.dispatch_log.specs.Words.{Scene}
 use Rattle.dispatch_log.proofs.Dispatched.{none_stands}
-use Rattle.dispatch_log.proofs.Places.{tally, get-set_same}
+use Rattle.list_facts.proofs.Places.{tally, get-set_same}
 use Rattle.dispatch_log.proofs.RowLemmas.{row_of_at, row_of_none}
-use Rattle.pend_queue.proofs.Members.{Contains-nil}
+use Rattle.list_facts.proofs.Members.{Contains-nil}
 use Rattle.readable_log.specs.Grants.{joining_in}
 use Rattle.slot_ledger.specs.declared.places.Slot.{Slot}
 use Rattle.slot_ledger.specs.Ledgers.{Kept, with_slots}

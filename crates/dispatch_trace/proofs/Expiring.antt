@@ -17,7 +17,7 @@ use Rattle.dispatch_log.proofs.RowLemmas.{HaveOwnTickets}
 use Rattle.pend_queue.specs.Pairs.{IsAscending, IsAbsent, inserted}
 use Rattle.pend_queue.proofs.Ascending.{absent_from_members}
 use Rattle.pend_queue.proofs.Inserted.{Contains-inserted, Contains-inserted_new, Contains-inserted_old, length-inserted}
-use Rattle.pend_queue.proofs.Members.{Contains-nil, Contains-head, Contains-cases, each_at_member}
+use Rattle.list_facts.proofs.Members.{Contains-nil, Contains-head, Contains-cases, each_at_member}
 use Rattle.slot_ledger.specs.declared.places.Slot.{Slot}
 use Rattle.slot_ledger.specs.Slots.{StandsIn, HasRow}
 use Rattle.wait_queues.specs.Order.{ComeOnce, next_after}

@@ -13,7 +13,7 @@ use Rattle.dispatch_log.specs.Retries.{are_redispatched, failed_row, failed}
 use Rattle.dispatch_log.specs.Rows.{Rows, StandsAt, IsRow, row_of, failures_of, with_change, changed, in_phase, in_backend_since, gone}
 use Rattle.dispatch_log.specs.States.{State, after, after_all, arrived, opening_state}
 use Rattle.dispatch_log.proofs.Dispatched.{none_stands}
-use Rattle.dispatch_log.proofs.Places.{get-set_same}
+use Rattle.list_facts.proofs.Places.{get-set_same}
 use Rattle.slot_ledger.specs.declared.places.Slot.{Slot}
 use Rattle.slot_ledger.specs.Slots.{StandsIn, HasTicketAt, HasNoTicket, HasCountable, with_slot, with_failure, unpinned}
 use Rattle.slot_ledger.proofs.Standing.{with_slot_at}

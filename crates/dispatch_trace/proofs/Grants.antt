@@ -17,7 +17,7 @@ use Rattle.dispatch_log.specs.Rows.{Rows, IsRow, phase_waits_in, in_phase}
 use Rattle.dispatch_log.specs.States.{granted_by}
 use Rattle.dispatch_log.specs.Words.{Scene}
 use Rattle.dispatch_log.proofs.RowLemmas.{changed_at}
-use Rattle.pend_queue.proofs.Orders.{greater_from_less}
+use Rattle.list_facts.proofs.Orders.{greater_from_less}
 use Rattle.readable_log.specs.Grants.{joining_of}
 use Rattle.readable_log.specs.Readable.{HasArrived}
 use Rattle.slot_ledger.specs.Counts.{IsQueueOf}

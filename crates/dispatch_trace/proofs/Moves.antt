@@ -15,7 +15,7 @@ use Rattle.dispatch_log.specs.Judgement.{Stage, falling, MayCome, IsFirstIn}
 use Rattle.dispatch_log.specs.Rows.{IsRow, StandsAt, waits_in, queued, phase_waits_in, in_backend_since}
 use Rattle.dispatch_log.specs.States.{State, after, opening_state}
 use Rattle.dispatch_log.proofs.Judged.{after_all-push}
-use Rattle.dispatch_log.proofs.Places.{tally, count-set}
+use Rattle.list_facts.proofs.Places.{tally, count-set}
 use Rattle.dispatch_log.proofs.RowLemmas.{changed_at}
 use Rattle.slot_ledger.specs.declared.places.Slot.{Slot}
 use Rattle.slot_ledger.specs.Slots.{StandsIn, HasRow}

@@ -19,7 +19,7 @@ use Rattle.dispatch_log.specs.States.{State, after, opening_state}
 use Rattle.dispatch_log.proofs.Consistency.{IsConsistent}
 use Rattle.dispatch_log.proofs.Dispatched.{opening_consistent}
 use Rattle.dispatch_log.proofs.Judged.{after_all-push, judged_push, consistent_all, places_all}
-use Rattle.dispatch_log.proofs.Places.{get-set_same, get-set_cases}
+use Rattle.list_facts.proofs.Places.{get-set_same, get-set_cases}
 use Rattle.dispatch_log.proofs.RowLemmas.{HaveOwnTickets, changed_at}
 use Rattle.readable_log.specs.Grants.{joining_in}
 use Rattle.slot_ledger.specs.declared.places.Slot.{Slot}

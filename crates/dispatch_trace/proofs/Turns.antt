@@ -9,8 +9,8 @@ use Rattle.dispatch_log.specs.declared.row.Phase.{Phase}
 use Rattle.dispatch_log.specs.declared.row.Phase.TheVariants.{Waiting}
 use Rattle.dispatch_log.specs.declared.row.Row.{Row}
 use Rattle.dispatch_log.specs.Rows.{Rows}
-use Rattle.dispatch_log.proofs.Places.{get-set_same, get-set_other, get-set_cases}
-use Rattle.pend_queue.proofs.Members.{Contains-head, Contains-tail, Contains-filter, Contains-filter_kept, each_from_members, each_at_member, AllByRecursion-filter}
+use Rattle.list_facts.proofs.Places.{get-set_same, get-set_other, get-set_cases}
+use Rattle.list_facts.proofs.Members.{Contains-head, Contains-tail, Contains-filter, Contains-filter_kept, each_from_members, each_at_member, all_filter}
 use Rattle.wait_queues.specs.Order.{without}
 use Rattle.dispatch_trace.specs.Turns.{WaitsSince, NeverFall, AreInTurn}
 use Rattle.dispatch_trace.proofs.Resting.{NoneWaits}
@@ -29,7 +29,7 @@ never_fall_filter waits test [] fall = tt
 never_fall_filter waits test (place ∷ later) fall = by_test (test place) (never_fall_filter waits test later fall.1)
   where
     by_test : (b : Bool) → NeverFall waits (filter test later) → NeverFall waits (cond b (place ∷ filter test later) (filter test later))
-    by_test true rest = (AllByRecursion-filter (λ other. (since next : ℕ) → waits place since → waits other next → since ≤ next) test later fall.0, rest)
+    by_test true rest = (all_filter (λ other. (since next : ℕ) → waits place since → waits other next → since ≤ next) test later fall.0, rest)
     by_test false rest = rest
 
 never_fall_push : (waits : ℕ → ℕ → Type 0) (places : List ℕ) (last : ℕ) → ((place since next : ℕ) → Contains places place → waits place since → waits last next → since ≤ next) → NeverFall waits places → NeverFall waits (places ++ last ∷ [])

@@ -18,7 +18,7 @@ use Rattle.dispatch_log.specs.Refusals.{is_waiting}
 use Rattle.dispatch_log.specs.Rows.{Rows, StandsAt, IsRow, changed, in_phase, in_backend_since, phase_waits_in, same_queue}
 use Rattle.dispatch_log.specs.States.{State, after, opening_state}
 use Rattle.dispatch_log.proofs.Judged.{after_all-push}
-use Rattle.dispatch_log.proofs.Places.{tally, get-set_same, count-set}
+use Rattle.list_facts.proofs.Places.{tally, get-set_same, count-set}
 use Rattle.dispatch_log.proofs.RowLemmas.{HaveOwnTickets, changed_at}
 use Rattle.readable_log.specs.Grants.{joining_in, joins, joining_of}
 use Rattle.readable_log.specs.Readable.{HasArrived}

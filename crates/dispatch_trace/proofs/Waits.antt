@@ -14,7 +14,7 @@ use Rattle.dispatch_log.specs.declared.row.Phase.TheVariants.{Loose, Waiting, Se
 use Rattle.dispatch_log.specs.declared.row.Row.{Row}
 use Rattle.dispatch_log.specs.Refusals.{is_waiting}
 use Rattle.dispatch_log.specs.Rows.{Rows, StandsAt, same_queue}
-use Rattle.dispatch_log.proofs.Places.{same_places}
+use Rattle.list_facts.proofs.Places.{same_places}
 use Rattle.dispatch_log.proofs.RowLemmas.{HaveOwnTickets}
 use Rattle.readable_log.specs.Grants.{joining_in, joins, joining_of}
 use Rattle.readable_log.proofs.Joinings.{joining_of_other, nothing_joins}

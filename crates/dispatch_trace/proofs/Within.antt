@@ -14,7 +14,7 @@ use Rattle.dispatch_log.specs.Rows.{queued, pin_of}
 use Rattle.dispatch_log.specs.States.{scene}
 use Rattle.dispatch_log.specs.Words.{Scene, of_server, is_up, is_free, takes_pinned, working_pin, may_take}
 use Rattle.slot_ledger.specs.Counts.{IsQueueOf}
-use Rattle.server_pick.proofs.Both.{and_second}
+use Rattle.list_facts.proofs.Both.{and_second}
 use Rattle.server_pick.proofs.Chosen.{room_within}
 use Rattle.server_pick.proofs.Filled.{free_within, server_within}
 use Rattle.server_pick.specs.Heads.{Held, IsLawfulTake}

@@ -19,7 +19,7 @@ use Rattle.readable_log.specs.Ordered.{AllKeepOrder, HaveNone}
 use Rattle.late_cert.specs.Reports.{is_within, last_cut, IsCritical, IsSound, IsChosen}
 use Rattle.late_cert.specs.declared.report.Report.{Report}
 use Rattle.late_cert.proofs.Fair.{AreFair, RisesFrom, rises_lower, fair_after, rises_after}
-use Rattle.late_cert.proofs.Lists.{all_weaker, all_map, all_append, all_filter}
+use Rattle.list_facts.proofs.Members.{all_weaker, all_map, all_append, all_filter}
 
 -- the cut, from a first one on
 abbrev cut_from : ℤ → ℕ → List Stay → ℕ

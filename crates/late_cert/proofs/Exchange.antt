@@ -5,6 +5,7 @@ use Rattle.std.proofs.lemmas.Bool.Decides.{nat_tests}
 use Rattle.std.proofs.lemmas.Int.{ints}
 use Rattle.std.proofs.lemmas.List.Sorted.{sum_by-IsPermutation}
 use Rattle.std.proofs.lemmas.List.Sums.{sum_by-cons}
+use Rattle.list_facts.proofs.Places.{tally}
 use Rattle.dispatch_log.specs.declared.entry.Entry.{Entry}
 use Rattle.readable_log.specs.Grants.{moment_at}
 use Rattle.readable_log.specs.declared.grant.Stay.{Stay}
@@ -15,9 +16,6 @@ use Rattle.late_cert.specs.declared.report.Report.{Report}
 -- a slot after the cut and before the end
 abbrev pub is_between : ℕ → ℕ → ℕ → Bool
 is_between after to slot = nat_lt after slot && nat_lt slot to
-
-abbrev pub tally : Bool → ℕ
-tally b = cond b 1 0
 
 -- of two tests of one slot, the second holds wherever the first does
 between_within : (after to : ℕ) (s : Stay) → tally (is_between after to s.slot) ≤ tally (is_within after to s)

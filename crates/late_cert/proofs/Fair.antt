@@ -13,6 +13,7 @@ use Rattle.dispatch_log.specs.declared.queue.Queue.{Queue}
 use Rattle.dispatch_log.specs.Rows.{phase_waits_in}
 use Rattle.dispatch_log.specs.declared.setup.Setup.{Setup}
 use Rattle.dispatch_log.specs.States.{State, after, after_all}
+use Rattle.dispatch_log.proofs.Judged.{after_all-push}
 use Rattle.readable_log.specs.Grants.{Wait, grant_in, joins, joining_of, arrival_of, grant_after, grants_after, is_of}
 use Rattle.readable_log.specs.declared.grant.Grant.{Grant}
 use Rattle.readable_log.specs.declared.grant.Stay.{Stay}
@@ -75,10 +76,6 @@ due_least a b least class = go a.class b.class a.due b.due a.ticket b.ticket cla
 
 -- ---- two grants
 
-after_all-push : (setup : Setup) (s : State) (es : List Entry) (e : Entry) → after setup (after_all setup s es) e ≡ after_all setup s (es ++ e ∷ [])
-after_all-push setup s [] e = refl
-after_all-push setup s (x ∷ es) e = after_all-push setup (after setup s x) es e
-
 -- each key of the class that waits in the queue is due no earlier than a date
 abbrev NoneDueEarlier : State → Queue → ℤ → ℤ → Type 0
 NoneDueEarlier s q c due = (key : Key) → Waited s.rows q key → key.class ≡ c → due ≤ℤ key.due
@@ -89,7 +86,7 @@ later_fair : (setup : Setup) (q : Queue) (c due : ℤ) (s1 : State) (past1 : Lis
 later_fair setup q c due s1 past1 none between [] past2 s2 is_past is_state have keep = tt
 later_fair setup q c due s1 past1 none between (e ∷ es) past2 s2 is_past is_state have keep =
     by_grant (grant_after past2 e) refl
-    (later_fair setup q c due s1 past1 none (between ++ e ∷ []) es (past2 ++ e ∷ []) (after setup s2 e) (ap (λ l. l ++ e ∷ []) is_past ∙ append_assoc past1 between (e ∷ [])) (ap (λ s. after setup s e) is_state ∙ after_all-push setup s1 between e) (have_arrived_after setup past2 s2 e have keep.0) keep.1)
+    (later_fair setup q c due s1 past1 none (between ++ e ∷ []) es (past2 ++ e ∷ []) (after setup s2 e) (ap (λ l. l ++ e ∷ []) is_past ∙ append_assoc past1 between (e ∷ [])) (ap (λ s. after setup s e) is_state ∙ sym (after_all-push setup s1 between e)) (have_arrived_after setup past2 s2 e have keep.0) keep.1)
   where
     pair : (g : Grant) → grant_after past2 e ≡ Some g → is_of q c g ≡ true → g.stay.joined ≤ length past1 → due ≤ℤ g.stay.due
     pair g made of low =

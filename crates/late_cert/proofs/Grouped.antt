@@ -21,7 +21,8 @@ use Rattle.late_cert.specs.Lateness.{own_lateness}
 use Rattle.late_cert.specs.Reports.{is_within, IsChosenFor, IsChosen, comes_before, AreAscending, is_covered, AreReports}
 use Rattle.late_cert.specs.Tests.{is_about, late_by}
 use Rattle.late_cert.specs.declared.report.Report.{Report}
-use Rattle.late_cert.proofs.Lists.{all_weaker, all_both, all_map, all_append, all_take, all_drop, all_filter, filter_none, one_of, cut_at}
+use Rattle.list_facts.proofs.Members.{all_weaker, all_both, all_map, all_append, all_take, all_drop, all_filter, filter_none, one_of}
+use Rattle.list_facts.proofs.Places.{cut_at}
 use Rattle.late_cert.proofs.Order.{before_other, same_ties}
 use Rattle.late_cert.proofs.Sorted.{AreSorted, are_sorted, sorted_drop, is_of_true, is_of_own, NoneBefore, IsSplit, split_sorted, none_before_first, stable_filter}
 use Rattle.late_cert.proofs.Sound.{lateness_of}

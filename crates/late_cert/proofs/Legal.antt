@@ -9,7 +9,7 @@ use Rattle.late_cert.specs.Reports.{IsChosen, IsSound, IsLeast, AreReports}
 use Rattle.late_cert.specs.declared.report.Report.{Report}
 use Rattle.late_cert.proofs.Chosen.{chosen_sound}
 use Rattle.late_cert.proofs.Least.{sound_least}
-use Rattle.late_cert.proofs.Lists.{all_weaker}
+use Rattle.list_facts.proofs.Members.{all_weaker}
 
 legal_readable : (h : History) → IsLegal h → IsReadable h.log
 legal_readable h legal = judged_readable h.setup (opening_state h.setup) h.log (opens_empty h.setup) legal.judged

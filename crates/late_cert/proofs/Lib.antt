@@ -2,7 +2,6 @@ pub mod Exchange
 pub mod Least
 pub mod Sound
 pub mod Order
-pub mod Lists
 pub mod Sorted
 pub mod Grouped
 pub mod Fair

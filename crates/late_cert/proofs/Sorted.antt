@@ -4,10 +4,11 @@ use Rattle.std.specs.Cmp.{IsStrictWeakOrder}
 use Rattle.std.specs.List.{AllByRecursion, filter, prefix_len}
 use Rattle.std.specs.List.Sorted.{IsSortedBy, IsStableBy, ties}
 use Rattle.std.specs.Ordering.{int_eq}
-use Rattle.std.proofs.lemmas.Bool.{false≢true}
+use Rattle.std.proofs.lemmas.Bool.{false≢true, and_parts}
 use Rattle.std.proofs.lemmas.Bool.Decides.{Decides-eqb, Decides-int_eq}
 use Rattle.std.proofs.lemmas.List.Elements.{recursion_from_All, filter_agree}
 use Rattle.std.proofs.lemmas.List.Sorted.{sorted_far}
+use Rattle.list_facts.proofs.Members.{filter_none}
 use Rattle.dispatch_log.specs.declared.queue.Queue.{Queue}
 use Rattle.dispatch_log.specs.declared.queue.Queue.TheVariants.{Backend, Server}
 use Rattle.dispatch_log.specs.Rows.{same_queue}
@@ -54,14 +55,9 @@ pub same_queue_refl : (q : Queue) → same_queue q q ≡ true
 same_queue_refl Backend = refl
 same_queue_refl (Server n) = (Decides-eqb n n).1 refl
 
-both : (a b : Bool) → (a && b) ≡ true → (a ≡ true) × (b ≡ true)
-both true true e = (refl, refl)
-both true false e = cc
-both false b e = cc
-
 -- a grant from a queue and of a class
 pub is_of_true : (q : Queue) (c : ℤ) (g : Grant) → is_of q c g ≡ true → (q ≡ g.queue) × (c ≡ g.class)
-is_of_true q c g e = let h = both (same_queue q g.queue) (int_eq c g.class) e in (same_queue_is q g.queue h.0, (Decides-int_eq c g.class).0 h.1)
+is_of_true q c g e = let h = and_parts (same_queue q g.queue) (int_eq c g.class) e in (same_queue_is q g.queue h.0, (Decides-int_eq c g.class).0 h.1)
 
 pub is_of_own : (g : Grant) → is_of g.queue g.class g ≡ true
 is_of_own g = rw (same_queue_refl g.queue, (Decides-int_eq g.class g.class).1 refl) refl
@@ -94,10 +90,6 @@ pub record IsSplit (q : Queue) (c : ℤ) (gs : List Grant) : Type 0 where
   pub passes : AllByRecursion (λ h. is_of q c h ≡ true) (take (prefix_len (is_of q c) gs) gs)
   pub back : AllByRecursion (λ h. is_of q c h ≡ false) (drop (prefix_len (is_of q c) gs) gs)
 
-nothing : (q : Queue) (c : ℤ) (gs : List Grant) → AllByRecursion (λ h. is_of q c h ≡ false) gs → filter (is_of q c) gs ≡ []
-nothing q c [] all = refl
-nothing q c (g ∷ gs) all = rw all.0 (nothing q c gs all.1)
-
 pub split_sorted : (q : Queue) (c : ℤ) (gs : List Grant) → AreSorted gs → NoneBefore q c gs → IsSplit q c gs
 split_sorted q c [] sorted none = record { front = refl; passes = tt; back = tt }
 split_sorted q c (g ∷ gs) sorted none = go (is_of q c g) refl (split_sorted q c gs sorted.1 none.1)
@@ -117,7 +109,7 @@ split_sorted q c (g ∷ gs) sorted none = go (is_of q c g) refl (split_sorted q 
         let n : 0 ≡ prefix_len (is_of q c) (g ∷ gs) = ap (λ b. cond b (1 + prefix_len (is_of q c) gs) 0) (sym e) in
         let all = others q c g gs sorted none.0 e in
         record {
-          front = subst (λ k. take k (g ∷ gs) ≡ filter (is_of q c) (g ∷ gs)) n (sym (nothing q c (g ∷ gs) all));
+          front = subst (λ k. take k (g ∷ gs) ≡ filter (is_of q c) (g ∷ gs)) n (sym (filter_none (is_of q c) (g ∷ gs) all));
           passes = subst (λ k. AllByRecursion (λ h. is_of q c h ≡ true) (take k (g ∷ gs))) n tt;
           back = subst (λ k. AllByRecursion (λ h. is_of q c h ≡ false) (drop k (g ∷ gs))) n all;
         }

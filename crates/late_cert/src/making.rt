@@ -20,7 +20,7 @@ pub fn certify(alloc: Global, log: &Log) -> Result<Reports, AllocError>
     ensures { IfOk result (AreReports log.now.entries) }
 {
     let sorted = sorted_grants(alloc, log.grants())?;
-    Ok(Reports::new(reports_of(alloc, sorted.as_slice())?))
+    Ok(Reports::from_vec(reports_of(alloc, sorted.as_slice())?))
 }
 
 /// The grants queue by queue and class by class, else in their order.
@@ -74,7 +74,7 @@ fn report_of(
     let grant = &group[at];
     let (earlier, _) = group.split_at(at);
     let after = last_cut(earlier, grant.stay.due);
-    let critical = Stays::new(critical(alloc, group, after, grant.stay.slot)?);
+    let critical = Stays::from_vec(critical(alloc, group, after, grant.stay.slot)?);
     let worst = lateness(grant);
     let granted = group.len();
     Ok(Report {

@@ -1,38 +1,10 @@
-ghost use Rattle.std.specs.Prelude.{◌≡◌, ◌↔◌, IsTrue, length};
-
 use dispatch_log::Queue;
 use due_key::{Class, Due};
+use list_facts::Items;
 use readable_log::Stay;
-use std::marker::Model;
 
 /// Some stays, in order.
-#[derive(Debug, Drop)]
-pub struct Stays {
-    stays: Vec<Stay>,
-}
-
-impl Model for Stays {
-    ghost use Rattle.std.specs.Prelude.{List};
-    ghost use Rattle.readable_log.specs.declared.grant.Stay.{Stay};
-
-    ghost Value = { List Stay };
-
-    ghost view = { λ it. it.stays.items };
-}
-
-impl Stays {
-    pub fn new(stays: Vec<Stay>) -> Stays
-        ensures { result ≡ stays.items }
-    {
-        Stays { stays }
-    }
-
-    pub fn as_slice(&self) -> &[Stay]
-        ensures { result.now ≡ self.now }
-    {
-        self.stays.as_slice()
-    }
-}
+pub type Stays = Items<Stay>;
 
 /// What is claimed of the requests of one class that were granted slots from one queue. Positions
 /// count the log's entries from 1.
@@ -57,30 +29,4 @@ pub struct Report {
 }
 
 /// The reports of a log, in order.
-#[derive(Debug, Drop)]
-pub struct Reports {
-    reports: Vec<Report>,
-}
-
-impl Model for Reports {
-    ghost use Rattle.std.specs.Prelude.{List};
-    ghost use Rattle.late_cert.specs.declared.report.Report.{Report};
-
-    ghost Value = { List Report };
-
-    ghost view = { λ it. it.reports.items };
-}
-
-impl Reports {
-    pub fn new(reports: Vec<Report>) -> Reports
-        ensures { result ≡ reports.items }
-    {
-        Reports { reports }
-    }
-
-    pub fn as_slice(&self) -> &[Report]
-        ensures { result.now ≡ self.now }
-    {
-        self.reports.as_slice()
-    }
-}
+pub type Reports = Items<Report>;

@@ -141,7 +141,7 @@ fn report(
         due: Due::of(Moment::zero(), Offset::clamp(due)),
         after,
         to,
-        critical: Stays::new(Vec::from_slice(alloc, critical)?),
+        critical: Stays::from_vec(Vec::from_slice(alloc, critical)?),
     })
 }
 

@@ -6,8 +6,8 @@ use Rattle.std.proofs.lemmas.Cmp.{tied_itself, tied_back}
 use Rattle.std.proofs.lemmas.List.Elements.{Contains-append_left, Contains-append_right, Contains-append_cases}
 use Rattle.std.proofs.lemmas.List.Sorted.{Contains-permutation, IsPermutation-sym}
 use Rattle.pend_queue.specs.Pairs.{IsAscending, IsAbsent, HaveNoCommonKey, pair_at}
-use Rattle.pend_queue.proofs.Orders.{less_one_way, less_not_tied, same_not_less}
-use Rattle.pend_queue.proofs.Members.{Contains-nil, Contains-head, Contains-tail, Contains-cases, Contains-filter, each_from_members, each_at_member}
+use Rattle.list_facts.proofs.Orders.{less_one_way, less_not_tied, same_not_less}
+use Rattle.list_facts.proofs.Members.{Contains-nil, Contains-head, Contains-tail, Contains-cases, Contains-filter, each_from_members, each_at_member}
 
 module _ {K V : Type 0} (cmp : K → K → Ordering) where
   -- parts of an ascending list, and lists that make one

@@ -11,8 +11,8 @@ use Rattle.std.proofs.lemmas.List.Elements.{Contains-get_or, recursion_from_All}
 use Rattle.std.proofs.lemmas.List.Sorted.{IsPermutation-reverse, All-permutation, Contains-permutation}
 use Rattle.pend_queue.specs.Pairs.{IsAscending, IsAbsent, inserted, pair_at, without}
 use Rattle.pend_queue.specs.Places.{IsAt, IsGapFor}
-use Rattle.pend_queue.proofs.Orders.{greater_from_less, less_from_greater, less_then_tied}
-use Rattle.pend_queue.proofs.Members.{Contains-head, each_at_member}
+use Rattle.list_facts.proofs.Orders.{greater_from_less, less_from_greater, less_then_tied}
+use Rattle.list_facts.proofs.Members.{Contains-head, each_at_member}
 use Rattle.pend_queue.proofs.Ascending.{ascending_parts, absent_from_members, absent-append, absent_at_member, pair_at-member}
 use Rattle.pend_queue.proofs.Inserted.{inserted_between}
 use Rattle.pend_queue.proofs.Without.{without_between}

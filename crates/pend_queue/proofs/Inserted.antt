@@ -6,8 +6,8 @@ use Rattle.std.proofs.lemmas.List.{append-nil}
 use Rattle.std.proofs.lemmas.List.Elements.{filter-append}
 use Rattle.std.proofs.lemmas.List.Sorted.{Contains-permutation, IsPermutation-sym, IsPermutation-trans, IsPermutation-cons, IsPermutation-middle, IsPermutation-filter_both, length_permutation}
 use Rattle.pend_queue.specs.Pairs.{IsAscending, IsAbsent, inserted}
-use Rattle.pend_queue.proofs.Orders.{less_from_greater}
-use Rattle.pend_queue.proofs.Members.{Contains-head, Contains-tail, Contains-cases, Contains-filter, each_from_members, each_at_member, AllByRecursion-filter, AllByRecursion-append, filter_all, filter_none, filter_alike}
+use Rattle.list_facts.proofs.Orders.{less_from_greater}
+use Rattle.list_facts.proofs.Members.{Contains-head, Contains-tail, Contains-cases, Contains-filter, each_from_members, each_at_member, all_filter, all_append, filter_all, filter_none, filter_alike}
 use Rattle.pend_queue.proofs.Ascending.{IsAscending-filter, IsAscending-append, absent_at_member}
 
 -- what a test of an order says
@@ -58,7 +58,7 @@ module _ {K V : Type 0} (cmp : K → K → Ordering) where
   AllByRecursion-inserted P new ps here each =
       let is_below = λ (p : K × V). is_lt (cmp p.0 new.0) in
       let is_above = λ (p : K × V). is_gt (cmp p.0 new.0) in
-      AllByRecursion-append P (filter is_below ps) (new ∷ filter is_above ps) (AllByRecursion-filter P is_below ps each) (here, AllByRecursion-filter P is_above ps each)
+      all_append P (filter is_below ps) (new ∷ filter is_above ps) (all_filter P is_below ps each) (here, all_filter P is_above ps each)
 
   -- between the smaller keys and the greater ones
   pub inserted_between : (new : K × V) (ps qs : List (K × V)) → AllByRecursion (λ p. cmp p.0 new.0 ≡ Less) ps → AllByRecursion (λ q. cmp q.0 new.0 ≡ Greater) qs → inserted cmp new (ps ++ qs) ≡ ps ++ new ∷ qs

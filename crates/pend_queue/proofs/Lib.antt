@@ -1,5 +1,3 @@
-pub mod Orders
-pub mod Members
 pub mod Ascending
 pub mod Inserted
 pub mod Without

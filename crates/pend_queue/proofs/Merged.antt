@@ -6,7 +6,7 @@ use Rattle.std.proofs.lemmas.List.{append-nil}
 use Rattle.std.proofs.lemmas.List.Elements.{Contains-append_left, Contains-append_right, Contains-append_cases}
 use Rattle.std.proofs.lemmas.List.Sorted.{Contains-permutation, IsPermutation-refl, IsPermutation-sym, IsPermutation-trans, IsPermutation-cons, IsPermutation-middle, IsPermutation-append_left, length_permutation}
 use Rattle.pend_queue.specs.Pairs.{IsAscending, IsAbsent, HaveNoCommonKey, inserted, merged}
-use Rattle.pend_queue.proofs.Members.{each_at_member, Contains-tail}
+use Rattle.list_facts.proofs.Members.{each_at_member, Contains-tail}
 use Rattle.pend_queue.proofs.Ascending.{absent-append, absent-IsPermutation, absent_from_rest, apart_from_members, apart_at_members, same_from_permutation}
 use Rattle.pend_queue.proofs.Inserted.{AllByRecursion-inserted, IsAscending-inserted, IsPermutation-inserted, Contains-inserted}
 

@@ -6,8 +6,8 @@ use Rattle.std.proofs.lemmas.Cmp.{tied_back, tied_itself}
 use Rattle.std.proofs.lemmas.List.Elements.{filter-append}
 use Rattle.std.proofs.lemmas.List.Sorted.{IsPermutation-filter_both, length_permutation}
 use Rattle.pend_queue.specs.Pairs.{IsAscending, IsAbsent, pair_at, without}
-use Rattle.pend_queue.proofs.Orders.{greater_from_less, tied_then_less, less_then_tied}
-use Rattle.pend_queue.proofs.Members.{Contains-head, Contains-filter, Contains-filter_kept, each_from_members, each_at_member, AllByRecursion-filter, filter_all, filter_none}
+use Rattle.list_facts.proofs.Orders.{greater_from_less, tied_then_less, less_then_tied}
+use Rattle.list_facts.proofs.Members.{Contains-head, Contains-filter, Contains-filter_kept, each_from_members, each_at_member, all_filter, filter_all, filter_none}
 use Rattle.pend_queue.proofs.Ascending.{IsAscending-filter, ascending_parts, absent_from_members, absent_at_member}
 
 -- what a test for a tie says
@@ -30,7 +30,7 @@ module _ {K V : Type 0} (cmp : K → K → Ordering) where
   Contains-without_other key ps p among differs = Contains-filter_kept (λ (p : K × V). not (is_eq (cmp p.0 key))) ps p among (ap not (test_from_untied (cmp p.0 key) differs))
 
   pub AllByRecursion-without : (P : K × V → Type 0) (key : K) (ps : List (K × V)) → AllByRecursion P ps → AllByRecursion P (without cmp key ps)
-  AllByRecursion-without P key ps each = AllByRecursion-filter P (λ (p : K × V). not (is_eq (cmp p.0 key))) ps each
+  AllByRecursion-without P key ps each = all_filter P (λ (p : K × V). not (is_eq (cmp p.0 key))) ps each
 
   pub absent_from_without : (key : K) (ps : List (K × V)) → IsAbsent cmp key (without cmp key ps)
   absent_from_without key ps = absent_from_members cmp key (without cmp key ps) (λ p among. (Contains-without key ps p among).1)

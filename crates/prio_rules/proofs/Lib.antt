@@ -1,4 +1,3 @@
 pub mod Folding
-pub mod Lists
 pub mod Orders
 pub mod Rows

@@ -1,5 +1,5 @@
 -- Each line that is taken in keeps what holds of accepted configurations.
-use Rattle.std.proofs.Common.{◌≡◌, inl, inr, ◌+◌, ◌<◌, ◌≤◌, ◌==◌, ◌++◌, ℕ, Bool, true, false, cond, not, List, [], ◌∷◌, length, Option, Some, None, Result, Ok, Err, refl, sym, subst, arith, length-append}
+use Rattle.std.proofs.Common.{◌≡◌, inl, inr, ◌+◌, ◌<◌, ◌≤◌, ◌==◌, ℕ, Bool, true, false, cond, not, List, [], ◌∷◌, length, Option, Some, None, Result, Ok, Err, refl, sym, subst, arith, length-append}
 use Rattle.std.specs.Option.{ok_or, is_some, option_and_then, IfSome}
 use Rattle.std.specs.List.{AllByRecursion, list_any}
 use Rattle.std.specs.Str.Lines.{lines}
@@ -8,6 +8,8 @@ use Rattle.std.proofs.lemmas.List.Elements.{All-from_recursion}
 use Rattle.std.specs.Result.{IfOk}
 use Rattle.std.proofs.lemmas.Bool.Decides.{nat_tests}
 use Rattle.std.proofs.lemmas.Bool.{leb-false}
+use Rattle.std.proofs.lemmas.Option.{same_Some}
+use Rattle.list_facts.proofs.Members.{all_push}
 use borrow.Author.Tests.{ltb-false, ltb-true}
 use Rattle.proxy_words.specs.Numerals.{numeral}
 use Rattle.proxy_words.specs.Times.{time}
@@ -48,16 +50,13 @@ use Rattle.proxy_config.proofs.GuardRanges.{acls_longer, more_pins, more_rules, 
 use Rattle.proxy_config.proofs.Surveys.{survey-taken}
 
 -- what a number or a time within ends is
-some_same : {A : Type 0} (x y : A) → Some x ≡ Some y → x ≡ y
-some_same x y same = cc
-
 number_in-most : (least most : ℕ) (o : Option ℕ) (n : ℕ) → option_and_then (λ m. cond (nat_lt m least) None (cond (nat_lt most m) None (Some m))) o ≡ Some n → n ≤ most
 number_in-most least most None n is = absurd (let none = is in cc)
 number_in-most least most (Some m) n is = elim (chosen (nat_lt m least) _ _ _ is) [
   | inl small ↦ absurd (let none = small.1 in cc)
   | inr enough ↦ elim (chosen (nat_lt most m) _ _ _ enough.1) [
     | inl large ↦ absurd (let none = large.1 in cc)
-    | inr within ↦ let same : m ≡ n = some_same m n within.1 in let most_is : m ≤ most = ltb-false most m within.0 in omega arith
+    | inr within ↦ let same : m ≡ n = same_Some m n within.1 in let most_is : m ≤ most = ltb-false most m within.0 in omega arith
   ]
 ]
 
@@ -65,7 +64,7 @@ from-least : (least : ℕ) (o : Option ℕ) (n : ℕ) → option_and_then (λ m.
 from-least least None n is = absurd (let none = is in cc)
 from-least least (Some m) n is = elim (chosen (nat_lt m least) _ _ _ is) [
   | inl small ↦ absurd (let none = small.1 in cc)
-  | inr enough ↦ let same : m ≡ n = some_same m n enough.1 in let least_is : least ≤ m = ltb-false m least enough.0 in omega arith
+  | inr enough ↦ let same : m ≡ n = same_Some m n enough.1 in let least_is : least ≤ m = ltb-false m least enough.0 in omega arith
 ]
 
 record SoundSettings (s : Settings) : Type 0 where
@@ -121,10 +120,6 @@ checks_sound false s sound = tt
 
 server_sound : (name : List ℕ) (address : Address) (s : Settings) → SoundSettings s → IsSoundServer (draft.server_of name address s)
 server_sound name address s sound = record { weight = sound.weight; check = checks_sound s.check s sound }
-
-all_push : {A : Type 0} (P : A → Type 0) (all : List A) (one : A) → AllByRecursion P all → P one → AllByRecursion P (all ++ one ∷ [])
-all_push P [] one each is = (is, tt)
-all_push P (first ∷ all) one each is = (each.0, all_push P all one each.1 is)
 
 -- what holds of each draft
 record SoundDraft (known : List Server) (d : Draft) : Type 0 where

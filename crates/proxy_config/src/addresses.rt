@@ -8,10 +8,10 @@ ghost use Rattle.proxy_config.specs.Addresses as addresses;
 ghost use Rattle.proxy_config.specs.declared.faults.Cause.TheVariants as causes;
 
 use crate::faults::{Cause, LineError};
-use crate::lists::Items;
 use crate::names::is_host;
 use crate::parts::{Address, Bind, Host};
 use crate::pieces::{is, number_in};
+use list_facts::Items;
 use std::alloc::Global;
 
 /// Where to listen: `A:PORT`, A empty, `*` or an IPv4 address.

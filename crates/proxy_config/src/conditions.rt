@@ -6,11 +6,11 @@ ghost use Rattle.proxy_config.specs.Outcomes.{Gives};
 ghost use Rattle.proxy_config.specs.Conditions as grammar;
 
 use crate::faults::{Cause, LineError};
-use crate::lists::Items;
 use crate::names::is_acl_name;
 use crate::parts::{Acl, Condition, Guard, Operand, Term};
 use crate::pieces::{is, word};
 use crate::samples::test_in_braces;
+use list_facts::Items;
 use proxy_words::Words;
 use std::alloc::Global;
 use std::mem;

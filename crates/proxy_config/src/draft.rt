@@ -10,7 +10,6 @@ ghost use Rattle.proxy_config.specs.Wishes as wished;
 use crate::addresses::{address, bind};
 use crate::faults::{Cause, LineError};
 use crate::keywords::{Keyword, keyword_of, section_of};
-use crate::lists::Items;
 use crate::names::is_name;
 use crate::parts::{Acl, Bind, Pin, Rule, Server};
 use crate::pieces::{end, word};
@@ -18,6 +17,7 @@ use crate::rules::{acl_line, rule_line, server_index};
 use crate::settings::{Settings, settings_to_end};
 use crate::values::{Shared, Values, shared_line};
 use crate::wishes::{Wish, wish_line};
+use list_facts::Items;
 use proxy_words::{Words, without_comment};
 use std::alloc::Global;
 

@@ -7,7 +7,6 @@ mod draft;
 mod faults;
 mod keywords;
 pub mod laws;
-mod lists;
 mod names;
 mod parts;
 mod pieces;
@@ -22,7 +21,7 @@ mod values;
 mod wishes;
 
 pub use faults::{Cause, ConfigFault, ReadError};
-pub use lists::Items;
+pub use list_facts::Items;
 pub use parts::{
     Acl, Action, Address, Bind, Checks, Condition, Config, Expression, Guard, Host, Operand, Pin,
     Rule, Server, Subject, Term, Test, Text,

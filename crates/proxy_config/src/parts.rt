@@ -1,6 +1,6 @@
 //! What a configuration says, part by part.
 
-use crate::lists::Items;
+use list_facts::Items;
 
 /// A text, as its bytes.
 pub type Text = Items<u8>;

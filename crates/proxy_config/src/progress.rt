@@ -7,9 +7,9 @@ ghost use Rattle.proxy_config.specs.Progress as grammar;
 
 use crate::draft::Draft;
 use crate::faults::{Cause, ConfigFault, LineError, ReadError};
-use crate::lists::Items;
 use crate::parts::Config;
 use crate::wishes::{Wish, pins_of};
+use list_facts::Items;
 use std::alloc::Global;
 
 #[derive(Drop)]

@@ -7,11 +7,11 @@ ghost use Rattle.proxy_config.specs.Rules as grammar;
 
 use crate::conditions::{acl_index, optional_guard};
 use crate::faults::{Cause, LineError};
-use crate::lists::Items;
 use crate::names::is_acl_name;
 use crate::parts::{Acl, Action, Rule, Server, Test};
 use crate::pieces::{is, word};
 use crate::samples::{expression, test_to_end};
+use list_facts::Items;
 use proxy_words::Words;
 use std::alloc::Global;
 

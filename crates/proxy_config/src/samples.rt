@@ -7,10 +7,10 @@ ghost use Rattle.proxy_config.specs.Samples as grammar;
 ghost use Rattle.proxy_config.specs.declared.faults.Cause.TheVariants as causes;
 
 use crate::faults::{Cause, LineError};
-use crate::lists::Items;
 use crate::names::is_token;
 use crate::parts::{Expression, Subject, Test, Text};
 use crate::pieces::{is, word};
+use list_facts::Items;
 use proxy_words::{Words, signed_long_number};
 use std::alloc::Global;
 

@@ -1,12 +1,12 @@
 -- Where rows come from: what an entry makes of them, looked at backwards.
-use Rattle.std.proofs.Common.{◌≡◌, ◌≢◌, ℕ, zero, suc, ◌==◌, ◌&&◌, Bool, true, false, cond, List, [], ◌∷◌, ◌++◌, Option, None, Some, slice_get, option_map, IsTrue, refl, ap, sym, ◌∙◌, subst, ◌⊎◌, inl, inr}
-use Rattle.std.proofs.Math.ListN.{set}
+use Rattle.std.proofs.Common.{◌≡◌, ◌≢◌, ℕ, ◌==◌, ◌&&◌, Bool, true, false, cond, List, [], ◌∷◌, ◌++◌, Option, None, Some, slice_get, option_map, IsTrue, refl, ap, sym, ◌∙◌, subst, ◌⊎◌, inl, inr}
 use Rattle.std.specs.List.{AllByRecursion}
 use Rattle.std.specs.Option.{option_map_or, IfSome, IsSomeAnd}
 use Rattle.std.proofs.lemmas.Bool.{false≢true}
 use Rattle.std.proofs.lemmas.Bool.Decides.{Decides-eqb}
 use Rattle.std.proofs.lemmas.List.Sums.{fold_push}
 use Rattle.std.proofs.lemmas.Option.{same_Some, slice_get-map}
+use Rattle.list_facts.proofs.Places.{get-set}
 use Rattle.due_key.specs.declared.key.Key.{Key}
 use Rattle.dispatch_log.specs.declared.entry.Arrival.{Arrival}
 use Rattle.dispatch_log.specs.declared.entry.Entry.{Entry}
@@ -37,14 +37,6 @@ pub record WasThere (rows : Rows) (e : Entry) (p : ℕ) (r : Row) : Type 0 where
   pub stands : StandsAt rows p row
   pub key : row.key ≡ r.key
   pub waited : (q : Queue) → IsTrue (phase_waits_in q r.phase) → joins r.key.ticket q e ≡ false → IsTrue (phase_waits_in q row.phase)
-
--- what stands at a place of which one may have been written
-get-set : {X : Type 0} (xs : List X) (i j : ℕ) (y z : X) → slice_get (set xs i y) j ≡ Some z → (y ≡ z) ⊎ (slice_get xs j ≡ Some z)
-get-set [] i j y z e = inr e
-get-set (x ∷ xs) zero zero y z e = inl (same_Some y z e)
-get-set (x ∷ xs) zero (suc j) y z e = inr e
-get-set (x ∷ xs) (suc i) zero y z e = inr e
-get-set (x ∷ xs) (suc i) (suc j) y z e = get-set xs i j y z e
 
 -- a change of a ticket's row keeps what it leaves in the row: its key, and where it waits, unless the entry put it there
 abbrev Keeps : Entry → ℕ → (Row → Option Row) → Type 0

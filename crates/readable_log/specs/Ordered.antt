@@ -1,11 +1,10 @@
 -- Logs that keep the order of their queues, and what they leave.
 use Rattle.std.specs.Prelude.{◌≡◌, ◌≢◌, ℕ, ◌<◌, List, [], ◌∷◌, IsTrue}
 use Rattle.std.specs.Option.{IfSome}
-use Rattle.std.specs.declared.cmp.Ordering.TheVariants.{Greater}
-use Rattle.due_key.specs.Order.{key_cmp}
 use Rattle.dispatch_log.specs.declared.entry.Entry.{Entry}
 use Rattle.dispatch_log.specs.declared.row.Row.{Row}
 use Rattle.dispatch_log.specs.declared.setup.Setup.{Setup}
+use Rattle.dispatch_log.specs.Grants.{IsLeastOf}
 use Rattle.dispatch_log.specs.Rows.{Rows, IsRow, phase_waits_in}
 use Rattle.dispatch_log.specs.States.{State, after}
 use Rattle.readable_log.specs.Grants.{Wait, arrival_in, grant_in, joining_of}
@@ -22,7 +21,7 @@ pub record TakesLeast (rows : Rows) (wait : Wait) : Type 0 where
   pub live : IsRow rows row
   pub named : row.key.ticket ≡ wait.ticket
   pub waits : IsTrue (phase_waits_in wait.queue row.phase)
-  pub least : (other : Row) → IsRow rows other → IsTrue (phase_waits_in wait.queue other.phase) → key_cmp row.key other.key ≢ Greater
+  pub least : IsLeastOf (phase_waits_in wait.queue) rows row.key
 
 -- an entry keeps the order of the queues: the ticket of an arrival is fresh, and a grant takes the least key of its queue
 pub record KeepsOrder (rows : Rows) (entry : Entry) : Type 0 where

@@ -50,7 +50,7 @@ fn default_servers(alloc: Global) -> Result<Servers, AllocError>
         weight: 1,
         rise_fall: None,
     };
-    Ok(Servers::new(vec![in alloc; server]?))
+    Ok(Servers::from_vec(vec![in alloc; server]?))
 }
 
 fn default_names(alloc: Global) -> Result<Names, AllocError>

@@ -3,11 +3,13 @@
 
 mod defaults;
 mod ends;
+mod events;
 mod fault;
 mod reports;
 mod run;
 mod streams;
 
+pub use events::{Replayed, replay_events};
 pub use fault::Fault;
 pub use reports::reports_of;
 pub use streams::replay;

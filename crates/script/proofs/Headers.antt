@@ -1,34 +1,30 @@
 -- A script's lines are taken in one by one.
 use Rattle.std.proofs.Common.{◌≡◌, ℕ, ◌+◌, Bool, true, false, ◌||◌, List, [], ◌∷◌, ◌++◌, length, filter_map, Option, Some, None, if◌then◌else◌, refl, sym, ap, ◌∙◌, append_assoc, append-nil, length-append}
 use Rattle.std.proofs.Math.Bool.{or-false, or_comm}
-use Rattle.std.specs.List.{cons_option, list_any}
+use Rattle.std.specs.List.{cons_option, last_or, list_any}
 use Rattle.std.specs.Option.{option_map_or, option_or}
 use Rattle.std.proofs.lemmas.List.Elements.{filter_map-append}
 use Rattle.std.proofs.lemmas.List.Folds.{list_any-append}
+use Rattle.list_facts.proofs.Found.{last_or-append}
 use Rattle.script.specs.declared.setting.Setting.{Setting}
-use Rattle.script.specs.Headers.{Settings, all_of, settings_of, setting_of, name_in, server_in, places_in, log_in, retries_in, is_redispatch, timeout_in, last_of}
+use Rattle.script.specs.Headers.{Settings, all_of, settings_of, setting_of, name_in, server_in, places_in, log_in, retries_in, is_redispatch, timeout_in}
 use Rattle.script.specs.Faults.{is_event, is_faulty, fault_behind}
 use Rattle.script.specs.Reading.{with_last, with_setting, with_line}
-
-last_of-snoc : {X : Type 0} (xs : List X) (x : X) → last_of (xs ++ x ∷ []) ≡ Some x
-last_of-snoc [] x = refl
-last_of-snoc (y ∷ []) x = refl
-last_of-snoc (y ∷ z ∷ xs) x = last_of-snoc (z ∷ xs) x
 
 append-option : {X : Type 0} (xs : List X) (x : Option X) → xs ++ cons_option x [] ≡ with_last xs x
 append-option xs None = append-nil xs
 append-option xs (Some x) = refl
 
-last_of-with_last : {X : Type 0} (xs : List X) (x : Option X) → last_of (with_last xs x) ≡ option_or x (last_of xs)
-last_of-with_last xs None = refl
-last_of-with_last xs (Some x) = last_of-snoc xs x
+last_or-with_last : {X : Type 0} (xs : List X) (x : Option X) → last_or None (with_last xs x) ≡ option_or x (last_or None xs)
+last_or-with_last xs None = refl
+last_or-with_last xs (Some x) = last_or-append None xs (x ∷ [])
 
 -- what is found in settings and in one more
 found-more : {X : Type 0} (found : Setting → Option X) (settings : List Setting) (setting : Setting) → filter_map found (settings ++ setting ∷ []) ≡ with_last (filter_map found settings) (found setting)
 found-more found settings setting = filter_map-append found settings (setting ∷ []) ∙ append-option (filter_map found settings) (found setting)
 
-last-more : {X : Type 0} (found : Setting → Option X) (settings : List Setting) (setting : Setting) → last_of (filter_map found (settings ++ setting ∷ [])) ≡ option_or (found setting) (last_of (filter_map found settings))
-last-more found settings setting = ap last_of (found-more found settings setting) ∙ last_of-with_last (filter_map found settings) (found setting)
+last-more : {X : Type 0} (found : Setting → Option X) (settings : List Setting) (setting : Setting) → last_or None (filter_map found (settings ++ setting ∷ [])) ≡ option_or (found setting) (last_or None (filter_map found settings))
+last-more found settings setting = ap (last_or None) (found-more found settings setting) ∙ last_or-with_last (filter_map found settings) (found setting)
 
 any-more : (test : Setting → Bool) (settings : List Setting) (setting : Setting) → list_any test (settings ++ setting ∷ []) ≡ (test setting || list_any test settings)
 any-more test settings setting =

@@ -1,4 +1,3 @@
 mod NameBytes
-mod NameLists
 mod Headers
 mod Rows

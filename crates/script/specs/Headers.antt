@@ -1,6 +1,6 @@
 -- What the header lines of a script say.
 use Rattle.std.specs.Prelude.{◌≡◌, ℕ, ◌<◌, ◌≤◌, ◌^◌, nat_lt, ◌||◌, Bool, true, false, List, [], ◌∷◌, length, All, filter_map, Option, Some, None, option_map, option_and_then, IfSome, IsTrue, if◌then◌else◌, codes}
-use Rattle.std.specs.List.{list_any}
+use Rattle.std.specs.List.{list_any, last_or}
 use Rattle.std.specs.Str.{bytes_eq}
 use Rattle.proxy_words.specs.Text.{words}
 use Rattle.proxy_words.specs.Numerals.{numeral}
@@ -104,22 +104,16 @@ abbrev pub timeout_in : Setting → Option ℕ
 timeout_in (QueueTimeout timeout) = Some timeout
 timeout_in other = None
 
--- the last item
-abbrev pub last_of : {X : Type 0} → List X → Option X
-last_of [] = None
-last_of (x ∷ []) = Some x
-last_of (x ∷ y ∷ xs) = last_of (y ∷ xs)
-
 -- what settings come to: each server stands, and of several lines of another word the last
 abbrev pub all_of : List Setting → Settings
 all_of settings = record {
   names = filter_map name_in settings;
   servers = filter_map server_in settings;
-  places = last_of (filter_map places_in settings);
-  log = last_of (filter_map log_in settings);
-  retries = last_of (filter_map retries_in settings);
+  places = last_or None (filter_map places_in settings);
+  log = last_or None (filter_map log_in settings);
+  retries = last_or None (filter_map retries_in settings);
   redispatch = list_any is_redispatch settings;
-  queue_timeout = last_of (filter_map timeout_in settings);
+  queue_timeout = last_or None (filter_map timeout_in settings);
 }
 
 -- what lines set

@@ -164,7 +164,7 @@ impl Header {
             redispatch: _,
             queue_timeout: _,
         } = self;
-        (names, Servers::new(servers))
+        (names, Servers::from_vec(servers))
     }
 
     // Takes a line in, behind an event or not, that is one itself or not.

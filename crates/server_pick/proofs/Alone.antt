@@ -5,8 +5,8 @@ use Rattle.std.proofs.lemmas.Option.{same_Some, slice_get-map}
 use Rattle.due_key.specs.declared.key.Key.{Key}
 use Rattle.due_key.specs.Order.{key_cmp}
 use Rattle.due_key.proofs.KeyOrder.{key_cmp_total}
-use Rattle.pend_queue.proofs.Orders.{less_from_greater}
-use Rattle.dispatch_log.proofs.Places.{get-set_cases}
+use Rattle.list_facts.proofs.Orders.{less_from_greater}
+use Rattle.list_facts.proofs.Places.{get-set_cases}
 use Rattle.dispatch_log.specs.declared.queue.Queue.{Queue}
 use Rattle.dispatch_log.specs.declared.queue.Queue.TheVariants.{Backend, Server}
 use Rattle.dispatch_log.specs.declared.row.Phase.{Phase}

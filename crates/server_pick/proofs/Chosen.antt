@@ -10,11 +10,11 @@ use Rattle.dispatch_log.specs.Placement.{IsCandidate, IsChosen}
 use Rattle.dispatch_log.specs.Rows.{served, queued}
 use Rattle.dispatch_log.specs.States.{put_on}
 use Rattle.dispatch_log.specs.Words.{Scene, of_server, is_up, is_usable, is_free, has_room, takes_pinned, working_pin}
-use Rattle.dispatch_log.proofs.Places.{same_or_other}
+use Rattle.list_facts.proofs.Places.{same_or_other}
 use Rattle.server_pick.specs.Order.{HasRoomBut}
 use Rattle.server_pick.specs.Picked.{IsPlacement, cursor_placed, placed_on}
 use Rattle.server_pick.specs.Sets.{IsIn}
-use Rattle.server_pick.proofs.Both.{and_first, and_second}
+use Rattle.list_facts.proofs.Both.{and_first, and_second}
 use Rattle.server_pick.proofs.Filled.{server_within}
 
 pub usable_within : (scene : Scene) (server : ℕ) → is_usable scene server ≡ true → server < length scene.servers

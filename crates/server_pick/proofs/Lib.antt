@@ -1,4 +1,3 @@
-pub mod Both
 pub mod Preferred
 pub mod Filled
 pub mod Chosen

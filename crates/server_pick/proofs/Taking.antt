@@ -5,7 +5,7 @@ use Rattle.std.proofs.lemmas.Bool.Decides.{Decides-eqb}
 use Rattle.due_key.specs.declared.key.Key.{Key}
 use Rattle.due_key.specs.Order.{key_cmp}
 use Rattle.due_key.proofs.KeyOrder.{key_cmp_total, key_cmp_exact}
-use Rattle.pend_queue.proofs.Orders.{less_from_greater, greater_from_less}
+use Rattle.list_facts.proofs.Orders.{less_from_greater, greater_from_less}
 use Rattle.dispatch_log.specs.declared.queue.Queue.{Queue}
 use Rattle.dispatch_log.specs.declared.queue.Queue.TheVariants.{Backend, Server}
 use Rattle.dispatch_log.specs.declared.row.Phase.{Phase}
@@ -17,7 +17,7 @@ use Rattle.dispatch_log.specs.Rows.{Rows, IsRow, same_queue, phase_waits_in}
 use Rattle.dispatch_log.specs.Words.{Scene, is_up, is_usable, may_take, may_go_to}
 use Rattle.server_pick.specs.Heads.{Held, head_at, IsLeastIn, IsEmptyQueue, IsLawfulTake, has_stay, goes_first, queue_of}
 use Rattle.server_pick.specs.Picked.{IsFirstWeightless}
-use Rattle.server_pick.proofs.Both.{and_first, and_second}
+use Rattle.list_facts.proofs.Both.{and_first, and_second}
 use Rattle.server_pick.proofs.Chosen.{pick_same}
 
 -- no key is greater than one that is no greater than a third

@@ -1,13 +1,12 @@
 -- The least keys of the queues.
-use Rattle.std.specs.Prelude.{◌≡◌, ◌≢◌, ℕ, List, Option, None, Some, IsTrue, MatchOption, slice_index_or, Bool, true, false, is_some, ◌||◌, ◌&&◌, if◌then◌else◌}
+use Rattle.std.specs.Prelude.{◌≡◌, ℕ, List, Option, None, Some, IsTrue, MatchOption, slice_index_or, Bool, true, false, is_some, ◌||◌, ◌&&◌, if◌then◌else◌}
 use Rattle.std.specs.Ordering.{is_lt}
-use Rattle.std.specs.declared.cmp.Ordering.TheVariants.{Greater}
 use Rattle.due_key.specs.declared.key.Key.{Key}
 use Rattle.due_key.specs.Order.{key_cmp}
 use Rattle.dispatch_log.specs.declared.queue.Queue.{Queue}
 use Rattle.dispatch_log.specs.declared.queue.Queue.TheVariants.{Backend, Server}
 use Rattle.dispatch_log.specs.declared.row.Row.{Row}
-use Rattle.dispatch_log.specs.Grants.{IsLawfulGrant}
+use Rattle.dispatch_log.specs.Grants.{IsLeastOf, IsLawfulGrant}
 use Rattle.dispatch_log.specs.Rows.{Rows, IsRow, phase_waits_in}
 use Rattle.dispatch_log.specs.Words.{Scene, is_up, is_usable}
 use Rattle.slot_ledger.specs.Counts.{IsQueueOf}
@@ -27,7 +26,7 @@ pub record IsLeastIn (queue : Queue) (rows : Rows) (key : Key) : Type 0 where
   pub live : IsRow rows row
   pub waits : IsTrue (phase_waits_in queue row.phase)
   pub own : row.key ≡ key
-  pub least : (other : Row) → IsRow rows other → IsTrue (phase_waits_in queue other.phase) → key_cmp key other.key ≢ Greater
+  pub least : IsLeastOf (phase_waits_in queue) rows key
 
 -- no request waits in a queue
 abbrev pub IsEmptyQueue : Queue → Rows → Type 0

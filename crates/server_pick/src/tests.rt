@@ -51,7 +51,7 @@ fn three_servers(alloc: Global) -> Result<Setup, Fail>
         rise_fall: None,
     };
     let setup = Setup {
-        servers: Servers::new(vec![in alloc; server; 3]?),
+        servers: Servers::from_vec(vec![in alloc; server; 3]?),
         places: 4,
         log: 64,
         retries: 3,

@@ -13,7 +13,7 @@ use Rattle.dispatch_log.specs.declared.row.Row.{Row}
 use Rattle.dispatch_log.specs.declared.setup.Setup.{Setup}
 use Rattle.dispatch_log.specs.Rows.{Rows, phase_waits_in, phase_is_served_by, waits_in, is_served_by, served, queued}
 use Rattle.dispatch_log.specs.Setups.{IsSound}
-use Rattle.dispatch_log.proofs.Places.{tally, count-set}
+use Rattle.list_facts.proofs.Places.{tally, count-set}
 use Rattle.slot_ledger.specs.declared.places.Slot.{Slot}
 use Rattle.slot_ledger.specs.Counts.{Counted, AreCounts, one_if, queued_at, IsPassed, Includes, AreAtMost}
 use Rattle.slot_ledger.specs.Ledgers.{IsLedger}

@@ -3,7 +3,8 @@ use Rattle.std.proofs.Common.{◌≡◌, ◌≢◌, ℕ, zero, suc, ◌+◌, ◌
 use Rattle.std.proofs.Math.ListN.{set, length-set}
 use Rattle.std.proofs.lemmas.Option.{same_Some, slice_get_within}
 use Rattle.std.proofs.lemmas.List.Elements.{All-contains, Contains-append_left, Contains-append_right, Contains-append_cases, Contains-push, Contains-push_cases}
-use Rattle.dispatch_log.proofs.Places.{get-set_same, get-set_other, get-set_cases, count-set, same_or_other}
+use Rattle.list_facts.proofs.Places.{get-set_same, get-set_other, get-set_cases, count-set, same_or_other}
+use Rattle.list_facts.proofs.Never.{none_some}
 use Rattle.slot_ledger.specs.declared.places.Slot.{Slot}
 use Rattle.slot_ledger.specs.Places.{IsKept}
 use Rattle.slot_ledger.specs.Slots.{StandsIn, HasTicketAt, AreBelow}
@@ -25,9 +26,6 @@ module _ {X : Type 0} where
   pub get-push_new : (xs : List X) (x : X) → slice_get (xs ++ x ∷ []) (length xs) ≡ Some x
   get-push_new [] x = refl
   get-push_new (w ∷ ws) x = let e : length (w ∷ ws) ≡ suc (length ws) = omega arith in subst (λ k. slice_get (w ∷ (ws ++ x ∷ [])) k ≡ Some x) (sym e) (get-push_new ws x)
-
-none_some : {A : Type 0} {x : A} {P : Type 0} → None ≡ Some x → P
-none_some e = cc
 
 -- what is in a list from which a ticket's pair was taken
 module _ (ticket : ℕ) (old new : List (ℕ × ℕ)) where

@@ -1,9 +1,10 @@
 -- The entries of an index that count: those below one place and those from another on.
 use Rattle.std.proofs.Common.{◌≡◌, ◌⊎◌, ℕ, suc, ◌+◌, ◌-◌, ◌<◌, ◌≤◌, List, [], ◌∷◌, ◌++◌, None, Some, length, get_or, set, take, drop, slice_get, filter, All, inl, inr, refl, sym, ap, subst, ◌∙◌, arith, length-append, length-take, length-drop, append_assoc}
 use Rattle.std.proofs.Math.Seq.{take-set-lt}
-use Rattle.std.proofs.lemmas.List.{set_split, set-get_or, take-set-le, drop-set-lt, drop-set-add, take-append-le, drop-append-le, take_more, take_all, drop_more}
+use Rattle.std.proofs.lemmas.List.{set_split, take-set-le, drop-set-lt, drop-set-add, take-append-le, drop-append-le, take_more, take_all, drop_more}
 use Rattle.std.proofs.lemmas.List.Elements.{All-append, All-cons, All-head, All-nil, All-weaker}
 use Rattle.std.proofs.lemmas.Option.{slice_get_within, get_or_from_slice_get, slice_get-get_or}
+use Rattle.list_facts.proofs.Places.{set_read}
 use Rattle.slot_ledger.specs.declared.tickets.Entry.{Entry}
 use Rattle.slot_ledger.specs.Tickets.{IsBelowAll, IsRising, IsWithin, AreStretches, Passes, IsAboveLast, has_place, pairs_in, stretches}
 use Rattle.slot_ledger.proofs.Rising.{rising_parts, rising_without, rising_more, rising_filter, pairs_around, pairs_without, pairs_kept, each_kept}
@@ -48,10 +49,6 @@ module _ (kept next at : ℕ) (entries : List Entry) (within : IsWithin kept nex
     | inl low ↦ around_low low
     | inr high ↦ around_high (at - next) (omega arith)
   ]
-
--- what is read there is written there
-pub set_read : {X : Type 0} (xs : List X) (at : ℕ) (x : X) → slice_get xs at ≡ Some x → set xs at x ≡ xs
-set_read {X} xs at x is = ap (λ (y : X). set xs at y) (sym (get_or_from_slice_get xs at x x is)) ∙ set-get_or xs at x
 
 pub read_around : (kept next at : ℕ) (entries front back : List Entry) (e : Entry) → IsAround kept next at entries front back → slice_get entries at ≡ Some e → stretches kept next entries ≡ front ++ e ∷ back
 read_around kept next at entries front back e is there = ap (stretches kept next) (sym (set_read entries at e there)) ∙ is.written e

@@ -26,7 +26,7 @@ fn two_servers(alloc: Global, places: usize) -> Result<Setup, Fail>
         rise_fall: None,
     };
     let setup = Setup {
-        servers: Servers::new(vec![in alloc; server; 2]?),
+        servers: Servers::from_vec(vec![in alloc; server; 2]?),
         places,
         log: 64,
         retries: 3,

@@ -12,9 +12,9 @@ use Rattle.due_key.specs.Order.{key_cmp}
 use Rattle.due_key.proofs.KeyOrder.{key_cmp_total}
 use Rattle.dispatch_log.specs.declared.queue.Queue.{Queue}
 use Rattle.dispatch_log.specs.declared.queue.Queue.TheVariants.{Backend, Server}
-use Rattle.dispatch_log.proofs.Places.{get-set_same, get-set_cases}
+use Rattle.list_facts.proofs.Places.{get-set_same, get-set_cases}
 use Rattle.pend_queue.specs.Pairs.{IsAscending, HaveNoCommonKey, inserted, pair_at, without}
-use Rattle.pend_queue.proofs.Members.{Contains-nil, Contains-head}
+use Rattle.list_facts.proofs.Members.{Contains-nil, Contains-head}
 use Rattle.pend_queue.proofs.Ascending.{IsAscending-drop, pair_at-member}
 use Rattle.pend_queue.proofs.Without.{IsAscending-without, IsPermutation-without}
 use Rattle.slot_ledger.specs.Counts.{IsQueueOf}

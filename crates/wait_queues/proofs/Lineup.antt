@@ -15,11 +15,11 @@ use Rattle.due_key.proofs.KeyOrder.{key_cmp_total, key_cmp_exact}
 use Rattle.dispatch_log.specs.declared.queue.Queue.{Queue}
 use Rattle.dispatch_log.specs.declared.queue.Queue.TheVariants.{Backend, Server}
 use Rattle.dispatch_log.specs.Rows.{same_queue}
-use Rattle.dispatch_log.proofs.Places.{get-set_same, get-set_cases}
+use Rattle.list_facts.proofs.Places.{get-set_same, get-set_cases}
 use Rattle.pend_queue.specs.Pairs.{IsAscending, IsAbsent, HaveNoCommonKey, inserted, merged}
 use Rattle.pend_queue.proofs.Ascending.{absent_from_members, least_first}
 use Rattle.pend_queue.proofs.Inserted.{IsAscending-inserted, IsPermutation-inserted, AllByRecursion-inserted}
-use Rattle.pend_queue.proofs.Members.{Contains-nil, Contains-head}
+use Rattle.list_facts.proofs.Members.{Contains-nil, Contains-head}
 use Rattle.pend_queue.proofs.Merged.{IsAscending-merged, IsPermutation-merged}
 use Rattle.slot_ledger.specs.Counts.{IsQueueOf}
 use Rattle.server_pick.proofs.Taking.{same_queues, own_queue}

@@ -4,8 +4,8 @@ use Rattle.std.proofs.Math.ListN.{set}
 use Rattle.std.proofs.lemmas.Bool.Decides.{Decides-eqb}
 use Rattle.std.proofs.lemmas.List.Elements.{Contains-append_left, Contains-append_right, Contains-push_cases}
 use Rattle.std.proofs.lemmas.Option.{same_Some}
-use Rattle.dispatch_log.proofs.Places.{get-set_same, get-set_other, get-set_cases}
-use Rattle.pend_queue.proofs.Members.{Contains-filter, Contains-filter_kept}
+use Rattle.list_facts.proofs.Places.{get-set_same, get-set_other, get-set_cases}
+use Rattle.list_facts.proofs.Members.{Contains-filter, Contains-filter_kept}
 use Rattle.wait_queues.specs.declared.waiters.Waiter.{Waiter}
 use Rattle.wait_queues.specs.Order.{ComeOnce, without}
 use Rattle.wait_queues.specs.Waitlists.{Waiters, WaitsAt, IsOrderOf}

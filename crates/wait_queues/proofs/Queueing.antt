@@ -6,7 +6,7 @@ use Rattle.std.proofs.lemmas.Option.{slice_get-map, slice_get_read, get_or_from_
 use Rattle.due_key.specs.declared.key.Key.{Key}
 use Rattle.dispatch_log.specs.declared.queue.Queue.{Queue}
 use Rattle.dispatch_log.specs.declared.queue.Queue.TheVariants.{Backend, Server}
-use Rattle.dispatch_log.proofs.Places.{get-set_cases}
+use Rattle.list_facts.proofs.Places.{get-set_cases}
 use Rattle.slot_ledger.proofs.Keeping.{get-push_cases}
 use Rattle.slot_ledger.specs.Counts.{IsQueueOf}
 use Rattle.server_pick.specs.Heads.{Held, head_at}

@@ -7,7 +7,7 @@ use Rattle.std.proofs.lemmas.Option.{same_Some}
 use Rattle.due_key.specs.declared.key.Key.{Key}
 use Rattle.dispatch_log.specs.declared.queue.Queue.{Queue}
 use Rattle.dispatch_log.specs.Rows.{same_queue}
-use Rattle.pend_queue.proofs.Members.{Contains-nil, Contains-head, Contains-tail, Contains-cases}
+use Rattle.list_facts.proofs.Members.{Contains-nil, Contains-head, Contains-tail, Contains-cases}
 use Rattle.wait_queues.specs.declared.waiters.Waiter.{Waiter}
 use Rattle.wait_queues.specs.Kept.{weight_at, weight_of}
 use Rattle.wait_queues.specs.Waitlists.{Waiters, WaitsAt}

@@ -17,7 +17,7 @@ pub fn of_servers(alloc: Global, list: &[ServerSet]) -> Result<Setup, Fail> {
     let mut servers = Vec::new(alloc);
     servers.extend_from_slice(list)?;
     Ok(Setup {
-        servers: Servers::new(servers),
+        servers: Servers::from_vec(servers),
         places: 8,
         log: 64,
         retries: 3,

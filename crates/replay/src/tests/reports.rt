@@ -19,7 +19,7 @@ fn alone(alloc: Global) -> Result<Setup, Fail> {
     let mut servers = Vec::new(alloc);
     servers.push(server)?;
     Ok(Setup {
-        servers: Servers::new(servers),
+        servers: Servers::from_vec(servers),
         places: 4,
         log: 64,
         retries: 3,

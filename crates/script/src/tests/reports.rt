@@ -26,7 +26,7 @@ fn reports_are_written_line_by_line(rt: HostRuntime) -> Result<(), Fail> {
         due,
         after: 8,
         to: 14,
-        critical: Stays::new(critical),
+        critical: Stays::from_vec(critical),
     };
     let two = vec![in rt.alloc(); stay(12, 10), stay(3, 14)]?;
     let reports = [

@@ -10,7 +10,7 @@ pub returns : goal.returns
 returns c =
     let sorted = c.in_ok-sorted.sorted.items in
     let log = c.args.log.now.entries in
-    subst (AreReports log) (sym c.new.ensures)
+    subst (AreReports log) (sym c.from_vec.ensures)
     (certified log sorted c.in_ok-reports_of.field-0.items c.grants.ensures.readable
     (subst (λ (l : List Grant). IsPermutation l sorted) c.grants.ensures.grants c.in_ok-sorted.ensures.permutation)
     c.in_ok-sorted.ensures.sorted

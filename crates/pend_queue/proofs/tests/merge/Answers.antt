@@ -1,7 +1,7 @@
 use Rattle.std.proofs.Common.{◌≡◌, ◌<◌, ◌≤◌, ℕ, ap, arith}
 use Rattle.due_key.specs.declared.key.Key.{Key}
 use Rattle.due_key.specs.Order.{key_cmp}
-use Rattle.pend_queue.proofs.Members.{each_at_member}
+use Rattle.list_facts.proofs.Members.{each_at_member}
 use Rattle.pend_queue.proofs.Ascending.{apart_from_members}
 use Rattle.pend_queue.proofs.tests.merge.Goals as goal
 

@@ -1,7 +1,7 @@
 use Rattle.std.proofs.Common.{◌∙◌, sym, ap, string_bytes}
 use Rattle.std.specs.List.{position}
 use Rattle.std.specs.Str.{bytes_eq}
-use Rattle.script.proofs.NameLists.{position-map}
+use Rattle.list_facts.proofs.Found.{position-map}
 use Rattle.script.proofs.names.Names.find.Goals as goal
 
 pub returns : goal.returns

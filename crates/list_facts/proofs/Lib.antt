@@ -1,0 +1,6 @@
+pub mod Members
+pub mod Places
+pub mod Orders
+pub mod Never
+pub mod Both
+pub mod Found

@@ -1,0 +1,93 @@
+ghost use Rattle.std.specs.Prelude.{◌≡◌, ◌==◌, ◌∷◌, [], ◌++◌, List, length, OnOk, OnErr, IfOk};
+
+use std::alloc::{AllocError, Global};
+use std::marker::Model;
+
+/// A list that grows at its end. It is made of a `Vec`, and gives it back, without taking memory.
+#[derive(Debug, Drop)]
+pub struct Items<T> {
+    /// Here an item can be changed in its place.
+    pub items: Vec<T>,
+}
+
+impl<T> Model for Items<T> {
+    ghost Value = { List T };
+
+    ghost view = { λ list. list.items.items };
+}
+
+impl<T> Items<T> {
+    pub fn new(alloc: Global) -> Self
+        ensures { result ≡ [] }
+    {
+        Items::from_vec(Vec::new(alloc))
+    }
+
+    pub fn from_vec(items: Vec<T>) -> Self
+        ensures { result ≡ items.items }
+    {
+        Items { items }
+    }
+
+    pub fn into_vec(self) -> Vec<T>
+        ensures { result.items ≡ self }
+    {
+        let Items { items: vec } = self;
+        vec
+    }
+
+    pub fn as_slice(&self) -> &[T]
+        ensures { result.now ≡ self.now }
+    {
+        self.items.as_slice()
+    }
+
+    pub fn is_empty(&self) -> bool
+        ensures { result ≡ (length self.now == 0) }
+    {
+        self.items.is_empty()
+    }
+
+    pub fn len(&self) -> usize
+        ensures { result ≡ length self.now }
+    {
+        self.items.len()
+    }
+}
+
+impl<T: Drop> Items<T> {
+    /// Where memory is refused the list stays as it is.
+    pub fn push(&mut self, item: T) -> Result<(), AllocError>
+        ensures ok { OnOk result (self.new ≡ self.old ++ item ∷ []) }
+        ensures err { OnErr result (self.new ≡ self.old) }
+    {
+        self.items.push(item)?;
+        Ok(())
+    }
+}
+
+impl<T: Copy> Items<T> {
+    pub fn copied(alloc: Global, items: &[T]) -> Result<Self, AllocError>
+        ensures { IfOk result (λ list. list ≡ items.now) }
+    {
+        Ok(Items::from_vec(Vec::from_slice(alloc, items)?))
+    }
+}
+
+#[cfg(test)]
+mod tests {
+    use super::*;
+    use std::test::Fail;
+
+    #[test]
+    fn a_list_is_a_vec_and_back(rt: HostRuntime) -> Result<(), Fail> {
+        let mut list = Items::copied(rt.alloc(), &[1, 2])?;
+        list.push(3)?;
+        assert_eq!(rt; list.as_slice(), [1, 2, 3].as_slice());
+        assert_eq!(rt; list.len(), 3);
+        assert!(rt; !list.is_empty());
+        assert_eq!(rt; list.into_vec().as_slice(), [1, 2, 3].as_slice());
+        assert!(rt; Items::<u8>::new(rt.alloc()).is_empty());
+        Ok(())
+    }
+}

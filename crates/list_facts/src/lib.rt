@@ -1,0 +1,7 @@
+//! What several crates need of lists: a list that contracts see as its items, and in `proofs/` facts on members, on what
+//! holds of each item, on writes and counts, and on the order of three keys, each over any type.
+#![tactic(auto)]
+
+mod items;
+
+pub use items::Items;

@@ -1,0 +1,192 @@
+mod calls;
+mod chance;
+mod decisions;
+mod events;
+mod state;
+mod words;
+
+use self::calls::{Call, OfLists, ask, made};
+use self::chance::Chance;
+use self::events::Stage;
+use self::state::Plain;
+use dispatch_log::{Entry, Queue, ServerSet, Servers, Setup};
+use due_key::Moment;
+use std::alloc::Global;
+use std::process::Abort;
+use std::test::Fail;
+use verdict::Cause;
+
+fn server(limit: u32, maxqueue: u32, weight: u32) -> ServerSet {
+    ServerSet {
+        limit,
+        maxqueue,
+        weight,
+        rise_fall: None,
+    }
+}
+
+// A server whose health is checked.
+fn probed(limit: u32, maxqueue: u32, weight: u32, rise: u32, fall: u32) -> ServerSet {
+    let mut it = server(limit, maxqueue, weight);
+    it.rise_fall = Some((rise, fall));
+    it
+}
+
+// Each server that balancing may choose is checked, so that there are times without one.
+fn many_checks(alloc: Global) -> Result<Setup, Fail> {
+    let list = [
+        probed(2, 3, 2, 2, 3),
+        probed(1, 1, 1, 1, 1),
+        probed(3, 0, 5, 2, 2),
+        server(1, 0, 0),
+        probed(2, 2, 0, 2, 1),
+    ];
+    let mut servers = Vec::new(alloc);
+    servers.extend_from_slice(&list)?;
+    Ok(Setup {
+        servers: Servers::from_vec(servers),
+        places: 24,
+        log: 262_144,
+        retries: 2,
+        redispatch: true,
+        queue_timeout: 60,
+    })
+}
+
+// A server has no limit, one isn't checked, what waits stays where it is, and the log ends early.
+fn few_checks(alloc: Global) -> Result<Setup, Fail> {
+    let list = [
+        probed(0, 4, 1, 3, 1),
+        server(2, 2, 2),
+        probed(1, 5, 256, 1, 4),
+    ];
+    let mut servers = Vec::new(alloc);
+    servers.extend_from_slice(&list)?;
+    Ok(Setup {
+        servers: Servers::from_vec(servers),
+        places: 20,
+        log: 4000,
+        retries: 1,
+        redispatch: false,
+        queue_timeout: 0,
+    })
+}
+
+// Each entry that was written is the one that the definitions say, and none is missing.
+fn follow(rt: &impl Abort, plain: &mut Plain, event: Entry, written: &[Entry]) -> Result<(), Fail> {
+    assert!(rt; plain.has_place_for(&event));
+    let mut stage = Stage::Granting;
+    let mut expected = Some(event);
+    for entry in written {
+        assert_eq!(rt; Some(entry), expected.as_ref());
+        plain.take(*entry)?;
+        stage = stage.after(*entry);
+        expected = plain.next(stage);
+    }
+    assert_eq!(rt; expected, None);
+    Ok(())
+}
+
+// A call is answered as the definitions say.
+fn agree(
+    rt: &impl Abort,
+    alloc: Global,
+    core: &mut OfLists,
+    plain: &mut Plain,
+    moment: Moment,
+    call: &Call,
+) -> Result<(), Fail> {
+    let before = core.log().len();
+    let refused = plain.refuses(*call);
+    match ask(alloc, core, moment, *call) {
+        Ok(place) => {
+            assert_eq!(rt; refused, None);
+            let event = plain.event(moment, *call, place);
+            let written = core.log().entries().get(before..).unwrap_or(&[]);
+            follow(rt, plain, event, written)
+        }
+        Err(refusal) => {
+            assert_eq!(rt; refused, Some(refusal));
+            assert_eq!(rt; core.log().len(), before);
+            Ok(())
+        }
+    }
+}
+
+// So many calls are, and before each of them it is told whether a stay has expired.
+fn agree_on_all(
+    rt: &impl Abort,
+    alloc: Global,
+    core: &mut OfLists,
+    plain: &mut Plain,
+    calls: u32,
+) -> Result<(), Fail> {
+    let mut chance = Chance::new(20_260_101);
+    for _ in 0..calls {
+        let moment = chance.moment();
+        assert_eq!(rt; core.expired(moment), plain.some_expire(moment));
+        let call = chance.call(plain);
+        agree(rt, alloc, core, plain, moment, &call)?;
+    }
+    Ok(())
+}
+
+// So many calls are answered by a dispatcher of a setup, which is given twice, as the definitions say.
+fn both_agree(
+    rt: &impl Abort,
+    alloc: Global,
+    setup: Setup,
+    same: Setup,
+    calls: u32,
+) -> Result<OfLists, Fail> {
+    let mut core = made(alloc, setup)?;
+    let mut plain = Plain::new(alloc, same)?;
+    agree_on_all(rt, alloc, &mut core, &mut plain, calls)?;
+    Ok(core)
+}
+
+// The log has decisions of every kind.
+fn has_every_kind(rt: &impl Abort, log: &[Entry]) {
+    let of_server = |it: &Entry| matches!(it, Entry::Joined(_, Queue::Server(_)));
+    let of_backend = |it: &Entry| matches!(it, Entry::Joined(_, Queue::Backend));
+    let from_server = |it: &Entry| matches!(it, Entry::Granted(_, Queue::Server(_), _));
+    let from_backend = |it: &Entry| matches!(it, Entry::Granted(_, Queue::Backend, _));
+    assert!(rt; log.iter().any(|it| matches!(it, Entry::Direct(_, _))));
+    assert!(rt; log.iter().any(of_server));
+    assert!(rt; log.iter().any(of_backend));
+    assert!(rt; log.iter().any(from_server));
+    assert!(rt; log.iter().any(from_backend));
+    assert!(rt; log.iter().any(|it| matches!(it, Entry::Moved(_, _))));
+    assert!(rt; log.iter().any(|it| matches!(it, Entry::Retried(_, _, _))));
+    assert!(rt; log.iter().any(|it| matches!(it, Entry::Health(_, true))));
+}
+
+// Requests left for this cause.
+fn has_left_for(rt: &impl Abort, log: &[Entry], cause: Cause) {
+    assert!(rt; log.iter().any(|it| matches!(it, Entry::Left(_, of_it) if *of_it == cause)));
+}
+
+#[test]
+fn the_log_is_that_of_the_definitions(rt: HostRuntime) -> Result<(), Fail> {
+    let alloc = rt.alloc();
+    let core = both_agree(&rt, alloc, many_checks(alloc)?, many_checks(alloc)?, 20_000)?;
+    let log = core.log().entries();
+    has_every_kind(&rt, log);
+    for cause in [
+        Cause::Aborted,
+        Cause::Timeout,
+        Cause::Retries,
+        Cause::NoServer,
+    ] {
+        has_left_for(&rt, log, cause);
+    }
+    Ok(())
+}
+
+#[test]
+fn a_full_log_is_that_of_the_definitions(rt: HostRuntime) -> Result<(), Fail> {
+    let alloc = rt.alloc();
+    let core = both_agree(&rt, alloc, few_checks(alloc)?, few_checks(alloc)?, 3000)?;
+    assert_eq!(rt; core.has_room(), false);
+    Ok(())
+}

@@ -1,0 +1,47 @@
+use dispatch_core::{Core, Refusal, Setup};
+use due_key::{Class, Key, Moment, Offset};
+use pend_queue::ListQueue;
+use std::alloc::Global;
+use std::test::Fail;
+
+pub type OfLists = Core<ListQueue<Key, ()>>;
+
+/// What is asked of a dispatcher.
+#[derive(Clone, Copy, Debug)]
+pub enum Call {
+    Arrive(Class, Offset, Option<usize>),
+    Done(u64),
+    Fail(u64),
+    Abort(u64),
+    Tick,
+    Check(usize, bool),
+}
+
+/// Asks a call of the dispatcher, and tells the place of an arrival.
+pub fn ask(
+    alloc: Global,
+    core: &mut OfLists,
+    moment: Moment,
+    call: Call,
+) -> Result<usize, Refusal> {
+    match call {
+        Call::Arrive(class, offset, pin) => {
+            let it = core.arrive(alloc, moment, class, offset, pin)?;
+            return Ok(it.place);
+        }
+        Call::Done(ticket) => core.done(moment, ticket)?,
+        Call::Fail(ticket) => core.failed(moment, ticket)?,
+        Call::Abort(ticket) => core.abort(moment, ticket)?,
+        Call::Tick => core.tick(moment)?,
+        Call::Check(server, ok) => core.check(moment, server, ok)?,
+    }
+    Ok(0)
+}
+
+/// A dispatcher without a request.
+pub fn made(alloc: Global, setup: Setup) -> Result<OfLists, Fail> {
+    if !setup.sound() {
+        return Err(Fail::from("not a sound setup"));
+    }
+    Ok(Core::new(alloc, setup)?)
+}

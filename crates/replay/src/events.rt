@@ -1,0 +1,59 @@
+ghost use Rattle.std.specs.Prelude.{◌≡◌, ◌≢◌, ℕ, Some, None, IfOk, IfErr, OnOk, string_bytes};
+ghost use Rattle.std.specs.Str.Lines.{lines};
+ghost use Rattle.script.specs.Faults.{fault_of};
+ghost use Rattle.script.specs.Headers.{settings_of};
+ghost use Rattle.replay.specs.TraceTexts.{AreReplayed};
+
+use crate::defaults::setup_of;
+use crate::fault::Fault;
+use crate::run::run;
+use dispatch_core::Core;
+use due_key::Key;
+use pend_queue::PendQueue;
+use script::{Header, Names, ScriptError, read};
+use std::alloc::Global;
+
+/// What the events of a script leave.
+#[derive(Drop)]
+pub struct Replayed<Q: PendQueue<Key, ()>> {
+    /// The dispatcher after the last event.
+    pub core: Core<Q>,
+    /// The names of its servers.
+    pub names: Names,
+    /// The lines of the events.
+    pub text: String,
+}
+
+/// Runs the events of a script in order, on a dispatcher for what its header lines say, or the defaults where none does.
+/// A faulty script is not run; an event that the dispatcher refuses has a line that says so.
+pub fn replay_events<Q: PendQueue<Key, ()>>(
+    alloc: Global,
+    script: &[u8],
+) -> Result<Replayed<Q>, Fault>
+    ensures ok { IfOk result (λ all. AreReplayed script.now all.names all.core (string_bytes all.text)) }
+    ensures script { IfErr result (λ fault. (line : ℕ) → fault ≡ Fault.Script line → fault_of script.now ≡ Some line) }
+    ensures of_script { IfErr result (λ fault. (fault ≢ Fault.Read) × (fault ≢ Fault.Write)) }
+{
+    let header = header_of(alloc, script)?;
+    let Ok((setup, names)) = setup_of(alloc, header) else {
+        return Err(Fault::NoMemory);
+    };
+    let Ok(mut core) = Core::<Q>::new(alloc, setup) else {
+        return Err(Fault::NoMemory);
+    };
+    let text = run(alloc, &mut core, &names, script)?;
+    Ok(Replayed { core, names, text })
+}
+
+fn header_of(alloc: Global, script: &[u8]) -> Result<Header, Fault>
+    ensures faultless { OnOk result (fault_of script.now ≡ None) }
+    ensures settings { IfOk result (λ header. header ≡ settings_of (lines script.now)) }
+    ensures fault { IfErr result (λ fault. (line : ℕ) → fault ≡ Fault.Script line → fault_of script.now ≡ Some line) }
+    ensures of_script { IfErr result (λ fault. (fault ≢ Fault.Read) × (fault ≢ Fault.Write)) }
+{
+    match read(alloc, script) {
+        Ok(header) => Ok(header),
+        Err(ScriptError::NoMemory) => Err(Fault::NoMemory),
+        Err(ScriptError::Fault { line }) => Err(Fault::Script { line }),
+    }
+}

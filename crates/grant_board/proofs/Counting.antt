@@ -4,11 +4,11 @@ use Rattle.verdict.specs.declared.Ending.{Ending}
 use Rattle.grant_board.specs.declared.tally.Tally.{Tally}
 use Rattle.grant_board.specs.Weights.{total, Each}
 use Rattle.grant_board.specs.Views.{Grant, Terms, RelayView, serves_at, count_of, without}
-use Rattle.grant_board.specs.Plays.{relay_looked, take_after, post_after, join_after, new_relay}
-use Rattle.grant_board.specs.Seats.{Relay}
+use Rattle.grant_board.specs.RelayCalls.{Relay, new_relay, relay_looked, take_after, post_after, join_after}
 use Rattle.grant_board.specs.Counted.{IsPassOf, IsCounted}
-use Rattle.grant_board.proofs.Totals.{total-append, total-one, Each-append}
-use Rattle.grant_board.proofs.Grants.{count_of_le, total-push, length-push}
+use Rattle.grant_board.proofs.Totals.{total-append, total-push, total-one, length-push}
+use Rattle.grant_board.proofs.Items.{Each-append}
+use Rattle.grant_board.proofs.Grants.{count_of_le, Each-without}
 
 abbrev zeros : ℕ → List ℕ
 zeros m = replicate m 0
@@ -47,14 +47,6 @@ counted_take x y b old new p n g counted is room pass all servers = subst (λ (z
   all = omega (arith, all, counted.all, length-push x.view.passes g);
   of_server = λ m near. omega (arith, servers m near, counted.of_server m near, total-push (λ h. serves_at m h.verdict) x.view.passes g);
 })
-
-Each-without_by : (P : Grant → Type 0) (place : ℕ) (g : Grant) (gs : List Grant) → P g → Each P (without place gs) → (b : Bool) → (g.place == place) ≡ b → Each P (without place (g ∷ gs))
-Each-without_by P place g gs p rest true is = rw is rest
-Each-without_by P place g gs p rest false is = rw is (p, rest)
-
-Each-without : (P : Grant → Type 0) (place : ℕ) (gs : List Grant) → Each P gs → Each P (without place gs)
-Each-without P place [] h = tt
-Each-without P place (g ∷ gs) h = Each-without_by P place g gs h.0 (Each-without P place gs h.1) (g.place == place) refl
 
 -- a pass less
 pub counted_post : (x y : Relay) (b : Bool) (old new : Tally) (g : Grant) (e : Ending) → IsCounted x b old → y ≡ record { board = x.board; view = post_after x.view g e }

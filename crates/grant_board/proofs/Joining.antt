@@ -9,8 +9,10 @@ use Rattle.grant_board.specs.declared.view.View.{View}
 use Rattle.grant_board.specs.Weights.{total, Each}
 use Rattle.grant_board.specs.Views.{Grant, Terms, KeeperPart, RelayView, count_of}
 use Rattle.grant_board.specs.Rule.{BoardState, of_keepers, of_relays, is_first, is_other, split_off, joined_in, KeeperAgrees, RelayAgrees, Agrees, Orderly}
-use Rattle.grant_board.specs.Plays.{view, blank, beside, but_last, last_alone, aside, cut_off, parent, child, gathered}
-use Rattle.grant_board.proofs.Totals.{total-append, total-set, terms_le, Each-append}
+use Rattle.grant_board.specs.Ruled.{view}
+use Rattle.grant_board.specs.Plays.{blank, beside, but_last, last_alone, aside, cut_off, parent, child, gathered}
+use Rattle.grant_board.proofs.Totals.{total-append, total-set, terms_le}
+use Rattle.grant_board.proofs.Items.{Each-append}
 use Rattle.grant_board.proofs.Moving.{board}
 
 -- other views of the same words keep the rule, where they weigh the same
@@ -27,9 +29,10 @@ resettled t s o views keepers one_first others passes takes posts agree = record
   cells = o.cells;
   bounds = o.bounds;
   words = o.words;
-  valid = o.valid;
   long = o.long;
-  fixed = o.fixed;
+  servers = o.servers;
+  valid = o.valid;
+  among = o.among;
   one_keeper = keepers (λ _. 1) ∙ o.one_keeper;
   one_first = one_first;
   others = others;

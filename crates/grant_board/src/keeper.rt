@@ -1,11 +1,12 @@
 ghost use Rattle.std.specs.Prelude.{◌≡◌, ◌^◌, ◌<◌, [], ◌∷◌, ◌++◌, IfSome, IfNone, length};
+ghost use Rattle.grant_board.specs.Weights.{AreIn};
 ghost use Rattle.grant_board.specs.Views.{grant, count_at, look};
-ghost use Rattle.grant_board.specs.Plays.{offer_after};
-ghost use Rattle.grant_board.specs.Seats.{HasRoom, Collects, FindsUnposted, AreIn, KeeperRuled, VouchRuled};
+ghost use Rattle.grant_board.specs.Ruled.{KeeperRuled, VouchRuled};
+ghost use Rattle.grant_board.specs.KeeperCalls.{HasRoom, offer_after, Collects, FindsUnposted, MayLimit, limit_after};
 
 use crate::board::Board;
 use crate::laws::{Word, encode, posted_in};
-use crate::plays::{Beside, Clear, Offer, See, Vouch};
+use crate::plays::{Beside, Clear, Limit, Offer, See, Vouch};
 use crate::relay::RelaySeat;
 use crate::relaying::Relaying;
 use crate::returned::Return;
@@ -14,15 +15,16 @@ use atomic_table::Seat;
 use std::marker::Model;
 use verdict::Verdict;
 
-/// The seat of the one thread at a time that offers verdicts and collects endings. Contracts see its board, and what it
-/// knows.
+/// The seat of the one thread at a time that offers verdicts, collects endings and sets bounds. Contracts see its board,
+/// and what it knows.
 #[derive(Drop)]
 pub struct KeeperSeat {
     pub(crate) seat: Seat<(), View>,
+    pub(crate) places: usize,
 }
 
 impl Model for KeeperSeat {
-    ghost use Rattle.grant_board.specs.Seats.{Keeper};
+    ghost use Rattle.grant_board.specs.KeeperCalls.{Keeper};
     ghost use Rattle.grant_board.specs.Plays.{keeper_of};
     ghost use Rattle.grant_board.specs.Parts.{IsKeeperSeat};
 
@@ -30,7 +32,7 @@ impl Model for KeeperSeat {
 
     ghost view = { λ s. record { board = s.seat.table_id; view = (keeper_of s.seat.me.0.keepers).view } };
 
-    ghost invariant = { λ s. IsKeeperSeat s.seat.table_id s.seat.me };
+    ghost invariant = { λ s. IsKeeperSeat s.seat.table_id s.places s.seat.me };
 }
 
 impl KeeperSeat {
@@ -49,8 +51,8 @@ impl KeeperSeat {
         board.table.shared.store::<Offer>(seat, place, word);
     }
 
-    /// What came back from the place, which is then empty; `None` where nothing is posted there. One step or two, and no
-    /// memory.
+    /// What came back from the place, which is then empty; `None` where nothing is posted there. One load, then one store
+    /// where it found something, and no memory.
     pub fn collect(&mut self, board: &Board, place: usize) -> Option<Return>
         requires same_board { self.old.board ≡ board.now }
         requires in_range { place < self.old.view.terms.places }
@@ -71,6 +73,21 @@ impl KeeperSeat {
             ticket,
             ending,
         })
+    }
+
+    /// Sets a server's bound, of which 0 is none. One step, and no memory.
+    pub fn limit(&mut self, board: &Board, server: usize, bound: u32)
+        requires same_board { self.old.board ≡ board.now }
+        requires may_limit { MayLimit self.old.view server bound }
+        ensures limited { self.new ≡ record self.old { view = limit_after self.old.view server bound } }
+        ensures ruled { KeeperRuled self.new.view }
+    {
+        let seat = &mut self.seat;
+        let word = self.places + server;
+        board
+            .table
+            .shared
+            .store::<Limit>(seat, word, u64::from(bound));
     }
 
     /// The relay's seat as it was, and how many passes it has, each of which is out. Three steps, and no memory.
@@ -108,10 +125,10 @@ impl KeeperSeat {
         ensures ruled { VouchRuled self.new.view relaying.view }
         ensures passes { AreIn relaying.view.passes self.old.view.out }
     {
-        let Relaying { seat } = relaying;
+        let Relaying { seat, places } = relaying;
         board.table.shared.join_seat::<Beside>(&mut self.seat, seat);
         board.table.shared.load::<Vouch>(&mut self.seat, 0);
         let seat = board.table.shared.split_seat::<Beside>(&mut self.seat);
-        Relaying { seat }
+        Relaying { seat, places }
     }
 }

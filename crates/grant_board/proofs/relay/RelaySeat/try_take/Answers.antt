@@ -1,6 +1,6 @@
 use Rattle.std.proofs.Common.{ap, subst, ◌∙◌, ◌<◌, length}
 use Rattle.grant_board.specs.Views.{grant}
-use Rattle.grant_board.specs.Plays.{take_after}
+use Rattle.grant_board.specs.RelayCalls.{take_after}
 use Rattle.grant_board.proofs.Counting.{server_room, counted_take}
 use Rattle.grant_board.proofs.relay.RelaySeat.try_take.Goals as goal
 

@@ -1,8 +1,10 @@
 use Rattle.std.proofs.Common.{ap, sym, subst, ◌∙◌, ◌<◌, length, arith}
-use Rattle.grant_board.specs.Plays.{relay_of, relay_looked, take_after}
+use Rattle.grant_board.specs.Words.{IsAmong}
+use Rattle.grant_board.specs.RelayCalls.{relay_looked, take_after}
+use Rattle.grant_board.specs.Plays.{relay_of}
 use Rattle.grant_board.specs.Views.{grant}
 use Rattle.grant_board.specs.Rule.{terms_of}
-use Rattle.grant_board.proofs.Seating.{relay_table, relay_near, takes_at, takes_one, relay_kept, relay_value, equal_is, unequal_is, relay_ruled}
+use Rattle.grant_board.proofs.Seating.{relay_table, place_near, takes_at, takes_one, relay_kept, relay_value, equal_is, unequal_is, relay_ruled}
 use Rattle.grant_board.proofs.relaying.Relaying.take.Goals as goal
 
 pub compare_exchange-requires : goal.compare_exchange-requires
@@ -12,7 +14,7 @@ compare_exchange-requires c =
     let shared = c.board.inside.table.shared in
     let table = relay_table seat.table_id r c.args.self.now shared.table_id c.args.board.now c.self.view_is c.requires.same_board c.board.view_is in (
       table,
-      relay_near seat.table_id r c.args.self.now shared.table_id c.args.place c.self.view_is table c.self.invariant.words c.requires.in_range,
+      place_near _ _ _ _ _ _ c.self.invariant.table table (ap (λ x. x.view.terms) c.self.view_is) c.requires.in_range,
       takes_at (terms_of shared.key) shared.table_id.slots seat.id seat.me c.self.invariant.me c.args.place c.args.ticket c.args.verdict _ _ c.encode-offered.ensures c.encode-taken.ensures c.requires.word (omega (arith, c.requires.in_range, ap (λ x. x.view.terms.places) c.self.view_is)),
     )
 
@@ -21,7 +23,7 @@ invariant_of-self c =
     let seat = c.self.inside.seat in
     let r = relay_of seat.me.0.relays in
     let j = takes_one c.board.inside.table.shared.table_id.slots c.args.place c.encode-offered.result c.encode-taken.result c.compare_exchange.result seat.me c.compare_exchange.new.seat.me c.args.ticket c.args.verdict c.compare_exchange.ensures.2.0 c.requires.word c.encode-offered.ensures c.encode-taken.ensures in
-    relay_kept seat.table_id c.compare_exchange.new.seat.table_id c.compare_exchange.new.seat.me r j.0 j.1 j.2 c.compare_exchange.ensures.0 c.self.invariant.words c.self.invariant.some
+    relay_kept seat.table_id c.compare_exchange.new.seat.table_id c.self.inside.places c.compare_exchange.new.seat.me r j.0 j.1 j.2 c.compare_exchange.ensures.0 c.self.invariant.table
 
 pub returns-clause-took : goal.returns-clause-took
 returns-clause-took c hit =
@@ -30,6 +32,7 @@ returns-clause-took c hit =
     let told = (c.compare_exchange.ensures.2.0 c.args.ticket c.args.verdict c.requires.word c.encode-offered.ensures c.encode-taken.ensures).0 (equal_is _ _ hit) in (
       relay_value (λ v. take_after v (grant c.args.place c.args.ticket c.args.verdict)) seat.table_id c.compare_exchange.new.seat.table_id c.compare_exchange.new.seat.me r c.args.self.now c.compare_exchange.ensures.0 c.self.view_is told.0,
       subst (λ x. length x.view.passes < x.view.terms.places) c.self.view_is told.1,
+      subst (λ x. IsAmong (length x.view.terms.limits) c.args.verdict) c.self.view_is told.2,
     )
 
 pub returns-clause-late : goal.returns-clause-late

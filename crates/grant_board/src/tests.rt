@@ -1,5 +1,6 @@
-ghost use Rattle.std.specs.Prelude.{◌≡◌, ◌<◌, true, [], ◌∷◌};
-ghost use Rattle.grant_board.specs.Seats.{terms};
+ghost use Rattle.std.specs.Prelude.{◌≡◌, ◌<◌, ◌≤◌, true, [], ◌∷◌};
+ghost use Rattle.verdict.specs.declared.Verdict.TheVariants.{Serve};
+ghost use Rattle.grant_board.specs.Views.{terms, grant, count_of};
 
 use super::*;
 use crate::laws::{Word, decode, decode_encode, encode};
@@ -82,7 +83,7 @@ fn holds_one_each<R: Abort>(
     requires second_board { second.board ≡ board.now }
     requires terms { (first.old.view.terms ≡ terms 4 (2 ∷ 0 ∷ [])) × (second.view.terms ≡ terms 4 (2 ∷ 0 ∷ [])) }
     requires first { first.old.view.first ≡ true }
-    ensures keeper { (keeper.new.board ≡ keeper.old.board) × (keeper.new.view.terms ≡ keeper.old.view.terms) }
+    ensures keeper { (keeper.new.board ≡ keeper.old.board) × (keeper.new.view.terms ≡ keeper.old.view.terms) × (keeper.new.view.out ≡ keeper.old.view.out) }
     ensures first { (first.new.board ≡ first.old.board) × (first.new.view.terms ≡ first.old.view.terms) × (first.new.view.first ≡ true) × (first.new.view.split ≡ first.old.view.split) × (first.new.view.joined ≡ first.old.view.joined) }
     ensures second { (result.board ≡ second.board) × (result.view.terms ≡ second.view.terms) }
 {
@@ -90,8 +91,8 @@ fn holds_one_each<R: Abort>(
     let taking = second.try_take(board, 1, 2);
     match first.try_take(board, 0, 1) {
         Taking::Taken(pass) => {
-            let (back, both) = first.meet(board, second, 0);
-            assert_eq!(rt; both, 2);
+            let (back, met) = first.meet(board, second, 0);
+            assert_eq!(rt; met, Met { passes: 2, bound: 2 });
             let (back, held) = keeper.vouch(board, back);
             assert_eq!(rt; held, 1);
             second = back;
@@ -143,10 +144,11 @@ fn serve_both<R: Threads + Sync>(
     )
 }
 
-// Collects until all four are back.
+// Collects until all four are back. Before each look the bound of server 0 changes: 2 or none.
 fn collect_all<R: Wait>(rt: &R, board: &Board, keeper: KeeperSeat) -> KeeperSeat
     requires same_board { keeper.board ≡ board.now }
-    requires in_range { keeper.view.terms.places ≡ 4 }
+    requires in_range { keeper.view.terms ≡ terms 4 (2 ∷ 0 ∷ []) }
+    requires two_at_most { count_of 0 keeper.view.out ≤ 2 }
     ensures { result.board ≡ keeper.board }
 {
     let mut keeper = keeper;
@@ -156,8 +158,10 @@ fn collect_all<R: Wait>(rt: &R, board: &Board, keeper: KeeperSeat) -> KeeperSeat
         if out == 0 {
             break;
         }
-        if keeper.collect(board, place).is_some() {
-            out -= 1;
+        keeper.limit(board, 0, if place == 2 { 2 } else { 0 });
+        match keeper.collect(board, place) {
+            Some(_) => out -= 1,
+            None => {}
         }
         place = (place + 1) % 4;
     }
@@ -181,12 +185,125 @@ fn several_threads(rt: HostRuntime) -> Result<(), Fail> {
             ensures { (result.0.board ≡ board) × (result.1.board ≡ board) }
         { serve_both(&rt, &board, second, third) },
         || -> KeeperSeat
-            requires { (keeper.board ≡ board) × (keeper.view.terms.places ≡ 4) }
+            requires { (keeper.board ≡ board) × (keeper.view.terms ≡ terms 4 (2 ∷ 0 ∷ [])) × (count_of 0 keeper.view.out ≤ 2) }
             ensures { result.board ≡ board }
         { collect_all(&rt, &board, keeper) },
     );
     first.join(&board, second);
     first.join(&board, third);
+    assert_eq!(rt; board.close(keeper, first), Closing { left: 0 });
+    Ok(())
+}
+
+// Two seats take a pass each and meet; one pass comes back, the bound falls to 1, and they meet again.
+fn meet_twice<R: Abort>(
+    rt: &R,
+    board: &Board,
+    keeper: &mut KeeperSeat,
+    first: &mut RelaySeat,
+    second: RelaySeat,
+) -> RelaySeat
+    requires keeper_board { keeper.old.board ≡ board.now }
+    requires first_board { first.old.board ≡ board.now }
+    requires second_board { second.board ≡ board.now }
+    requires terms { (keeper.old.view.terms ≡ terms 2 (2 ∷ [])) × (first.old.view.terms ≡ terms 2 (2 ∷ [])) × (second.view.terms ≡ terms 2 (2 ∷ [])) }
+    requires two_out { keeper.old.view.out ≡ grant 0 7 (Serve 0) ∷ grant 1 8 (Serve 0) ∷ [] }
+    ensures keeper { keeper.new.board ≡ keeper.old.board }
+    ensures first { (first.new.board ≡ first.old.board) × (first.new.view.first ≡ first.old.view.first) × (first.new.view.split ≡ first.old.view.split) × (first.new.view.joined ≡ first.old.view.joined) }
+    ensures second { result.board ≡ second.board }
+{
+    let mut second = second;
+    let taking = second.try_take(board, 1, 8);
+    match first.try_take(board, 0, 7) {
+        Taking::Taken(pass) => {
+            let (back, met) = first.meet(board, second, 0);
+            assert_eq!(rt; met, Met { passes: 2, bound: 2 });
+            first.post(board, pass, Ending::Done);
+            match keeper.collect(board, 0) {
+                Some(_) => keeper.limit(board, 0, 1),
+                None => assert!(rt; false, "posted"),
+            }
+            let (back, met) = first.meet(board, back, 0);
+            assert_eq!(rt; met, Met { passes: 1, bound: 1 });
+            second = back;
+        }
+        Taking::NotYet => assert!(rt; false, "offered"),
+    }
+    match taking {
+        Taking::Taken(pass) => second.post(board, pass, Ending::Done),
+        Taking::NotYet => assert!(rt; false, "offered"),
+    }
+    second
+}
+
+#[test]
+fn a_bound_falls(rt: HostRuntime) -> Result<(), Fail> {
+    let (board, mut keeper, mut first) = Board::open(rt.alloc(), 2, &[2])?;
+    keeper.offer(&board, 0, 7, Verdict::Serve(0));
+    keeper.offer(&board, 1, 8, Verdict::Serve(0));
+    let second = first.split(&board);
+    let second = meet_twice(&rt, &board, &mut keeper, &mut first, second);
+    first.join(&board, second);
+    assert_eq!(rt; board.close(keeper, first), Closing { left: 1 });
+    Ok(())
+}
+
+// The seat tries once for the ticket at place 0, and says whether it took it.
+fn try_once(board: &Board, seat: RelaySeat, ticket: u64) -> (RelaySeat, bool)
+    requires same_board { seat.board ≡ board.now }
+    requires in_range { 0 < seat.view.terms.places }
+    ensures board { result.0.board ≡ seat.board }
+    ensures terms { result.0.view.terms ≡ seat.view.terms }
+    ensures first { result.0.view.first ≡ seat.view.first }
+    ensures counts { (result.0.view.split ≡ seat.view.split) × (result.0.view.joined ≡ seat.view.joined) }
+{
+    let mut seat = seat;
+    let took = serve_one(board, &mut seat, 0, ticket);
+    (seat, took)
+}
+
+// Two threads try once each.
+fn race<R: Threads + Sync>(
+    rt: &R,
+    board: &Board,
+    one: RelaySeat,
+    two: RelaySeat,
+    ticket: u64,
+) -> ((RelaySeat, bool), (RelaySeat, bool))
+    requires same_board { (one.board ≡ board.now) × (two.board ≡ board.now) }
+    requires in_range { (0 < one.view.terms.places) × (0 < two.view.terms.places) }
+    ensures one { (result.0.0.board ≡ one.board) × (result.0.0.view.terms ≡ one.view.terms) × (result.0.0.view.first ≡ one.view.first) × (result.0.0.view.split ≡ one.view.split) × (result.0.0.view.joined ≡ one.view.joined) }
+    ensures two { (result.1.0.board ≡ two.board) × (result.1.0.view.terms ≡ two.view.terms) }
+{
+    join(
+        rt,
+        || -> (RelaySeat, bool)
+            requires { (one.board ≡ board.now) × (0 < one.view.terms.places) }
+            ensures { (result.0.board ≡ one.board) × (result.0.view.terms ≡ one.view.terms) × (result.0.view.first ≡ one.view.first) × (result.0.view.split ≡ one.view.split) × (result.0.view.joined ≡ one.view.joined) }
+        { try_once(board, one, ticket) },
+        || -> (RelaySeat, bool)
+            requires { (two.board ≡ board.now) × (0 < two.view.terms.places) }
+            ensures { (result.0.board ≡ two.board) × (result.0.view.terms ≡ two.view.terms) }
+        { try_once(board, two, ticket) },
+    )
+}
+
+#[test]
+fn two_threads_on_one_place(rt: HostRuntime) -> Result<(), Fail> {
+    let (board, mut keeper, mut first) = Board::open(rt.alloc(), 1, &[1])?;
+    let mut second = first.split(&board);
+    for ticket in 0..1000 {
+        keeper.offer(&board, 0, ticket, Verdict::Told(Cause::Timeout));
+        let ((one, one_took), (two, two_took)) = race(&rt, &board, first, second, ticket);
+        first = one;
+        second = two;
+        assert!(rt; one_took != two_took, "one of them took {ticket}");
+        match keeper.collect(&board, 0) {
+            Some(back) => assert_eq!(rt; back.ticket, ticket),
+            None => return Err("posted".into()),
+        }
+    }
+    first.join(&board, second);
     assert_eq!(rt; board.close(keeper, first), Closing { left: 0 });
     Ok(())
 }

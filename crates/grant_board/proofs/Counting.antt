@@ -1,12 +1,13 @@
 -- A relay's seat keeps its counts.
-use Rattle.std.proofs.Common.{◌≡◌, ℕ, zero, suc, ◌+◌, ◌<◌, ◌≤◌, ◌^◌, Bool, true, false, ◌==◌, List, [], ◌∷◌, ◌++◌, length, get_or, slice_index, replicate, sym, refl, ap, subst, arith}
+use Rattle.std.proofs.Common.{◌≡◌, ℕ, zero, suc, ◌+◌, ◌<◌, ◌≤◌, ◌^◌, Bool, List, [], ◌∷◌, ◌++◌, length, get_or, slice_index, replicate, sym, refl, ap, subst, arith}
+use Rattle.std.proofs.lemmas.List.{length-append}
 use Rattle.verdict.specs.declared.Ending.{Ending}
 use Rattle.grant_board.specs.declared.tally.Tally.{Tally}
 use Rattle.grant_board.specs.Weights.{total, Each}
 use Rattle.grant_board.specs.Views.{Grant, Terms, RelayView, serves_at, count_of, without}
 use Rattle.grant_board.specs.RelayCalls.{Relay, new_relay, relay_looked, take_after, post_after, join_after}
 use Rattle.grant_board.specs.Counted.{IsPassOf, IsCounted}
-use Rattle.grant_board.proofs.Totals.{total-append, total-push, total-one, length-push}
+use Rattle.grant_board.proofs.Totals.{total-append, total-push, total-one}
 use Rattle.grant_board.proofs.Items.{Each-append}
 use Rattle.grant_board.proofs.Grants.{count_of_le, Each-without}
 
@@ -42,9 +43,9 @@ counted_take x y b old new p n g counted is room pass all servers = subst (λ (z
   is_first = counted.is_first;
   few_places = counted.few_places;
   few_servers = counted.few_servers;
-  room = omega (arith, room, length-push x.view.passes g);
+  room = omega (arith, room, length-append x.view.passes (g ∷ []));
   passes = Each-append (IsPassOf x.board.words) x.view.passes (g ∷ []) counted.passes (pass, tt);
-  all = omega (arith, all, counted.all, length-push x.view.passes g);
+  all = omega (arith, all, counted.all, length-append x.view.passes (g ∷ []));
   of_server = λ m near. omega (arith, servers m near, counted.of_server m near, total-push (λ h. serves_at m h.verdict) x.view.passes g);
 })
 
@@ -71,8 +72,7 @@ pub counted_join : (x y z : Relay) (b c : Bool) (old other new : Tally) → IsCo
     → length z.view.passes ≤ z.view.terms.places → new.all ≡ old.all + other.all
     → ((m : ℕ) → m < 64 → slice_index new.of_server m ≡ slice_index old.of_server m + slice_index other.of_server m) → IsCounted z b new
 counted_join x y z b c old other new mine theirs board is room all servers =
-    let more : length (x.view.passes ++ y.view.passes) ≡ length x.view.passes + length y.view.passes =
-    omega (arith, sym (total-one (x.view.passes ++ y.view.passes)), total-append (λ (g : Grant). 1) x.view.passes y.view.passes, total-one x.view.passes, total-one y.view.passes) in
+    let more = length-append x.view.passes y.view.passes in
     subst (λ (w : Relay). IsCounted w b new) (sym is) (record {
       is_first = mine.is_first;
       few_places = mine.few_places;
@@ -95,8 +95,5 @@ join_room x y b c old other mine theirs room n near =
       theirs.all,
       mine.few_places,
       room,
-      sym (total-one (x.view.passes ++ y.view.passes)),
-      total-append (λ (g : Grant). 1) x.view.passes y.view.passes,
-      total-one x.view.passes,
-      total-one y.view.passes,
+      length-append x.view.passes y.view.passes,
     )

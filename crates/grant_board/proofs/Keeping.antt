@@ -6,7 +6,7 @@ use mathlib.Core.Option.{none, some}
 use lib.ListN.{get_elem?}
 use lib.Seq.{set-get_or}
 use prog.Atomic.{either}
-use Rattle.std.proofs.lemmas.List.{get_or-set_same, get_or-set_other}
+use Rattle.std.proofs.lemmas.List.{get_or-set_same, get_or-set_other, length-append}
 use Rattle.atomic_table.specs.Table.{step, Act, keeps, Valid, carried_after, stepped, Allows}
 use Rattle.atomic_table.proofs.Lists.{set_here, exchanged}
 use Rattle.verdict.specs.declared.cause.Cause.TheVariants.{Aborted}
@@ -21,7 +21,7 @@ use Rattle.grant_board.specs.Words.{encode_of, IsWord, IsAmong, IsWordAmong}
 use Rattle.grant_board.specs.Weights.{total}
 use Rattle.grant_board.specs.Views.{Grant, grant, Terms, KeeperView, KeeperPart, RelayView, Sighting, return_of, at_place, serves_at, count_at, count_of, without}
 use Rattle.grant_board.specs.Rule.{Slot, BoardState, standing, posted, of_keepers, of_relays, Orderly}
-use Rattle.grant_board.specs.Ruled.{view, at_rest, MeetsRuleWith}
+use Rattle.grant_board.specs.Ruled.{view, at_rest}
 use Rattle.grant_board.specs.KeeperCalls.{keeper_looked, offer_after, collect_after, MayLimit, limit_after}
 use Rattle.grant_board.specs.RelayCalls.{relay_looked, take_after, post_after}
 use Rattle.grant_board.specs.Plays.{Seated, seated, keeper_seat, relay_seat, offers, sees, clears, limits, vouches, glances, takes, posts, meets, counts}
@@ -214,11 +214,11 @@ limited_kept t slots id k server i new at may s o wide me _ =
     let near : server < length o.bounds = omega (arith, may.0, o.servers, ap (λ (x : Terms). length x.limits) agree.0) in
     let bounded : (n : ℕ) → 0 < slice_index (set o.bounds server new) n → count_of n k.view.out ≤ slice_index (set o.bounds server new) n =
     λ n some_bound. dite (ℕ_discrete n server)
-        (λ e.
-        let now : slice_index (set o.bounds server new) n ≡ new = ap (λ (m : ℕ). slice_index (set o.bounds server new) m) e ∙ get_or-set_same o.bounds server new 0 near in
-        let counted : count_of n k.view.out ≡ count_of server k.view.out = ap (λ (m : ℕ). count_of m k.view.out) e in
-        omega (arith, may.1 (omega arith)))
-        (λ ne. let now : slice_index (set o.bounds server new) n ≡ slice_index o.bounds n = get_or-set_other o.bounds server n new 0 ne in omega (arith, all n, o.bounded n (omega arith))) in
+    (λ e.
+    let now : slice_index (set o.bounds server new) n ≡ new = ap (λ (m : ℕ). slice_index (set o.bounds server new) m) e ∙ get_or-set_same o.bounds server new 0 near in
+    let counted : count_of n k.view.out ≡ count_of server k.view.out = ap (λ (m : ℕ). count_of m k.view.out) e in
+    omega (arith, may.1 (omega arith)))
+    (λ ne. let now : slice_index (set o.bounds server new) n ≡ slice_index o.bounds n = get_or-set_other o.bounds server n new 0 ne in omega (arith, all n, o.bounded n (omega arith))) in
     let after : Orderly t (stepped s (t.places + server) new id [] w keeps) = rebounded t s o id server new v w s.homes me (keeper_nowhere t s o id k [] me) (record {
       one_keeper = refl;
       one_first = refl;
@@ -326,7 +326,7 @@ taken_kept t slots id r p ticket d old new was is word inside s o wide me _ =
       λ ticket' d' word' was' is'. (
         (λ _. (
           ap (λ (x : Word). relay_seat (take_after r (grant_in p x))) (same_word (Offered ticket d) (Offered ticket' d') word word' (sym was ∙ was')),
-          omega (arith, room, sums.length-push r.passes g, ap (λ (x : Terms). x.places) agree),
+          omega (arith, room, length-append r.passes (g ∷ []), ap (λ (x : Terms). x.places) agree),
           subst (IsWordAmong (length r.terms.limits)) (same_word (Offered ticket d) (Offered ticket' d') word word' (sym was ∙ was')) (subst (λ (x : Terms). IsAmong (length x.limits) d) (sym agree) among),
         )),
         λ miss. absurd (miss hit),

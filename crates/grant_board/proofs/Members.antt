@@ -1,5 +1,5 @@
 -- What weights tell of the items of a list, where a test tells equal items.
-use Rattle.std.proofs.Common.{◌≡◌, ℕ, ◌<◌, ◌≤◌, Bool, true, false, cond, List, Contains, subst, ap, refl, arith}
+use Rattle.std.proofs.Common.{◌≡◌, ℕ, ◌<◌, Bool, true, false, cond, List, Contains, subst, ap, refl, arith}
 use Rattle.grant_board.specs.Weights.{total, AreIn}
 use Rattle.grant_board.proofs.Totals.{has_le, found}
 

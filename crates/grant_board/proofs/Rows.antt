@@ -1,5 +1,5 @@
 -- Worked rows for the definitions: what must hold, and what must not.
-use Rattle.std.proofs.Common.{◌≡◌, ℕ, zero, suc, ◌<◌, ◌≤◌, List, [], ◌∷◌, slice_index, refl, ap, sym, subst, true, arith}
+use Rattle.std.proofs.Common.{◌≡◌, ℕ, zero, suc, List, [], ◌∷◌, slice_index, refl, ap, sym, subst, true, arith}
 use mathlib.Core.Option.{some, some-injective, some-ne-none}
 use lib.ListN.{get_elem?}
 use Rattle.verdict.specs.declared.cause.Cause.TheVariants.{Aborted, NoServer}

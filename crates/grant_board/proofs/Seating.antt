@@ -16,9 +16,9 @@ use Rattle.grant_board.specs.Views.{Grant, grant, Terms, KeeperView, KeeperPart,
 use Rattle.grant_board.specs.Weights.{total}
 use Rattle.grant_board.specs.Rule.{Orderly}
 use Rattle.grant_board.specs.Ruled.{view, at_rest, MeetsRule, MeetsRuleWith, KeeperRuled, RelayRuled, VouchRuled, MeetRuled}
-use Rattle.grant_board.specs.KeeperCalls.{Keeper, HasRoom, keeper_looked, collect_after, Collects, MayLimit, limit_after}
+use Rattle.grant_board.specs.KeeperCalls.{Keeper, HasRoom, keeper_looked, collect_after, Collects, MayLimit}
 use Rattle.grant_board.specs.RelayCalls.{Relay, relay_looked, take_after}
-use Rattle.grant_board.specs.Plays.{Seated, seated, blank, ruled, keeper_seat, relay_seat, keeper_of, relay_of, later, offers, sees, clears, limits, vouches, glances, takes, posts, meets, counts, AreApart, beside, aside, cut_off, parent, child, gathered}
+use Rattle.grant_board.specs.Plays.{Seated, seated, blank, ruled, keeper_seat, relay_seat, keeper_of, relay_of, offers, sees, clears, limits, vouches, glances, takes, posts, meets, counts, AreApart, beside, aside, cut_off, parent, child, gathered}
 use Rattle.grant_board.specs.Parts.{IsTableOf, IsKeeperSeat, IsRelaySeat}
 use Rattle.grant_board.proofs.Grants.{serves_at-other}
 use Rattle.grant_board.proofs.Keeping.{MayOffer, offered_kept, seen_kept, cleared_kept, limited_kept, vouched_kept, glanced_kept, taken_kept, posted_kept, met_kept, counted_kept}

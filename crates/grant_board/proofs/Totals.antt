@@ -65,9 +65,6 @@ module _ {A : Type 0} where
   total_mono f g le [] = omega arith
   total_mono f g le (x ∷ xs) = omega (arith, le x, total_mono f g le xs)
 
-  pub length-push : (l : List A) (x : A) → length (l ++ x ∷ []) ≡ length l + 1
-  length-push l x = omega (arith, sym (total-one (l ++ x ∷ [])), total-push (λ _. 1) l x, total-one l)
-
   pub total-take : (f : A → ℕ) (l : List A) (i : ℕ) (x : A) → get_elem? l i ≡ some x → total f (take (suc i) l) ≡ total f (take i l) + f x
   total-take f [] i x e = absurd (some-ne-none x (sym e))
   total-take f (y ∷ ys) zero x e = omega (arith, ap f (some-injective y x e))

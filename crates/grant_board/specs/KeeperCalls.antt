@@ -7,7 +7,7 @@ use Rattle.atomic_table.specs.Seated.{TableId}
 use Rattle.grant_board.specs.declared.laws.Word.TheVariants.{Posted}
 use Rattle.grant_board.specs.declared.returned.Return.{Return}
 use Rattle.grant_board.specs.Words.{encode_of, MayEnd, IsUnposted}
-use Rattle.grant_board.specs.Weights.{total, along}
+use Rattle.grant_board.specs.Weights.{total, along, AreIn}
 use Rattle.grant_board.specs.Views.{Grant, grant, Terms, look, KeeperView, RelayView, return_of, count_of, without}
 use Rattle.grant_board.specs.Rule.{BoardState, standing, offered, taken, posted, as_return, Orderly}
 
@@ -20,7 +20,7 @@ pub record Keeper : Type 0 where
 abbrev pub new_keeper : Terms → KeeperView
 new_keeper terms = record { terms = terms; bounds = terms.limits; out = []; offers = []; returns = []; looks = [] }
 
--- a look more. `vouch` changes no more than this
+-- a look more
 abbrev pub keeper_looked : KeeperView → ℕ → ℕ → KeeperView
 keeper_looked k place word = record k { looks = k.looks ++ look place word ∷ [] }
 
@@ -59,6 +59,12 @@ limit_after k server bound = record k { bounds = slice_set k.bounds server bound
 -- The server may have the bound: it is one of the board's, and no more grants of it are out than the bound, where that is one
 abbrev pub MayLimit : KeeperView → ℕ → ℕ → Type 0
 MayLimit k server bound = (server < length k.terms.limits) × (0 < bound → count_of server k.out ≤ bound)
+
+-- vouch: the keeper looked at the board's first word, and each of the relay's passes is out
+pub record Vouches (k k' : KeeperView) (passes : List Grant) : Type 0 where
+  pub word : ℕ
+  pub after : k' ≡ keeper_looked k 0 word
+  pub out : AreIn passes k.out
 
 -- close: what the last state of a board says of the keeper and of the one relay that is left
 pub record IsClosed (k : KeeperView) (r : RelayView) (left : ℕ) : Type 0 where

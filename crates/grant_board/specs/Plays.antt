@@ -1,5 +1,5 @@
 -- What each step of the table tells: of the step, its seat before, the number found (at a store, the number stored) and the seat after. And how views are cut in two and made one. Contracts read none of this.
-use Rattle.std.specs.Prelude.{◌≡◌, ◌≢◌, ℕ, ◌+◌, ◌<◌, ◌≤◌, Bool, true, false, List, [], ◌∷◌, ◌++◌, length, slice_index, Contains}
+use Rattle.std.specs.Prelude.{◌≡◌, ◌≢◌, ℕ, ◌+◌, ◌<◌, ◌≤◌, true, false, List, [], ◌∷◌, ◌++◌, length, Contains}
 use Rattle.verdict.specs.declared.Verdict.{Verdict}
 use Rattle.verdict.specs.declared.Ending.{Ending}
 use Rattle.atomic_table.specs.Table.{Me, Step}
@@ -7,7 +7,7 @@ use Rattle.grant_board.specs.declared.laws.Word.TheVariants.{Offered, Taken, Pos
 use Rattle.grant_board.specs.declared.view.View.{View}
 use Rattle.grant_board.specs.Words.{encode_of, IsWord, IsAmong, IsUnposted}
 use Rattle.grant_board.specs.Weights.{total}
-use Rattle.grant_board.specs.Views.{Grant, grant, Terms, KeeperView, RelayView, KeeperPart, count_at, count_of, without}
+use Rattle.grant_board.specs.Views.{Grant, grant, Terms, RelayView, KeeperPart, count_at, count_of, without}
 use Rattle.grant_board.specs.Names.{no_terms}
 use Rattle.grant_board.specs.Rule.{Slot}
 use Rattle.grant_board.specs.Ruled.{view, at_rest, MeetsRule, MeetsRuleWith}

@@ -1,5 +1,5 @@
 -- The calls of relays' seats, for the layer that holds them: what `try_take`, `post`, `meet`, `split` and `join` tell and change.
-use Rattle.std.specs.Prelude.{◌≡◌, ◌≢◌, ℕ, ◌+◌, ◌<◌, ◌≤◌, ◌⊎◌, Bool, [], ◌∷◌, ◌++◌, length}
+use Rattle.std.specs.Prelude.{◌≡◌, ◌≢◌, ℕ, ◌+◌, ◌⊎◌, Bool, [], ◌∷◌, ◌++◌, length}
 use Rattle.verdict.specs.declared.Verdict.{Verdict}
 use Rattle.verdict.specs.declared.Ending.{Ending}
 use Rattle.atomic_table.specs.Seated.{TableId}
@@ -18,7 +18,7 @@ pub record Relay : Type 0 where
 abbrev pub new_relay : Terms → Bool → RelayView
 new_relay terms first = record { terms = terms; passes = []; takes = []; posts = []; looks = []; first = first; split = 0; joined = 0 }
 
--- a look more. `meet` changes no more than this
+-- a look more, which is all that `meet` changes
 abbrev pub relay_looked : RelayView → ℕ → ℕ → RelayView
 relay_looked r place word = record r { looks = r.looks ++ look place word ∷ [] }
 

@@ -1,8 +1,7 @@
-ghost use Rattle.std.specs.Prelude.{◌≡◌, ◌^◌, ◌<◌, [], ◌∷◌, ◌++◌, IfSome, IfNone, length};
-ghost use Rattle.grant_board.specs.Weights.{AreIn};
-ghost use Rattle.grant_board.specs.Views.{grant, count_at, look};
+ghost use Rattle.std.specs.Prelude.{◌≡◌, ◌^◌, ◌<◌, IfSome, IfNone, length};
+ghost use Rattle.grant_board.specs.Views.{grant, count_at};
 ghost use Rattle.grant_board.specs.Ruled.{KeeperRuled, VouchRuled};
-ghost use Rattle.grant_board.specs.KeeperCalls.{HasRoom, offer_after, Collects, FindsUnposted, MayLimit, limit_after};
+ghost use Rattle.grant_board.specs.KeeperCalls.{HasRoom, offer_after, Collects, FindsUnposted, MayLimit, limit_after, Vouches};
 
 use crate::board::Board;
 use crate::laws::{Word, encode, posted_in};
@@ -96,10 +95,9 @@ impl KeeperSeat {
         requires relay_board { relay.board ≡ board.now }
         ensures back { result.0 ≡ relay }
         ensures count { result.1 ≡ length relay.view.passes }
+        ensures vouched { Vouches self.old.view self.new.view relay.view.passes }
+        ensures board { self.new.board ≡ self.old.board }
         ensures ruled { VouchRuled self.new.view relay.view }
-        ensures passes { AreIn relay.view.passes self.old.view.out }
-        ensures same { self.new ≡ record self.old { view = record self.old.view { looks = self.new.view.looks } } }
-        ensures looked { (word : _) × (self.new.view.looks ≡ self.old.view.looks ++ look 0 word ∷ []) }
     {
         let RelaySeat {
             relaying,
@@ -120,10 +118,9 @@ impl KeeperSeat {
         requires same_board { self.old.board ≡ board.now }
         requires relay_board { relaying.board ≡ board.now }
         ensures back { result ≡ relaying }
-        ensures same { self.new ≡ record self.old { view = record self.old.view { looks = self.new.view.looks } } }
-        ensures looked { (word : _) × (self.new.view.looks ≡ self.old.view.looks ++ look 0 word ∷ []) }
+        ensures vouched { Vouches self.old.view self.new.view relaying.view.passes }
+        ensures board { self.new.board ≡ self.old.board }
         ensures ruled { VouchRuled self.new.view relaying.view }
-        ensures passes { AreIn relaying.view.passes self.old.view.out }
     {
         let Relaying { seat, places } = relaying;
         board.table.shared.join_seat::<Beside>(&mut self.seat, seat);

@@ -92,7 +92,13 @@ fn holds_one_each<R: Abort>(
     match first.try_take(board, 0, 1) {
         Taking::Taken(pass) => {
             let (back, met) = first.meet(board, second, 0);
-            assert_eq!(rt; met, Met { passes: 2, bound: 2 });
+            assert_eq!(rt;
+                met,
+                Met {
+                    passes: 2,
+                    bound: 2
+                }
+            );
             let (back, held) = keeper.vouch(board, back);
             assert_eq!(rt; held, 1);
             second = back;
@@ -217,14 +223,26 @@ fn meet_twice<R: Abort>(
     match first.try_take(board, 0, 7) {
         Taking::Taken(pass) => {
             let (back, met) = first.meet(board, second, 0);
-            assert_eq!(rt; met, Met { passes: 2, bound: 2 });
+            assert_eq!(rt;
+                met,
+                Met {
+                    passes: 2,
+                    bound: 2
+                }
+            );
             first.post(board, pass, Ending::Done);
             match keeper.collect(board, 0) {
                 Some(_) => keeper.limit(board, 0, 1),
                 None => assert!(rt; false, "posted"),
             }
             let (back, met) = first.meet(board, back, 0);
-            assert_eq!(rt; met, Met { passes: 1, bound: 1 });
+            assert_eq!(rt;
+                met,
+                Met {
+                    passes: 1,
+                    bound: 1
+                }
+            );
             second = back;
         }
         Taking::NotYet => assert!(rt; false, "offered"),

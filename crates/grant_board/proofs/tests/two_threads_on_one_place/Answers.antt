@@ -1,4 +1,4 @@
-use Rattle.std.proofs.Common.{sym, ap, ◌∙◌}
+use Rattle.std.proofs.Common.{ap, ◌∙◌}
 use Rattle.grant_board.specs.Views.{count_at}
 use Rattle.grant_board.proofs.Grants.{without-none}
 use Rattle.grant_board.proofs.tests.two_threads_on_one_place.Goals as goal

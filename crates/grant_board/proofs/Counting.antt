@@ -1,6 +1,6 @@
 -- A relay's seat keeps its counts.
 use Rattle.std.proofs.Common.{◌≡◌, ℕ, zero, suc, ◌+◌, ◌<◌, ◌≤◌, ◌^◌, Bool, List, [], ◌∷◌, ◌++◌, length, get_or, slice_index, replicate, sym, refl, ap, subst, arith}
-use Rattle.std.proofs.lemmas.List.{length-append}
+use Rattle.std.proofs.lemmas.List.{get_or-replicate, length-append}
 use Rattle.verdict.specs.declared.Ending.{Ending}
 use Rattle.grant_board.specs.declared.tally.Tally.{Tally}
 use Rattle.grant_board.specs.Weights.{total, Each}
@@ -10,14 +10,6 @@ use Rattle.grant_board.specs.Counted.{IsPassOf, IsCounted}
 use Rattle.grant_board.proofs.Totals.{total-append, total-push, total-one}
 use Rattle.grant_board.proofs.Items.{Each-append}
 use Rattle.grant_board.proofs.Grants.{count_of_le, Each-without}
-
-abbrev zeros : ℕ → List ℕ
-zeros m = replicate m 0
-
-index-zeros : (m n : ℕ) → get_or (zeros m) n 0 ≡ 0
-index-zeros zero n = refl
-index-zeros (suc m) zero = refl
-index-zeros (suc m) (suc n) = index-zeros m n
 
 -- no server's count is above the whole
 pub server_room : (x : Relay) (first : Bool) (tally : Tally) → IsCounted x first tally → (n : ℕ) → n < 64 → slice_index tally.of_server n ≤ tally.all
@@ -32,7 +24,7 @@ counted_new x terms b tally is none few_places few_servers = record {
   room = omega (arith, ap (λ (r : RelayView). length r.passes) is);
   passes = subst (λ (gs : List Grant). Each (IsPassOf x.board.words) gs) (sym (ap (λ (r : RelayView). r.passes) is)) tt;
   all = omega (arith, ap (λ (t : Tally). t.all) none, ap (λ (r : RelayView). length r.passes) is);
-  of_server = λ n near. omega (arith, ap (λ (t : Tally). slice_index t.of_server n) none, index-zeros 64 n, ap (λ (r : RelayView). count_of n r.passes) is);
+  of_server = λ n near. omega (arith, ap (λ (t : Tally). slice_index t.of_server n) none, get_or-replicate {A = ℕ} 64 n 0 0 near, ap (λ (r : RelayView). count_of n r.passes) is);
 }
 
 -- a pass more

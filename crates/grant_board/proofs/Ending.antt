@@ -1,5 +1,6 @@
 -- The board at its opening, and once all seats are joined.
 use Rattle.std.proofs.Common.{◌≡◌, ℕ, zero, suc, ◌+◌, ◌*◌, ◌≢◌, Bool, true, false, cond, List, [], ◌∷◌, ◌++◌, map, take, replicate, length, sym, refl, ap, ◌∙◌, subst, arith, ne_eqb, add-one}
+use Rattle.std.proofs.lemmas.Bool.{cond-true}
 use Rattle.std.proofs.lemmas.List.{length-map, length-replicate}
 use Rattle.std.proofs.Math.Seq.{take-append_seam}
 use mathlib.Core.Option.{some, some-injective, some-ne-none}
@@ -62,9 +63,6 @@ opens t =
     first_agrees zero v e = subst (Agrees t t.limits) (some-injective (view (at_rest (new_keeper t) ∷ []) (new_relay t true ∷ [])) v e) (((refl, refl), tt), (refl, tt))
     first_agrees (suc j) v e = absurd (some-ne-none v (sym e))
 
-chosen : (b : Bool) (m n : ℕ) → b ≡ true → cond b m n ≡ m
-chosen b m n e = ap {B = ℕ} (λ (x : Bool). cond x m n) e
-
 abbrev tally : Bool → ℕ → ℕ
 tally b n = cond b n 0
 
@@ -99,9 +97,9 @@ pub first_alone : (t : Terms) (s : BoardState) (o : Orderly t s) (j : ℕ) (keep
 first_alone t s o j keepers r me first settled f =
     let v : View = view keepers (r ∷ []) in
     let firsts : View → ℕ = λ u. total is_first u.relays in
-    let one : is_first r ≡ 1 = chosen r.first 1 0 first in
-    let split : of_relays split_off s.views ≡ r.split = omega (arith, alone firsts (λ (u : View). total split_off u.relays) (λ u e. later_split u.relays e) s.views j v me (omega (arith, o.one_first)), chosen r.first r.split 0 first) in
-    let joined : of_relays joined_in s.views ≡ r.joined = omega (arith, alone firsts (λ (u : View). total joined_in u.relays) (λ u e. later_joined u.relays e) s.views j v me (omega (arith, o.one_first)), chosen r.first r.joined 0 first) in
+    let one : is_first r ≡ 1 = cond-true {A = ℕ} r.first 1 0 first in
+    let split : of_relays split_off s.views ≡ r.split = omega (arith, alone firsts (λ (u : View). total split_off u.relays) (λ u e. later_split u.relays e) s.views j v me (omega (arith, o.one_first)), cond-true {A = ℕ} r.first r.split 0 first) in
+    let joined : of_relays joined_in s.views ≡ r.joined = omega (arith, alone firsts (λ (u : View). total joined_in u.relays) (λ u e. later_joined u.relays e) s.views j v me (omega (arith, o.one_first)), cond-true {A = ℕ} r.first r.joined 0 first) in
     let all : of_relays (λ _. 1) s.views ≡ 1 = omega (arith, in_views s.views, o.one_first, o.others) in
     omega (arith, alone (λ (u : View). total (λ (x : RelayView). 1) u.relays) (λ (u : View). total f u.relays) (λ u e. weightless f u.relays (omega (arith, total-one u.relays))) s.views j v me (omega arith))
 

@@ -2,7 +2,7 @@
 use Rattle.std.proofs.Common.{◌≡◌, ℕ, ◌+◌, ◌≤◌, ◌≢◌, Bool, true, false, cond, ◌==◌, List, [], ◌∷◌, length, sym, refl, ap, ◌∙◌, arith, eq-eqb, ne_eqb}
 use mathlib.Core.Logic.{dite}
 use native.Mathlib.Decide.{ℕ_discrete}
-use Rattle.std.proofs.lemmas.Bool.Decides.{nat_tests}
+use Rattle.std.proofs.lemmas.Bool.{eqb-true}
 use Rattle.verdict.specs.declared.cause.Cause.{Cause}
 use Rattle.verdict.specs.declared.cause.Cause.TheVariants.{Aborted, Timeout, Retries, NoServer}
 use Rattle.verdict.specs.declared.Verdict.{Verdict}
@@ -114,7 +114,7 @@ same_verdict _ _ = false
 
 same_verdict-is : (a b : Verdict) → same_verdict a b ≡ true → a ≡ b
 unfolding same_verdict
-same_verdict-is (Serve s) (Serve t) e = let same : s ≡ t = grind (arith, nat_tests) in ap Serve same
+same_verdict-is (Serve s) (Serve t) e = ap Serve (eqb-true s t e)
 same_verdict-is (Told a) (Told b) e = ap Told (same_cause-is a b e)
 same_verdict-is (Serve s) (Told b) e = absurd (cc)
 same_verdict-is (Told a) (Serve t) e = absurd (cc)
@@ -134,8 +134,8 @@ grants_tell = record {
   is = λ x y e.
       let p = both_true (x.place == y.place) (cond (x.ticket == y.ticket) (same_verdict x.verdict y.verdict) false) e in
       let q = both_true (x.ticket == y.ticket) (same_verdict x.verdict y.verdict) p.1 in
-      let place : x.place ≡ y.place = let at = p.0 in grind (arith, nat_tests) in
-      let ticket : x.ticket ≡ y.ticket = let at = q.0 in grind (arith, nat_tests) in
+      let place = eqb-true x.place y.place p.0 in
+      let ticket = eqb-true x.ticket y.ticket q.0 in
       let verdict = same_verdict-is x.verdict y.verdict q.1 in
       λ i. grant (place i) (ticket i) (verdict i);
   itself = λ x.

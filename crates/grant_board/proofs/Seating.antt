@@ -129,12 +129,6 @@ relay_value f a b m r x table is me =
     let vs : relay_of m.0.relays ≡ f x.view = ap (λ (y : Seated). relay_of y.0.relays) me ∙ ap (λ (y : Relay). f y.view) is in
     λ i. record { board = bs i; view = vs i }
 
-pub equal_is : (m n : ℕ) → (m == n) ≡ true → m ≡ n
-equal_is m n e = grind (arith, nat_tests)
-
-pub unequal_is : (m n : ℕ) → (m == n) ≡ false → m ≢ n
-unequal_is m n e = grind (arith, nat_tests)
-
 -- an exchange leaves a relay of the same terms
 pub takes_one : (slots p old new n : ℕ) (m x : Seated) (ticket : ℕ) (d : Verdict) → takes (step slots p old new none) m n x → IsWord (Offered ticket d) → old ≡ encode_of (Offered ticket d) → new ≡ encode_of (Taken ticket d)
     → (j : RelayView) × (x ≡ relay_seat j) × (j.terms ≡ (relay_of m.0.relays).terms)

@@ -4,6 +4,7 @@ ghost use Rattle.grant_board.specs.Views.{terms, grant, count_of};
 
 use super::*;
 use crate::laws::{Word, decode, decode_encode, encode};
+use std::marker::Brand;
 use std::process::Abort;
 use std::sync::Wait;
 use std::test::*;
@@ -47,11 +48,20 @@ fn serve_one(board: &Board, seat: &mut RelaySeat, place: usize, ticket: u64) -> 
     }
 }
 
+// The same where the board is known by its name alone.
+fn serve_named<N: BoardName>(board: &Board, seat: &mut RelaySeat, place: usize, ticket: u64) -> bool
+    requires named { (board.now ≡ N.board) × (seat.old.board ≡ N.board) × (seat.old.view.terms ≡ N.terms) }
+    requires in_range { place < N.terms.places }
+    ensures { (seat.new.board ≡ N.board) × (seat.new.view.terms ≡ N.terms) }
+{
+    serve_one(board, seat, place, ticket)
+}
+
 #[test]
 fn one_place(rt: HostRuntime) -> Result<(), Fail> {
     let (board, mut keeper, mut seat) = Board::open(rt.alloc(), 2, &[1])?;
     keeper.offer(&board, 0, 7, Verdict::Serve(0));
-    assert!(rt; !serve_one(&board, &mut seat, 0, 6));
+    assert!(rt; !serve_named::<Brand>(&board, &mut seat, 0, 6));
     let pass = match seat.try_take(&board, 0, 7) {
         Taking::Taken(pass) => pass,
         Taking::NotYet => return Err("offered".into()),

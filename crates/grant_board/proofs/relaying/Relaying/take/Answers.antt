@@ -1,10 +1,11 @@
 use Rattle.std.proofs.Common.{ap, sym, subst, ◌∙◌, ◌<◌, length, arith}
+use Rattle.std.proofs.lemmas.Bool.{eqb-true, eqb-false}
 use Rattle.grant_board.specs.Words.{IsAmong}
 use Rattle.grant_board.specs.RelayCalls.{relay_looked, take_after}
 use Rattle.grant_board.specs.Plays.{relay_of}
 use Rattle.grant_board.specs.Views.{grant}
 use Rattle.grant_board.specs.Rule.{terms_of}
-use Rattle.grant_board.proofs.Seating.{relay_table, place_near, takes_at, takes_one, relay_kept, relay_value, equal_is, unequal_is, relay_ruled}
+use Rattle.grant_board.proofs.Seating.{relay_table, place_near, takes_at, takes_one, relay_kept, relay_value, relay_ruled}
 use Rattle.grant_board.proofs.relaying.Relaying.take.Goals as goal
 
 pub compare_exchange-requires : goal.compare_exchange-requires
@@ -29,7 +30,7 @@ pub returns-clause-took : goal.returns-clause-took
 returns-clause-took c hit =
     let seat = c.self.inside.seat in
     let r = relay_of seat.me.0.relays in
-    let told = (c.compare_exchange.ensures.2.0 c.args.ticket c.args.verdict c.requires.word c.encode-offered.ensures c.encode-taken.ensures).0 (equal_is _ _ hit) in (
+    let told = (c.compare_exchange.ensures.2.0 c.args.ticket c.args.verdict c.requires.word c.encode-offered.ensures c.encode-taken.ensures).0 (eqb-true _ _ hit) in (
       relay_value (λ v. take_after v (grant c.args.place c.args.ticket c.args.verdict)) seat.table_id c.compare_exchange.new.seat.table_id c.compare_exchange.new.seat.me r c.args.self.now c.compare_exchange.ensures.0 c.self.view_is told.0,
       subst (λ x. length x.view.passes < x.view.terms.places) c.self.view_is told.1,
       subst (λ x. IsAmong (length x.view.terms.limits) c.args.verdict) c.self.view_is told.2,
@@ -39,7 +40,7 @@ pub returns-clause-late : goal.returns-clause-late
 returns-clause-late c miss =
     let seat = c.self.inside.seat in
     let r = relay_of seat.me.0.relays in
-    let other = unequal_is _ _ miss in
+    let other = eqb-false _ _ miss in
     let told = (c.compare_exchange.ensures.2.0 c.args.ticket c.args.verdict c.requires.word c.encode-offered.ensures c.encode-taken.ensures).1 other in (
       c.compare_exchange.result,
       relay_value (λ v. relay_looked v c.args.place c.compare_exchange.result) seat.table_id c.compare_exchange.new.seat.table_id c.compare_exchange.new.seat.me r c.args.self.now c.compare_exchange.ensures.0 c.self.view_is told,

@@ -1,4 +1,4 @@
--- The items of lists of any type: what each of them meets, where they stand, and what is made of them.
+-- The items of lists of any type: what each of them meets, and where they stand.
 use Rattle.std.proofs.Common.{◌≡◌, ℕ, zero, suc, ◌<◌, List, [], ◌∷◌, ◌++◌, length, get_or, set, map, subst, sym, refl, ap, arith}
 use mathlib.Core.Option.{some, some-injective, some-ne-none}
 use lib.ListN.{get_elem?}
@@ -35,8 +35,3 @@ module _ {A : Type 0} where
   index-map f [] i a e = absurd (some-ne-none a (sym e))
   index-map f (x ∷ xs) zero a e = ap f (some-injective x a e)
   index-map f (x ∷ xs) (suc i) a e = index-map f xs i a e
-
-  pub set-map : (f : A → ℕ) (l : List A) (i : ℕ) (a : A) → set (map f l) i (f a) ≡ map f (set l i a)
-  set-map f [] i a = refl
-  set-map f (x ∷ xs) zero a = refl
-  set-map f (x ∷ xs) (suc i) a = ap (λ ns. f x ∷ ns) (set-map f xs i a)

@@ -1,6 +1,6 @@
 -- One seat's view and one word change: what keeps the rule.
-use Rattle.std.proofs.Common.{◌≡◌, ℕ, ◌+◌, ◌-◌, ◌<◌, ◌≤◌, ◌≢◌, List, [], ◌∷◌, ◌++◌, map, length, get_or, set, slice_index, refl, ap, ◌∙◌, subst, ⊎_elim, arith, length-set}
-use Rattle.std.proofs.lemmas.List.{length-map, set-append_left, set-append_right}
+use Rattle.std.proofs.Common.{◌≡◌, ℕ, ◌+◌, ◌-◌, ◌<◌, ◌≤◌, ◌≢◌, List, [], ◌∷◌, ◌++◌, map, length, get_or, set, slice_index, sym, refl, ap, ◌∙◌, subst, ⊎_elim, arith, length-set}
+use Rattle.std.proofs.lemmas.List.{length-map, map-set, set-append_left, set-append_right}
 use mathlib.Core.Option.{Option, some}
 use lib.ListN.{get_elem?}
 use lib.Seq.{set-get_or}
@@ -14,7 +14,7 @@ use Rattle.grant_board.specs.Views.{Grant, Terms, KeeperPart, RelayView, Sightin
 use Rattle.grant_board.specs.Rule.{Slot, BoardState, standing, offered, taken, posted, as_return, of_keepers, of_relays, is_first, is_other, split_off, joined_in, KeeperAgrees, Agrees, Orderly}
 use Rattle.grant_board.proofs.Totals.{total-set}
 use Rattle.grant_board.proofs.Positions.{along-set}
-use Rattle.grant_board.proofs.Items.{Each-set, item_in, set-map}
+use Rattle.grant_board.proofs.Items.{Each-set, item_in}
 
 abbrev pub board : List ℕ → List (Option Slot) → List View → BoardState
 board words homes views = record { words = words; homes = homes; views = views }
@@ -85,7 +85,7 @@ moved t s o j p new v w homes c d me there is valid among owes =
     let words : set s.words p new ≡ map encode_of (set o.cells p d) ++ o.bounds =
     ap (λ (n : ℕ). set s.words p n) is
     ∙ (ap (λ (ws : List ℕ). set ws p (encode_of d)) o.words
-    ∙ (set-append_left (map encode_of o.cells) o.bounds p (encode_of d) near ∙ ap (λ (ws : List ℕ). ws ++ o.bounds) (set-map encode_of o.cells p d))) in
+    ∙ (set-append_left (map encode_of o.cells) o.bounds p (encode_of d) near ∙ ap (λ (ws : List ℕ). ws ++ o.bounds) (sym (map-set encode_of o.cells p d)))) in
     shifted t s o j v w homes (set o.cells p d) o.bounds (set s.words p new) (λ f. f p c) (λ f. f p d) me
     (record {
       words = words;

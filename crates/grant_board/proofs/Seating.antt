@@ -99,8 +99,12 @@ pub meets_at : (t : Terms) (slots id : ℕ) (m : Seated) (r q : RelayView) (i : 
 meets_at t slots id m r q i me = subst (λ (x : Seated). Allows (Orderly t) slots id x i (λ n. n) (meets (step slots i 0 0 none) x)) (sym me) (met_kept t slots id r q i)
 
 -- what a meeting of two seats tells
-pub met : (slots i found server : ℕ) (m x : Seated) (r q : RelayView) → m ≡ seated [] (r ∷ q ∷ []) → meets (step slots i 0 0 none) m found x → server < length r.terms.limits → i ≡ r.terms.places + server
-    → (x ≡ seated [] (relay_looked r i found ∷ q ∷ [])) × AreApart r.terms.places server found r.passes q.passes × MeetsRuleWith x.0 server found
+abbrev pub HasMet : ℕ → ℕ → ℕ → RelayView → RelayView → Seated → Type 0
+HasMet i server found r q x =
+    (x ≡ seated [] (relay_looked r i found ∷ q ∷ [])) × AreApart r.terms.places server found r.passes q.passes × MeetsRuleWith x.0 server found
+
+pub met : (slots i found server : ℕ) (m x : Seated) (r q : RelayView) → m ≡ seated [] (r ∷ q ∷ []) → meets (step slots i 0 0 none) m found x
+    → server < length r.terms.limits → i ≡ r.terms.places + server → HasMet i server found r q x
 met slots i found server m x r q me told near at = subst (λ (y : Seated). meets (step slots i 0 0 none) y found x) me told server near at
 
 -- the two seats apart again

@@ -57,10 +57,6 @@ module _ {A : Type 0} where
   total-one [] = refl
   total-one (x ∷ xs) = omega (arith, total-one xs)
 
-  pub total-zero : (f : A → ℕ) → ((x : A) → f x ≡ 0) → (l : List A) → total f l ≡ 0
-  total-zero f none [] = refl
-  total-zero f none (x ∷ xs) = omega (arith, none x, total-zero f none xs)
-
   pub total_mono : (f g : A → ℕ) → ((x : A) → f x ≤ g x) → (l : List A) → total f l ≤ total g l
   total_mono f g le [] = omega arith
   total_mono f g le (x ∷ xs) = omega (arith, le x, total_mono f g le xs)

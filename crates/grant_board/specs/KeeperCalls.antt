@@ -37,7 +37,8 @@ HasRoom k (Told cause) = Unit {0}
 abbrev pub collect_after : KeeperView → Grant → Ending → KeeperView
 collect_after k g ending = record k { out = without g.place k.out; returns = k.returns ++ return_of g ending ∷ [] }
 
--- A collect is a load, and where that found a posted word a store that empties it. It found this return's ticket posted at the place, with a verdict with which it was out
+-- A collect is a load, and where that found a posted word a store that empties it.
+-- It found this return's ticket posted at the place, with a verdict with which it was out
 pub record Collects (k k' : KeeperView) (place : ℕ) (back : Return) : Type 0 where
   pub verdict : Verdict
   pub at : back.place ≡ place

@@ -36,7 +36,8 @@ pub record ByPlaces (terms : Terms) (s : BoardState) (k : KeeperView) : Type 0 w
   pub pass : (j i : ℕ) (r : RelayView) (g : Grant) → HasRelay s j i r → Contains r.passes g → slice_index s.words g.place ≡ encode_of (Taken g.ticket g.verdict)
   -- no seat has two passes of a place, and no two seats have one each
   pub once : (j i : ℕ) (r : RelayView) (place : ℕ) → HasRelay s j i r → count_at place r.passes ≤ 1
-  pub apart : (j i : ℕ) (r : RelayView) (m n : ℕ) (q : RelayView) (place : ℕ) → HasRelay s j i r → HasRelay s m n q → ¬ ((m ≡ j) × (n ≡ i)) → count_at place r.passes + count_at place q.passes ≤ 1
+  pub apart : (j i : ℕ) (r : RelayView) (m n : ℕ) (q : RelayView) (place : ℕ) → HasRelay s j i r → HasRelay s m n q → ¬ ((m ≡ j) × (n ≡ i))
+      → count_at place r.passes + count_at place q.passes ≤ 1
   -- behind the places' words each server's word is its bound, as the keeper knows it
   pub bounds : (server : ℕ) → server < length terms.limits → slice_index s.words (terms.places + server) ≡ slice_index k.bounds server
   pub servers : length k.bounds ≡ length terms.limits

@@ -1,4 +1,5 @@
--- What each step of the table tells: of the step, its seat before, the number found (at a store, the number stored) and the seat after. And how views are cut in two and made one. Contracts read none of this.
+-- What each step of the table tells: of the step, its seat before, the number found (at a store, the number stored) and the seat after.
+-- And how views are cut in two and made one. The public contracts read none of this.
 use Rattle.std.specs.Prelude.{◌≡◌, ◌≢◌, ℕ, ◌+◌, ◌<◌, ◌≤◌, true, false, List, [], ◌∷◌, ◌++◌, length, Contains}
 use Rattle.verdict.specs.declared.Verdict.{Verdict}
 use Rattle.verdict.specs.declared.Ending.{Ending}
@@ -84,7 +85,8 @@ clears st m r n =
 abbrev pub limits : Telling
 limits st m r n =
     let k = keeper_of m.0.keepers in
-    (server : ℕ) → server < length k.view.terms.limits → st.word ≡ k.view.terms.places + server → n ≡ keeper_seat (record k { view = limit_after k.view server st.first })
+    (server : ℕ) → server < length k.view.terms.limits → st.word ≡ k.view.terms.places + server
+    → n ≡ keeper_seat (record k { view = limit_after k.view server st.first })
 
 -- the keeper loads a word beside a relay's part: the relay's passes are out
 abbrev pub vouches : Telling
@@ -102,8 +104,10 @@ glances st m r n = n ≡ relay_seat (relay_looked (relay_of m.0.relays) st.word 
 abbrev pub takes : Telling
 takes st m r n =
     let q = relay_of m.0.relays in
-    (ticket : ℕ) (verdict : Verdict) → IsWord (Offered ticket verdict) → st.first ≡ encode_of (Offered ticket verdict) → st.second ≡ encode_of (Taken ticket verdict)
-    → (r ≡ st.first → (n ≡ relay_seat (take_after q (grant st.word ticket verdict))) × (length q.passes < q.terms.places) × IsAmong (length q.terms.limits) verdict)
+    (ticket : ℕ) (verdict : Verdict) → IsWord (Offered ticket verdict) → st.first ≡ encode_of (Offered ticket verdict)
+    → st.second ≡ encode_of (Taken ticket verdict)
+    → (r ≡ st.first → (n ≡ relay_seat (take_after q (grant st.word ticket verdict)))
+    × (length q.passes < q.terms.places) × IsAmong (length q.terms.limits) verdict)
     × (r ≢ st.first → n ≡ relay_seat (relay_looked q st.word r))
 
 -- a relay posts how the exchange of a pass ended

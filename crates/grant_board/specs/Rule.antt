@@ -99,9 +99,11 @@ pub record Orderly (terms : Terms) (s : BoardState) : Type 0 where
   -- the words that are taken have the passes of all seats, so that no pass is with two of them
   pub passes : (weight : Grant → ℕ) → of_relays (λ r. total weight r.passes) s.views ≡ along (taken weight) 0 cells
   -- what was offered was taken or stands offered, each as often
-  pub offers : (weight : Grant → ℕ) → of_relays (λ r. total weight r.takes) s.views + along (offered weight) 0 cells ≡ of_keepers (λ k. total weight k.view.offers) s.views
+  pub offers : (weight : Grant → ℕ)
+      → of_relays (λ r. total weight r.takes) s.views + along (offered weight) 0 cells ≡ of_keepers (λ k. total weight k.view.offers) s.views
   -- what was posted has come back or stands posted, each as often
-  pub posts : (weight : Return → ℕ) → of_keepers (λ k. total weight k.view.returns) s.views + along (posted (as_return weight)) 0 cells ≡ of_relays (λ r. total weight r.posts) s.views
+  pub posts : (weight : Return → ℕ)
+      → of_keepers (λ k. total weight k.view.returns) s.views + along (posted (as_return weight)) 0 cells ≡ of_relays (λ r. total weight r.posts) s.views
   -- no more grants of a server are out than its bound, where it has one
   pub bounded : (server : ℕ) → 0 < slice_index bounds server → of_keepers (λ k. count_of server k.view.out) s.views ≤ slice_index bounds server
   -- what the keeper has in sight stands posted

@@ -31,7 +31,8 @@ pub record Look : Type 0 where
 abbrev pub look : ℕ → ℕ → Look
 look place word = record { place = place; word = word }
 
--- What the keeper knows: each server's bound, of which 0 is none, the grants that are out, all that it offered, all that came back, and its looks, each list in the order of its steps
+-- What the keeper knows: each server's bound, of which 0 is none, the grants that are out, all that it offered, all that came back, and its looks.
+-- Each list is in the order of its steps
 pub record KeeperView : Type 0 where
   pub terms : Terms
   pub bounds : List ℕ
@@ -40,7 +41,8 @@ pub record KeeperView : Type 0 where
   pub returns : List Return
   pub looks : List Look
 
--- What a relay seat knows: the passes that it has, all that it took, all that it posted, and its looks. The first seat also counts the seats that it split off and those that it joined
+-- What a relay seat knows: the passes that it has, all that it took, all that it posted, and its looks.
+-- The first seat also counts the seats that it split off and those that it joined
 pub record RelayView : Type 0 where
   pub terms : Terms
   pub passes : List Grant

@@ -1,4 +1,5 @@
--- A place's word, as a number. Bits 0 and 1 are its kind, bits 2 to 8 the verdict, bit 9 is set in the word of a failed ending, and the ticket stands from bit 10 on.
+-- A place's word, as a number. Bits 0 and 1 are its kind, bits 2 to 8 the verdict, bit 9 is set in the word of a failed ending,
+-- and the ticket stands from bit 10 on.
 use Rattle.std.specs.Prelude.{◌≢◌, ℕ, ◌+◌, ◌*◌, ◌^◌, ◌<◌, ◌==◌, if◌then◌else◌}
 use Rattle.verdict.specs.declared.cause.Cause.TheVariants.{Aborted, Timeout, Retries, NoServer}
 use Rattle.verdict.specs.declared.Verdict.{Verdict}
@@ -54,7 +55,8 @@ IsWordAmong servers (Posted ticket verdict ending) = IsAmong servers verdict
 
 -- the number of no word that is posted
 abbrev pub IsUnposted : ℕ → Type 0
-IsUnposted number = (ticket : ℕ) (verdict : Verdict) (ending : Ending) → IsWord (Posted ticket verdict ending) → number ≢ encode_of (Posted ticket verdict ending)
+IsUnposted number = (ticket : ℕ) (verdict : Verdict) (ending : Ending) → IsWord (Posted ticket verdict ending)
+    → number ≢ encode_of (Posted ticket verdict ending)
 
 -- the number of no word that offers this ticket
 abbrev pub OffersNot : ℕ → ℕ → Type 0

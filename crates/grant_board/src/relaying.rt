@@ -51,7 +51,9 @@ impl Relaying {
         requires same_board { self.old.board ≡ board.now }
         requires in_range { place < self.old.view.terms.places }
         requires word { IsWord (Offered ticket verdict) }
-        ensures took { result ≡ true → (self.new ≡ record self.old { view = take_after self.old.view (grant place ticket verdict) }) × (length self.old.view.passes < self.old.view.terms.places) × IsAmong (length self.old.view.terms.limits) verdict }
+        ensures took { result ≡ true → self.new ≡ record self.old { view = take_after self.old.view (grant place ticket verdict) } }
+        ensures room { result ≡ true → length self.old.view.passes < self.old.view.terms.places }
+        ensures among { result ≡ true → IsAmong (length self.old.view.terms.limits) verdict }
         ensures late { result ≡ false → (word : _) × (self.new ≡ record self.old { view = relay_looked self.old.view place word }) × (word ≢ encode_of (Offered ticket verdict)) }
         ensures ruled { RelayRuled self.new.view }
     {

@@ -1,6 +1,6 @@
 use Rattle.std.proofs.Common.{sym, subst, refl, arith, Contains, [], ◌∷◌}
 use Rattle.std.proofs.lemmas.List.Elements.{Contains-append_right}
-use Rattle.grant_board.proofs.tests.holds_one_each.Goals as goal
+use Rattle.grant_board.proofs.tests.threads.holds_one_each.Goals as goal
 
 -- the pass that was taken is among the passes, and the meeting leaves them
 pub post-requires-clause-held : goal.post-requires-clause-held

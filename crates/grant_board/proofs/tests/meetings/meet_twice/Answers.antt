@@ -1,7 +1,7 @@
 use Rattle.std.proofs.Common.{sym, subst, refl, ◌∙◌, arith, Contains, [], ◌∷◌}
 use Rattle.std.proofs.lemmas.List.Elements.{Contains-append_right}
-use Rattle.grant_board.proofs.tests.meet_twice.Goals as goal
-use Rattle.grant_board.proofs.tests.meet_twice.Goals.{in-Taken+else-assert_eq+else-assert_eq-2, in-NotYet+else-assert-2}
+use Rattle.grant_board.proofs.tests.meetings.meet_twice.Goals as goal
+use Rattle.grant_board.proofs.tests.meetings.meet_twice.Goals.{in-Taken+else-assert_eq+else-assert_eq-2, in-NotYet+else-assert-2}
 
 -- the pass that was taken is among the passes, and the meetings leave them
 pub post-requires-clause-held : goal.post-requires-clause-held

@@ -1,7 +1,7 @@
 use Rattle.std.proofs.Common.{ap, ◌∙◌}
 use Rattle.grant_board.specs.Views.{count_at}
 use Rattle.grant_board.proofs.Grants.{without-none}
-use Rattle.grant_board.proofs.tests.two_threads_on_one_place.Goals as goal
+use Rattle.grant_board.proofs.tests.threads.two_threads_on_one_place.Goals as goal
 
 -- what came back is out no more
 pub loop-ticket-preserved : goal.loop-ticket-preserved

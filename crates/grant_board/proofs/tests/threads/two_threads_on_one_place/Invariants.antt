@@ -2,7 +2,7 @@ use Rattle.std.proofs.Common.{◌≡◌}
 use Rattle.grant_board.specs.Views.{count_at}
 use Rattle.grant_board.specs.KeeperCalls.{Keeper}
 use Rattle.grant_board.specs.RelayCalls.{Relay}
-use Rattle.grant_board.proofs.tests.two_threads_on_one_place.Given as goal
+use Rattle.grant_board.proofs.tests.threads.two_threads_on_one_place.Given as goal
 
 -- the seats are of the same board and terms, and nothing is out
 pub record Stays (keeper keeper' : Keeper) (first first' second second' : Relay) : Type 0 where

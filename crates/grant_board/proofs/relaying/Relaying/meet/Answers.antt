@@ -1,4 +1,4 @@
-use Rattle.std.proofs.Common.{◌≡◌, ◌+◌, ◌<◌, [], ◌∷◌, length, ap, sym, refl, subst, ◌∙◌, arith}
+use Rattle.std.proofs.Common.{◌≡◌, ◌+◌, ◌<◌, length, ap, sym, refl, subst, ◌∙◌, arith}
 use Rattle.grant_board.specs.Views.{RelayView}
 use Rattle.grant_board.specs.RelayCalls.{relay_looked}
 use Rattle.grant_board.specs.Plays.{relay_seat, relay_of, AreApart}

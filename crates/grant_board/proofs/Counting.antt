@@ -1,22 +1,15 @@
 -- A relay's seat keeps its counts.
-use Rattle.std.proofs.Common.{◌≡◌, ℕ, zero, suc, ◌+◌, ◌<◌, ◌≤◌, ◌^◌, Bool, true, false, ◌==◌, List, [], ◌∷◌, ◌++◌, length, get_or, slice_index, replicate, sym, refl, ap, subst, arith}
+use Rattle.std.proofs.Common.{◌≡◌, ℕ, ◌+◌, ◌<◌, ◌≤◌, ◌^◌, Bool, List, [], ◌∷◌, ◌++◌, length, slice_index, replicate, sym, ap, subst, arith}
+use Rattle.std.proofs.lemmas.List.{get_or-replicate, length-append}
 use Rattle.verdict.specs.declared.Ending.{Ending}
 use Rattle.grant_board.specs.declared.tally.Tally.{Tally}
 use Rattle.grant_board.specs.Weights.{total, Each}
 use Rattle.grant_board.specs.Views.{Grant, Terms, RelayView, serves_at, count_of, without}
-use Rattle.grant_board.specs.Plays.{relay_looked, take_after, post_after, join_after, new_relay}
-use Rattle.grant_board.specs.Seats.{Relay}
+use Rattle.grant_board.specs.RelayCalls.{Relay, new_relay, relay_looked, take_after, post_after, join_after}
 use Rattle.grant_board.specs.Counted.{IsPassOf, IsCounted}
-use Rattle.grant_board.proofs.Totals.{total-append, total-one, Each-append}
-use Rattle.grant_board.proofs.Grants.{count_of_le, total-push, length-push}
-
-abbrev zeros : ℕ → List ℕ
-zeros m = replicate m 0
-
-index-zeros : (m n : ℕ) → get_or (zeros m) n 0 ≡ 0
-index-zeros zero n = refl
-index-zeros (suc m) zero = refl
-index-zeros (suc m) (suc n) = index-zeros m n
+use Rattle.grant_board.proofs.Totals.{total-append, total-push, total-one}
+use Rattle.grant_board.proofs.Items.{Each-append}
+use Rattle.grant_board.proofs.Grants.{count_of_le, Each-without}
 
 -- no server's count is above the whole
 pub server_room : (x : Relay) (first : Bool) (tally : Tally) → IsCounted x first tally → (n : ℕ) → n < 64 → slice_index tally.of_server n ≤ tally.all
@@ -31,7 +24,7 @@ counted_new x terms b tally is none few_places few_servers = record {
   room = omega (arith, ap (λ (r : RelayView). length r.passes) is);
   passes = subst (λ (gs : List Grant). Each (IsPassOf x.board.words) gs) (sym (ap (λ (r : RelayView). r.passes) is)) tt;
   all = omega (arith, ap (λ (t : Tally). t.all) none, ap (λ (r : RelayView). length r.passes) is);
-  of_server = λ n near. omega (arith, ap (λ (t : Tally). slice_index t.of_server n) none, index-zeros 64 n, ap (λ (r : RelayView). count_of n r.passes) is);
+  of_server = λ n near. omega (arith, ap (λ (t : Tally). slice_index t.of_server n) none, get_or-replicate {A = ℕ} 64 n 0 0 near, ap (λ (r : RelayView). count_of n r.passes) is);
 }
 
 -- a pass more
@@ -42,19 +35,11 @@ counted_take x y b old new p n g counted is room pass all servers = subst (λ (z
   is_first = counted.is_first;
   few_places = counted.few_places;
   few_servers = counted.few_servers;
-  room = omega (arith, room, length-push x.view.passes g);
+  room = omega (arith, room, length-append x.view.passes (g ∷ []));
   passes = Each-append (IsPassOf x.board.words) x.view.passes (g ∷ []) counted.passes (pass, tt);
-  all = omega (arith, all, counted.all, length-push x.view.passes g);
+  all = omega (arith, all, counted.all, length-append x.view.passes (g ∷ []));
   of_server = λ m near. omega (arith, servers m near, counted.of_server m near, total-push (λ h. serves_at m h.verdict) x.view.passes g);
 })
-
-Each-without_by : (P : Grant → Type 0) (place : ℕ) (g : Grant) (gs : List Grant) → P g → Each P (without place gs) → (b : Bool) → (g.place == place) ≡ b → Each P (without place (g ∷ gs))
-Each-without_by P place g gs p rest true is = rw is rest
-Each-without_by P place g gs p rest false is = rw is (p, rest)
-
-Each-without : (P : Grant → Type 0) (place : ℕ) (gs : List Grant) → Each P gs → Each P (without place gs)
-Each-without P place [] h = tt
-Each-without P place (g ∷ gs) h = Each-without_by P place g gs h.0 (Each-without P place gs h.1) (g.place == place) refl
 
 -- a pass less
 pub counted_post : (x y : Relay) (b : Bool) (old new : Tally) (g : Grant) (e : Ending) → IsCounted x b old → y ≡ record { board = x.board; view = post_after x.view g e }
@@ -79,8 +64,7 @@ pub counted_join : (x y z : Relay) (b c : Bool) (old other new : Tally) → IsCo
     → length z.view.passes ≤ z.view.terms.places → new.all ≡ old.all + other.all
     → ((m : ℕ) → m < 64 → slice_index new.of_server m ≡ slice_index old.of_server m + slice_index other.of_server m) → IsCounted z b new
 counted_join x y z b c old other new mine theirs board is room all servers =
-    let more : length (x.view.passes ++ y.view.passes) ≡ length x.view.passes + length y.view.passes =
-    omega (arith, sym (total-one (x.view.passes ++ y.view.passes)), total-append (λ (g : Grant). 1) x.view.passes y.view.passes, total-one x.view.passes, total-one y.view.passes) in
+    let more = length-append x.view.passes y.view.passes in
     subst (λ (w : Relay). IsCounted w b new) (sym is) (record {
       is_first = mine.is_first;
       few_places = mine.few_places;
@@ -103,8 +87,5 @@ join_room x y b c old other mine theirs room n near =
       theirs.all,
       mine.few_places,
       room,
-      sym (total-one (x.view.passes ++ y.view.passes)),
-      total-append (λ (g : Grant). 1) x.view.passes y.view.passes,
-      total-one x.view.passes,
-      total-one y.view.passes,
+      length-append x.view.passes y.view.passes,
     )

@@ -1,5 +1,8 @@
 -- The board at its opening, and once all seats are joined.
-use Rattle.std.proofs.Common.{◌≡◌, ℕ, zero, suc, ◌+◌, ◌*◌, ◌≢◌, Bool, true, false, cond, List, [], ◌∷◌, map, take, replicate, length, sym, refl, ap, ◌∙◌, subst, arith, ne_eqb, add-one}
+use Rattle.std.proofs.Common.{◌≡◌, ℕ, zero, suc, ◌+◌, ◌*◌, ◌≢◌, Bool, true, false, cond, List, [], ◌∷◌, ◌++◌, map, take, replicate, length, sym, refl, ap, ◌∙◌, subst, arith, ne_eqb, add-one}
+use Rattle.std.proofs.lemmas.Bool.{cond-true}
+use Rattle.std.proofs.lemmas.List.{length-map, length-replicate}
+use Rattle.std.proofs.Math.Seq.{take-append_seam}
 use mathlib.Core.Option.{some, some-injective, some-ne-none}
 use lib.ListN.{get_elem?}
 use Rattle.atomic_table.specs.Table.{opening}
@@ -7,14 +10,16 @@ use Rattle.grant_board.specs.declared.laws.Word.{Word}
 use Rattle.grant_board.specs.declared.laws.Word.TheVariants.{Empty, Offered, Taken, Posted}
 use Rattle.verdict.specs.declared.Ending.TheVariants.{Done, Failed}
 use Rattle.grant_board.specs.declared.view.View.{View}
-use Rattle.grant_board.specs.Words.{code_of, encode_of, IsWord}
+use Rattle.grant_board.specs.Words.{code_of, encode_of, IsWord, IsWordAmong, nonzero}
 use Rattle.grant_board.specs.Weights.{total, along, Each}
 use Rattle.grant_board.specs.Views.{Terms, KeeperView, KeeperPart, RelayView}
 use Rattle.grant_board.specs.Rule.{BoardState, standing, offered, taken, posted, as_return, of_relays, is_first, is_other, split_off, joined_in, Agrees, Orderly}
-use Rattle.grant_board.specs.Plays.{Seated, view, seated, opened, at_rest, new_keeper, new_relay}
-use Rattle.grant_board.specs.Seats.{nonzero, IsClosed}
-use Rattle.grant_board.proofs.Totals.{total-one, total-take}
-use Rattle.grant_board.proofs.Finding.{weightless, alone, keeper_alone}
+use Rattle.grant_board.specs.Ruled.{view, at_rest}
+use Rattle.grant_board.specs.KeeperCalls.{new_keeper, IsClosed}
+use Rattle.grant_board.specs.RelayCalls.{new_relay}
+use Rattle.grant_board.specs.Plays.{Seated, seated, opened}
+use Rattle.grant_board.proofs.Totals.{total-one, total-take, weightless, alone}
+use Rattle.grant_board.proofs.Finding.{keeper_alone}
 
 all_empty : ℕ → List Word
 all_empty n = replicate n Empty
@@ -27,24 +32,21 @@ words-empty : (n : ℕ) → replicate n 0 ≡ map encode_of (replicate n Empty)
 words-empty zero = refl
 words-empty (suc n) = ap (λ (ns : List ℕ). 0 ∷ ns) (words-empty n)
 
-Each-empty : (n : ℕ) → Each IsWord (replicate n Empty)
-Each-empty zero = tt
-Each-empty (suc n) = (tt, Each-empty n)
+Each-empty : (P : Word → Type 0) → P Empty → (n : ℕ) → Each P (replicate n Empty)
+Each-empty P p zero = tt
+Each-empty P p (suc n) = (p, Each-empty P p n)
 
-length-empty : (n : ℕ) → length (replicate n Empty) ≡ n
-length-empty zero = refl
-length-empty (suc n) = ap suc (length-empty n)
-
--- a board with empty words, one keeper and its first seat
-pub opens : (t : Terms) → Orderly t (opening (replicate t.places 0) [] (view (at_rest (new_keeper t) ∷ []) (new_relay t true ∷ [])))
+-- a board with empty words, the limits for bounds, one keeper and its first seat
+pub opens : (t : Terms) → Orderly t (opening (replicate t.places 0 ++ t.limits) [] (view (at_rest (new_keeper t) ∷ []) (new_relay t true ∷ [])))
 opens t =
     let cells : List Word = replicate t.places Empty in record {
       cells = cells;
       bounds = t.limits;
-      words = words-empty t.places;
-      valid = Each-empty t.places;
-      long = length-empty t.places;
-      fixed = refl;
+      words = ap (λ (ws : List ℕ). ws ++ t.limits) (words-empty t.places);
+      long = length-replicate t.places Empty;
+      servers = refl;
+      valid = Each-empty IsWord tt t.places;
+      among = Each-empty (IsWordAmong (length t.limits)) tt t.places;
       one_keeper = refl;
       one_first = refl;
       others = refl;
@@ -60,9 +62,6 @@ opens t =
     first_agrees : (j : ℕ) (v : View) → get_elem? (view (at_rest (new_keeper t) ∷ []) (new_relay t true ∷ []) ∷ []) j ≡ some v → Agrees t t.limits v
     first_agrees zero v e = subst (Agrees t t.limits) (some-injective (view (at_rest (new_keeper t) ∷ []) (new_relay t true ∷ [])) v e) (((refl, refl), tt), (refl, tt))
     first_agrees (suc j) v e = absurd (some-ne-none v (sym e))
-
-chosen : (b : Bool) (m n : ℕ) → b ≡ true → cond b m n ≡ m
-chosen b m n e = ap {B = ℕ} (λ (x : Bool). cond x m n) e
 
 abbrev tally : Bool → ℕ → ℕ
 tally b n = cond b n 0
@@ -98,9 +97,9 @@ pub first_alone : (t : Terms) (s : BoardState) (o : Orderly t s) (j : ℕ) (keep
 first_alone t s o j keepers r me first settled f =
     let v : View = view keepers (r ∷ []) in
     let firsts : View → ℕ = λ u. total is_first u.relays in
-    let one : is_first r ≡ 1 = chosen r.first 1 0 first in
-    let split : of_relays split_off s.views ≡ r.split = omega (arith, alone firsts (λ (u : View). total split_off u.relays) (λ u e. later_split u.relays e) s.views j v me (omega (arith, o.one_first)), chosen r.first r.split 0 first) in
-    let joined : of_relays joined_in s.views ≡ r.joined = omega (arith, alone firsts (λ (u : View). total joined_in u.relays) (λ u e. later_joined u.relays e) s.views j v me (omega (arith, o.one_first)), chosen r.first r.joined 0 first) in
+    let one : is_first r ≡ 1 = cond-true {A = ℕ} r.first 1 0 first in
+    let split : of_relays split_off s.views ≡ r.split = omega (arith, alone firsts (λ (u : View). total split_off u.relays) (λ u e. later_split u.relays e) s.views j v me (omega (arith, o.one_first)), cond-true {A = ℕ} r.first r.split 0 first) in
+    let joined : of_relays joined_in s.views ≡ r.joined = omega (arith, alone firsts (λ (u : View). total joined_in u.relays) (λ u e. later_joined u.relays e) s.views j v me (omega (arith, o.one_first)), cond-true {A = ℕ} r.first r.joined 0 first) in
     let all : of_relays (λ _. 1) s.views ≡ 1 = omega (arith, in_views s.views, o.one_first, o.others) in
     omega (arith, alone (λ (u : View). total (λ (x : RelayView). 1) u.relays) (λ (u : View). total f u.relays) (λ u e. weightless f u.relays (omega (arith, total-one u.relays))) s.views j v me (omega arith))
 
@@ -111,6 +110,7 @@ closes_at k s o j r left me first settled is =
     let rs = first_alone k.view.terms s o j (k ∷ []) r me first settled in record {
       state = s;
       rule = o;
+      bounds = sym (o.agree j (view (k ∷ []) (r ∷ [])) me).0.0.1;
       out = λ h. sym (ks (λ x. total h x.view.out)) ∙ o.out h;
       passes = λ h. sym (rs (λ x. total h x.passes)) ∙ o.passes h;
       takes = λ h. omega (arith, rs (λ x. total h x.takes), ks (λ x. total h x.view.offers), o.offers h);
@@ -125,7 +125,7 @@ closes t s o j k r left me first settled is =
     let same : k.view.terms ≡ t = (o.agree j (view (k ∷ []) (r ∷ [])) me).0.0.0 in
     subst (λ (x : Terms). (y : Orderly x s) → left ≡ along (standing (λ _. 1)) 0 y.cells → IsClosed k.view r left) same (λ y at. closes_at k s y j r left me first settled at) o is
 
-pub opens_at : (t : Terms) (words : List ℕ) → words ≡ replicate t.places 0 → Orderly t (opening words [] (opened t))
+pub opens_at : (t : Terms) (words : List ℕ) → words ≡ replicate t.places 0 ++ t.limits → Orderly t (opening words [] (opened t))
 opens_at t words is = subst (λ (ws : List ℕ). Orderly t (opening ws [] (opened t))) (sym is) (opens t)
 
 pub nonzero-no : (n : ℕ) → n ≡ 0 → nonzero n ≡ 0
@@ -150,9 +150,17 @@ nonzero-words (c ∷ cells) j = omega (arith, nonzero-word j c, nonzero-words ce
 pub counts_on : (words : List ℕ) (i n left : ℕ) → get_elem? words i ≡ some n → left ≡ total nonzero (take i words) → total nonzero (take (i + 1) words) ≡ left + nonzero n
 counts_on words i n left there before = rw (add-one) (omega (arith, total-take nonzero words i n there, before))
 
+-- the places' words are the first of all
+pub places_words : (t : Terms) (s : BoardState) (o : Orderly t s) → take t.places s.words ≡ map encode_of o.cells
+places_words t s o =
+    let long : t.places ≡ length (map encode_of o.cells) = omega (arith, length-map o.cells encode_of, o.long) in
+    ap (λ (ws : List ℕ). take t.places ws) o.words ∙ (ap (λ (n : ℕ). take n (map encode_of o.cells ++ o.bounds)) long ∙ take-append_seam (map encode_of o.cells) o.bounds)
+
 -- the board as it ended, as contracts see its two seats
 pub ends : (t : Terms) (id : ℕ) (m : Seated) (k : KeeperView) (r : RelayView) (left : ℕ) (s : BoardState) (words : List ℕ) → Orderly t s → get_elem? s.views id ≡ some m.0 → m ≡ seated (at_rest k ∷ []) (r ∷ [])
-    → s.words ≡ words → left ≡ total nonzero words → r.first ≡ true → r.split ≡ r.joined → IsClosed k r left
+    → s.words ≡ words → left ≡ total nonzero (take k.terms.places words) → r.first ≡ true → r.split ≡ r.joined → IsClosed k r left
 ends t id m k r left s words o at is same counted first settled =
     let me : get_elem? s.views id ≡ some (view (at_rest k ∷ []) (r ∷ [])) = at ∙ ap (λ (x : Seated). some x.0) is in
-    closes t s o id (at_rest k) r left me first settled (counted ∙ (ap (total nonzero) (sym same ∙ o.words) ∙ nonzero-words o.cells 0))
+    let terms : k.terms ≡ t = (o.agree id (view (at_rest k ∷ []) (r ∷ [])) me).0.0.0 in
+    let row : take k.terms.places words ≡ map encode_of o.cells = ap (λ (x : Terms). take x.places words) terms ∙ (ap (take t.places) (sym same) ∙ places_words t s o) in
+    closes t s o id (at_rest k) r left me first settled (counted ∙ (ap (total nonzero) row ∙ nonzero-words o.cells 0))

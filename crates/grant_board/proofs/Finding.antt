@@ -1,12 +1,8 @@
--- What the rule says of one grant, one place and one part.
-use Rattle.std.proofs.Common.{◌≡◌, ℕ, zero, suc, ◌<◌, ◌≤◌, ◌≢◌, Bool, true, false, cond, ◌==◌, List, [], ◌∷◌, length, get_or, slice_index, Contains, sym, refl, ap, ◌∙◌, subst, arith, eq-eqb}
-use Rattle.std.proofs.lemmas.Bool.Decides.{nat_tests}
-use mathlib.Core.Option.{some, some-injective, some-ne-none}
+-- What the rule says of one grant, one place, one server and one part.
+use Rattle.std.proofs.Common.{◌≡◌, ℕ, ◌+◌, ◌<◌, ◌≤◌, ◌≢◌, Bool, true, false, cond, List, [], ◌∷◌, ◌++◌, map, length, get_or, slice_index, Contains, sym, refl, ap, ◌∙◌, arith}
+use Rattle.std.proofs.lemmas.List.{get_or_append_left, get_or-append-add, length-map}
+use mathlib.Core.Option.{some}
 use lib.ListN.{get_elem?}
-use Rattle.verdict.specs.declared.cause.Cause.{Cause}
-use Rattle.verdict.specs.declared.cause.Cause.TheVariants.{Aborted, Timeout, Retries, NoServer}
-use Rattle.verdict.specs.declared.Verdict.{Verdict}
-use Rattle.verdict.specs.declared.Verdict.TheVariants.{Serve, Told}
 use Rattle.verdict.specs.declared.Ending.{Ending}
 use Rattle.verdict.specs.declared.Ending.TheVariants.{Done, Failed}
 use Rattle.grant_board.specs.declared.laws.Word.{Word}
@@ -16,49 +12,25 @@ use Rattle.grant_board.specs.Words.{encode_of}
 use Rattle.grant_board.specs.Weights.{total}
 use Rattle.grant_board.specs.Views.{Grant, grant, Terms, KeeperPart, RelayView, Sighting, at_place, serves_at, count_of}
 use Rattle.grant_board.specs.Rule.{BoardState, standing, taken, posted, of_keepers, of_relays, Orderly}
-use Rattle.grant_board.specs.Plays.{view}
-use Rattle.grant_board.proofs.Totals.{term_le, total-one, along_mono, along_found, along_at, along_once, along_length, index-map}
+use Rattle.grant_board.specs.Ruled.{view}
+use Rattle.grant_board.proofs.Totals.{term_le, terms_le, total-one, weightless, alone}
+use Rattle.grant_board.proofs.Positions.{along_mono, along_found, along_at, along_once, along_length}
+use Rattle.grant_board.proofs.Items.{index-map, item_in}
+use Rattle.grant_board.proofs.Members as members
 use Rattle.grant_board.proofs.Grants as grants
 
--- tests of equality, as weights
-same_cause : Cause → Cause → Bool
-same_cause Aborted Aborted = true
-same_cause Timeout Timeout = true
-same_cause Retries Retries = true
-same_cause NoServer NoServer = true
-same_cause _ _ = false
+-- 1 at this grant alone
+abbrev pub one : Grant → Grant → ℕ
+one = members.one grants.same_grant
 
-same_cause-is : (a b : Cause) → same_cause a b ≡ true → a ≡ b
-unfolding same_cause
-same_cause-is Aborted Aborted e = refl
-same_cause-is Timeout Timeout e = refl
-same_cause-is Retries Retries e = refl
-same_cause-is NoServer NoServer e = refl
-same_cause-is _ _ e = absurd (cc)
+pub one-is : (g x : Grant) → 0 < one g x → x ≡ g
+one-is g x h = members.one-is grants.same_grant grants.grants_tell g x h
 
-same_cause-same : (a : Cause) → same_cause a a ≡ true
-unfolding same_cause
-same_cause-same Aborted = refl
-same_cause-same Timeout = refl
-same_cause-same Retries = refl
-same_cause-same NoServer = refl
+pub one-same : (g : Grant) → one g g ≡ 1
+one-same g = members.one-same grants.same_grant grants.grants_tell g
 
-pub same_verdict : Verdict → Verdict → Bool
-same_verdict (Serve s) (Serve t) = s == t
-same_verdict (Told a) (Told b) = same_cause a b
-same_verdict _ _ = false
-
-same_verdict-is : (a b : Verdict) → same_verdict a b ≡ true → a ≡ b
-unfolding same_verdict
-same_verdict-is (Serve s) (Serve t) e = let same : s ≡ t = grind (arith, nat_tests) in ap Serve same
-same_verdict-is (Told a) (Told b) e = ap Told (same_cause-is a b e)
-same_verdict-is (Serve s) (Told b) e = absurd (cc)
-same_verdict-is (Told a) (Serve t) e = absurd (cc)
-
-same_verdict-same : (a : Verdict) → same_verdict a a ≡ true
-unfolding same_verdict
-same_verdict-same (Serve s) = eq-eqb s s refl
-same_verdict-same (Told a) = same_cause-same a
+pub has_one : (xs : List Grant) (g : Grant) → 0 < total (one g) xs → Contains xs g
+has_one xs g h = members.has_one grants.same_grant grants.grants_tell xs g h
 
 pub same_ending : Ending → Ending → Bool
 same_ending Done Done = true
@@ -76,47 +48,29 @@ unfolding same_ending
 same_ending-same Done = refl
 same_ending-same Failed = refl
 
--- 1 at this grant alone
-abbrev pub one : Grant → Grant → ℕ
-one g x = cond (x.place == g.place) (cond (x.ticket == g.ticket) (cond (same_verdict x.verdict g.verdict) 1 0) 0) 0
+pub same_sighting : Sighting → Sighting → Bool
+same_sighting x y = cond (same_ending x.ending y.ending) (grants.same_grant x.pass y.pass) false
 
-weighs_something : (b : Bool) (n : ℕ) → 0 < cond b n 0 → (b ≡ true) × (0 < n)
-weighs_something true n h = (refl, h)
-weighs_something false n h = absurd (omega arith)
-
-pub one-is : (g x : Grant) → 0 < one g x → x ≡ g
-one-is g x h =
-    let p = weighs_something (x.place == g.place) (cond (x.ticket == g.ticket) (cond (same_verdict x.verdict g.verdict) 1 0) 0) h in
-    let q = weighs_something (x.ticket == g.ticket) (cond (same_verdict x.verdict g.verdict) 1 0) p.1 in
-    let r = weighs_something (same_verdict x.verdict g.verdict) 1 q.1 in
-    let place : x.place ≡ g.place = let e = p.0 in grind (arith, nat_tests) in
-    let ticket : x.ticket ≡ g.ticket = let e = q.0 in grind (arith, nat_tests) in
-    let verdict = same_verdict-is x.verdict g.verdict r.0 in
-    λ i. grant (place i) (ticket i) (verdict i)
-
-pub one-same : (g : Grant) → one g g ≡ 1
-one-same g =
-    ap {B = ℕ} (λ (b : Bool). cond b (cond (g.ticket == g.ticket) (cond (same_verdict g.verdict g.verdict) 1 0) 0) 0) (eq-eqb g.place g.place refl)
-    ∙ (ap {B = ℕ} (λ (b : Bool). cond b (cond (same_verdict g.verdict g.verdict) 1 0) 0) (eq-eqb g.ticket g.ticket refl)
-    ∙ ap {B = ℕ} (λ (b : Bool). cond b 1 0) (same_verdict-same g.verdict))
-
--- a list that weighs something there has the grant
-pub has_one : (xs : List Grant) (g : Grant) → 0 < total (one g) xs → Contains xs g
-has_one xs g h = let f = grants.found (one g) xs h in subst (Contains xs) (one-is g f.0 f.2) f.1
+sightings_tell : members.TellsEqual same_sighting
+unfolding same_sighting
+sightings_tell = record {
+  is = λ x y e.
+      let p = members.both_true (same_ending x.ending y.ending) (grants.same_grant x.pass y.pass) e in
+      let ending = same_ending-is x.ending y.ending p.0 in
+      let pass = grants.grants_tell.is x.pass y.pass p.1 in
+      λ i. record { pass = pass i; ending = ending i };
+  itself = λ x. ap (λ (b : Bool). cond b (grants.same_grant x.pass x.pass) false) (same_ending-same x.ending) ∙ grants.grants_tell.itself x.pass;
+}
 
 -- 1 at this sighting alone
 abbrev pub one_sight : Sighting → Sighting → ℕ
-one_sight s x = cond (same_ending x.ending s.ending) (one s.pass x.pass) 0
+one_sight = members.one same_sighting
 
-pub one_sight-is : (s x : Sighting) → 0 < one_sight s x → x ≡ s
-one_sight-is s x h =
-    let p = weighs_something (same_ending x.ending s.ending) (one s.pass x.pass) h in
-    let ending = same_ending-is x.ending s.ending p.0 in
-    let pass = one-is s.pass x.pass p.1 in
-    λ i. record { pass = pass i; ending = ending i }
+one_sight-is : (s x : Sighting) → 0 < one_sight s x → x ≡ s
+one_sight-is s x h = members.one-is same_sighting sightings_tell s x h
 
 pub one_sight-same : (s : Sighting) → one_sight s s ≡ 1
-one_sight-same s = ap {B = ℕ} (λ (b : Bool). cond b (one s.pass s.pass) 0) (same_ending-same s.ending) ∙ one-same s.pass
+one_sight-same s = members.one-same same_sighting sightings_tell s
 
 -- a word with a weight
 taken-case : (g : Grant) (k : ℕ) (c : Word) → 0 < taken (one g) k c → (k ≡ g.place) × (c ≡ Taken g.ticket g.verdict)
@@ -163,21 +117,6 @@ empty_there p (Offered t d) e = absurd (omega (arith, grants.at_place-yes p (gra
 empty_there p (Taken t d) e = absurd (omega (arith, grants.at_place-yes p (grant p t d) refl))
 empty_there p (Posted t d x) e = absurd (omega (arith, grants.at_place-yes p (grant p t d) refl))
 
--- where the number of parts in all views is that of one view, the other views weigh nothing
-module _ {A : Type 0} where
-  pub weightless : (f : A → ℕ) (l : List A) → length l ≡ 0 → total f l ≡ 0
-  weightless f [] e = refl
-  weightless f (x ∷ xs) e = absurd (omega arith)
-
-  none_at_all : (n g : A → ℕ) → ((u : A) → n u ≡ 0 → g u ≡ 0) → (l : List A) → total n l ≡ 0 → total g l ≡ 0
-  none_at_all n g none [] e = refl
-  none_at_all n g none (x ∷ xs) e = omega (arith, none x (omega arith), none_at_all n g none xs (omega arith))
-
-  pub alone : (n g : A → ℕ) → ((u : A) → n u ≡ 0 → g u ≡ 0) → (l : List A) (j : ℕ) (v : A) → get_elem? l j ≡ some v → total n l ≤ n v → total g l ≡ g v
-  alone n g none [] j v e le = absurd (some-ne-none v (sym e))
-  alone n g none (x ∷ xs) zero v e le = omega (arith, ap n (some-injective x v e), ap g (some-injective x v e), none_at_all n g none xs (omega (arith, ap n (some-injective x v e))))
-  alone n g none (x ∷ xs) (suc j) v e le = let part = term_le n xs j v e in omega (arith, none x (omega arith), alone n g none xs j v e (omega arith))
-
 module _ (t : Terms) (s : BoardState) (o : Orderly t s) where
   -- the seat with the keeper has all that the keeper knows
   pub keeper_alone : (j : ℕ) (k : KeeperPart) (relays : List RelayView) → get_elem? s.views j ≡ some (view (k ∷ []) relays) → (f : KeeperPart → ℕ) → of_keepers f s.views ≡ f k
@@ -191,7 +130,21 @@ module _ (t : Terms) (s : BoardState) (o : Orderly t s) where
 
   -- the number in a place's word
   pub number_at : (p : ℕ) (c : Word) → get_elem? o.cells p ≡ some c → get_or s.words p 0 ≡ encode_of c
-  number_at p c there = ap (λ (ws : List ℕ). get_or ws p 0) o.words ∙ index-map encode_of o.cells p c there
+  number_at p c there =
+      ap (λ (ws : List ℕ). get_or ws p 0) o.words
+      ∙ (get_or_append_left (map encode_of o.cells) o.bounds 0 p (omega (arith, item_in o.cells p c there, length-map o.cells encode_of)) ∙ index-map encode_of o.cells p c there)
+
+  -- the number in a server's word
+  pub bound_at : (server : ℕ) → get_or s.words (t.places + server) 0 ≡ slice_index o.bounds server
+  bound_at server =
+      let long : length (map encode_of o.cells) ≡ t.places = length-map o.cells encode_of ∙ o.long in
+      ap (λ (ws : List ℕ). get_or ws (t.places + server) 0) o.words
+      ∙ (ap (λ (i : ℕ). get_or (map encode_of o.cells ++ o.bounds) i 0) (omega (arith, long)) ∙ get_or-append-add (map encode_of o.cells) o.bounds server 0)
+
+  -- no other view has the keeper
+  pub keeper_nowhere : (j : ℕ) (k : KeeperPart) (relays : List RelayView) → get_elem? s.views j ≡ some (view (k ∷ []) relays) → (i : ℕ) (v : View) → i ≢ j → get_elem? s.views i ≡ some v → length v.keepers ≡ 0
+  keeper_nowhere j k relays me i v other them =
+      omega (arith, terms_le (λ (u : View). total (λ (x : KeeperPart). 1) u.keepers) s.views j i (view (k ∷ []) relays) v other me them, o.one_keeper, total-one v.keepers)
 
   -- a pass that a seat has stands taken at its place
   pub taken_there : (g : Grant) → 0 < of_relays (λ r. total (one g) r.passes) s.views → get_elem? o.cells g.place ≡ some (Taken g.ticket g.verdict)
@@ -228,7 +181,6 @@ module _ (t : Terms) (s : BoardState) (o : Orderly t s) where
   pub passes_room : of_relays (λ r. total (λ (g : Grant). 1) r.passes) s.views ≤ t.places
   passes_room = omega (arith, o.passes (λ _. 1), o.long, along_length (taken (λ _. 1)) (taken_small (λ _. 1) (λ g. omega arith)) o.cells 0)
 
-  pub passes_bounded : (n : ℕ) → 0 < slice_index t.limits n → of_relays (λ r. count_of n r.passes) s.views ≤ slice_index t.limits n
-  passes_bounded n some_bound =
-      let same : slice_index o.bounds n ≡ slice_index t.limits n = ap (λ (bs : List ℕ). slice_index bs n) o.fixed in
-      omega (arith, passes_out (λ g. serves_at n g.verdict), o.bounded n (omega arith))
+  -- and no more of a server than its bound
+  pub passes_bounded : (n : ℕ) → 0 < slice_index o.bounds n → of_relays (λ r. count_of n r.passes) s.views ≤ slice_index o.bounds n
+  passes_bounded n some_bound = omega (arith, passes_out (λ g. serves_at n g.verdict), o.bounded n some_bound)

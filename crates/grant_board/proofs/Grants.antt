@@ -1,12 +1,16 @@
--- Laws on lists of grants, for the layers above too.
-use Rattle.std.proofs.Common.{◌≡◌, ℕ, ◌+◌, ◌<◌, ◌≤◌, ◌≢◌, Bool, true, false, cond, ◌==◌, List, [], ◌∷◌, ◌++◌, length, Contains, sym, refl, ap, ◌∙◌, arith, eq-eqb, ne_eqb}
+-- Laws on grants and lists of them, for the layers above too.
+use Rattle.std.proofs.Common.{◌≡◌, ℕ, ◌+◌, ◌≤◌, ◌≢◌, Bool, true, false, cond, ◌==◌, List, [], ◌∷◌, length, sym, refl, ap, ◌∙◌, arith, eq-eqb, ne_eqb}
 use mathlib.Core.Logic.{dite}
 use native.Mathlib.Decide.{ℕ_discrete}
+use Rattle.std.proofs.lemmas.Bool.{eqb-true}
+use Rattle.verdict.specs.declared.cause.Cause.{Cause}
+use Rattle.verdict.specs.declared.cause.Cause.TheVariants.{Aborted, Timeout, Retries, NoServer}
 use Rattle.verdict.specs.declared.Verdict.{Verdict}
 use Rattle.verdict.specs.declared.Verdict.TheVariants.{Serve, Told}
-use Rattle.grant_board.specs.Weights.{total}
-use Rattle.grant_board.specs.Views.{Grant, at_place, serves_at, count_at, count_of, without}
-use Rattle.grant_board.proofs.Totals as sums
+use Rattle.grant_board.specs.Weights.{total, Each}
+use Rattle.grant_board.specs.Views.{Grant, grant, at_place, serves_at, count_at, count_of, without}
+use Rattle.grant_board.proofs.Totals.{total-one, total_mono}
+use Rattle.grant_board.proofs.Members.{TellsEqual, both_true}
 
 -- the weight of a grant where it is of this place
 abbrev pub here : ℕ → (Grant → ℕ) → Grant → ℕ
@@ -39,22 +43,6 @@ serves_at-same server = ap {B = ℕ} (λ (b : Bool). cond b 1 0) (eq-eqb server 
 pub serves_at-other : (server s : ℕ) → s ≢ server → serves_at server (Serve s) ≡ 0
 serves_at-other server s n = ap {B = ℕ} (λ (b : Bool). cond b 1 0) (ne_eqb s server n)
 
--- a list weighs what two lists weigh together
-pub total-append : (weight : Grant → ℕ) (xs ys : List Grant) → total weight (xs ++ ys) ≡ total weight xs + total weight ys
-total-append weight xs ys = sums.total-append weight xs ys
-
--- one item more
-pub total-push : (weight : Grant → ℕ) (xs : List Grant) (g : Grant) → total weight (xs ++ g ∷ []) ≡ total weight xs + weight g
-total-push weight xs g = omega (arith, sums.total-append weight xs (g ∷ []))
-
--- an item weighs at most the whole
-pub has_le : (weight : Grant → ℕ) (xs : List Grant) (g : Grant) → Contains xs g → weight g ≤ total weight xs
-has_le weight xs g h = sums.has_le weight xs g h
-
--- a list that weighs something has an item that does
-pub found : (weight : Grant → ℕ) (xs : List Grant) → 0 < total weight xs → (g : Grant) × Contains xs g × (0 < weight g)
-found weight xs h = sums.found weight xs h
-
 without-total_by : (place : ℕ) (weight : Grant → ℕ) (g : Grant) (grants : List Grant)
     → total weight (without place grants) + total (here place weight) grants ≡ total weight grants
     → (b : Bool) → (g.place == place) ≡ b
@@ -84,9 +72,73 @@ without-none place xs =
 pub without_le : (place : ℕ) (weight : Grant → ℕ) (xs : List Grant) → total weight (without place xs) ≤ total weight xs
 without_le place weight xs = omega (arith, without-total place weight xs)
 
+Each-without_by : (P : Grant → Type 0) (place : ℕ) (g : Grant) (gs : List Grant) → P g → Each P (without place gs) → (b : Bool) → (g.place == place) ≡ b → Each P (without place (g ∷ gs))
+Each-without_by P place g gs p rest true is = rw is rest
+Each-without_by P place g gs p rest false is = rw is (p, rest)
+
+-- what each grant meets, each of the other places does
+pub Each-without : (P : Grant → Type 0) (place : ℕ) (gs : List Grant) → Each P gs → Each P (without place gs)
+Each-without P place [] h = tt
+Each-without P place (g ∷ gs) h = Each-without_by P place g gs h.0 (Each-without P place gs h.1) (g.place == place) refl
+
 -- no more grants serve at a server than there are
 pub count_of_le : (server : ℕ) (xs : List Grant) → count_of server xs ≤ length xs
-count_of_le server xs = omega (arith, sums.total_mono (λ g. serves_at server g.verdict) (λ _. 1) (λ g. serves_at-one server g.verdict) xs, sums.total-one xs)
+count_of_le server xs = omega (arith, total_mono (λ g. serves_at server g.verdict) (λ _. 1) (λ g. serves_at-one server g.verdict) xs, total-one xs)
 
-pub length-push : (xs : List Grant) (g : Grant) → length (xs ++ g ∷ []) ≡ length xs + 1
-length-push xs g = omega (arith, sym (sums.total-one (xs ++ g ∷ [])), sums.total-append (λ _. 1) xs (g ∷ []), sums.total-one xs)
+same_cause : Cause → Cause → Bool
+same_cause Aborted Aborted = true
+same_cause Timeout Timeout = true
+same_cause Retries Retries = true
+same_cause NoServer NoServer = true
+same_cause _ _ = false
+
+same_cause-is : (a b : Cause) → same_cause a b ≡ true → a ≡ b
+unfolding same_cause
+same_cause-is Aborted Aborted e = refl
+same_cause-is Timeout Timeout e = refl
+same_cause-is Retries Retries e = refl
+same_cause-is NoServer NoServer e = refl
+same_cause-is _ _ e = absurd (cc)
+
+same_cause-same : (a : Cause) → same_cause a a ≡ true
+unfolding same_cause
+same_cause-same Aborted = refl
+same_cause-same Timeout = refl
+same_cause-same Retries = refl
+same_cause-same NoServer = refl
+
+pub same_verdict : Verdict → Verdict → Bool
+same_verdict (Serve s) (Serve t) = s == t
+same_verdict (Told a) (Told b) = same_cause a b
+same_verdict _ _ = false
+
+same_verdict-is : (a b : Verdict) → same_verdict a b ≡ true → a ≡ b
+unfolding same_verdict
+same_verdict-is (Serve s) (Serve t) e = ap Serve (eqb-true s t e)
+same_verdict-is (Told a) (Told b) e = ap Told (same_cause-is a b e)
+same_verdict-is (Serve s) (Told b) e = absurd (cc)
+same_verdict-is (Told a) (Serve t) e = absurd (cc)
+
+same_verdict-same : (a : Verdict) → same_verdict a a ≡ true
+unfolding same_verdict
+same_verdict-same (Serve s) = eq-eqb s s refl
+same_verdict-same (Told a) = same_cause-same a
+
+pub same_grant : Grant → Grant → Bool
+same_grant x y = cond (x.place == y.place) (cond (x.ticket == y.ticket) (same_verdict x.verdict y.verdict) false) false
+
+-- a test of equal grants
+pub grants_tell : TellsEqual same_grant
+unfolding same_grant
+grants_tell = record {
+  is = λ x y e.
+      let p = both_true (x.place == y.place) (cond (x.ticket == y.ticket) (same_verdict x.verdict y.verdict) false) e in
+      let q = both_true (x.ticket == y.ticket) (same_verdict x.verdict y.verdict) p.1 in
+      let place = eqb-true x.place y.place p.0 in
+      let ticket = eqb-true x.ticket y.ticket q.0 in
+      let verdict = same_verdict-is x.verdict y.verdict q.1 in
+      λ i. grant (place i) (ticket i) (verdict i);
+  itself = λ x.
+      ap (λ (b : Bool). cond b (cond (x.ticket == x.ticket) (same_verdict x.verdict x.verdict) false) false) (eq-eqb x.place x.place refl)
+      ∙ (ap (λ (b : Bool). cond b (same_verdict x.verdict x.verdict) false) (eq-eqb x.ticket x.ticket refl) ∙ same_verdict-same x.verdict);
+}

@@ -1,5 +1,6 @@
 -- Views that are cut in two or made one keep the rule.
-use Rattle.std.proofs.Common.{◌≡◌, ℕ, ◌+◌, ◌≢◌, Bool, true, false, cond, List, [], ◌∷◌, ◌++◌, set, sym, refl, ap, ◌∙◌, subst, ⊎_elim, arith}
+use Rattle.std.proofs.Common.{◌≡◌, ℕ, ◌+◌, ◌≢◌, Bool, true, false, cond, List, [], ◌∷◌, ◌++◌, set, sym, refl, ◌∙◌, subst, ⊎_elim, arith}
+use Rattle.std.proofs.lemmas.Bool.{cond-true, cond-false}
 use mathlib.Core.Option.{some}
 use lib.ListN.{get_elem?}
 use Rattle.atomic_table.specs.Table.{Splits, Joins}
@@ -9,8 +10,10 @@ use Rattle.grant_board.specs.declared.view.View.{View}
 use Rattle.grant_board.specs.Weights.{total, Each}
 use Rattle.grant_board.specs.Views.{Grant, Terms, KeeperPart, RelayView, count_of}
 use Rattle.grant_board.specs.Rule.{BoardState, of_keepers, of_relays, is_first, is_other, split_off, joined_in, KeeperAgrees, RelayAgrees, Agrees, Orderly}
-use Rattle.grant_board.specs.Plays.{view, blank, beside, but_last, last_alone, aside, cut_off, parent, child, gathered}
-use Rattle.grant_board.proofs.Totals.{total-append, total-set, terms_le, Each-append}
+use Rattle.grant_board.specs.Ruled.{view}
+use Rattle.grant_board.specs.Plays.{blank, beside, but_last, last_alone, aside, cut_off, parent, child, gathered}
+use Rattle.grant_board.proofs.Totals.{total-append, total-set, terms_le}
+use Rattle.grant_board.proofs.Items.{Each-append}
 use Rattle.grant_board.proofs.Moving.{board}
 
 -- other views of the same words keep the rule, where they weigh the same
@@ -27,9 +30,10 @@ resettled t s o views keepers one_first others passes takes posts agree = record
   cells = o.cells;
   bounds = o.bounds;
   words = o.words;
-  valid = o.valid;
   long = o.long;
-  fixed = o.fixed;
+  servers = o.servers;
+  valid = o.valid;
+  among = o.among;
   one_keeper = keepers (λ _. 1) ∙ o.one_keeper;
   one_first = one_first;
   others = others;
@@ -108,13 +112,6 @@ beside_kept t id v other w s o me apart them =
     (join-agree s id v other w b me apart them (Agrees t o.bounds) o.agree
     (Each-append (KeeperAgrees t o.bounds) v.keepers w.keepers mine.0 theirs.0, Each-append (RelayAgrees t) v.relays w.relays mine.1 theirs.1) (tt, tt))
 
--- what the first seat counts
-chosen : (b : Bool) (m n : ℕ) → b ≡ true → cond b m n ≡ m
-chosen b m n e = ap {B = ℕ} (λ (x : Bool). cond x m n) e
-
-left_out : (b : Bool) (m n : ℕ) → b ≡ false → cond b m n ≡ n
-left_out b m n e = ap {B = ℕ} (λ (x : Bool). cond x m n) e
-
 abbrev tally : Bool → ℕ
 tally b = cond b 1 0
 
@@ -131,7 +128,7 @@ branch_kept t id r first s o me =
     let rs = cut-relays s id v l c me in
     let mine = o.agree id v me in
     resettled t s o (set s.views id l ++ c ∷ []) (λ f. omega (arith, cut-keepers s id v l c me f)) (omega (arith, rs is_first, o.one_first))
-    (omega (arith, rs is_other, rs joined_in, rs split_off, o.others, chosen r.first (r.split + 1) 0 first, chosen r.first r.split 0 first))
+    (omega (arith, rs is_other, rs joined_in, rs split_off, o.others, cond-true {A = ℕ} r.first (r.split + 1) 0 first, cond-true {A = ℕ} r.first r.split 0 first))
     (λ h. omega (arith, rs (λ x. total h x.passes))) (λ h. omega (arith, rs (λ x. total h x.takes))) (λ h. omega (arith, rs (λ x. total h x.posts)))
     (cut-agree s id v l c me (Agrees t o.bounds) o.agree mine mine)
 
@@ -146,11 +143,11 @@ gathered_kept t id r other q first s o me apart them =
     let rs = join-relays s id v other w b me apart them in
     let mine = o.agree id v me in
     let there = join-there s id v other w b me apart them in
-    let r1 = chosen r.first 1 0 first in
+    let r1 = cond-true {A = ℕ} r.first 1 0 first in
     let q0 : is_first q ≡ 0 = omega (arith, terms_le (λ (u : View). total is_first u.relays) s.views id other v w apart me there, o.one_first) in
     let later = is_false q.first q0 in
     resettled t s o views (λ f. omega (arith, join-keepers s id v other w b me apart them f)) (omega (arith, rs is_first, o.one_first))
-    (omega (arith, rs is_other, rs joined_in, rs split_off, o.others, chosen r.first (r.joined + 1) 0 first, chosen r.first r.joined 0 first, left_out q.first 0 1 later, left_out q.first q.joined 0 later, left_out q.first q.split 0 later))
+    (omega (arith, rs is_other, rs joined_in, rs split_off, o.others, cond-true {A = ℕ} r.first (r.joined + 1) 0 first, cond-true {A = ℕ} r.first r.joined 0 first, cond-false {A = ℕ} q.first 0 1 later, cond-false {A = ℕ} q.first q.joined 0 later, cond-false {A = ℕ} q.first q.split 0 later))
     (λ h. omega (arith, rs (λ x. total h x.passes), total-append h r.passes q.passes))
     (λ h. omega (arith, rs (λ x. total h x.takes), total-append h r.takes q.takes))
     (λ h. omega (arith, rs (λ x. total h x.posts), total-append h r.posts q.posts))

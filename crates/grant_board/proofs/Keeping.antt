@@ -1,10 +1,12 @@
 -- Each step keeps the rule.
-use Rattle.std.proofs.Common.{◌≡◌, ℕ, ◌+◌, ◌<◌, ◌≤◌, ◌≢◌, ◌==◌, List, [], ◌∷◌, length, get_or, slice_index, Contains, sym, refl, ap, ◌∙◌, subst, arith}
+use Rattle.std.proofs.Common.{◌≡◌, ℕ, ◌+◌, ◌<◌, ◌≤◌, ◌≢◌, ◌==◌, List, [], ◌∷◌, length, get_or, set, slice_index, Contains, sym, refl, ap, ◌∙◌, subst, arith}
 use mathlib.Core.Logic.{dite}
 use native.Mathlib.Decide.{ℕ_discrete}
 use mathlib.Core.Option.{none, some}
 use lib.ListN.{get_elem?}
+use lib.Seq.{set-get_or}
 use prog.Atomic.{either}
+use Rattle.std.proofs.lemmas.List.{get_or-set_same, get_or-set_other, length-append}
 use Rattle.atomic_table.specs.Table.{step, Act, keeps, Valid, carried_after, stepped, Allows}
 use Rattle.atomic_table.proofs.Lists.{set_here, exchanged}
 use Rattle.verdict.specs.declared.cause.Cause.TheVariants.{Aborted}
@@ -15,16 +17,21 @@ use Rattle.verdict.specs.declared.Ending.TheVariants.{Done}
 use Rattle.grant_board.specs.declared.laws.Word.{Word}
 use Rattle.grant_board.specs.declared.laws.Word.TheVariants.{Empty, Offered, Taken, Posted}
 use Rattle.grant_board.specs.declared.view.View.{View}
-use Rattle.grant_board.specs.Words.{encode_of, IsWord}
+use Rattle.grant_board.specs.Words.{encode_of, IsWord, IsAmong, IsWordAmong}
 use Rattle.grant_board.specs.Weights.{total}
 use Rattle.grant_board.specs.Views.{Grant, grant, Terms, KeeperView, KeeperPart, RelayView, Sighting, return_of, at_place, serves_at, count_at, count_of, without}
 use Rattle.grant_board.specs.Rule.{Slot, BoardState, standing, posted, of_keepers, of_relays, Orderly}
-use Rattle.grant_board.specs.Plays.{Seated, view, seated, keeper_seat, relay_seat, keeper_looked, offer_after, collect_after, relay_looked, take_after, post_after, at_rest, offers, sees, clears, vouches, glances, takes, posts, meets, counts}
+use Rattle.grant_board.specs.Ruled.{view, at_rest}
+use Rattle.grant_board.specs.KeeperCalls.{keeper_looked, offer_after, collect_after, MayLimit, limit_after}
+use Rattle.grant_board.specs.RelayCalls.{relay_looked, take_after, post_after}
+use Rattle.grant_board.specs.Plays.{Seated, seated, keeper_seat, relay_seat, offers, sees, clears, limits, vouches, glances, takes, posts, meets, counts}
 use Rattle.grant_board.proofs.Totals as sums
+use Rattle.grant_board.proofs.Positions.{along_le}
+use Rattle.grant_board.proofs.Items as items
 use Rattle.grant_board.proofs.Grants as grants
 use Rattle.grant_board.proofs.Codes.{same_word}
-use Rattle.grant_board.proofs.Moving.{moved, unmoved}
-use Rattle.grant_board.proofs.Finding.{one, one-same, has_one, one_sight, one_sight-same, empty_there, keeper_alone, relays_le, number_at, taken_there, posted_there, out_at, passes_at, passes_out, passes_once, passes_room, passes_bounded}
+use Rattle.grant_board.proofs.Moving.{moved, unmoved, rebounded}
+use Rattle.grant_board.proofs.Finding.{one, one-same, has_one, one_sight, one_sight-same, empty_there, keeper_alone, keeper_nowhere, relays_le, number_at, bound_at, taken_there, posted_there, out_at, passes_at, passes_out, passes_once, passes_room, passes_bounded}
 
 abbrev Goes : Terms → BoardState → ℕ → ℕ → Seated → (ℕ → Seated → Type 0) → ℕ → Type 0
 Goes t s i id m then n = (w : View) × (a : Act Slot) × Valid s.homes m.1 a × Orderly t (stepped s i n id m.1 w a) × then (get_or s.words i 0) (w, carried_after m.1 a)
@@ -45,6 +52,7 @@ pub record MayOffer (k : KeeperView) (p ticket : ℕ) (verdict : Verdict) : Type
   pub place : p < k.terms.places
   pub free : count_at p k.out ≡ 0
   pub word : IsWord (Offered ticket verdict)
+  pub among : IsAmong (length k.terms.limits) verdict
   pub room : (n : ℕ) → 0 < slice_index k.bounds n → 0 < serves_at n verdict → count_of n k.out < slice_index k.bounds n
 
 pub offered_kept : (t : Terms) (slots id : ℕ) (k : KeeperPart) (p ticket : ℕ) (d : Verdict) (new : ℕ) → new ≡ encode_of (Offered ticket d) → MayOffer k.view p ticket d
@@ -54,7 +62,7 @@ offered_kept t slots id k p ticket d new is may s o wide me _ =
     let g : Grant = grant p ticket d in
     let agree = (o.agree id (view (k ∷ []) []) me).0.0 in
     let near : p < length o.cells = omega (arith, may.place, o.long, ap (λ (x : Terms). x.places) agree.0) in
-    let there = sums.item_at o.cells p near in
+    let there = items.item_at o.cells p near in
     let c : Word = there.0 in
     let none_out : standing (at_place p) p c ≡ 0 = omega (arith, out_at t s o p c there.1 (at_place p) (λ x n. grants.at_place-no p x n), keeper_alone t s o id k [] me (λ x. total (at_place p) x.view.out), may.free) in
     let free : get_elem? o.cells p ≡ some Empty = there.1 ∙ ap (λ (x : Word). some x) (empty_there p c none_out) in
@@ -63,17 +71,17 @@ offered_kept t slots id k p ticket d new is may s o wide me _ =
       w,
       keeps,
       tt,
-      moved t s o id p new (view (k ∷ []) []) w s.homes Empty (Offered ticket d) me free is may.word (record {
+      moved t s o id p new (view (k ∷ []) []) w s.homes Empty (Offered ticket d) me free is may.word (subst (λ (x : Terms). IsAmong (length x.limits) d) agree.0 may.among) (record {
         one_keeper = refl;
         one_first = refl;
         others = refl;
-        out = λ h. omega (arith, grants.total-push h k.view.out g);
+        out = λ h. omega (arith, sums.total-push h k.view.out g);
         passes = λ h. refl;
-        offers = λ h. omega (arith, grants.total-push h k.view.offers g);
+        offers = λ h. omega (arith, sums.total-push h k.view.offers g);
         posts = λ h. refl;
         bounded = λ n some_bound.
             let all = keeper_alone t s o id k [] me (λ x. count_of n x.view.out) in
-            let more = grants.total-push (λ x. serves_at n x.verdict) k.view.out g in
+            let more = sums.total-push (λ x. serves_at n x.verdict) k.view.out g in
             let small = grants.serves_at-one n d in
             dite (ℕ_discrete (serves_at n d) 0) (λ none_more. omega (arith, o.bounded n some_bound)) (λ one_more. omega (arith, bounds n, may.room n (omega (arith, bounds n)) (omega arith)));
         sight = λ h. omega (arith, o.sight h);
@@ -90,7 +98,7 @@ sees_else t slots id k p s o c blind me there other =
     let v : View = view (k ∷ []) [] in
     let w : View = view (at_rest (keeper_looked k.view p (get_or s.words p 0)) ∷ []) [] in
     let n : get_or s.words p 0 ≡ encode_of c = number_at t s o p c there in
-    let word : IsWord c = sums.Each-at IsWord o.cells p c o.valid there in (
+    let word : IsWord c = items.Each-at IsWord o.cells p c o.valid there in (
       w,
       keeps,
       tt,
@@ -120,7 +128,7 @@ sees_word t slots id k p s o (Posted u b x) blind me there =
     let found : Sighting = record { pass = grant p u b; ending = x } in
     let w : View = view (record { view = keeper_looked k.view p (get_or s.words p 0); sight = found ∷ [] } ∷ []) [] in
     let n : get_or s.words p 0 ≡ encode_of (Posted u b x) = number_at t s o p (Posted u b x) there in
-    let word : IsWord (Posted u b x) = sums.Each-at IsWord o.cells p (Posted u b x) o.valid there in (
+    let word : IsWord (Posted u b x) = items.Each-at IsWord o.cells p (Posted u b x) o.valid there in (
       w,
       keeps,
       tt,
@@ -133,7 +141,7 @@ sees_word t slots id k p s o (Posted u b x) blind me there =
         offers = λ h. refl;
         posts = λ h. refl;
         bounded = λ b some_bound. omega (arith, o.bounded b some_bound);
-        sight = λ h. omega (arith, keeper_alone t s o id k [] me (λ y. total h y.sight), ap (total h) blind, sums.along_le (posted h) o.cells 0 p p (Posted u b x) (omega arith) there);
+        sight = λ h. omega (arith, keeper_alone t s o id k [] me (λ y. total h y.sight), ap (total h) blind, along_le (posted h) o.cells 0 p p (Posted u b x) (omega arith) there);
         agree = o.agree id v me;
       }),
       (
@@ -148,7 +156,7 @@ pub seen_kept : (t : Terms) (slots id : ℕ) (k : KeeperPart) (p : ℕ) → k.si
 seen_kept t slots id k p blind inside s o wide me _ =
     let agree = (o.agree id (view (k ∷ []) []) me).0.0 in
     let near : p < length o.cells = omega (arith, o.long, ap (λ (x : Terms). x.places) agree.0) in
-    let there = sums.item_at o.cells p near in sees_word t slots id k p s o there.0 blind me there.1
+    let there = items.item_at o.cells p near in sees_word t slots id k p s o there.0 blind me there.1
 
 -- the keeper's seat, once what it had in sight is collected
 abbrev IsCleared : KeeperView → ℕ → Seated → Sighting → Type 0
@@ -180,7 +188,7 @@ cleared_kept t slots id k p ticket d e seen s o wide me _ =
       w,
       keeps,
       tt,
-      moved t s o id p 0 v w s.homes (Posted ticket d e) Empty me there refl tt (record {
+      moved t s o id p 0 v w s.homes (Posted ticket d e) Empty me there refl tt tt (record {
         one_keeper = refl;
         one_first = refl;
         others = refl;
@@ -193,6 +201,41 @@ cleared_kept t slots id k p ticket d e seen s o wide me _ =
         agree = o.agree id v me;
       }),
       λ ticket' d' e' word' seen'. cleared_as k.view p (w, []) x (record { pass = grant p ticket' d'; ending = e' }) (ap (λ (xs : List Sighting). get_or xs 0 x) (sym seen ∙ seen')) (refl, is_out, weighs),
+    )
+
+pub limited_kept : (t : Terms) (slots id : ℕ) (k : KeeperPart) (server i new : ℕ) → i ≡ k.view.terms.places + server → MayLimit k.view server new
+    → Allows (Orderly t) slots id (keeper_seat k) i (λ _. new) (λ _. limits (step slots i new 0 none) (keeper_seat k) new)
+limited_kept t slots id k server i new at may s o wide me _ =
+    let v : View = view (k ∷ []) [] in
+    let w : View = view (record k { view = limit_after k.view server new } ∷ []) [] in
+    let agree = (o.agree id v me).0.0 in
+    let here : t.places + server ≡ i = omega (arith, at, ap (λ (x : Terms). x.places) agree.0) in
+    let all : (n : ℕ) → of_keepers (λ x. count_of n x.view.out) s.views ≡ count_of n k.view.out = λ n. keeper_alone t s o id k [] me (λ x. count_of n x.view.out) in
+    let near : server < length o.bounds = omega (arith, may.0, o.servers, ap (λ (x : Terms). length x.limits) agree.0) in
+    let bounded : (n : ℕ) → 0 < slice_index (set o.bounds server new) n → count_of n k.view.out ≤ slice_index (set o.bounds server new) n =
+    λ n some_bound. dite (ℕ_discrete n server)
+    (λ e.
+    let now : slice_index (set o.bounds server new) n ≡ new = ap (λ (m : ℕ). slice_index (set o.bounds server new) m) e ∙ get_or-set_same o.bounds server new 0 near in
+    let counted : count_of n k.view.out ≡ count_of server k.view.out = ap (λ (m : ℕ). count_of m k.view.out) e in
+    omega (arith, may.1 (omega arith)))
+    (λ ne. let now : slice_index (set o.bounds server new) n ≡ slice_index o.bounds n = get_or-set_other o.bounds server n new 0 ne in omega (arith, all n, o.bounded n (omega arith))) in
+    let after : Orderly t (stepped s (t.places + server) new id [] w keeps) = rebounded t s o id server new v w s.homes me (keeper_nowhere t s o id k [] me) (record {
+      one_keeper = refl;
+      one_first = refl;
+      others = refl;
+      out = λ h. refl;
+      passes = λ h. refl;
+      offers = λ h. omega arith;
+      posts = λ h. omega arith;
+      bounded = λ n some_bound. omega (arith, all n, bounded n some_bound);
+      sight = λ h. omega (arith, o.sight h);
+      agree = (((agree.0, ap (λ (bs : List ℕ). set bs server new) agree.1), tt), tt);
+    }) in (
+      w,
+      keeps,
+      tt,
+      subst (λ (m : ℕ). Orderly t (stepped s m new id [] w keeps)) here after,
+      λ server' near' at'. ap (λ (m : ℕ). keeper_seat (record k { view = limit_after k.view m new })) (omega arith),
     )
 
 pub vouched_kept : (t : Terms) (slots id : ℕ) (k : KeeperPart) (q : RelayView) (i : ℕ)
@@ -252,28 +295,30 @@ taken_kept t slots id r p ticket d old new was is word inside s o wide me _ =
     let w : View = view [] (take_after r g ∷ []) in
     let agree = (o.agree id v me).1.0 in
     let near : p < length o.cells = omega (arith, inside, o.long, ap (λ (x : Terms). x.places) agree) in
-    let there = sums.item_at o.cells p near in
+    let there = items.item_at o.cells p near in
     let c : Word = there.0 in
-    let valid : IsWord c = sums.Each-at IsWord o.cells p c o.valid there.1 in
+    let valid : IsWord c = items.Each-at IsWord o.cells p c o.valid there.1 in
+    let servers : IsWordAmong (length t.limits) c = items.Each-at (IsWordAmong (length t.limits)) o.cells p c o.among there.1 in
     let n : get_or s.words p 0 ≡ encode_of c = number_at t s o p c there.1 in
     let G = Goes t s p id (relay_seat r) (takes (step slots p old new none) (relay_seat r)) in
     exchanged (get_or s.words p 0) old new G
     (λ hit.
     let same : c ≡ Offered ticket d = same_word c (Offered ticket d) valid word (sym n ∙ (hit ∙ was)) in
     let offered_there : get_elem? o.cells p ≡ some (Offered ticket d) = there.1 ∙ ap (λ (x : Word). some x) same in
-    let after : Orderly t (stepped s p new id [] w keeps) = moved t s o id p new v w s.homes (Offered ticket d) (Taken ticket d) me offered_there is word (record {
+    let among : IsAmong (length t.limits) d = subst (IsWordAmong (length t.limits)) same servers in
+    let after : Orderly t (stepped s p new id [] w keeps) = moved t s o id p new v w s.homes (Offered ticket d) (Taken ticket d) me offered_there is word among (record {
       one_keeper = refl;
       one_first = refl;
       others = omega arith;
       out = λ h. refl;
-      passes = λ h. omega (arith, grants.total-push h r.passes g);
-      offers = λ h. omega (arith, grants.total-push h r.takes g);
+      passes = λ h. omega (arith, sums.total-push h r.passes g);
+      offers = λ h. omega (arith, sums.total-push h r.takes g);
       posts = λ h. omega arith;
       bounded = λ m some_bound. omega (arith, o.bounded m some_bound);
       sight = λ h. omega (arith, o.sight h);
       agree = o.agree id v me;
     }) in
-    let room = room_for t (stepped s p new id [] w keeps) after id (take_after r g) (set_here s.views id w (sums.item_in s.views id v me)) in (
+    let room = room_for t (stepped s p new id [] w keeps) after id (take_after r g) (set_here s.views id w (items.item_in s.views id v me)) in (
       w,
       keeps,
       tt,
@@ -281,7 +326,8 @@ taken_kept t slots id r p ticket d old new was is word inside s o wide me _ =
       λ ticket' d' word' was' is'. (
         (λ _. (
           ap (λ (x : Word). relay_seat (take_after r (grant_in p x))) (same_word (Offered ticket d) (Offered ticket' d') word word' (sym was ∙ was')),
-          omega (arith, room, grants.length-push r.passes g, ap (λ (x : Terms). x.places) agree),
+          omega (arith, room, length-append r.passes (g ∷ []), ap (λ (x : Terms). x.places) agree),
+          subst (IsWordAmong (length r.terms.limits)) (same_word (Offered ticket d) (Offered ticket' d') word word' (sym was ∙ was')) (subst (λ (x : Terms). IsAmong (length x.limits) d) (sym agree) among),
         )),
         λ miss. absurd (miss hit),
       ),
@@ -301,9 +347,10 @@ posted_kept t slots id r p ticket d e new is word mine s o wide me _ =
     let g : Grant = grant p ticket d in
     let v : View = view [] (r ∷ []) in
     let w : View = view [] (post_after r g e ∷ []) in
-    let has = grants.has_le (one g) r.passes g mine in
+    let has = sums.has_le (one g) r.passes g mine in
     let all = relays_le t s o id v me (λ x. total (one g) x.passes) in
     let there : get_elem? o.cells p ≡ some (Taken ticket d) = taken_there t s o g (omega (arith, one-same g)) in
+    let among : IsAmong (length t.limits) d = items.Each-at (IsWordAmong (length t.limits)) o.cells p (Taken ticket d) o.among there in
     let weighs : (h : Grant → ℕ) → total h (without p r.passes) + h g ≡ total h r.passes = λ h.
     omega (
       arith,
@@ -311,12 +358,12 @@ posted_kept t slots id r p ticket d e new is word mine s o wide me _ =
       relays_le t s o id v me (λ x. total (grants.here p h) x.passes),
       passes_at t s o p (Taken ticket d) there (grants.here p h) (λ y n. grants.here-no p h y n),
       grants.here-yes p h g refl,
-      grants.has_le (grants.here p h) r.passes g mine,
+      sums.has_le (grants.here p h) r.passes g mine,
     ) in (
       w,
       keeps,
       tt,
-      moved t s o id p new v w s.homes (Taken ticket d) (Posted ticket d e) me there is word (record {
+      moved t s o id p new v w s.homes (Taken ticket d) (Posted ticket d e) me there is word among (record {
         one_keeper = refl;
         one_first = refl;
         others = omega arith;
@@ -336,22 +383,29 @@ posted_kept t slots id r p ticket d e new is word mine s o wide me _ =
 pub met_kept : (t : Terms) (slots id : ℕ) (r q : RelayView) (i : ℕ) → Allows (Orderly t) slots id (seated [] (r ∷ q ∷ [])) i (λ n. n) (meets (step slots i 0 0 none) (seated [] (r ∷ q ∷ [])))
 met_kept t slots id r q i s o wide me _ =
     let v : View = view [] (r ∷ q ∷ []) in
+    let found : ℕ = get_or s.words i 0 in
+    let w : View = view [] (relay_looked r i found ∷ q ∷ []) in
     let agree = (o.agree id v me).1.0 in
     let both : (f : RelayView → ℕ) → f r + f q ≤ of_relays f s.views = λ f. omega (arith, relays_le t s o id v me f) in
     let places = ap (λ (x : Terms). x.places) agree in
-    let limits : (n : ℕ) → slice_index r.terms.limits n ≡ slice_index t.limits n = λ n. ap (λ (x : Terms). slice_index x.limits n) agree in (
-      view [] (relay_looked r i (get_or s.words i 0) ∷ q ∷ []),
+    let after : Orderly t (stepped s i found id [] w keeps) = looked_kept t s o id i r (q ∷ []) me in (
+      w,
       keeps,
       tt,
-      looked_kept t s o id i r (q ∷ []) me,
-      (
-        refl,
-        record {
-          places = λ p. omega (arith, both (λ x. count_at p x.passes), passes_once t s o p);
-          bounds = λ n some_bound. omega (arith, both (λ x. count_of n x.passes), limits n, passes_bounded t s o n (omega (arith, limits n)));
-          room = omega (arith, both (λ x. total (λ (g : Grant). 1) x.passes), passes_room t s o, sums.total-one r.passes, sums.total-one q.passes);
-        },
-      ),
+      after,
+      λ server near at.
+          let here : t.places + server ≡ i = omega (arith, at, places) in
+          let bound : found ≡ slice_index o.bounds server = ap (λ (m : ℕ). get_or s.words m 0) (sym here) ∙ bound_at t s o server in
+          let now : slice_index after.bounds server ≡ found =
+          sym (bound_at t (stepped s i found id [] w keeps) after server) ∙ (ap (λ (m : ℕ). get_or (set s.words i found) m 0) here ∙ ap (λ (ws : List ℕ). get_or ws i 0) (set-get_or s.words i 0)) in (
+            refl,
+            record {
+              different = λ p. omega (arith, both (λ x. count_at p x.passes), passes_once t s o p);
+              bounded = λ some_bound. omega (arith, both (λ x. count_of server x.passes), passes_bounded t s o server (omega arith));
+              room = omega (arith, places, both (λ x. total (λ (g : Grant). 1) x.passes), passes_room t s o, sums.total-one r.passes, sums.total-one q.passes);
+            },
+            (record { terms = t; state = stepped s i found id [] w keeps; rule = after; seat = id; seen = set_here s.views id w (items.item_in s.views id v me) }, now),
+          ),
     )
 
 pub counted_kept : (t : Terms) (slots id : ℕ) (r : RelayView) (i : ℕ) → Allows (Orderly t) slots id (relay_seat r) i (λ n. n) (counts (step slots i 0 0 none) (relay_seat r))

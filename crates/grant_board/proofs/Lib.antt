@@ -1,6 +1,8 @@
-pub mod Grants
+pub mod Totals
+pub mod Positions
+pub mod Items
 pub mod Members
-mod Totals
+pub mod Grants
 mod Codes
 mod Moving
 mod Finding

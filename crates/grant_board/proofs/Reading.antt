@@ -1,6 +1,5 @@
 -- The rule of the board, read place by place.
-use Rattle.std.proofs.Common.{◌≡◌, ℕ, zero, suc, ◌+◌, ◌<◌, ◌≤◌, ◌⊎◌, inl, inr, ⊎_elim, List, [], ◌∷◌, slice_index, sym, refl, ap, ◌∙◌, subst, arith}
-use mathlib.Core.Logic.{dite}
+use Rattle.std.proofs.Common.{◌≡◌, ℕ, ◌+◌, ◌<◌, ◌≤◌, ◌⊎◌, inl, inr, ⊎_elim, List, [], ◌∷◌, length, slice_index, Contains, sym, ap, ◌∙◌, subst, arith}
 use native.Mathlib.Decide.{ℕ_discrete}
 use mathlib.Core.Option.{some, some-injective}
 use lib.ListN.{get_elem?}
@@ -8,23 +7,18 @@ use Rattle.verdict.specs.declared.Ending.{Ending}
 use Rattle.grant_board.specs.declared.laws.Word.{Word}
 use Rattle.grant_board.specs.declared.laws.Word.TheVariants.{Empty, Offered, Taken, Posted}
 use Rattle.grant_board.specs.declared.view.View.{View}
-use Rattle.grant_board.specs.Words.{encode_of, IsWord}
+use Rattle.grant_board.specs.Words.{encode_of, IsWord, IsAmong, IsWordAmong}
 use Rattle.grant_board.specs.Weights.{total}
 use Rattle.grant_board.specs.Views.{Grant, grant, Terms, KeeperPart, RelayView, at_place, count_at, count_of}
 use Rattle.grant_board.specs.Rule.{BoardState, standing, taken, of_relays, Orderly}
-use Rattle.grant_board.specs.Plays.{view}
+use Rattle.grant_board.specs.Ruled.{view}
 use Rattle.grant_board.specs.Places.{HasKeeper, HasRelay, Says, ByPlaces, RuleByPlaces}
-use Rattle.grant_board.proofs.Totals.{term_le, terms_le, has_le, item_at, along_le, along_found, Each-at}
+use Rattle.grant_board.proofs.Totals.{term_le, terms_le, has_le, found_at}
+use Rattle.grant_board.proofs.Positions.{along_le, along_found}
+use Rattle.grant_board.proofs.Items.{item_at, item_in, Each-at}
 use Rattle.grant_board.proofs.Grants as grants
 use Rattle.grant_board.proofs.Codes.{same_word}
-use Rattle.grant_board.proofs.Finding.{one, one-is, one-same, has_one, empty_there, keeper_alone, relays_le, number_at, taken_there, out_at, passes_once}
-
--- an item that weighs something, with its index
-found_at : {A : Type 0} (f : A → ℕ) (l : List A) → 0 < total f l → (j : ℕ) × (x : A) × (get_elem? l j ≡ some x) × (0 < f x)
-found_at f [] h = absurd (omega arith)
-found_at f (y ∷ ys) h = dite (ℕ_discrete (f y) 0)
-    (λ none. let r = found_at f ys (omega arith) in (suc r.0, r.1, r.2, r.3))
-    (λ some_here. (zero, y, refl, omega arith))
+use Rattle.grant_board.proofs.Finding.{one, one-is, one-same, has_one, empty_there, keeper_alone, relays_le, number_at, bound_at, taken_there, out_at, passes_once}
 
 -- a word with a grant
 abbrev Has : Grant → Word → Type 0
@@ -43,7 +37,31 @@ said words g c is has = ⊎_elim
     (λ (e : c ≡ Taken g.ticket g.verdict). inr (inl (is ∙ ap encode_of e)))
     (λ (x : (e : Ending) × (c ≡ Posted g.ticket g.verdict e)). inr (inr (x.0, is ∙ ap encode_of x.1))) rest) has
 
+-- where a word with a grant has a number, and its server is one of so many, so it is of the grant
+has_word : (g : Grant) (c : Word) → Has g c → IsWord c → IsWord (Offered g.ticket g.verdict)
+has_word g c has word = ⊎_elim
+    (λ (e : c ≡ Offered g.ticket g.verdict). subst IsWord e word)
+    (λ rest. ⊎_elim
+    (λ (e : c ≡ Taken g.ticket g.verdict). subst IsWord e word)
+    (λ (x : (e : Ending) × (c ≡ Posted g.ticket g.verdict e)). let w = subst IsWord x.1 word in (w.0, w.1)) rest) has
+
+has_among : (servers : ℕ) (g : Grant) (c : Word) → Has g c → IsWordAmong servers c → IsAmong servers g.verdict
+has_among servers g c has among = ⊎_elim
+    (λ (e : c ≡ Offered g.ticket g.verdict). subst (IsWordAmong servers) e among)
+    (λ rest. ⊎_elim
+    (λ (e : c ≡ Taken g.ticket g.verdict). subst (IsWordAmong servers) e among)
+    (λ (x : (e : Ending) × (c ≡ Posted g.ticket g.verdict e)). subst (IsWordAmong servers) x.1 among) rest) has
+
 module _ (t : Terms) (s : BoardState) (o : Orderly t s) where
+  -- what is out has a word, at its place
+  out_there : (k : KeeperPart) → HasKeeper s k → (g : Grant) → Contains k.view.out g → (c : Word) × (get_elem? o.cells g.place ≡ some c) × Has g c
+  out_there k at g has =
+      let all = keeper_alone t s o at.0 k at.1 at.2 in
+      let f = along_found (standing (one g)) o.cells 0 (omega (arith, has_le (one g) k.view.out g has, one-same g, all (λ x. total (one g) x.view.out), o.out (one g))) in
+      let is = standing-case g f.1 f.2 f.5 in
+      let place : f.0 ≡ g.place = omega (arith, f.3, is.0) in
+      (f.2, ap (λ (i : ℕ). get_elem? o.cells i) (sym place) ∙ f.4, is.1)
+
   -- a relay's part weighs at most what all do
   part_le : (j i : ℕ) (r : RelayView) → HasRelay s j i r → (f : RelayView → ℕ) → f r ≤ of_relays f s.views
   part_le j i r at f = omega (arith, term_le f at.0.relays i r at.2, relays_le t s o j at.0 at.1 f)
@@ -70,11 +88,11 @@ module _ (t : Terms) (s : BoardState) (o : Orderly t s) where
               (λ none. counted ∙ ap (standing (at_place place) place) (same_word c Empty valid tt (sym n ∙ none))),
               λ none. n ∙ ap encode_of (empty_there place c (sym counted ∙ none)),
             );
-        out = λ g has.
-            let f = along_found (standing (one g)) o.cells 0 (omega (arith, has_le (one g) k.view.out g has, one-same g, all (λ x. total (one g) x.view.out), o.out (one g))) in
-            let is = standing-case g f.1 f.2 f.5 in
-            let place : f.0 ≡ g.place = omega (arith, f.3, is.0) in
-            said s.words g f.2 (ap (λ (i : ℕ). slice_index s.words i) (sym place) ∙ number_at t s o f.0 f.2 f.4) is.1;
+        out = λ g has. let w = out_there k at g has in said s.words g w.0 (number_at t s o g.place w.0 w.1) w.2;
+        on_board = λ g has.
+            let w = out_there k at g has in
+            let near : g.place < t.places = omega (arith, item_in o.cells g.place w.0 w.1, o.long) in
+            (near, has_word g w.0 w.2 (Each-at IsWord o.cells g.place w.0 o.valid w.1), has_among (length t.limits) g w.0 w.2 (Each-at (IsWordAmong (length t.limits)) o.cells g.place w.0 o.among w.1));
         taken = λ g near word is.
             let there = item_at o.cells g.place (omega (arith, o.long)) in
             let valid : IsWord there.0 = Each-at IsWord o.cells g.place there.0 o.valid there.1 in
@@ -88,6 +106,8 @@ module _ (t : Terms) (s : BoardState) (o : Orderly t s) where
             number_at t s o g.place (Taken g.ticket g.verdict) there;
         once = λ j i r place a. omega (arith, part_le j i r a (λ x. count_at place x.passes), passes_once t s o place);
         apart = λ j i r m n q place a b other. omega (arith, parts_by j i r m n q a b other (λ x. count_at place x.passes) (ℕ_discrete m j), passes_once t s o place);
+        bounds = λ server near. bound_at t s o server ∙ sym (ap (λ (bs : List ℕ). slice_index bs server) agree.1);
+        servers = ap (λ (bs : List ℕ). length bs) agree.1 ∙ o.servers;
         bounded = λ server some_bound.
             let same : slice_index k.view.bounds server ≡ slice_index o.bounds server = ap (λ (bs : List ℕ). slice_index bs server) agree.1 in
             omega (arith, all (λ x. count_of server x.view.out), o.bounded server (omega arith));

@@ -1,21 +1,22 @@
 -- Worked rows for the definitions: what must hold, and what must not.
-use Rattle.std.proofs.Common.{◌≡◌, ℕ, zero, suc, List, [], ◌∷◌, refl, ap, sym, subst, true, arith}
+use Rattle.std.proofs.Common.{◌≡◌, ℕ, zero, suc, List, [], ◌∷◌, slice_index, refl, ap, sym, subst, true, arith}
 use mathlib.Core.Option.{some, some-injective, some-ne-none}
 use lib.ListN.{get_elem?}
 use Rattle.verdict.specs.declared.cause.Cause.TheVariants.{Aborted, NoServer}
 use Rattle.verdict.specs.declared.Verdict.TheVariants.{Serve, Told}
 use Rattle.verdict.specs.declared.Ending.TheVariants.{Done, Failed}
-use Rattle.grant_board.specs.declared.laws.Word.TheVariants.{Offered, Taken, Posted}
+use Rattle.grant_board.specs.declared.laws.Word.TheVariants.{Empty, Offered, Taken, Posted}
 use Rattle.grant_board.specs.declared.view.View.{View}
-use Rattle.grant_board.specs.Words.{encode_of, IsWord}
+use Rattle.grant_board.specs.Words.{encode_of, IsWord, nonzero}
 use Rattle.grant_board.specs.Weights.{total}
-use Rattle.grant_board.specs.Views.{Grant, grant, Terms, KeeperView, RelayView, count_at, count_of, without}
+use Rattle.grant_board.specs.Views.{Grant, grant, Terms, terms, KeeperView, RelayView, count_at, count_of, without}
 use Rattle.grant_board.specs.Rule.{BoardState, Agrees, Orderly}
-use Rattle.grant_board.specs.Plays.{view, at_rest, new_keeper, new_relay, offer_after}
-use Rattle.grant_board.specs.Seats.{terms, nonzero}
+use Rattle.grant_board.specs.Ruled.{view, at_rest}
+use Rattle.grant_board.specs.KeeperCalls.{new_keeper, offer_after, HasRoom, collect_after, MayLimit, limit_after}
+use Rattle.grant_board.specs.RelayCalls.{new_relay, take_after, post_after}
 use Rattle.grant_board.proofs.Grants.{serves_at-one}
-use Rattle.grant_board.proofs.Finding.{passes_room}
-use Rattle.grant_board.proofs.Ending.{nonzero-words}
+use Rattle.grant_board.proofs.Finding.{passes_room, bound_at}
+use Rattle.grant_board.proofs.Ending.{nonzero-words, places_words}
 
 -- ticket 7 at server 0, and the last ticket of all, told that there is no server
 pub offered_7 : encode_of (Offered 7 (Serve 0)) ≡ 7169
@@ -57,19 +58,24 @@ one_place = terms 1 (1 ∷ [])
 abbrev offered : KeeperView
 offered = offer_after (new_keeper one_place) (grant 0 7 (Serve 0))
 
--- with this word, and one seat
-abbrev with_word : KeeperView → RelayView → ℕ → BoardState
-with_word k r word = record { words = word ∷ []; homes = []; views = view (at_rest k ∷ []) (r ∷ []) ∷ [] }
+-- with these words, and one seat
+abbrev with_words : KeeperView → RelayView → List ℕ → BoardState
+with_words k r words = record { words = words; homes = []; views = view (at_rest k ∷ []) (r ∷ []) ∷ [] }
+
+only_view : (t : Terms) (bounds : List ℕ) (v : View) → Agrees t bounds v → (j : ℕ) (u : View) → get_elem? (v ∷ []) j ≡ some u → Agrees t bounds u
+only_view t bounds v agrees zero u e = subst (Agrees t bounds) (some-injective v u e) agrees
+only_view t bounds v agrees (suc j) u e = absurd (some-ne-none u (sym e))
 
 -- where ticket 7 is offered, its keeper knows that it is out
-pub knows_what_is_out : Orderly one_place (with_word offered (new_relay one_place true) 7169)
+pub knows_what_is_out : Orderly one_place (with_words offered (new_relay one_place true) (7169 ∷ 1 ∷ []))
 knows_what_is_out = record {
   cells = Offered 7 (Serve 0) ∷ [];
   bounds = 1 ∷ [];
   words = refl;
-  valid = ((omega arith, omega arith), tt);
   long = refl;
-  fixed = refl;
+  servers = refl;
+  valid = ((omega arith, omega arith), tt);
+  among = (omega arith, tt);
   one_keeper = refl;
   one_first = refl;
   others = refl;
@@ -79,21 +85,90 @@ knows_what_is_out = record {
   posts = λ h. refl;
   bounded = λ n some_bound. omega (arith, serves_at-one n (Serve 0));
   sight = λ h. omega arith;
-  agree = agrees;
+  agree = only_view one_place (1 ∷ []) (view (at_rest offered ∷ []) (new_relay one_place true ∷ [])) (((refl, refl), tt), (refl, tt));
 }
-  where
-    agrees : (j : ℕ) (v : View) → get_elem? (view (at_rest offered ∷ []) (new_relay one_place true ∷ []) ∷ []) j ≡ some v → Agrees one_place (1 ∷ []) v
-    agrees zero v e = subst (Agrees one_place (1 ∷ [])) (some-injective (view (at_rest offered ∷ []) (new_relay one_place true ∷ [])) v e) (((refl, refl), tt), (refl, tt))
-    agrees (suc j) v e = absurd (some-ne-none v (sym e))
 
 -- no word is offered that the keeper doesn't know of
-pub unknown_offer : (r : RelayView) → ¬ Orderly one_place (with_word (new_keeper one_place) r 7169)
-unknown_offer r o = omega (arith, o.out (λ _. 1), ap (total nonzero) o.words, nonzero-words o.cells 0)
+pub unknown_offer : (r : RelayView) → ¬ Orderly one_place (with_words (new_keeper one_place) r (7169 ∷ 1 ∷ []))
+unknown_offer r o =
+    let s = with_words (new_keeper one_place) r (7169 ∷ 1 ∷ []) in
+    omega (arith, o.out (λ _. 1), ap (total nonzero) (places_words one_place s o), nonzero-words o.cells 0)
 
 -- a place that is out has no empty word
-pub forgotten_offer : (r : RelayView) → ¬ Orderly one_place (with_word offered r 0)
-forgotten_offer r o = omega (arith, o.out (λ _. 1), ap (total nonzero) o.words, nonzero-words o.cells 0)
+pub forgotten_offer : (r : RelayView) → ¬ Orderly one_place (with_words offered r (0 ∷ 1 ∷ []))
+forgotten_offer r o = omega (arith, o.out (λ _. 1), ap (total nonzero) (places_words one_place (with_words offered r (0 ∷ 1 ∷ [])) o), nonzero-words o.cells 0)
 
 -- no two passes are taken at one place
-pub two_passes : (k : KeeperView) (r : RelayView) (word : ℕ) → r.passes ≡ grant 0 7 (Serve 0) ∷ grant 0 7 (Serve 0) ∷ [] → ¬ Orderly one_place (with_word k r word)
-two_passes k r word two o = omega (arith, passes_room one_place (with_word k r word) o, ap (total (λ (g : Grant). 1)) two)
+pub two_passes : (k : KeeperView) (r : RelayView) (words : List ℕ) → r.passes ≡ grant 0 7 (Serve 0) ∷ grant 0 7 (Serve 0) ∷ [] → ¬ Orderly one_place (with_words k r words)
+two_passes k r words two o = omega (arith, passes_room one_place (with_words k r words) o, ap (total (λ (g : Grant). 1)) two)
+
+-- a board of two places and one server of limit 2, whose tickets 7 and 8 are out
+abbrev two_places : Terms
+two_places = terms 2 (2 ∷ [])
+
+abbrev two_out : KeeperView
+two_out = offer_after (offer_after (new_keeper two_places) (grant 0 7 (Serve 0))) (grant 1 8 (Serve 0))
+
+-- the bound may rise, and end; it can't be set to 1
+pub bound_rises : MayLimit two_out 0 3
+bound_rises = (omega arith, λ some_bound. omega arith)
+
+pub bound_ends : MayLimit two_out 0 0
+bound_ends = (omega arith, λ some_bound. omega arith)
+
+pub bound_below_what_is_out : ¬ MayLimit two_out 0 1
+bound_below_what_is_out may = omega (arith, may.1 (omega arith))
+
+-- no server but the board's has one
+pub bound_of_no_server : ¬ MayLimit two_out 1 3
+bound_of_no_server may = omega (arith, may.0)
+
+-- with a bound of 2 a third verdict has no room, with 3 it has, and without a bound
+pub no_room_at_2 : ¬ HasRoom two_out (Serve 0)
+no_room_at_2 room = omega (arith, room.1 (omega arith))
+
+pub room_at_3 : HasRoom (limit_after two_out 0 3) (Serve 0)
+room_at_3 = (omega arith, λ some_bound. omega arith)
+
+pub room_without_bound : HasRoom (limit_after two_out 0 0) (Serve 0)
+room_without_bound = (omega arith, λ some_bound. omega arith)
+
+-- the word behind the places is the bound: no rule has a lower one than what is out, even where the keeper knows it
+pub word_below_what_is_out : (r : RelayView) → ¬ Orderly two_places (with_words (limit_after two_out 0 1) r (7169 ∷ 8193 ∷ 1 ∷ []))
+word_below_what_is_out r o =
+    let s = with_words (limit_after two_out 0 1) r (7169 ∷ 8193 ∷ 1 ∷ []) in
+    omega (arith, o.bounded 0 (omega (arith, bound_at two_places s o 0)), bound_at two_places s o 0)
+
+-- and none another one than the keeper knows
+pub unknown_bound : (r : RelayView) → ¬ Orderly two_places (with_words two_out r (7169 ∷ 8193 ∷ 3 ∷ []))
+unknown_bound r o =
+    let s = with_words two_out r (7169 ∷ 8193 ∷ 3 ∷ []) in
+    omega (arith, bound_at two_places s o 0, ap (λ (bs : List ℕ). slice_index bs 0) (o.agree 0 (view (at_rest two_out ∷ []) (r ∷ [])) refl).0.0.1)
+
+-- ticket 7 came back, ticket 8 is taken, and then the bound is 1
+abbrev one_back : KeeperView
+one_back = limit_after (collect_after two_out (grant 0 7 (Serve 0)) Done) 0 1
+
+abbrev one_taken : RelayView
+one_taken = post_after (take_after (take_after (new_relay two_places true) (grant 0 7 (Serve 0))) (grant 1 8 (Serve 0))) (grant 0 7 (Serve 0)) Done
+
+pub lowered_bound : Orderly two_places (with_words one_back one_taken (0 ∷ 8194 ∷ 1 ∷ []))
+lowered_bound = record {
+  cells = Empty ∷ Taken 8 (Serve 0) ∷ [];
+  bounds = 1 ∷ [];
+  words = refl;
+  long = refl;
+  servers = refl;
+  valid = (tt, ((omega arith, omega arith), tt));
+  among = (tt, (omega arith, tt));
+  one_keeper = refl;
+  one_first = refl;
+  others = refl;
+  out = λ h. omega arith;
+  passes = λ h. omega arith;
+  offers = λ h. omega arith;
+  posts = λ h. omega arith;
+  bounded = λ n some_bound. omega (arith, serves_at-one n (Serve 0));
+  sight = λ h. omega arith;
+  agree = only_view two_places (1 ∷ []) (view (at_rest one_back ∷ []) (one_taken ∷ [])) (((refl, refl), tt), (refl, tt));
+}

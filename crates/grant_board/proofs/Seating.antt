@@ -1,6 +1,5 @@
 -- From a seat of the table to what contracts see of it, and back.
-use Rattle.std.proofs.Common.{◌≡◌, ◌≢◌, ℕ, ◌+◌, ◌<◌, ◌≤◌, ◌^◌, true, false, [], ◌∷◌, ◌==◌, length, slice_index, Contains, sym, refl, ap, ◌∙◌, subst, arith}
-use Rattle.std.proofs.lemmas.Bool.Decides.{nat_tests}
+use Rattle.std.proofs.Common.{◌≡◌, ℕ, ◌+◌, ◌<◌, ◌≤◌, ◌^◌, true, [], ◌∷◌, ◌==◌, length, slice_index, Contains, sym, refl, ap, ◌∙◌, subst, arith}
 use mathlib.Core.Logic.{dite}
 use native.Mathlib.Decide.{ℕ_discrete}
 use mathlib.Core.Option.{none}
@@ -11,26 +10,43 @@ use Rattle.verdict.specs.declared.Verdict.{Verdict}
 use Rattle.verdict.specs.declared.Verdict.TheVariants.{Serve, Told}
 use Rattle.verdict.specs.declared.Ending.{Ending}
 use Rattle.grant_board.specs.declared.laws.Word.TheVariants.{Empty, Offered, Taken, Posted}
-use Rattle.grant_board.specs.Words.{encode_of, IsWord, IsVerdict}
+use Rattle.grant_board.specs.Words.{encode_of, IsWord, IsAmong, IsVerdict}
 use Rattle.grant_board.specs.Views.{Grant, grant, Terms, KeeperView, KeeperPart, RelayView, count_at, count_of, serves_at, without}
 use Rattle.grant_board.specs.Weights.{total}
-use Rattle.grant_board.specs.Rule.{Orderly, MeetsRule}
-use Rattle.grant_board.specs.Plays.{Seated, view, seated, blank, ruled, keeper_seat, relay_seat, keeper_of, relay_of, relay_looked, take_after, keeper_looked, collect_after, at_rest, offers, sees, clears, vouches, glances, takes, posts, meets, counts, beside, aside, parent, child, gathered}
-use Rattle.grant_board.specs.Parts.{IsKeeperSeat, IsRelaySeat}
-use Rattle.grant_board.specs.Seats.{Keeper, Relay, HasRoom, Collects, RelayRuled, KeeperRuled, MeetRuled, VouchRuled}
+use Rattle.grant_board.specs.Rule.{Orderly}
+use Rattle.grant_board.specs.Ruled.{view, at_rest, MeetsRule, MeetsRuleWith, KeeperRuled, RelayRuled, VouchRuled, MeetRuled}
+use Rattle.grant_board.specs.KeeperCalls.{Keeper, HasRoom, keeper_looked, collect_after, Collects, MayLimit}
+use Rattle.grant_board.specs.RelayCalls.{Relay, relay_looked, take_after}
+use Rattle.grant_board.specs.Plays.{Seated, seated, blank, ruled, keeper_seat, relay_seat, keeper_of, relay_of, offers, sees, clears, limits, vouches, glances, takes, posts, meets, counts, AreApart, beside, aside, cut_off, parent, child, gathered}
+use Rattle.grant_board.specs.Parts.{IsTableOf, IsKeeperSeat, IsRelaySeat}
 use Rattle.grant_board.proofs.Grants.{serves_at-other}
-use Rattle.grant_board.proofs.Keeping.{MayOffer, offered_kept, seen_kept, cleared_kept, vouched_kept, glanced_kept, taken_kept, posted_kept, met_kept, counted_kept}
+use Rattle.grant_board.proofs.Keeping.{MayOffer, offered_kept, seen_kept, cleared_kept, limited_kept, vouched_kept, glanced_kept, taken_kept, posted_kept, met_kept, counted_kept}
 use Rattle.atomic_table.proofs.Lists.{set_here}
-use Rattle.grant_board.proofs.Totals.{item_in}
+use Rattle.grant_board.proofs.Items.{item_in}
 use Rattle.grant_board.proofs.Joining.{branch_kept, gathered_kept}
 
 -- a relay's seat is of the board where what contracts see of it is
 pub relay_table : (a : TableId) (v : RelayView) (x : Relay) (b n : TableId) → record { board = a; view = v } ≡ x → x.board ≡ n → b ≡ n → a ≡ b
 relay_table a v x b n is same other = ap (λ (y : Relay). y.board) is ∙ (same ∙ sym other)
 
--- and a place of its terms is one of the board's
-pub relay_near : (a : TableId) (v : RelayView) (x : Relay) (b : TableId) (place : ℕ) → record { board = a; view = v } ≡ x → a ≡ b → a.words ≡ v.terms.places → place < x.view.terms.places → place < b.words
-relay_near a v x b place is table wide near = omega (arith, ap (λ (y : Relay). y.view.terms.places) is, ap (λ (y : TableId). y.words) table)
+-- a place of its terms has a word, and so has a server
+pub has_word : (t : Terms) (a b : TableId) (n i : ℕ) → IsTableOf t a n → a ≡ b → i < t.places + length t.limits → i < b.words
+has_word t a b n i table same near = omega (arith, table.words, ap (λ (y : TableId). y.words) same)
+
+pub place_near : (t u : Terms) (a b : TableId) (n place : ℕ) → IsTableOf t a n → a ≡ b → t ≡ u → place < u.places → place < b.words
+place_near t u a b n place table board same near = has_word t a b n place table board (omega (arith, near, ap (λ (x : Terms). x.places) same))
+
+-- a board of terms has a word
+pub some_word : (t : Terms) (a b : TableId) (n : ℕ) → IsTableOf t a n → a ≡ b → 0 < b.words
+some_word t a b n table same = has_word t a b n 0 table same (omega (arith, table.some_places))
+
+-- the word of a server
+pub server_near : (t : Terms) (a : TableId) (n server : ℕ) → IsTableOf t a n → server < length t.limits → n + server < t.places + length t.limits
+server_near t a n server table near = omega (arith, table.places_are)
+
+-- it stays a table of these terms
+pub still_table : (t u : Terms) (a b : TableId) (n : ℕ) → IsTableOf t a n → u ≡ t → b ≡ a → IsTableOf u b n
+still_table t u a b n table same board = subst (λ (y : TableId). IsTableOf u y n) (sym board) (subst (λ (y : Terms). IsTableOf y a n) (sym same) table)
 
 -- a step that keeps the rule tells that it holds
 ruled_too : (t : Terms) (slots id : ℕ) (m : Seated) (i : ℕ) (f : ℕ → ℕ) (then : ℕ → Seated → Type 0) → Allows (Orderly t) slots id m i f then
@@ -78,13 +94,24 @@ module _ (t : Terms) (slots id : ℕ) (m : Seated) (me : m ≡ relay_seat (relay
 pub relays_beside : (m n x : Seated) (r q : RelayView) → m ≡ relay_seat r → n ≡ relay_seat q → x ≡ (beside m.0 n.0, m.1) → x ≡ seated [] (r ∷ q ∷ [])
 relays_beside m n x r q me them is = is ∙ (λ i. (beside (me i).0 (them i).0, (me i).1))
 
-pub meets_at : (t : Terms) (slots id : ℕ) (m : Seated) (r q : RelayView) (i : ℕ) → m ≡ seated [] (r ∷ q ∷ []) → Allows (Orderly t) slots id m i (λ n. n) (ruled meets (step slots i 0 0 none) m)
-meets_at t slots id m r q i me = ruled_too t slots id m i (λ n. n) (meets (step slots i 0 0 none) m)
-    (subst (λ (x : Seated). Allows (Orderly t) slots id x i (λ n. n) (meets (step slots i 0 0 none) x)) (sym me) (met_kept t slots id r q i))
+pub meets_at : (t : Terms) (slots id : ℕ) (m : Seated) (r q : RelayView) (i : ℕ) → m ≡ seated [] (r ∷ q ∷ []) → Allows (Orderly t) slots id m i (λ n. n) (meets (step slots i 0 0 none) m)
+meets_at t slots id m r q i me = subst (λ (x : Seated). Allows (Orderly t) slots id x i (λ n. n) (meets (step slots i 0 0 none) x)) (sym me) (met_kept t slots id r q i)
 
--- a board with a seat has a word
-pub some_word : (a b : TableId) → 0 < a.words → a ≡ b → 0 < b.words
-some_word a b h e = omega (arith, ap (λ (y : TableId). y.words) e)
+-- what a meeting of two seats tells
+abbrev pub HasMet : ℕ → ℕ → ℕ → RelayView → RelayView → Seated → Type 0
+HasMet i server found r q x =
+    (x ≡ seated [] (relay_looked r i found ∷ q ∷ [])) × AreApart r.terms.places server found r.passes q.passes × MeetsRuleWith x.0 server found
+
+pub met : (slots i found server : ℕ) (m x : Seated) (r q : RelayView) → m ≡ seated [] (r ∷ q ∷ []) → meets (step slots i 0 0 none) m found x
+    → server < length r.terms.limits → i ≡ r.terms.places + server → HasMet i server found r q x
+met slots i found server m x r q me told near at = subst (λ (y : Seated). meets (step slots i 0 0 none) y found x) me told server near at
+
+-- the two seats apart again
+pub left_alone : (x s : Seated) (r q : RelayView) → x ≡ seated [] (r ∷ q ∷ []) → s ≡ (aside x.0, x.1) → s ≡ relay_seat r
+left_alone x s r q is cut = cut ∙ ap (λ (y : Seated). (aside y.0, y.1)) is
+
+pub right_alone : (x s : Seated) (r q : RelayView) → x ≡ seated [] (r ∷ q ∷ []) → s ≡ (cut_off x.0, []) → s ≡ relay_seat q
+right_alone x s r q is cut = cut ∙ ap (λ (y : Seated). (cut_off y.0, [])) is
 
 -- a seat with one relay's part
 pub relay_again : (m : Seated) (j : RelayView) → m ≡ relay_seat j → m ≡ relay_seat (relay_of m.0.relays)
@@ -94,13 +121,8 @@ pub gathered_seat : (m n x : Seated) → m.1 ≡ [] → x ≡ (gathered m.0 n.0,
 gathered_seat m n x no_slot is = relay_again x (relay_of (gathered m.0 n.0).relays) (is ∙ (λ i. (gathered m.0 n.0, no_slot i)))
 
 -- it stays one of the same terms
-pub relay_kept : (a b : TableId) (m : Seated) (r j : RelayView) → m ≡ relay_seat j → j.terms ≡ r.terms → b ≡ a → a.words ≡ r.terms.places → 0 < a.words
-    → IsRelaySeat b m
-relay_kept a b m r j is same table wide some_place =
-    let words = ap (λ (y : TableId). y.words) table in
-    let places = ap (λ (y : Terms). y.places) same in
-    let now = ap (λ (y : Seated). (relay_of y.0.relays).terms.places) is in
-    record { me = relay_again m j is; words = omega arith; some = omega arith }
+pub relay_kept : (a b : TableId) (n : ℕ) (m : Seated) (r j : RelayView) → m ≡ relay_seat j → j.terms ≡ r.terms → b ≡ a → IsTableOf r.terms a n → IsRelaySeat b n m
+relay_kept a b n m r j is same board table = record { me = relay_again m j is; table = still_table r.terms (relay_of m.0.relays).terms a b n table (ap (λ (y : Seated). (relay_of y.0.relays).terms) is ∙ same) board }
 
 -- what contracts see of it after a step that makes f of its view
 pub relay_value : (f : RelayView → RelayView) (a b : TableId) (m : Seated) (r : RelayView) (x : Relay) → b ≡ a → record { board = a; view = r } ≡ x → m ≡ relay_seat (f r)
@@ -109,12 +131,6 @@ relay_value f a b m r x table is me =
     let bs : b ≡ x.board = table ∙ ap (λ (y : Relay). y.board) is in
     let vs : relay_of m.0.relays ≡ f x.view = ap (λ (y : Seated). relay_of y.0.relays) me ∙ ap (λ (y : Relay). f y.view) is in
     λ i. record { board = bs i; view = vs i }
-
-pub equal_is : (m n : ℕ) → (m == n) ≡ true → m ≡ n
-equal_is m n e = grind (arith, nat_tests)
-
-pub unequal_is : (m n : ℕ) → (m == n) ≡ false → m ≢ n
-unequal_is m n e = grind (arith, nat_tests)
 
 -- an exchange leaves a relay of the same terms
 pub takes_one : (slots p old new n : ℕ) (m x : Seated) (ticket : ℕ) (d : Verdict) → takes (step slots p old new none) m n x → IsWord (Offered ticket d) → old ≡ encode_of (Offered ticket d) → new ≡ encode_of (Taken ticket d)
@@ -127,9 +143,6 @@ takes_one slots p old new n m x ticket d told word was is =
 pub keeper_table : (a : TableId) (v : KeeperView) (x : Keeper) (b n : TableId) → record { board = a; view = v } ≡ x → x.board ≡ n → b ≡ n → a ≡ b
 keeper_table a v x b n is same other = ap (λ (y : Keeper). y.board) is ∙ (same ∙ sym other)
 
-pub keeper_near : (a : TableId) (v : KeeperView) (x : Keeper) (b : TableId) (place : ℕ) → record { board = a; view = v } ≡ x → a ≡ b → a.words ≡ v.terms.places → place < x.view.terms.places → place < b.words
-keeper_near a v x b place is table wide near = omega (arith, ap (λ (y : Keeper). y.view.terms.places) is, ap (λ (y : TableId). y.words) table)
-
 bound_of : (k : KeeperView) (d : Verdict) (n : ℕ) → HasRoom k d → 0 < slice_index k.bounds n → 0 < serves_at n d → count_of n k.out < slice_index k.bounds n
 bound_of k (Serve s) n room some_bound serves = dite (ℕ_discrete s n)
     (λ same. subst (λ (m : ℕ). 0 < slice_index k.bounds m → count_of m k.out < slice_index k.bounds m) same room.1 some_bound)
@@ -140,8 +153,12 @@ verdict_fits : (k : KeeperView) (d : Verdict) → HasRoom k d → length k.terms
 verdict_fits k (Serve s) room few = omega (arith, room.0)
 verdict_fits k (Told cause) room few = tt
 
+verdict_among : (k : KeeperView) (d : Verdict) → HasRoom k d → IsAmong (length k.terms.limits) d
+verdict_among k (Serve s) room = room.0
+verdict_among k (Told cause) room = tt
+
 pub may_offer : (k : KeeperView) (p ticket : ℕ) (d : Verdict) → p < k.terms.places → count_at p k.out ≡ 0 → ticket < 2 ^ 40 → HasRoom k d → length k.terms.limits ≤ 64 → MayOffer k p ticket d
-may_offer k p ticket d near free fits room few = record { place = near; free = free; word = (fits, verdict_fits k d room few); room = λ n some_bound serves. bound_of k d n room some_bound serves }
+may_offer k p ticket d near free fits room few = record { place = near; free = free; word = (fits, verdict_fits k d room few); among = verdict_among k d room; room = λ n some_bound serves. bound_of k d n room some_bound serves }
 
 module _ (t : Terms) (slots id : ℕ) (m : Seated) (k : KeeperPart) (me : m ≡ keeper_seat k) where
   pub offers_at : (p ticket : ℕ) (d : Verdict) (new : ℕ) → new ≡ encode_of (Offered ticket d) → MayOffer k.view p ticket d
@@ -160,6 +177,10 @@ module _ (t : Terms) (slots id : ℕ) (m : Seated) (k : KeeperPart) (me : m ≡ 
       (subst (λ (x : Seated). Allows (Orderly t) slots id x p (λ _. new) (λ _. clears (step slots p new 0 none) x new)) (sym me)
       (subst (λ (n : ℕ). Allows (Orderly t) slots id (keeper_seat k) p (λ _. n) (λ _. clears (step slots p n 0 none) (keeper_seat k) n)) (sym is) (cleared_kept t slots id k p ticket d e seen)))
 
+  pub limits_at : (server i new : ℕ) → i ≡ k.view.terms.places + server → MayLimit k.view server new → Allows (Orderly t) slots id m i (λ _. new) (λ _. ruled limits (step slots i new 0 none) m new)
+  limits_at server i new at may = ruled_too t slots id m i (λ _. new) (λ _. limits (step slots i new 0 none) m new)
+      (subst (λ (x : Seated). Allows (Orderly t) slots id x i (λ _. new) (λ _. limits (step slots i new 0 none) x new)) (sym me) (limited_kept t slots id k server i new at may))
+
 -- a keeper's seat and a relay's side by side
 pub keeper_beside : (m n x : Seated) (k : KeeperPart) (q : RelayView) → m ≡ keeper_seat k → n ≡ relay_seat q → x ≡ (beside m.0 n.0, m.1) → x ≡ seated (k ∷ []) (q ∷ [])
 keeper_beside m n x k q me them is = is ∙ (λ i. (beside (me i).0 (them i).0, (me i).1))
@@ -172,16 +193,18 @@ vouches_at t slots id m k q i me = ruled_too t slots id m i (λ n. n) (vouches (
 pub keeper_again : (m : Seated) (v : KeeperView) → m ≡ keeper_seat (at_rest v) → m ≡ keeper_seat (at_rest (keeper_of m.0.keepers).view)
 keeper_again m v is = is ∙ ap (λ (y : KeeperView). keeper_seat (at_rest y)) (sym (ap (λ (y : Seated). (keeper_of y.0.keepers).view) is))
 
+-- what contracts see of it after a step that makes f of its view
+pub keeper_value : (f : KeeperView → KeeperView) (a b : TableId) (m : Seated) (k : KeeperView) (x : Keeper) → b ≡ a → record { board = a; view = k } ≡ x → m ≡ keeper_seat (at_rest (f k))
+    → ◌≡◌ {A = Keeper} (record { board = b; view = (keeper_of m.0.keepers).view }) (record { board = x.board; view = f x.view })
+keeper_value f a b m k x table is me =
+    let bs : b ≡ x.board = table ∙ ap (λ (y : Keeper). y.board) is in
+    let vs : (keeper_of m.0.keepers).view ≡ f x.view = ap (λ (y : Seated). (keeper_of y.0.keepers).view) me ∙ ap (λ (y : Keeper). f y.view) is in
+    λ i. record { board = bs i; view = vs i }
+
 -- it stays one of the same terms
-pub keeper_kept : (a b : TableId) (m : Seated) (k v : KeeperView) → m ≡ keeper_seat (at_rest v) → v.terms ≡ k.terms → b ≡ a → a.words ≡ k.terms.places → 0 < a.words → length k.terms.limits ≤ 64
-    → IsKeeperSeat b m
-keeper_kept a b m k v is same table wide some_place few =
-    let words = ap (λ (y : TableId). y.words) table in
-    let places = ap (λ (y : Terms). y.places) same in
-    let limits = ap (λ (y : Terms). length y.limits) same in
-    let now = ap (λ (y : Seated). (keeper_of y.0.keepers).view.terms.places) is in
-    let lists = ap (λ (y : Seated). length (keeper_of y.0.keepers).view.terms.limits) is in
-    record { me = keeper_again m v is; words = omega arith; some = omega arith; few = omega arith }
+pub keeper_kept : (a b : TableId) (n : ℕ) (m : Seated) (k v : KeeperView) → m ≡ keeper_seat (at_rest v) → v.terms ≡ k.terms → b ≡ a → IsTableOf k.terms a n → IsKeeperSeat b n m
+keeper_kept a b n m k v is same board table =
+    record { me = keeper_again m v is; table = still_table k.terms (keeper_of m.0.keepers).view.terms a b n table (ap (λ (y : Seated). (keeper_of y.0.keepers).view.terms) is ∙ same) board }
 
 pub keeper_rests : (m : Seated) (k : KeeperPart) (v : KeeperView) → k.sight ≡ [] → m ≡ keeper_seat (record { view = v; sight = k.sight }) → m ≡ keeper_seat (at_rest v)
 keeper_rests m k v blind is = is ∙ (λ i. keeper_seat (record { view = v; sight = blind i }))
@@ -218,10 +241,10 @@ relay_ruled m j is rule = subst MeetsRule (ap (λ (x : Seated). x.0) (relay_agai
 pub keeper_ruled : (m : Seated) (v : KeeperView) → m ≡ keeper_seat (at_rest v) → MeetsRule m.0 → KeeperRuled (keeper_of m.0.keepers).view
 keeper_ruled m v is rule = subst MeetsRule (ap (λ (x : Seated). x.0) (keeper_again m v is)) rule
 
-pub meet_ruled : (m s : Seated) (r q' q : RelayView) → m ≡ seated [] (r ∷ q' ∷ []) → s ≡ (aside m.0, m.1) → q' ≡ q → MeetsRule m.0 → MeetRuled (relay_of s.0.relays) q
-meet_ruled m s r q' q is cut same rule =
-    let left : relay_of s.0.relays ≡ r = ap (λ (x : Seated). relay_of x.0.relays) cut ∙ ap (λ (x : Seated). relay_of (aside x.0).relays) is in
-    subst MeetsRule (ap (λ (x : Seated). x.0) is ∙ (λ i. view [] (sym left i ∷ same i ∷ []))) rule
+pub meet_ruled : (x s : Seated) (r q p : RelayView) (server bound : ℕ) → x ≡ seated [] (r ∷ q ∷ []) → s ≡ (aside x.0, x.1) → q ≡ p → MeetsRuleWith x.0 server bound → MeetRuled (relay_of s.0.relays) p server bound
+meet_ruled x s r q p server bound is cut same rule =
+    let left : relay_of s.0.relays ≡ r = ap (λ (y : Seated). relay_of y.0.relays) (left_alone x s r q is cut) in
+    subst (λ v. MeetsRuleWith v server bound) (ap (λ (y : Seated). y.0) is ∙ (λ i. view [] (sym left i ∷ same i ∷ []))) rule
 
 pub vouch_ruled : (m s : Seated) (k : KeeperPart) (v : KeeperView) (q' q : RelayView) → m ≡ seated (record { view = v; sight = k.sight } ∷ []) (q' ∷ []) → k.sight ≡ [] → s ≡ (aside m.0, m.1) → q' ≡ q → MeetsRule m.0
     → VouchRuled (keeper_of s.0.keepers).view q

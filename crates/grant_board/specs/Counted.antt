@@ -5,11 +5,11 @@ use Rattle.grant_board.specs.declared.tally.Tally.{Tally}
 use Rattle.grant_board.specs.Words.{IsWord}
 use Rattle.grant_board.specs.Weights.{Each}
 use Rattle.grant_board.specs.Views.{Grant, count_of}
-use Rattle.grant_board.specs.Seats.{Relay}
+use Rattle.grant_board.specs.RelayCalls.{Relay}
 
--- a pass of a board with so many places
+-- a pass whose place is one of so many words
 abbrev pub IsPassOf : ℕ → Grant → Type 0
-IsPassOf places g = (g.place < places) × IsWord (Taken g.ticket g.verdict)
+IsPassOf words g = (g.place < words) × IsWord (Taken g.ticket g.verdict)
 
 -- the counts are those of the passes, which are the board's
 pub record IsCounted (r : Relay) (first : Bool) (tally : Tally) : Type 0 where

@@ -1,9 +1,12 @@
 pub mod Words
 pub mod Weights
 pub mod Views
+pub mod Names
 pub mod Rule
+pub mod Ruled
+pub mod KeeperCalls
+pub mod RelayCalls
 pub mod Plays
-pub mod Seats
 pub mod Parts
 pub mod Counted
 pub mod Places

@@ -1,23 +1,25 @@
--- What each step tells: of the step, its seat before, the number found (at a store, the number stored) and the seat after. And how views are cut in two and made one.
-use Rattle.std.specs.Prelude.{◌≡◌, ◌≢◌, ℕ, ◌+◌, ◌<◌, ◌≤◌, Bool, true, false, List, [], ◌∷◌, ◌++◌, length, slice_index, Contains}
+-- What each step of the table tells: of the step, its seat before, the number found (at a store, the number stored) and the seat after.
+-- And how views are cut in two and made one. The public contracts read none of this.
+use Rattle.std.specs.Prelude.{◌≡◌, ◌≢◌, ℕ, ◌+◌, ◌<◌, ◌≤◌, true, false, List, [], ◌∷◌, ◌++◌, length, Contains}
 use Rattle.verdict.specs.declared.Verdict.{Verdict}
 use Rattle.verdict.specs.declared.Ending.{Ending}
 use Rattle.atomic_table.specs.Table.{Me, Step}
 use Rattle.grant_board.specs.declared.laws.Word.TheVariants.{Offered, Taken, Posted}
 use Rattle.grant_board.specs.declared.view.View.{View}
-use Rattle.grant_board.specs.Words.{encode_of, IsWord, IsUnposted}
+use Rattle.grant_board.specs.Words.{encode_of, IsWord, IsAmong, IsUnposted}
 use Rattle.grant_board.specs.Weights.{total}
-use Rattle.grant_board.specs.Views.{Grant, grant, Terms, look, KeeperView, RelayView, KeeperPart, return_of, count_at, count_of, without}
-use Rattle.grant_board.specs.Rule.{Slot, MeetsRule}
+use Rattle.grant_board.specs.Views.{Grant, grant, Terms, RelayView, KeeperPart, count_at, count_of, without}
+use Rattle.grant_board.specs.Names.{no_terms}
+use Rattle.grant_board.specs.Rule.{Slot}
+use Rattle.grant_board.specs.Ruled.{view, at_rest, MeetsRule, MeetsRuleWith}
+use Rattle.grant_board.specs.KeeperCalls.{new_keeper, keeper_looked, offer_after, collect_after, limit_after}
+use Rattle.grant_board.specs.RelayCalls.{new_relay, relay_looked, take_after, post_after, split_after, join_after}
 
 abbrev pub Seated : Type 0
 Seated = Me Slot View
 
 abbrev pub Telling : Type 1
 Telling = Step Slot → Seated → ℕ → Seated → Type 0
-
-abbrev pub view : List KeeperPart → List RelayView → View
-view keepers relays = record { keepers = keepers; relays = relays }
 
 -- the view of a seat that was joined into another
 abbrev pub blank : View
@@ -33,52 +35,11 @@ keeper_seat k = seated (k ∷ []) []
 abbrev pub relay_seat : RelayView → Seated
 relay_seat r = seated [] (r ∷ [])
 
--- the keeper's view after each of its calls
-abbrev pub keeper_looked : KeeperView → ℕ → ℕ → KeeperView
-keeper_looked k place word = record k { looks = k.looks ++ look place word ∷ [] }
-
-abbrev pub offer_after : KeeperView → Grant → KeeperView
-offer_after k g = record k { out = k.out ++ g ∷ []; offers = k.offers ++ g ∷ [] }
-
-abbrev pub collect_after : KeeperView → Grant → Ending → KeeperView
-collect_after k g ending = record k { out = without g.place k.out; returns = k.returns ++ return_of g ending ∷ [] }
-
--- a relay seat's view after each of its calls
-abbrev pub relay_looked : RelayView → ℕ → ℕ → RelayView
-relay_looked r place word = record r { looks = r.looks ++ look place word ∷ [] }
-
-abbrev pub take_after : RelayView → Grant → RelayView
-take_after r g = record r { passes = r.passes ++ g ∷ []; takes = r.takes ++ g ∷ [] }
-
-abbrev pub post_after : RelayView → Grant → Ending → RelayView
-post_after r g ending = record r { passes = without g.place r.passes; posts = r.posts ++ return_of g ending ∷ [] }
-
-abbrev pub split_after : RelayView → RelayView
-split_after r = record r { split = r.split + 1 }
-
--- a seat that has done nothing
-abbrev pub new_relay : Terms → Bool → RelayView
-new_relay terms first = record { terms = terms; passes = []; takes = []; posts = []; looks = []; first = first; split = 0; joined = 0 }
-
-abbrev pub new_keeper : Terms → KeeperView
-new_keeper terms = record { terms = terms; bounds = terms.limits; out = []; offers = []; returns = []; looks = [] }
-
--- the first seat, once another is joined into it
-abbrev pub join_after : RelayView → RelayView → RelayView
-join_after r q = record r { passes = r.passes ++ q.passes; takes = r.takes ++ q.takes; posts = r.posts ++ q.posts; joined = r.joined + 1 }
-
 -- the view of the only seat of a new board
 abbrev pub opened : Terms → View
 opened terms = view (record { view = new_keeper terms; sight = [] } ∷ []) (new_relay terms true ∷ [])
 
--- the keeper between two calls
-abbrev pub at_rest : KeeperView → KeeperPart
-at_rest k = record { view = k; sight = [] }
-
 -- the parts of a seat. A seat of the wrong kind has these
-abbrev pub no_terms : Terms
-no_terms = record { places = 0; limits = [] }
-
 abbrev pub keeper_of : List KeeperPart → KeeperPart
 keeper_of [] = at_rest (new_keeper no_terms)
 keeper_of (k ∷ keepers) = k
@@ -120,6 +81,13 @@ clears st m r n =
     → (n ≡ keeper_seat (at_rest (collect_after k g ending))) × Contains k.out g
     × ((weight : Grant → ℕ) → total weight (without st.word k.out) + weight g ≡ total weight k.out)
 
+-- the keeper stores a server's bound
+abbrev pub limits : Telling
+limits st m r n =
+    let k = keeper_of m.0.keepers in
+    (server : ℕ) → server < length k.view.terms.limits → st.word ≡ k.view.terms.places + server
+    → n ≡ keeper_seat (record k { view = limit_after k.view server st.first })
+
 -- the keeper loads a word beside a relay's part: the relay's passes are out
 abbrev pub vouches : Telling
 vouches st m r n =
@@ -136,8 +104,10 @@ glances st m r n = n ≡ relay_seat (relay_looked (relay_of m.0.relays) st.word 
 abbrev pub takes : Telling
 takes st m r n =
     let q = relay_of m.0.relays in
-    (ticket : ℕ) (verdict : Verdict) → IsWord (Offered ticket verdict) → st.first ≡ encode_of (Offered ticket verdict) → st.second ≡ encode_of (Taken ticket verdict)
-    → (r ≡ st.first → (n ≡ relay_seat (take_after q (grant st.word ticket verdict))) × (length q.passes < q.terms.places))
+    (ticket : ℕ) (verdict : Verdict) → IsWord (Offered ticket verdict) → st.first ≡ encode_of (Offered ticket verdict)
+    → st.second ≡ encode_of (Taken ticket verdict)
+    → (r ≡ st.first → (n ≡ relay_seat (take_after q (grant st.word ticket verdict)))
+    × (length q.passes < q.terms.places) × IsAmong (length q.terms.limits) verdict)
     × (r ≢ st.first → n ≡ relay_seat (relay_looked q st.word r))
 
 -- a relay posts how the exchange of a pass ended
@@ -150,18 +120,19 @@ posts st m r n =
     → (n ≡ relay_seat (post_after q g ending))
     × ((weight : Grant → ℕ) → total weight (without st.word q.passes) + weight g ≡ total weight q.passes)
 
--- the passes of two seats are of different places, no more of them are of a server than its bound, and no more in all than places
-pub record AreApart (terms : Terms) (xs ys : List Grant) : Type 0 where
-  pub places : (place : ℕ) → count_at place xs + count_at place ys ≤ 1
-  pub bounds : (server : ℕ) → 0 < slice_index terms.limits server → count_of server xs + count_of server ys ≤ slice_index terms.limits server
-  pub room : length xs + length ys ≤ terms.places
+-- the passes of two seats are of different places, no more of them are of the server than its bound, where it has one, and no more in all than places
+pub record AreApart (places server bound : ℕ) (xs ys : List Grant) : Type 0 where
+  pub different : (place : ℕ) → count_at place xs + count_at place ys ≤ 1
+  pub bounded : 0 < bound → count_of server xs + count_of server ys ≤ bound
+  pub room : length xs + length ys ≤ places
 
--- a relay loads a word beside another's part
+-- a relay loads a server's word beside another's part
 abbrev pub meets : Telling
 meets st m r n =
     let q = relay_of m.0.relays in
     let other = relay_of (later m.0.relays) in
-    (n ≡ seated [] (relay_looked q st.word r ∷ other ∷ [])) × AreApart q.terms q.passes other.passes
+    (server : ℕ) → server < length q.terms.limits → st.word ≡ q.terms.places + server
+    → (n ≡ seated [] (relay_looked q st.word r ∷ other ∷ [])) × AreApart q.terms.places server r q.passes other.passes × MeetsRuleWith n.0 server r
 
 -- a load within a join, which is no look
 abbrev pub counts : Telling

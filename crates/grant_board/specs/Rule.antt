@@ -1,5 +1,5 @@
 -- The rule of the board, which holds between any two steps. A clause about each weighing says that two lists have the same grants, each as often.
-use Rattle.std.specs.Prelude.{◌≡◌, ℕ, ◌+◌, ◌<◌, ◌≤◌, if◌then◌else◌, List, map, take, length, slice_index}
+use Rattle.std.specs.Prelude.{◌≡◌, ℕ, ◌+◌, ◌<◌, ◌≤◌, ◌++◌, if◌then◌else◌, List, map, take, length, slice_index}
 use mathlib.Core.Option.{some}
 use lib.ListN.{get_elem?}
 use Rattle.atomic_table.specs.Table.{State}
@@ -8,7 +8,7 @@ use Rattle.grant_board.specs.declared.laws.Word.TheVariants.{Empty, Offered, Tak
 use Rattle.grant_board.specs.declared.returned.Return.{Return}
 use Rattle.grant_board.specs.declared.view.View.{View}
 use Rattle.grant_board.specs.declared.view.Plan.{Plan}
-use Rattle.grant_board.specs.Words.{encode_of, IsWord}
+use Rattle.grant_board.specs.Words.{encode_of, IsWord, IsWordAmong}
 use Rattle.grant_board.specs.Weights.{total, along, Each}
 use Rattle.grant_board.specs.Views.{Grant, grant, Terms, KeeperPart, RelayView, Sighting, return_of, count_of}
 
@@ -81,13 +81,15 @@ abbrev pub Agrees : Terms → List ℕ → View → Type 0
 Agrees terms bounds v = Each (KeeperAgrees terms bounds) v.keepers × Each (RelayAgrees terms) v.relays
 
 pub record Orderly (terms : Terms) (s : BoardState) : Type 0 where
-  -- what the words say, and the servers' bounds
+  -- a word for each place, and behind them one for each server, which is its bound
   pub cells : List Word
   pub bounds : List ℕ
-  pub words : s.words ≡ map encode_of cells
-  pub valid : Each IsWord cells
+  pub words : s.words ≡ map encode_of cells ++ bounds
   pub long : length cells ≡ terms.places
-  pub fixed : bounds ≡ terms.limits
+  pub servers : length bounds ≡ length terms.limits
+  -- the places' words have numbers, and speak of the board's servers
+  pub valid : Each IsWord cells
+  pub among : Each (IsWordAmong (length terms.limits)) cells
   -- one keeper, and one first seat, which knows how many others there are
   pub one_keeper : of_keepers (λ _. 1) s.views ≡ 1
   pub one_first : of_relays is_first s.views ≡ 1
@@ -97,19 +99,13 @@ pub record Orderly (terms : Terms) (s : BoardState) : Type 0 where
   -- the words that are taken have the passes of all seats, so that no pass is with two of them
   pub passes : (weight : Grant → ℕ) → of_relays (λ r. total weight r.passes) s.views ≡ along (taken weight) 0 cells
   -- what was offered was taken or stands offered, each as often
-  pub offers : (weight : Grant → ℕ) → of_relays (λ r. total weight r.takes) s.views + along (offered weight) 0 cells ≡ of_keepers (λ k. total weight k.view.offers) s.views
+  pub offers : (weight : Grant → ℕ)
+      → of_relays (λ r. total weight r.takes) s.views + along (offered weight) 0 cells ≡ of_keepers (λ k. total weight k.view.offers) s.views
   -- what was posted has come back or stands posted, each as often
-  pub posts : (weight : Return → ℕ) → of_keepers (λ k. total weight k.view.returns) s.views + along (posted (as_return weight)) 0 cells ≡ of_relays (λ r. total weight r.posts) s.views
+  pub posts : (weight : Return → ℕ)
+      → of_keepers (λ k. total weight k.view.returns) s.views + along (posted (as_return weight)) 0 cells ≡ of_relays (λ r. total weight r.posts) s.views
   -- no more grants of a server are out than its bound, where it has one
   pub bounded : (server : ℕ) → 0 < slice_index bounds server → of_keepers (λ k. count_of server k.view.out) s.views ≤ slice_index bounds server
   -- what the keeper has in sight stands posted
   pub sight : (weight : Sighting → ℕ) → of_keepers (λ k. total weight k.sight) s.views ≤ along (posted weight) 0 cells
   pub agree : (j : ℕ) (v : View) → get_elem? s.views j ≡ some v → Agrees terms bounds v
-
--- the rule holds of a state of the board, in which one seat has this view
-pub record MeetsRule (v : View) : Type 0 where
-  pub terms : Terms
-  pub state : BoardState
-  pub rule : Orderly terms state
-  pub seat : ℕ
-  pub seen : get_elem? state.views seat ≡ some v

@@ -20,7 +20,10 @@ pub record Terms : Type 0 where
   pub places : ℕ
   pub limits : List ℕ
 
--- the number that a load or a failed exchange found at a place
+abbrev pub terms : ℕ → List ℕ → Terms
+terms places limits = record { places = places; limits = limits }
+
+-- the number that a load or a failed exchange found in a word: a place's, or behind these a server's
 pub record Look : Type 0 where
   pub place : ℕ
   pub word : ℕ
@@ -28,7 +31,8 @@ pub record Look : Type 0 where
 abbrev pub look : ℕ → ℕ → Look
 look place word = record { place = place; word = word }
 
--- What the keeper knows: the grants that are out, each server's bound, of which 0 is none, all that it offered, all that came back, and its looks, each list in the order of its steps
+-- What the keeper knows: each server's bound, of which 0 is none, the grants that are out, all that it offered, all that came back, and its looks.
+-- Each list is in the order of its steps
 pub record KeeperView : Type 0 where
   pub terms : Terms
   pub bounds : List ℕ
@@ -37,7 +41,8 @@ pub record KeeperView : Type 0 where
   pub returns : List Return
   pub looks : List Look
 
--- What a relay seat knows: the passes that it has, all that it took, all that it posted, and its looks. The first seat also counts the seats that it split off and those that it joined
+-- What a relay seat knows: the passes that it has, all that it took, all that it posted, and its looks.
+-- The first seat also counts the seats that it split off and those that it joined
 pub record RelayView : Type 0 where
   pub terms : Terms
   pub passes : List Grant

@@ -1,5 +1,5 @@
--- Lists compared by weight: two lists that weigh the same under every weighing have the same items, each as often.
-use Rattle.std.specs.Prelude.{ℕ, suc, ◌+◌, List, [], ◌∷◌}
+-- Lists of any items compared by weight: two lists that weigh the same under every weighing have the same items, each as often.
+use Rattle.std.specs.Prelude.{ℕ, suc, ◌+◌, ◌≤◌, List, [], ◌∷◌}
 
 -- the weights of the items, added up
 abbrev pub total : {A : Type 0} → (A → ℕ) → List A → ℕ
@@ -15,3 +15,7 @@ along weight i (x ∷ xs) = weight i x + along weight (suc i) xs
 abbrev pub Each : {A : Type 0} → (A → Type 0) → List A → Type 0
 Each P [] = Unit {0}
 Each P (x ∷ xs) = P x × Each P xs
+
+-- each item of the first list is in the second, as often
+abbrev pub AreIn : {A : Type 0} → List A → List A → Type 0
+AreIn {A} xs ys = (weight : A → ℕ) → total weight xs ≤ total weight ys

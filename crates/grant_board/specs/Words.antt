@@ -1,5 +1,6 @@
--- A place's word, as a number. Bits 0 and 1 are its kind, bits 2 to 8 the verdict, bit 9 is set in the word of a failed ending, and the ticket stands from bit 10 on.
-use Rattle.std.specs.Prelude.{◌≢◌, ℕ, ◌+◌, ◌*◌, ◌^◌, ◌<◌}
+-- A place's word, as a number. Bits 0 and 1 are its kind, bits 2 to 8 the verdict, bit 9 is set in the word of a failed ending,
+-- and the ticket stands from bit 10 on.
+use Rattle.std.specs.Prelude.{◌≢◌, ℕ, ◌+◌, ◌*◌, ◌^◌, ◌<◌, ◌==◌, if◌then◌else◌}
 use Rattle.verdict.specs.declared.cause.Cause.TheVariants.{Aborted, Timeout, Retries, NoServer}
 use Rattle.verdict.specs.declared.Verdict.{Verdict}
 use Rattle.verdict.specs.declared.Verdict.TheVariants.{Serve, Told}
@@ -24,10 +25,14 @@ encode_of (Taken ticket verdict) = 1024 * ticket + 4 * code_of verdict + 2
 encode_of (Posted ticket verdict Done) = 1024 * ticket + 4 * code_of verdict + 3
 encode_of (Posted ticket verdict Failed) = 1024 * ticket + 512 + 4 * code_of verdict + 3
 
+-- the server of a verdict is one of so many
+abbrev pub IsAmong : ℕ → Verdict → Type 0
+IsAmong servers (Serve server) = server < servers
+IsAmong servers (Told cause) = Unit {0}
+
 -- there are at most 64 servers
 abbrev pub IsVerdict : Verdict → Type 0
-IsVerdict (Serve server) = server < 64
-IsVerdict (Told cause) = Unit {0}
+IsVerdict verdict = IsAmong 64 verdict
 
 -- only an exchange with a server can fail
 abbrev pub MayEnd : Verdict → Ending → Type 0
@@ -41,10 +46,22 @@ IsWord (Offered ticket verdict) = (ticket < 2 ^ 40) × IsVerdict verdict
 IsWord (Taken ticket verdict) = (ticket < 2 ^ 40) × IsVerdict verdict
 IsWord (Posted ticket verdict ending) = (ticket < 2 ^ 40) × IsVerdict verdict × MayEnd verdict ending
 
+-- a word whose server, if it names one, is one of so many
+abbrev pub IsWordAmong : ℕ → Word → Type 0
+IsWordAmong servers Empty = Unit {0}
+IsWordAmong servers (Offered ticket verdict) = IsAmong servers verdict
+IsWordAmong servers (Taken ticket verdict) = IsAmong servers verdict
+IsWordAmong servers (Posted ticket verdict ending) = IsAmong servers verdict
+
 -- the number of no word that is posted
 abbrev pub IsUnposted : ℕ → Type 0
-IsUnposted number = (ticket : ℕ) (verdict : Verdict) (ending : Ending) → IsWord (Posted ticket verdict ending) → number ≢ encode_of (Posted ticket verdict ending)
+IsUnposted number = (ticket : ℕ) (verdict : Verdict) (ending : Ending) → IsWord (Posted ticket verdict ending)
+    → number ≢ encode_of (Posted ticket verdict ending)
 
 -- the number of no word that offers this ticket
 abbrev pub OffersNot : ℕ → ℕ → Type 0
 OffersNot ticket number = (verdict : Verdict) → IsWord (Offered ticket verdict) → number ≢ encode_of (Offered ticket verdict)
+
+-- 1 of a number that isn't 0
+abbrev pub nonzero : ℕ → ℕ
+nonzero number = if number == 0 then 0 else 1

@@ -4,7 +4,8 @@ use atomic_table::Table;
 use std::alloc::Global;
 use std::marker::{Brand, Model};
 
-/// A word for each place, which threads share. Contracts see the name that no other board has.
+/// A word for each place, and behind them one for each server, which threads share. Contracts see the name that no other
+/// board has.
 #[derive(Drop)]
 pub struct Board {
     pub(crate) table: Table<(), View, Plan, Order, Global>,
@@ -21,16 +22,21 @@ impl Model for Board {
     ghost invariant = { λ b. b.table.shared.table_id.slots ≡ 0 };
 }
 
-/// Names one board, for generic types that hold its seats. It has no functions: who opens a board calls a function that is
-/// generic in the name, and the name stands for that board in the call's proof.
+/// Names one board and what it was opened with, for generic types that hold its seats. It has no functions: who opens a
+/// board calls a function that is generic in the name, and the name stands for that board in the call's proof.
 pub trait BoardName {
     ghost use Rattle.atomic_table.specs.Seated.{TableId};
+    ghost use Rattle.grant_board.specs.Views.{Terms};
 
     ghost board: { TableId };
+
+    ghost terms: { Terms };
 }
 
 impl BoardName for Brand {
-    ghost use Rattle.grant_board.specs.Seats.{no_board};
+    ghost use Rattle.grant_board.specs.Names.{no_board, no_terms};
 
     ghost board = { no_board };
+
+    ghost terms = { no_terms };
 }

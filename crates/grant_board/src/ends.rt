@@ -1,10 +1,12 @@
 // How a board begins and ends.
-ghost use Rattle.std.specs.Prelude.{◌≡◌, ◌<◌, ◌≤◌, true, length, IfOk};
+ghost use Rattle.std.specs.Prelude.{◌≡◌, ◌<◌, ◌≤◌, ◌++◌, true, length, take, replicate, IfOk};
 ghost use Rattle.std.specs.Mem.Slots.{slots_items, slots_len, IsFull};
 ghost use Rattle.grant_board.specs.Weights.{total};
+ghost use Rattle.grant_board.specs.Words.{nonzero};
+ghost use Rattle.grant_board.specs.Views.{terms};
 ghost use Rattle.grant_board.specs.Rule.{terms_of};
-ghost use Rattle.grant_board.specs.Plays.{new_keeper, new_relay};
-ghost use Rattle.grant_board.specs.Seats.{terms, nonzero, IsClosed};
+ghost use Rattle.grant_board.specs.KeeperCalls.{new_keeper, IsClosed};
+ghost use Rattle.grant_board.specs.RelayCalls.{new_relay};
 
 use crate::board::Board;
 use crate::keeper::KeeperSeat;
@@ -19,13 +21,13 @@ use std::alloc::{AllocError, Global};
 /// What a board held at its end.
 #[derive(Clone, Copy, Debug, PartialEq, Eq)]
 pub struct Closing {
-    /// The places whose words weren't empty.
+    /// The places whose words weren't empty; servers' words don't count.
     pub left: u64,
 }
 
 impl Board {
     /// A board whose places are empty, with the seat of its keeper and the first relay's. The limits are those of the servers,
-    /// by number; a limit of 0 is none. It takes a word for each place.
+    /// by number, and their first bounds; a limit of 0 is none. It takes a word for each place and each server.
     pub fn open(
         alloc: Global,
         places: usize,
@@ -36,16 +38,19 @@ impl Board {
         ensures keeper { IfOk result (λ made. made.1 ≡ record { board = made.0; view = new_keeper (terms places limits.now) }) }
         ensures relay { IfOk result (λ made. made.2 ≡ record { board = made.0; view = new_relay (terms places limits.now) true }) }
     {
-        let words = vec![in alloc; 0; places]?;
+        let words = first_words(alloc, places, limits)?;
         let plan = plan(places, limits);
         let (table, mut seat) = Table::of_words(alloc, &words, &plan)?;
         let first = table.shared.split_seat::<Beside>(&mut seat);
         let relay = RelaySeat {
-            relaying: Relaying { seat: first },
+            relaying: Relaying {
+                seat: first,
+                places,
+            },
             first: true,
             tally: Tally::none(),
         };
-        Ok((Board { table }, KeeperSeat { seat }, relay))
+        Ok((Board { table }, KeeperSeat { seat, places }, relay))
     }
 
     /// Ends the board, once all its seats are joined, and gives its memory back.
@@ -57,20 +62,36 @@ impl Board {
         ensures { IsClosed keeper.view relay.view result.left }
     {
         let Board { table } = self;
-        let KeeperSeat { mut seat } = keeper;
+        let KeeperSeat { mut seat, places } = keeper;
         let RelaySeat {
             relaying,
             first: _,
             tally: _,
         } = relay;
-        let Relaying { seat: other } = relaying;
+        let Relaying {
+            seat: other,
+            places: _,
+        } = relaying;
         table.shared.join_seat::<Beside>(&mut seat, other);
-        let places = table.word_count();
         let closed = table.close_with(seat);
         let left = left_over(&closed, places);
         closed.free();
         Closing { left }
     }
+}
+
+// An empty word for each place, and behind them the servers' limits.
+fn first_words(alloc: Global, places: usize, limits: &[u32]) -> Result<Vec<u64>, AllocError>
+    requires places_fit { places ≤ 4096 }
+    requires servers_fit { length limits.now ≤ 64 }
+    ensures { IfOk result (λ words. words.items ≡ replicate places 0 ++ limits.now) }
+{
+    let mut words = Vec::with_capacity(alloc, places + limits.len())?;
+    words.resize(places, 0)?;
+    for limit in limits {
+        words.push(u64::from(*limit))?;
+    }
+    Ok(words)
 }
 
 // What the table is told of the limits.
@@ -88,14 +109,14 @@ fn plan(places: usize, limits: &[u32]) -> Plan
     }
 }
 
-// The words that aren't empty.
-fn left_over(closed: &Closed<(), Global>, words: usize) -> u64
+// The places' words that aren't empty.
+fn left_over(closed: &Closed<(), Global>, places: usize) -> u64
     requires full { IsFull closed.now.words }
-    requires count { words ≡ slots_len closed.now.words }
-    ensures { result ≡ total nonzero (slots_items closed.now.words) }
+    requires places_fit { places ≤ slots_len closed.now.words }
+    ensures { result ≡ total nonzero (take places (slots_items closed.now.words)) }
 {
     let mut left = 0;
-    for i in 0..words {
+    for i in 0..places {
         if closed.word(i) != 0 {
             left += 1;
         }

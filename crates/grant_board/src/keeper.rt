@@ -1,11 +1,11 @@
-ghost use Rattle.std.specs.Prelude.{◌≡◌, ◌^◌, ◌<◌, [], ◌∷◌, ◌++◌, IfSome, IfNone, length};
-ghost use Rattle.grant_board.specs.Views.{grant, count_at, look};
-ghost use Rattle.grant_board.specs.Plays.{offer_after};
-ghost use Rattle.grant_board.specs.Seats.{HasRoom, Collects, FindsUnposted, AreIn, KeeperRuled, VouchRuled};
+ghost use Rattle.std.specs.Prelude.{◌≡◌, ◌^◌, ◌<◌, IfSome, IfNone, length};
+ghost use Rattle.grant_board.specs.Views.{grant, count_at};
+ghost use Rattle.grant_board.specs.Ruled.{KeeperRuled, VouchRuled};
+ghost use Rattle.grant_board.specs.KeeperCalls.{HasRoom, offer_after, Collects, FindsUnposted, MayLimit, limit_after, Vouches};
 
 use crate::board::Board;
 use crate::laws::{Word, encode, posted_in};
-use crate::plays::{Beside, Clear, Offer, See, Vouch};
+use crate::plays::{Beside, Clear, Limit, Offer, See, Vouch};
 use crate::relay::RelaySeat;
 use crate::relaying::Relaying;
 use crate::returned::Return;
@@ -14,15 +14,16 @@ use atomic_table::Seat;
 use std::marker::Model;
 use verdict::Verdict;
 
-/// The seat of the one thread at a time that offers verdicts and collects endings. Contracts see its board, and what it
-/// knows.
+/// The seat of the one thread at a time that offers verdicts, collects endings and sets bounds. Contracts see its board,
+/// and what it knows.
 #[derive(Drop)]
 pub struct KeeperSeat {
     pub(crate) seat: Seat<(), View>,
+    pub(crate) places: usize,
 }
 
 impl Model for KeeperSeat {
-    ghost use Rattle.grant_board.specs.Seats.{Keeper};
+    ghost use Rattle.grant_board.specs.KeeperCalls.{Keeper};
     ghost use Rattle.grant_board.specs.Plays.{keeper_of};
     ghost use Rattle.grant_board.specs.Parts.{IsKeeperSeat};
 
@@ -30,7 +31,7 @@ impl Model for KeeperSeat {
 
     ghost view = { λ s. record { board = s.seat.table_id; view = (keeper_of s.seat.me.0.keepers).view } };
 
-    ghost invariant = { λ s. IsKeeperSeat s.seat.table_id s.seat.me };
+    ghost invariant = { λ s. IsKeeperSeat s.seat.table_id s.places s.seat.me };
 }
 
 impl KeeperSeat {
@@ -49,8 +50,8 @@ impl KeeperSeat {
         board.table.shared.store::<Offer>(seat, place, word);
     }
 
-    /// What came back from the place, which is then empty; `None` where nothing is posted there. One step or two, and no
-    /// memory.
+    /// What came back from the place, which is then empty; `None` where nothing is posted there. One load, then one store
+    /// where it found something, and no memory.
     pub fn collect(&mut self, board: &Board, place: usize) -> Option<Return>
         requires same_board { self.old.board ≡ board.now }
         requires in_range { place < self.old.view.terms.places }
@@ -73,16 +74,30 @@ impl KeeperSeat {
         })
     }
 
+    /// Sets a server's bound, of which 0 is none. One step, and no memory.
+    pub fn limit(&mut self, board: &Board, server: usize, bound: u32)
+        requires same_board { self.old.board ≡ board.now }
+        requires may_limit { MayLimit self.old.view server bound }
+        ensures limited { self.new ≡ record self.old { view = limit_after self.old.view server bound } }
+        ensures ruled { KeeperRuled self.new.view }
+    {
+        let seat = &mut self.seat;
+        let word = self.places + server;
+        board
+            .table
+            .shared
+            .store::<Limit>(seat, word, u64::from(bound));
+    }
+
     /// The relay's seat as it was, and how many passes it has, each of which is out. Three steps, and no memory.
     pub fn vouch(&mut self, board: &Board, relay: RelaySeat) -> (RelaySeat, u64)
         requires same_board { self.old.board ≡ board.now }
         requires relay_board { relay.board ≡ board.now }
         ensures back { result.0 ≡ relay }
         ensures count { result.1 ≡ length relay.view.passes }
+        ensures vouched { Vouches self.old.view self.new.view relay.view.passes }
+        ensures board { self.new.board ≡ self.old.board }
         ensures ruled { VouchRuled self.new.view relay.view }
-        ensures passes { AreIn relay.view.passes self.old.view.out }
-        ensures same { self.new ≡ record self.old { view = record self.old.view { looks = self.new.view.looks } } }
-        ensures looked { (word : _) × (self.new.view.looks ≡ self.old.view.looks ++ look 0 word ∷ []) }
     {
         let RelaySeat {
             relaying,
@@ -103,15 +118,14 @@ impl KeeperSeat {
         requires same_board { self.old.board ≡ board.now }
         requires relay_board { relaying.board ≡ board.now }
         ensures back { result ≡ relaying }
-        ensures same { self.new ≡ record self.old { view = record self.old.view { looks = self.new.view.looks } } }
-        ensures looked { (word : _) × (self.new.view.looks ≡ self.old.view.looks ++ look 0 word ∷ []) }
+        ensures vouched { Vouches self.old.view self.new.view relaying.view.passes }
+        ensures board { self.new.board ≡ self.old.board }
         ensures ruled { VouchRuled self.new.view relaying.view }
-        ensures passes { AreIn relaying.view.passes self.old.view.out }
     {
-        let Relaying { seat } = relaying;
+        let Relaying { seat, places } = relaying;
         board.table.shared.join_seat::<Beside>(&mut self.seat, seat);
         board.table.shared.load::<Vouch>(&mut self.seat, 0);
         let seat = board.table.shared.split_seat::<Beside>(&mut self.seat);
-        Relaying { seat }
+        Relaying { seat, places }
     }
 }

@@ -1,6 +1,6 @@
 // The rule of the board's table, and the names of its steps.
 ghost use Rattle.grant_board.specs.Rule.{Orderly, terms_of};
-ghost use Rattle.grant_board.specs.Plays.{opened, blank, ruled, offers, sees, clears, vouches, glances, takes, posts, meets, counts, beside, aside, cut_off, parent, child, gathered};
+ghost use Rattle.grant_board.specs.Plays.{opened, blank, ruled, offers, sees, clears, limits, vouches, glances, takes, posts, meets, counts, beside, aside, cut_off, parent, child, gathered};
 
 use crate::view::{Plan, View};
 use atomic_table::{Join, Play, Split, TableRule};
@@ -32,6 +32,12 @@ impl Play<(), View> for Clear {
     ghost then = { ruled clears };
 }
 
+pub struct Limit;
+
+impl Play<(), View> for Limit {
+    ghost then = { ruled limits };
+}
+
 pub struct Vouch;
 
 impl Play<(), View> for Vouch {
@@ -59,7 +65,7 @@ impl Play<(), View> for Post {
 pub struct Meet;
 
 impl Play<(), View> for Meet {
-    ghost then = { ruled meets };
+    ghost then = { meets };
 }
 
 pub struct Count;

@@ -1,8 +1,9 @@
-ghost use Rattle.std.specs.Prelude.{◌≡◌, ◌+◌, ◌<◌, ◌≤◌, true, false, [], ◌∷◌, ◌++◌, length, slice_index, Contains};
+ghost use Rattle.std.specs.Prelude.{◌≡◌, ◌+◌, ◌<◌, ◌≤◌, true, false, length, slice_index, Contains};
 ghost use Rattle.grant_board.specs.Words.{MayEnd};
-ghost use Rattle.grant_board.specs.Views.{count_at, count_of, look};
-ghost use Rattle.grant_board.specs.Plays.{post_after, split_after, join_after, new_relay};
-ghost use Rattle.grant_board.specs.Seats.{Answers, RelayRuled, MeetRuled};
+ghost use Rattle.grant_board.specs.Weights.{total};
+ghost use Rattle.grant_board.specs.Views.{Grant, count_at, count_of};
+ghost use Rattle.grant_board.specs.Ruled.{RelayRuled, MeetRuled};
+ghost use Rattle.grant_board.specs.RelayCalls.{Answers, relay_looked, post_after, split_after, join_after, new_relay};
 
 use crate::board::Board;
 use crate::laws::offered_in;
@@ -21,7 +22,7 @@ pub struct RelaySeat {
 }
 
 impl Model for RelaySeat {
-    ghost use Rattle.grant_board.specs.Seats.{Relay};
+    ghost use Rattle.grant_board.specs.RelayCalls.{Relay};
     ghost use Rattle.grant_board.specs.Counted.{IsCounted};
 
     ghost Value = { Relay };
@@ -29,6 +30,15 @@ impl Model for RelaySeat {
     ghost view = { λ s. s.relaying };
 
     ghost invariant = { λ s. IsCounted s.relaying s.first s.tally };
+}
+
+/// What two seats that met were told of a server.
+#[derive(Clone, Copy, Debug, PartialEq, Eq)]
+pub struct Met {
+    /// How many passes of the server the two have together.
+    pub passes: u64,
+    /// The server's bound, of which 0 is none.
+    pub bound: u64,
 }
 
 impl RelaySeat {
@@ -69,6 +79,7 @@ impl RelaySeat {
         requires held { Contains self.old.view.passes pass }
         requires may_end { MayEnd pass.verdict ending }
         ensures posted { self.new ≡ record self.old { view = post_after self.old.view pass ending } }
+        ensures weighs { (weight : Grant → _) → total weight self.new.view.passes + weight pass ≡ total weight self.old.view.passes }
         ensures ruled { RelayRuled self.new.view }
     {
         let Pass {
@@ -80,19 +91,19 @@ impl RelaySeat {
         self.tally.remove(verdict);
     }
 
-    /// The other seat as it was, and how many passes of the server the two have together. Three steps, and no memory.
-    pub fn meet(&mut self, board: &Board, other: RelaySeat, server: usize) -> (RelaySeat, u64)
+    /// The other seat as it was, how many passes of the server the two have together, and the server's bound at that step.
+    /// Three steps, and no memory.
+    pub fn meet(&mut self, board: &Board, other: RelaySeat, server: usize) -> (RelaySeat, Met)
         requires same_board { self.old.board ≡ board.now }
         requires other_board { other.board ≡ board.now }
         requires server { server < length self.old.view.terms.limits }
         ensures back { result.0 ≡ other }
-        ensures count { result.1 ≡ count_of server self.old.view.passes + count_of server other.view.passes }
-        ensures within_limit { 0 < slice_index self.old.view.terms.limits server → result.1 ≤ slice_index self.old.view.terms.limits server }
-        ensures within_places { result.1 ≤ self.old.view.terms.places }
+        ensures passes { result.1.passes ≡ count_of server self.old.view.passes + count_of server other.view.passes }
+        ensures within_bound { 0 < result.1.bound → result.1.passes ≤ result.1.bound }
+        ensures within_places { result.1.passes ≤ self.old.view.terms.places }
         ensures apart { (place : _) → count_at place self.old.view.passes + count_at place other.view.passes ≤ 1 }
-        ensures ruled { MeetRuled self.new.view other.view }
-        ensures same { self.new ≡ record self.old { view = record self.old.view { looks = self.new.view.looks } } }
-        ensures looked { (word : _) × (self.new.view.looks ≡ self.old.view.looks ++ look 0 word ∷ []) }
+        ensures ruled { MeetRuled self.new.view other.view server result.1.bound }
+        ensures looked { self.new ≡ record self.old { view = relay_looked self.old.view (self.old.view.terms.places + server) result.1.bound } }
     {
         let mine = &self.tally;
         let RelaySeat {
@@ -101,13 +112,13 @@ impl RelaySeat {
             tally,
         } = other;
         let passes = u64::from(mine.of_server[server]) + u64::from(tally.of_server[server]);
-        let relaying = self.relaying.meet(board, relaying);
+        let (relaying, bound) = self.relaying.meet(board, relaying, server);
         let other = RelaySeat {
             relaying,
             first,
             tally,
         };
-        (other, passes)
+        (other, Met { passes, bound })
     }
 
     /// A seat for another thread. No memory.

@@ -1,11 +1,12 @@
 // A relay's seat of the table, a step at a time.
-ghost use Rattle.std.specs.Prelude.{◌≡◌, ◌≢◌, ◌+◌, ◌<◌, ◌≤◌, [], ◌∷◌, ◌++◌, true, false, length, Contains};
+ghost use Rattle.std.specs.Prelude.{◌≡◌, ◌≢◌, ◌+◌, ◌<◌, ◌≤◌, true, false, length, Contains};
 ghost use Rattle.grant_board.specs.declared.laws.Word.TheVariants.{Offered, Posted};
-ghost use Rattle.grant_board.specs.Words.{encode_of, IsWord};
+ghost use Rattle.grant_board.specs.Words.{encode_of, IsWord, IsAmong};
 ghost use Rattle.grant_board.specs.Weights.{total};
-ghost use Rattle.grant_board.specs.Views.{Grant, grant, look};
-ghost use Rattle.grant_board.specs.Seats.{RelayRuled, MeetRuled};
-ghost use Rattle.grant_board.specs.Plays.{relay_looked, take_after, post_after, split_after, join_after, new_relay, AreApart};
+ghost use Rattle.grant_board.specs.Views.{Grant, grant};
+ghost use Rattle.grant_board.specs.Ruled.{RelayRuled, MeetRuled};
+ghost use Rattle.grant_board.specs.RelayCalls.{relay_looked, take_after, post_after, split_after, join_after, new_relay};
+ghost use Rattle.grant_board.specs.Plays.{AreApart};
 
 use crate::board::Board;
 use crate::laws::{Word, encode};
@@ -18,10 +19,11 @@ use verdict::{Ending, Verdict};
 #[derive(Drop)]
 pub struct Relaying {
     pub(crate) seat: Seat<(), View>,
+    pub(crate) places: usize,
 }
 
 impl Model for Relaying {
-    ghost use Rattle.grant_board.specs.Seats.{Relay};
+    ghost use Rattle.grant_board.specs.RelayCalls.{Relay};
     ghost use Rattle.grant_board.specs.Plays.{relay_of};
     ghost use Rattle.grant_board.specs.Parts.{IsRelaySeat};
 
@@ -29,7 +31,7 @@ impl Model for Relaying {
 
     ghost view = { λ s. record { board = s.seat.table_id; view = relay_of s.seat.me.0.relays } };
 
-    ghost invariant = { λ s. IsRelaySeat s.seat.table_id s.seat.me };
+    ghost invariant = { λ s. IsRelaySeat s.seat.table_id s.places s.seat.me };
 }
 
 impl Relaying {
@@ -49,7 +51,9 @@ impl Relaying {
         requires same_board { self.old.board ≡ board.now }
         requires in_range { place < self.old.view.terms.places }
         requires word { IsWord (Offered ticket verdict) }
-        ensures took { result ≡ true → (self.new ≡ record self.old { view = take_after self.old.view (grant place ticket verdict) }) × (length self.old.view.passes < self.old.view.terms.places) }
+        ensures took { result ≡ true → self.new ≡ record self.old { view = take_after self.old.view (grant place ticket verdict) } }
+        ensures room { result ≡ true → length self.old.view.passes < self.old.view.terms.places }
+        ensures among { result ≡ true → IsAmong (length self.old.view.terms.limits) verdict }
         ensures late { result ≡ false → (word : _) × (self.new ≡ record self.old { view = relay_looked self.old.view place word }) × (word ≢ encode_of (Offered ticket verdict)) }
         ensures ruled { RelayRuled self.new.view }
     {
@@ -85,21 +89,23 @@ impl Relaying {
             .store::<Post>(&mut self.seat, place, posted);
     }
 
-    // Both seats as they were, but for a look of this one, beside what their passes are together.
-    pub fn meet(&mut self, board: &Board, other: Relaying) -> Relaying
+    // Both seats as they were, but for a look of this one at the server's bound, and that bound, beside what their passes
+    // are together.
+    pub fn meet(&mut self, board: &Board, other: Relaying, server: usize) -> (Relaying, u64)
         requires same_board { self.old.board ≡ board.now }
         requires other_board { other.board ≡ board.now }
-        ensures back { result ≡ other }
-        ensures same { self.new ≡ record self.old { view = record self.old.view { looks = self.new.view.looks } } }
-        ensures looked { (word : _) × (self.new.view.looks ≡ self.old.view.looks ++ look 0 word ∷ []) }
-        ensures ruled { MeetRuled self.new.view other.view }
-        ensures apart { AreApart self.old.view.terms self.old.view.passes other.view.passes }
+        requires server { server < length self.old.view.terms.limits }
+        ensures back { result.0 ≡ other }
+        ensures looked { self.new ≡ record self.old { view = relay_looked self.old.view (self.old.view.terms.places + server) result.1 } }
+        ensures ruled { MeetRuled self.new.view other.view server result.1 }
+        ensures apart { AreApart self.old.view.terms.places server result.1 self.old.view.passes other.view.passes }
     {
-        let Relaying { seat } = other;
+        let Relaying { seat, places } = other;
         board.table.shared.join_seat::<Beside>(&mut self.seat, seat);
-        board.table.shared.load::<Meet>(&mut self.seat, 0);
+        let word = self.places + server;
+        let bound = board.table.shared.load::<Meet>(&mut self.seat, word);
         let seat = board.table.shared.split_seat::<Beside>(&mut self.seat);
-        Relaying { seat }
+        (Relaying { seat, places }, bound)
     }
 
     pub fn split(&mut self, board: &Board) -> Relaying
@@ -108,8 +114,9 @@ impl Relaying {
         ensures parent { self.new ≡ record self.old { view = split_after self.old.view } }
         ensures child { result ≡ record { board = self.old.board; view = new_relay self.old.view.terms false } }
     {
+        let places = self.places;
         let seat = board.table.shared.split_seat::<Branch>(&mut self.seat);
-        Relaying { seat }
+        Relaying { seat, places }
     }
 
     // The load tells that both seats' passes fit on the board.
@@ -121,7 +128,7 @@ impl Relaying {
         ensures ruled { RelayRuled self.new.view }
         ensures room { length self.new.view.passes ≤ self.new.view.terms.places }
     {
-        let Relaying { seat } = other;
+        let Relaying { seat, places: _ } = other;
         board.table.shared.join_seat::<Branch>(&mut self.seat, seat);
         board.table.shared.load::<Count>(&mut self.seat, 0);
     }

@@ -1,7 +1,7 @@
 use Rattle.std.proofs.Common.{◌≡◌, ◌≤◌, take}
 use Rattle.std.specs.Mem.Slots.{slots_items}
 use Rattle.grant_board.specs.Weights.{total}
-use Rattle.grant_board.specs.Seats.{nonzero}
+use Rattle.grant_board.specs.Words.{nonzero}
 use Rattle.grant_board.proofs.ends.left_over.Given as goal
 
 abbrev pub invariant-loop-i : goal.invariant-loop-i

@@ -1,4 +1,5 @@
-use Rattle.std.proofs.Common.{ap, sym, ◌∙◌, true, length, replicate, [], arith}
+use Rattle.std.proofs.Common.{ℕ, ap, sym, ◌∙◌, true, length, replicate, [], ◌++◌, arith}
+use Rattle.std.proofs.lemmas.List.{length-append, length-replicate}
 use Rattle.grant_board.specs.Rule.{terms_of}
 use Rattle.grant_board.specs.Plays.{relay_of, cut_off}
 use Rattle.grant_board.proofs.Ending.{opens_at}
@@ -8,13 +9,14 @@ use Rattle.grant_board.proofs.board.Board.open.Goals as goal
 
 pub of_words-requires : goal.of_words-requires
 of_words-requires c = opens_at (terms_of c.plan-plan.result) c.deref.result.now
-    (c.deref.ensures.value ∙ (c.in_ok-words.ensures.items_if_clones_equal (λ y e. e) ∙ ap (λ n. replicate n 0) (sym (ap (λ t. t.places) c.plan-plan.ensures))))
+    (c.deref.ensures.value ∙ (c.in_ok-words.ensures ∙ ap (λ t. replicate t.places 0 ++ t.limits) (sym c.plan-plan.ensures)))
 
 pub split_seat-first-requires : goal.split_seat-first-requires
 split_seat-first-requires c =
     let made = c.in_ok-table.ensures in
     let seat = c.in_ok-table.seat in
-    (made.2, omega (arith, made.0, c.deref.ensures.len, c.in_ok-words.ensures.len, c.requires.some_places.0), cut_kept (terms_of c.in_ok-table.table.shared.key) seat.id seat.me.0)
+    let long = ap length c.deref.ensures.value ∙ (ap length c.in_ok-words.ensures ∙ length-append (replicate c.args.places 0) c.args.limits.now) in
+    (made.2, omega (arith, made.0, long, length-replicate {A = ℕ} c.args.places 0, c.requires.some_places.0), cut_kept (terms_of c.in_ok-table.table.shared.key) seat.id seat.me.0)
 
 pub invariant_of-relay-2 : goal.invariant_of-relay-2
 invariant_of-relay-2 c =

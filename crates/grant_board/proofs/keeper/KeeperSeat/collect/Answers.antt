@@ -1,8 +1,9 @@
 use Rattle.std.proofs.Common.{ap, subst, ◌∙◌, arith, refl}
-use Rattle.grant_board.specs.Plays.{keeper_of, keeper_looked, at_rest}
-use Rattle.grant_board.specs.Seats.{Collects}
+use Rattle.grant_board.specs.Ruled.{at_rest}
+use Rattle.grant_board.specs.KeeperCalls.{keeper_looked, Collects}
+use Rattle.grant_board.specs.Plays.{keeper_of}
 use Rattle.grant_board.specs.Rule.{terms_of}
-use Rattle.grant_board.proofs.Seating.{keeper_table, keeper_near, sees_at, clears_at, Cleared, collected, collects, keeper_kept, keeper_ruled}
+use Rattle.grant_board.proofs.Seating.{keeper_table, place_near, sees_at, clears_at, Cleared, collected, collects, keeper_kept, keeper_ruled}
 use Rattle.grant_board.proofs.keeper.KeeperSeat.collect.Goals as goal
 
 pub load-number-requires : goal.load-number-requires
@@ -12,7 +13,7 @@ load-number-requires c =
     let shared = c.board.inside.table.shared in
     let table = keeper_table seat.table_id k c.args.self.now shared.table_id c.args.board.now c.self.view_is c.requires.same_board c.board.view_is in (
       table,
-      keeper_near seat.table_id k c.args.self.now shared.table_id c.args.place c.self.view_is table c.self.invariant.words c.requires.in_range,
+      place_near _ _ _ _ _ _ c.self.invariant.table table (ap (λ x. x.view.terms) c.self.view_is) c.requires.in_range,
       sees_at (terms_of shared.key) shared.table_id.slots seat.id seat.me (at_rest k) c.self.invariant.me c.args.place refl (omega (arith, c.requires.in_range, ap (λ x. x.view.terms.places) c.self.view_is)),
     )
 
@@ -34,7 +35,7 @@ store-requires c =
     let word = found.ensures.some.0 in
     let me = c.load-number.ensures.2.0.0 found.ticket found._verdict found.ending word found.ensures.some.1 in (
       c.load-number.ensures.0 ∙ table,
-      keeper_near seat.table_id k c.args.self.now shared.table_id c.args.place c.self.view_is table c.self.invariant.words c.requires.in_range,
+      place_near _ _ _ _ _ _ c.self.invariant.table table (ap (λ x. x.view.terms) c.self.view_is) c.requires.in_range,
       clears_at (terms_of shared.key) shared.table_id.slots c.load-number.new.seat.id c.load-number.new.seat.me _ me c.args.place found.ticket found._verdict found.ending _ refl c.encode-empty.ensures,
     )
 
@@ -42,7 +43,7 @@ pub invariant_of-self-2 : goal.invariant_of-self-2
 invariant_of-self-2 c =
     let seat = c.self.inside.seat in
     let k = (keeper_of seat.me.0.keepers).view in
-    keeper_kept seat.table_id c.store.new.seat.table_id c.store.new.seat.me k _ (told c).0 refl (c.store.ensures.0 ∙ c.load-number.ensures.0) c.self.invariant.words c.self.invariant.some c.self.invariant.few
+    keeper_kept seat.table_id c.store.new.seat.table_id c.self.inside.places c.store.new.seat.me k _ (told c).0 refl (c.store.ensures.0 ∙ c.load-number.ensures.0) c.self.invariant.table
 
 pub returns-clause-some : goal.returns-clause-some
 returns-clause-some c =

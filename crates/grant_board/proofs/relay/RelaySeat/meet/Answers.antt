@@ -1,4 +1,5 @@
-use Rattle.std.proofs.Common.{ap, arith, length, ◌<◌}
+use Rattle.std.proofs.Common.{ap, subst, arith, length, ◌<◌}
+use Rattle.grant_board.specs.Ruled.{MeetRuled}
 use Rattle.grant_board.proofs.Grants.{count_of_le}
 use Rattle.grant_board.proofs.relay.RelaySeat.meet.Goals as goal
 
@@ -18,3 +19,6 @@ returns-clause-within_places c =
       c.meet-relaying.ensures.apart.room,
       ap (λ x. x.view.terms.places) c.self.view_is,
     )
+
+pub returns-clause-ruled : goal.returns-clause-ruled
+returns-clause-ruled c = subst (λ x. MeetRuled c.meet-relaying.new.self.view x.view c.args.server c.meet-relaying.result.1) c.other.view_is c.meet-relaying.ensures.ruled

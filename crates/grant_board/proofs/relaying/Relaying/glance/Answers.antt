@@ -1,6 +1,7 @@
+use Rattle.std.proofs.Common.{ap}
 use Rattle.grant_board.specs.Plays.{relay_of}
 use Rattle.grant_board.specs.Rule.{terms_of}
-use Rattle.grant_board.proofs.Seating.{relay_table, relay_near, glances_at, relay_ruled}
+use Rattle.grant_board.proofs.Seating.{relay_table, place_near, glances_at, relay_ruled}
 use Rattle.grant_board.proofs.relaying.Relaying.glance.Goals as goal
 
 pub load-requires : goal.load-requires
@@ -10,7 +11,7 @@ load-requires c =
     let shared = c.board.inside.table.shared in
     let table = relay_table seat.table_id r c.args.self.now shared.table_id c.args.board.now c.self.view_is c.requires.same_board c.board.view_is in (
       table,
-      relay_near seat.table_id r c.args.self.now shared.table_id c.args.place c.self.view_is table c.self.invariant.words c.requires.in_range,
+      place_near _ _ _ _ _ _ c.self.invariant.table table (ap (λ x. x.view.terms) c.self.view_is) c.requires.in_range,
       glances_at (terms_of shared.key) shared.table_id.slots seat.id seat.me c.self.invariant.me c.args.place,
     )
 

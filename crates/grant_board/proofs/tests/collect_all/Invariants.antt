@@ -1,5 +1,0 @@
-use Rattle.std.proofs.Common.{◌≡◌, ◌<◌}
-use Rattle.grant_board.proofs.tests.collect_all.Given as goal
-
-abbrev pub invariant-loop : goal.invariant-loop
-invariant-loop g l = (l.keeper.board ≡ l.initial.keeper.board) × (l.keeper.view.terms ≡ l.initial.keeper.view.terms) × (l.place < 4)

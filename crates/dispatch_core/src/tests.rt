@@ -1,5 +1,4 @@
 mod calls;
-mod plain;
 mod setups;
 
 use self::calls::{

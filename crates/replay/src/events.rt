@@ -15,7 +15,7 @@ use std::alloc::Global;
 
 /// What the events of a script leave.
 #[derive(Drop)]
-pub struct Replayed<Q: PendQueue<Key, ()>> {
+pub struct Replayed<Q: PendQueue<Key, usize>> {
     /// The dispatcher after the last event.
     pub core: Core<Q>,
     /// The names of its servers.
@@ -26,7 +26,7 @@ pub struct Replayed<Q: PendQueue<Key, ()>> {
 
 /// Runs the events of a script in order, on a dispatcher for what its header lines say, or the defaults where none does.
 /// A faulty script is not run; an event that the dispatcher refuses has a line that says so.
-pub fn replay_events<Q: PendQueue<Key, ()>>(
+pub fn replay_events<Q: PendQueue<Key, usize>>(
     alloc: Global,
     script: &[u8],
 ) -> Result<Replayed<Q>, Fault>

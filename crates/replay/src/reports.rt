@@ -15,7 +15,7 @@ use std::alloc::{AllocError, Global};
 /// The reports of all that a dispatcher decided so far: for each queue and class that has a grant, the least
 /// greatest lateness that any assignment of the same slots has, and the tickets that show it. `O(n log n)` in
 /// the grants; fails only where memory is refused.
-pub fn reports_of<Q: PendQueue<Key, ()>>(
+pub fn reports_of<Q: PendQueue<Key, usize>>(
     alloc: Global,
     core: &Core<Q>,
 ) -> Result<Reports, AllocError>
@@ -25,7 +25,7 @@ pub fn reports_of<Q: PendQueue<Key, ()>>(
 }
 
 // Writes the lines of a dispatcher's reports at the end.
-pub(crate) fn report<Q: PendQueue<Key, ()>>(
+pub(crate) fn report<Q: PendQueue<Key, usize>>(
     alloc: Global,
     core: &Core<Q>,
     names: &Names,

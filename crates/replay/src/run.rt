@@ -14,7 +14,7 @@ use script::{Names, Step, push_entries, push_refusal, step_of};
 use std::alloc::{AllocError, Global};
 
 /// Runs the events of a script in order, and answers their lines.
-pub(crate) fn run<Q: PendQueue<Key, ()>>(
+pub(crate) fn run<Q: PendQueue<Key, usize>>(
     alloc: Global,
     core: &mut Core<Q>,
     names: &Names,
@@ -34,7 +34,7 @@ pub(crate) fn run<Q: PendQueue<Key, ()>>(
 }
 
 // Runs one event, and writes its lines at the end.
-fn take_step<Q: PendQueue<Key, ()>>(
+fn take_step<Q: PendQueue<Key, usize>>(
     alloc: Global,
     core: &mut Core<Q>,
     names: &Names,
@@ -67,7 +67,7 @@ pub(crate) fn kept(written: Result<(), AllocError>) -> Result<(), Fault>
     }
 }
 
-fn ask<Q: PendQueue<Key, ()>>(
+fn ask<Q: PendQueue<Key, usize>>(
     alloc: Global,
     core: &mut Core<Q>,
     names: &Names,

@@ -44,7 +44,7 @@ fn trace_of(alloc: Global, script: &[u8]) -> Result<String, Fault>
         core,
         names,
         mut text,
-    } = replay_events::<ListQueue<Key, ()>>(alloc, script)?;
+    } = replay_events::<ListQueue<Key, usize>>(alloc, script)?;
     report(alloc, &core, &names, &mut text)?;
     Ok(text)
 }

@@ -14,8 +14,8 @@ use Rattle.dispatch_log.specs.declared.row.Phase.TheVariants.{Waiting}
 use Rattle.dispatch_log.specs.declared.row.Row.{Row}
 use Rattle.dispatch_log.specs.Rows.{Rows, IsRow, StandsAt, phase_waits_in}
 use Rattle.slot_ledger.specs.declared.places.Slot.{Slot}
-use Rattle.slot_ledger.specs.Slots.{StandsIn, rows_in, with_slot}
-use Rattle.slot_ledger.proofs.Standing.{with_slot_at, put_stands, changed_stands}
+use Rattle.slot_ledger.specs.Slots.{StandsIn, rows_in}
+use Rattle.slot_ledger.proofs.Standing.{put_stands}
 use Rattle.server_pick.specs.Heads.{Held, head_at, AreHeads, IsLeastIn, IsEmptyQueue}
 
 -- a key is not greater than itself
@@ -55,23 +55,14 @@ module _ {H : Type 0} where
   none_yet (suc n) zero s e = let f : Some None ≡ Some (Some s) = e in cc
   none_yet (suc n) (suc p) s e = none_yet n p s e
 
-  -- the first request that is put at a place and then changed is the only one
-  pub one_stands : (change : Slot H → Slot H) (empty first now : List (Option (Slot H))) (n p : ℕ) (slot : Slot H) → empty ≡ replicate n None → slice_get empty p ≡ Some None → first ≡ set empty p (Some slot) → now ≡ with_slot change first p
-      → StandsAt (rows_in now) p (change slot).row × ((other : Row) → IsRow (rows_in now) other → (change slot).row ≡ other)
-  one_stands change empty first now n p slot none free put changed = (stands_as now p (change slot) there, λ other live. alone other live.0 (row_at now live.0 other live.1))
+  -- the first request that is put at a place is the only one
+  pub one_stands : (empty now : List (Option (Slot H))) (n p : ℕ) (slot : Slot H) → empty ≡ replicate n None → slice_get empty p ≡ Some None → now ≡ set empty p (Some slot)
+      → StandsAt (rows_in now) p slot.row × ((other : Row) → IsRow (rows_in now) other → slot.row ≡ other)
+  one_stands empty now n p slot none free put = (stands_as now p slot (put_stands empty now p slot free put), λ other live. alone other live.0 (row_at now live.0 other live.1))
     where
-      before : StandsIn first p slot
-      before = put_stands empty first p slot free put
-
-      there : StandsIn now p (change slot)
-      there = changed_stands change first now p slot before changed
-
-      alone : (other : Row) (q : ℕ) → (s : Slot H) × StandsIn now q s × (s.row ≡ other) → (change slot).row ≡ other
+      alone : (other : Row) (q : ℕ) → (s : Slot H) × StandsIn now q s × (s.row ≡ other) → slot.row ≡ other
       alone other q it =
-          elim (get-set_cases first p q (Some slot) (Some (change slot)) (Some it.0) before (subst (λ (l : List (Option (Slot H))). StandsIn l q it.0) (changed ∙ with_slot_at change first p slot before) it.1)) [
-            | inl same ↦ ap (λ (s : Slot H). s.row) (same_Some (change slot) it.0 same.1) ∙ it.2
-            | inr elsewhere ↦ elim (get-set_cases empty p q None (Some slot) (Some it.0) free (subst (λ (l : List (Option (Slot H))). StandsIn l q it.0) put elsewhere.1)) [
-              | inl same ↦ absurd (elsewhere.0 same.0)
-              | inr older ↦ absurd (none_yet n q it.0 (subst (λ (l : List (Option (Slot H))). StandsIn l q it.0) none older.1))
-            ]
+          elim (get-set_cases empty p q None (Some slot) (Some it.0) free (subst (λ (l : List (Option (Slot H))). StandsIn l q it.0) put it.1)) [
+            | inl same ↦ ap (λ (s : Slot H). s.row) (same_Some slot it.0 same.1) ∙ it.2
+            | inr older ↦ absurd (none_yet n q it.0 (subst (λ (l : List (Option (Slot H))). StandsIn l q it.0) none older.1))
           ]

@@ -117,10 +117,9 @@ fn a_server_that_is_down_takes_nothing(rt: HostRuntime) -> Result<(), Fail> {
         key: key(1)?,
         pin: None,
         failures: 0,
-        phase: Phase::Loose,
+        phase: Phase::Waiting(Queue::Backend, since),
     };
-    let place = ledger.admit(row, 'n');
-    assert_eq!(rt; ledger.wait(place, Queue::Backend, since), 'n');
+    ledger.admit(row);
     ledger.set_up(0, false);
     let mut heads = Heads::new();
     heads.set(Queue::Backend, Some(row.key));

@@ -5,7 +5,7 @@ use Rattle.std.proofs.lemmas.Option.{get_or_from_slice_get}
 use Rattle.list_facts.proofs.Places.{get-set_same}
 use Rattle.dispatch_log.specs.declared.row.Row.{Row}
 use Rattle.slot_ledger.specs.declared.places.Slot.{Slot}
-use Rattle.slot_ledger.specs.Slots.{StandsIn, HasRow, HasNode, with_slot}
+use Rattle.slot_ledger.specs.Slots.{StandsIn, HasRow, HasNode, with_slot, loosened}
 
 module _ {H : Type 0} where
   -- a change of the request at a place is a write there
@@ -25,6 +25,6 @@ module _ {H : Type 0} where
   pub put_stands : (slots new : List (Option (Slot H))) (p : ℕ) (slot : Slot H) → slice_get slots p ≡ Some None → new ≡ set slots p (Some slot) → StandsIn new p slot
   put_stands slots new p slot free is = subst (λ (l : List (Option (Slot H))). StandsIn l p slot) (sym is) (get-set_same slots p None (Some slot) free)
 
-  -- with its node
-  pub admitted_stands : (slots new : List (Option (Slot H))) (p : ℕ) (row : Row) (node : H) → slice_get slots p ≡ Some None → new ≡ set slots p (Some (record { row = row; node = Some node })) → HasNode new p
-  admitted_stands slots new p row node free is = (_, node, put_stands slots new p (record { row = row; node = Some node }) free is, refl)
+  -- and once it has its node, it stands there with it
+  pub admitted_stands : (slots mid new : List (Option (Slot H))) (p : ℕ) (row : Row) (node : H) → slice_get slots p ≡ Some None → mid ≡ set slots p (Some (record { row = row; node = None })) → new ≡ loosened node mid p → HasNode new p
+  admitted_stands slots mid new p row node free is given = (_, node, changed_stands _ mid new p _ (put_stands slots mid p (record { row = row; node = None }) free is) given, refl)

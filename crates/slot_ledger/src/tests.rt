@@ -63,7 +63,7 @@ fn admit(ledger: &mut Ledger<char>, ticket: u64) -> Result<usize, Fail>
         failures: 0,
         phase: Phase::Loose,
     };
-    Ok(ledger.admit(row, 'n'))
+    Ok(ledger.admit(row))
 }
 
 fn end(ledger: &mut Ledger<char>, ticket: u64) -> Result<(), Fail>
@@ -88,7 +88,7 @@ fn pass(ledger: &mut Ledger<char>, ticket: u64) -> Result<(), Fail>
         failures: 0,
         phase: Phase::Loose,
     };
-    let place = ledger.admit(row, 'n');
+    let place = ledger.admit(row);
     ledger.end(place);
     Ok(())
 }
@@ -139,7 +139,8 @@ fn a_request_goes_its_way(rt: HostRuntime) -> Result<(), Fail> {
         failures: 0,
         phase: Phase::Loose,
     };
-    let place = ledger.admit(row, 'n');
+    let place = ledger.admit(row);
+    ledger.loosen(place, 'n');
     let node = ledger.wait(place, Queue::Server(0), moment(1)?);
     assert_eq!(rt;
         ledger.row(place).phase,
@@ -175,7 +176,8 @@ fn a_server_goes_down_and_up(rt: HostRuntime) -> Result<(), Fail> {
         failures: 0,
         phase: Phase::Loose,
     };
-    let place = ledger.admit(row, 'n');
+    let place = ledger.admit(row);
+    ledger.loosen(place, 'n');
     ledger.fail(place);
     assert_eq!(rt; ledger.row(place), Row { failures: 1, ..row });
     assert_eq!(rt; ledger.wait(place, Queue::Server(1), moment(1)?), 'n');

@@ -6,7 +6,7 @@ use std::alloc::Global;
 use std::process::Abort;
 use std::test::Fail;
 
-pub type OfLists = Core<ListQueue<Key, ()>>;
+pub type OfLists = Core<ListQueue<Key, usize>>;
 
 /// What is asked of a dispatcher.
 #[derive(Clone, Copy, Debug)]

@@ -4,7 +4,7 @@ use pend_queue::ListQueue;
 use std::alloc::Global;
 use std::test::Fail;
 
-pub type OfLists = Core<ListQueue<Key, ()>>;
+pub type OfLists = Core<ListQueue<Key, usize>>;
 
 /// What is asked of a dispatcher.
 #[derive(Clone, Copy, Debug)]

@@ -6,7 +6,7 @@ use std::alloc::Global;
 use std::process::Abort;
 use std::test::Fail;
 
-type OfLists = Core<ListQueue<Key, ()>>;
+type OfLists = Core<ListQueue<Key, usize>>;
 
 // One server that takes one request at a time.
 fn alone(alloc: Global) -> Result<Setup, Fail> {

@@ -5,26 +5,33 @@ use Rattle.slot_ledger.specs.Slots.{HasRow}
 use Rattle.slot_ledger.proofs.Standing.{put_stands, changed_stands, still_stands}
 use Rattle.slot_ledger.proofs.tests.a_server_goes_down_and_up.Goals as goal
 
+pub loosen-requires : goal.loosen-requires
+loosen-requires g c = (_, put_stands _ _ _ _ c.admit-place.ensures.vacant (ap (λ (k : Kept _). k.slots) c.admit-place.ensures.admitted))
+
 pub fail-requires : goal.fail-requires
 fail-requires g c =
-    let admitted = put_stands _ _ _ _ c.admit-place.ensures.vacant (ap (λ (k : Kept _). k.slots) c.admit-place.ensures.admitted) in
+    let put = put_stands _ _ _ _ c.admit-place.ensures.vacant (ap (λ (k : Kept _). k.slots) c.admit-place.ensures.admitted) in
+    let admitted = changed_stands _ _ _ _ _ put (ap (λ (k : Kept _). k.slots) c.loosen.ensures) in
     (_, admitted, omega arith)
 
 pub row-requires : goal.row-requires
 row-requires g c =
-    let admitted = put_stands _ _ _ _ c.admit-place.ensures.vacant (ap (λ (k : Kept _). k.slots) c.admit-place.ensures.admitted) in
+    let put = put_stands _ _ _ _ c.admit-place.ensures.vacant (ap (λ (k : Kept _). k.slots) c.admit-place.ensures.admitted) in
+    let admitted = changed_stands _ _ _ _ _ put (ap (λ (k : Kept _). k.slots) c.loosen.ensures) in
     let failed = changed_stands _ _ _ _ _ admitted (ap (λ (k : Kept _). k.slots) c.fail.ensures) in
     (_, failed)
 
 pub wait-requires-clause-row : goal.wait-requires-clause-row
 wait-requires-clause-row g c =
-    let admitted = put_stands _ _ _ _ c.admit-place.ensures.vacant (ap (λ (k : Kept _). k.slots) c.admit-place.ensures.admitted) in
+    let put = put_stands _ _ _ _ c.admit-place.ensures.vacant (ap (λ (k : Kept _). k.slots) c.admit-place.ensures.admitted) in
+    let admitted = changed_stands _ _ _ _ _ put (ap (λ (k : Kept _). k.slots) c.loosen.ensures) in
     let failed = changed_stands _ _ _ _ _ admitted (ap (λ (k : Kept _). k.slots) c.fail.ensures) in
     (_, _, failed, refl)
 
 pub shift-requires : goal.shift-requires
 shift-requires g c =
-    let admitted = put_stands _ _ _ _ c.admit-place.ensures.vacant (ap (λ (k : Kept _). k.slots) c.admit-place.ensures.admitted) in
+    let put = put_stands _ _ _ _ c.admit-place.ensures.vacant (ap (λ (k : Kept _). k.slots) c.admit-place.ensures.admitted) in
+    let admitted = changed_stands _ _ _ _ _ put (ap (λ (k : Kept _). k.slots) c.loosen.ensures) in
     let failed = changed_stands _ _ _ _ _ admitted (ap (λ (k : Kept _). k.slots) c.fail.ensures) in
     let waits = still_stands _ _ _ _ (_, failed) (ap (λ (k : Kept _). k.slots) c.wait.ensures.waiting) in
     let down = subst (λ (l : List (Option (Slot _))). HasRow l c.admit-place.result) (sym (ap (λ (k : Kept _). k.slots) c.set_up.ensures)) waits in
@@ -32,7 +39,8 @@ shift-requires g c =
 
 pub unpin-requires : goal.unpin-requires
 unpin-requires g c =
-    let admitted = put_stands _ _ _ _ c.admit-place.ensures.vacant (ap (λ (k : Kept _). k.slots) c.admit-place.ensures.admitted) in
+    let put = put_stands _ _ _ _ c.admit-place.ensures.vacant (ap (λ (k : Kept _). k.slots) c.admit-place.ensures.admitted) in
+    let admitted = changed_stands _ _ _ _ _ put (ap (λ (k : Kept _). k.slots) c.loosen.ensures) in
     let failed = changed_stands _ _ _ _ _ admitted (ap (λ (k : Kept _). k.slots) c.fail.ensures) in
     let waits = still_stands _ _ _ _ (_, failed) (ap (λ (k : Kept _). k.slots) c.wait.ensures.waiting) in
     let down = subst (λ (l : List (Option (Slot _))). HasRow l c.admit-place.result) (sym (ap (λ (k : Kept _). k.slots) c.set_up.ensures)) waits in
@@ -41,7 +49,8 @@ unpin-requires g c =
 
 pub row-requires-2 : goal.row-requires-2
 row-requires-2 g c =
-    let admitted = put_stands _ _ _ _ c.admit-place.ensures.vacant (ap (λ (k : Kept _). k.slots) c.admit-place.ensures.admitted) in
+    let put = put_stands _ _ _ _ c.admit-place.ensures.vacant (ap (λ (k : Kept _). k.slots) c.admit-place.ensures.admitted) in
+    let admitted = changed_stands _ _ _ _ _ put (ap (λ (k : Kept _). k.slots) c.loosen.ensures) in
     let failed = changed_stands _ _ _ _ _ admitted (ap (λ (k : Kept _). k.slots) c.fail.ensures) in
     let waits = still_stands _ _ _ _ (_, failed) (ap (λ (k : Kept _). k.slots) c.wait.ensures.waiting) in
     let down = subst (λ (l : List (Option (Slot _))). HasRow l c.admit-place.result) (sym (ap (λ (k : Kept _). k.slots) c.set_up.ensures)) waits in

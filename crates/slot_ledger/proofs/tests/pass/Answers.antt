@@ -3,7 +3,7 @@ use Rattle.std.proofs.Math.ListN.{set}
 use Rattle.std.proofs.lemmas.List.{set-set}
 use Rattle.slot_ledger.specs.Ledgers.{Kept, with_slots}
 use Rattle.slot_ledger.proofs.Standing.{put_stands}
-use Rattle.slot_ledger.proofs.Stretches.{set_read}
+use Rattle.list_facts.proofs.Places.{set_read}
 use Rattle.slot_ledger.proofs.tests.pass.Goals as goal
 
 pub end-requires : goal.end-requires

@@ -1,39 +1,26 @@
 -- What the first bytes say of heads in all of them, and of heads that may still come.
-use Rattle.std.proofs.Common.{◌≡◌, ℕ, ◌+◌, ◌-◌, ◌<◌, ◌≤◌, ◌∙◌, List, ◌++◌, length, take, drop, sym, ap, subst, Ok, arith, append_assoc}
-use Rattle.std.proofs.Math.Seq.{take-append-add}
-use Rattle.std.proofs.lemmas.List.{take-append-le, take-append-drop, length-take, length-map}
+use Rattle.std.proofs.Common.{◌≡◌, ℕ, ◌<◌, ◌≤◌, ◌∙◌, List, ◌++◌, length, take, drop, sym, ap, subst, Ok, arith}
+use Rattle.std.proofs.lemmas.List.{length-take, length-map}
 use Rattle.httparse.specs.declared.spans.HeaderSpan.{HeaderSpan}
 use Rattle.httparse.specs.declared.spans.RequestSpans.{RequestSpans}
 use Rattle.httparse.specs.declared.Error.{Error}
 use Rattle.httparse.specs.declared.Status.{Status}
-use Rattle.httparse.specs.declared.Status.TheVariants.{Complete, Partial}
-use Rattle.httparse.specs.Outcome.{IfComplete, OnPartial}
-use Rattle.httparse.specs.Grammar.{RequestHead, print_request, ReadsRequest, HasNoRequest}
+use Rattle.httparse.specs.declared.Status.TheVariants.{Complete}
+use Rattle.httparse.specs.Outcome.{IfComplete}
+use Rattle.httparse.specs.Grammar.{RequestHead, print_request, IsRequestHead, HasNoRequest}
 use Rattle.httparse.specs.Spans.{header_bytes, name_and_value, IsRequestAt, IsRequestOf, IsRequestWithin, RequestOverflows}
-use Rattle.httparse.proofs.GrammarLemmas.{ReadsRequest-append, request_prefix_free}
+use Rattle.httparse.proofs.GrammarLemmas.{request_prefix_free}
 use Rattle.req_view.specs.Heads.{Fits, NeverHasHead, Says}
 use Rattle.req_view.specs.Request.{Request, request_of, version_of, IsWelcome}
 use Rattle.req_view.specs.Spans.{request_at}
-
--- a head of at most n bytes stands in the first n
-reads-take : (bytes : List ℕ) (n : ℕ) (h : RequestHead) (rest : List ℕ) → ReadsRequest bytes h rest → length (print_request h) ≤ n
-    → ReadsRequest (take n bytes) h (take (n - length (print_request h)) rest)
-reads-take bytes n h rest reads short =
-    let sum : n ≡ length (print_request h) + (n - length (print_request h)) = omega arith in
-    (reads.0, ap (take n) reads.1 ∙ ap (λ m. take m (print_request h ++ rest)) sum ∙ take-append-add (print_request h) rest (n - length (print_request h)))
-
--- and the other way round
-reads-whole : (bytes : List ℕ) (n : ℕ) (h : RequestHead) (rest : List ℕ) → ReadsRequest (take n bytes) h rest → ReadsRequest bytes h (rest ++ drop n bytes)
-reads-whole bytes n h rest reads =
-    subst (λ (all : List ℕ). ReadsRequest all h (rest ++ drop n bytes)) (take-append-drop n bytes)
-    (ReadsRequest-append (take n bytes) h rest (drop n bytes) reads)
+use Rattle.req_view.proofs.Parts.{reads-whole, late, of_complete, beyond}
 
 -- the head that was found fits
 found-fits : (bytes : List ℕ) (n : ℕ) (places : List HeaderSpan) (spans : RequestSpans) (h : RequestHead) → n ≤ 16384 → length places ≤ 64
     → IsRequestWithin (take n bytes) places spans → IsRequestAt (take n bytes) places spans h
     → Fits bytes h (drop spans.len (take n bytes) ++ drop n bytes)
 found-fits bytes n places spans h small few within is = record {
-  reads = reads-whole bytes n h (drop spans.len (take n bytes)) is.reads;
+  reads = reads-whole IsRequestHead print_request bytes n h (drop spans.len (take n bytes)) is.reads;
   few_bytes = omega (arith, is.len, within.section.len_fits, length-take n bytes);
   few_fields = omega (
     arith,
@@ -55,12 +42,6 @@ request_at-of bytes places spans h is = λ i. record {
 -- a head that fits stands at the front, and r and len are what it says and its length
 abbrev pub Stands : List ℕ → Request → ℕ → Type 0
 Stands bytes r len = (h : RequestHead) × (rest : List ℕ) × Fits bytes h rest × (r ≡ request_of h) × (len ≡ length (print_request h))
-
-pub of_complete : {A : Type 0} (s : Status A) (x : A) (P : A → Type 0) → s ≡ Complete x → IfComplete {E = Error} (Ok s) P → P x
-of_complete s x P is holds = subst (λ t. IfComplete {E = Error} (Ok t) P) is holds
-
-pub of_partial : {A : Type 0} (s : Status A) (P : Type 0) → s ≡ Partial → OnPartial {E = Error} (Ok s) P → P
-of_partial s P is holds = subst (λ t. OnPartial {E = Error} (Ok t) P) is holds
 
 -- what the parser says of a head in the first n bytes
 pub found-stands : (bytes : List ℕ) (n : ℕ) (places : List HeaderSpan) (s : Status RequestSpans) (spans : RequestSpans) (r : Request)
@@ -95,16 +76,10 @@ welcome-says bytes r len stands welcome = record {
 -- with as many bytes as a head may have, one that isn't there won't come
 pub late-never : (bytes : List ℕ) (n : ℕ) → n ≡ 16384 → n ≤ length bytes → HasNoRequest (take n bytes) → NeverHasHead bytes
 late-never bytes n most here none more h rest has =
-    let short : length (print_request h) ≤ n = omega (arith, has.0.few_bytes) in
-    none h _
-    (subst (λ (front : List ℕ). ReadsRequest front h (take (n - length (print_request h)) rest)) (take-append-le n bytes more here)
-    (reads-take (bytes ++ more) n h rest has.0.reads short))
+    late IsRequestHead print_request bytes n h rest more here none has.0.reads (omega (arith, has.0.few_bytes))
 
 -- a head with more fields than fit isn't taken
 pub overflow-never : (bytes : List ℕ) (n : ℕ) → RequestOverflows 64 (take n bytes) → NeverHasHead bytes
 overflow-never bytes n overflows more h rest has =
-    let all : bytes ++ more ≡ take n bytes ++ (drop n bytes ++ more) =
-    ap (λ front. front ++ more) (sym (take-append-drop n bytes)) ∙ append_assoc (take n bytes) (drop n bytes) more in
-    let many : 64 < length h.fields =
-    overflows (drop n bytes ++ more) h rest (subst (λ (text : List ℕ). ReadsRequest text h rest) all has.0.reads) in
+    let many : 64 < length h.fields = overflows (drop n bytes ++ more) h rest (beyond IsRequestHead print_request bytes n h rest more has.0.reads) in
     absurd (omega (arith, has.0.few_fields))

@@ -39,7 +39,7 @@ pub record Waits (bytes : List ℕ) : Type 0 where
   pub open_end : MayBecomeRequest bytes
 
 -- what an answer about the bytes means, want of memory aside
-abbrev pub Tells : List ℕ → Viewed → Type 0
+abbrev pub Tells : List ℕ → Viewed Request → Type 0
 Tells bytes (Whole r len) = Says bytes r len
 Tells bytes More = Waits bytes
 Tells bytes (Refused HeadFault) = NeverHasHead bytes

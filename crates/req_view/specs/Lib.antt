@@ -1,3 +1,5 @@
+pub mod Answer
+pub mod AnswerHeads
 pub mod Heads
 pub mod Request
 pub mod Spans

@@ -6,14 +6,30 @@ use Rattle.http_header.specs.Token.{lowercase}
 use Rattle.httparse.specs.declared.spans.Span.{Span}
 use Rattle.httparse.specs.declared.spans.HeaderSpan.{HeaderSpan}
 use Rattle.httparse.specs.declared.spans.RequestSpans.{RequestSpans}
+use Rattle.httparse.specs.declared.spans.ResponseSpans.{ResponseSpans}
 use Rattle.httparse.specs.Spans.{span_bytes, header_bytes}
-use Rattle.req_view.specs.Request.{Request, version_of}
+use Rattle.req_view.specs.Answer.{Answer}
+use Rattle.req_view.specs.Request.{NamedValue, Request, version_of}
+
+-- the bytes of a head, and its fields
+pub record Copied : Type 0 where
+  pub text : List ℕ
+  pub fields : List NamedValue
 
 -- the request whose parts the spans cover
 abbrev pub request_at : List ℕ → List HeaderSpan → RequestSpans → Request
 request_at bytes places spans = record {
   method = span_bytes bytes spans.method;
   target = span_bytes bytes spans.path;
+  version = version_of spans.version;
+  fields = map (header_bytes bytes) (take spans.headers places);
+}
+
+-- the answer whose parts the spans cover
+abbrev pub answer_at : List ℕ → List HeaderSpan → ResponseSpans → Answer
+answer_at bytes places spans = record {
+  status = spans.code;
+  reason = span_bytes bytes spans.reason;
   version = version_of spans.version;
   fields = map (header_bytes bytes) (take spans.headers places);
 }

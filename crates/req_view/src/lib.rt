@@ -1,12 +1,15 @@
-//! Request heads: from the bytes that have come so far to what the request asks for.
+//! Heads of requests and answers: from the bytes that have come so far to what they say.
 //!
 //! A head is what `httparse` takes as one in its default configuration, of at most 16,384 bytes and 64
-//! fields, which names its host as its version asks and whose method isn't `CONNECT`.
+//! fields. That of a request also names its host as its version asks, and its method isn't `CONNECT`.
 #![tactic(auto)]
 
+mod answer;
+mod answering;
 mod index;
 mod refusal;
 mod request;
+mod section;
 mod target;
 #[cfg(test)]
 mod tests;
@@ -14,8 +17,11 @@ mod values;
 mod version;
 mod viewing;
 
+pub use answer::AnswerHead;
+pub use answering::answer_head;
 pub use refusal::Refusal;
-pub use request::{Field, View};
+pub use request::View;
+pub use section::Field;
 pub use values::Values;
 pub use version::Version;
 pub use viewing::{HEAD_BYTES, HEAD_FIELDS, Viewed, view};

@@ -3,8 +3,8 @@ use thiserror::Error;
 /// Why bytes give no view.
 #[derive(Clone, Copy, Debug, PartialEq, Eq, Error)]
 pub enum Refusal {
-    /// No head of a request that the proxy takes stands there, and none can.
-    #[error("not the head of a request")]
+    /// No head that the proxy takes stands there, and none can.
+    #[error("not a head")]
     HeadFault,
     /// A growth found no memory.
     #[error("no memory")]

@@ -1,51 +1,38 @@
-ghost use Rattle.std.specs.Prelude.{◌≡◌, ◌≤◌, ◌↔◌, ℕ, IsTrue, IfOk, Some, None, MatchOption, codes, take, map, length, slice_get, count_by};
-ghost use Rattle.httparse.specs.Spans.{span_bytes, header_bytes, IsRequestWithin, IsHeaderWithin};
-ghost use Rattle.req_view.specs.Request.{Request, version_of, is_named, values_of, IsWelcome};
+ghost use Rattle.std.specs.Prelude.{◌≡◌, ◌≤◌, ◌↔◌, IsTrue, IfOk, Some, None, MatchOption, take, length, slice_get};
+ghost use Rattle.httparse.specs.Spans.{IsRequestWithin};
+ghost use Rattle.req_view.specs.Request.{values_of, IsWelcome};
 ghost use Rattle.req_view.specs.Spans.{request_at, AreNames};
 ghost use Rattle.req_view.specs.Target.{path_of};
 
+use crate::section::{Field, Section};
+use crate::target;
 use crate::values::Values;
 use crate::version::Version;
-use crate::{index, target};
-use http_header::HeaderMap;
 use httparse::spans::{HeaderSpan, RequestSpans, Span};
 use std::alloc::{AllocError, Global};
 use std::marker::Model;
 
 /// What a request's head says.
 ///
-/// It owns one copy of the head's bytes. The parts of the first line, names and values are pieces of it,
-/// and a map from names to places finds values by name.
+/// It owns one copy of the head's bytes, of which its parts are pieces.
 #[derive(Drop)]
 pub struct View {
-    text: Vec<u8>,
+    section: Section,
     method: Span,
     target: Span,
     version: Version,
-    fields: Vec<HeaderSpan>,
-    by_name: HeaderMap<Span>,
 }
 
 impl Model for View {
-    ghost use Rattle.std.specs.Prelude.{◌≡◌, map, length, All};
-    ghost use Rattle.httparse.specs.Spans.{span_bytes, header_bytes, IsWithin, IsHeaderWithin};
+    ghost use Rattle.std.specs.Prelude.{length};
+    ghost use Rattle.httparse.specs.Spans.{span_bytes, IsWithin};
     ghost use Rattle.req_view.specs.Request.{Request};
-    ghost use Rattle.req_view.specs.Spans.{index_of};
 
     ghost Value = { Request };
 
-    ghost view = { λ v. record { method = span_bytes v.text.items v.method; target = span_bytes v.text.items v.target; version = v.version; fields = map (header_bytes v.text.items) v.fields.items } };
+    ghost view = { λ v. record { method = span_bytes v.section.text v.method; target = span_bytes v.section.text v.target; version = v.version; fields = v.section.fields } };
 
-    ghost invariant = { λ v. IsWithin (length v.text.items) v.method × IsWithin (length v.text.items) v.target × All (IsHeaderWithin (length v.text.items)) v.fields.items × (v.by_name ≡ index_of v.text.items v.fields.items) };
-}
-
-/// A field of a request's head.
-#[derive(Clone, Copy, Debug, PartialEq, Eq)]
-pub struct Field<'a> {
-    /// The name as it came.
-    pub name: &'a [u8],
-    /// The value, without the spaces and tabs around it.
-    pub value: &'a [u8],
+    ghost invariant = { λ v. IsWithin (length v.section.text) v.method × IsWithin (length v.section.text) v.target };
 }
 
 impl View {
@@ -61,34 +48,26 @@ impl View {
         requires few { spans.headers ≤ 64 }
         ensures { IfOk result (λ view. view ≡ request_at bytes.now places.now spans) }
     {
-        let text = Vec::from_slice(alloc, &bytes[..spans.len])?;
-        let fields = Vec::from_slice(alloc, &places[..spans.headers])?;
-        let by_name = index::by_name(alloc, &text, &fields)?;
+        let section = Section::copied(alloc, bytes, places, spans.len, spans.headers)?;
         Ok(View {
-            text,
+            section,
             method: spans.method,
             target: spans.path,
-            version: if spans.version == 0 {
-                Version::Http10
-            } else {
-                Version::Http11
-            },
-            fields,
-            by_name,
+            version: Version::of_minor(spans.version),
         })
     }
 
     pub fn method(&self) -> &[u8]
         ensures { result.now ≡ self.now.method }
     {
-        self.method.of(&self.text)
+        self.section.part(self.method)
     }
 
     /// The target as it came: a path with its query, an absolute URI, an authority or `*`.
     pub fn target(&self) -> &[u8]
         ensures { result.now ≡ self.now.target }
     {
-        self.target.of(&self.text)
+        self.section.part(self.target)
     }
 
     /// The path of the target, without its query. `O(n)`.
@@ -111,25 +90,21 @@ impl View {
     pub fn field_count(&self) -> usize
         ensures { result ≡ length self.now.fields }
     {
-        self.fields.len()
+        self.section.count()
     }
 
     /// The field at a position, counted from 0. `O(1)`.
     pub fn field(&self, position: usize) -> Option<Field<'_>>
         ensures { MatchOption result (slice_get self.now.fields position ≡ None) (λ field. slice_get self.now.fields position ≡ Some (field.name.now, field.value.now)) }
     {
-        let span = self.fields.get(position)?;
-        Some(Field {
-            name: span.name.of(&self.text),
-            value: span.value.of(&self.text),
-        })
+        self.section.field(position)
     }
 
     /// The values of the fields of a name, case ignored, in order. `O(n)` in the name's bytes, no memory.
     pub fn values(&self, name: &[u8]) -> Values<'_>
         ensures { result ≡ values_of name.now self.now.fields }
     {
-        Values::new(&self.text, self.by_name.get_all(name).iter())
+        self.section.values(name)
     }
 
     /// Whether it names its host as its version asks, and wants no tunnel. `O(n)`.

@@ -1,24 +1,26 @@
-use crate::{HEAD_BYTES, HEAD_FIELDS, Refusal, Version, View, Viewed, view};
+use crate::{
+    AnswerHead, HEAD_BYTES, HEAD_FIELDS, Refusal, Version, View, Viewed, answer_head, view,
+};
 use std::alloc::{AllocError, Global};
 
 const PLAIN: &[u8] = b"GET / HTTP/1.1\r\nHost: h\r\n\r\n";
 
-fn is_fault(viewed: &Viewed) -> bool {
+fn is_fault<H>(viewed: &Viewed<H>) -> bool {
     matches!(viewed, Viewed::Refused(Refusal::HeadFault))
 }
 
-fn is_more(viewed: &Viewed) -> bool {
+fn is_more<H>(viewed: &Viewed<H>) -> bool {
     matches!(viewed, Viewed::More)
 }
 
-fn whole_len(viewed: &Viewed) -> Option<usize> {
+fn whole_len<H>(viewed: &Viewed<H>) -> Option<usize> {
     match viewed {
         Viewed::Whole(_, len) => Some(*len),
         _ => None,
     }
 }
 
-fn whole(viewed: Viewed) -> Option<View> {
+fn whole(viewed: Viewed<View>) -> Option<View> {
     match viewed {
         Viewed::Whole(head, _) => Some(head),
         _ => None,
@@ -196,4 +198,55 @@ fn a_refused_growth_is_want_of_memory(rt: HostRuntime) {
     let seen = view(rt.alloc(), text);
     let refused = matches!(&seen, Viewed::Refused(Refusal::NoMemory));
     assert!(rt; refused || whole_len(&seen) == Some(text.len()));
+}
+
+fn whole_answer(viewed: Viewed<AnswerHead>) -> Option<AnswerHead> {
+    match viewed {
+        Viewed::Whole(head, _) => Some(head),
+        _ => None,
+    }
+}
+
+#[test]
+fn a_whole_answer_head_tells_its_parts(rt: HostRuntime) {
+    let text = b"HTTP/1.0 404 Not  here \r\nA: 1\r\nB:\t2 \r\na: 3\r\n\r\nbody";
+    let seen = answer_head(rt.alloc(), text);
+    assert_eq!(rt; whole_len(&seen), Some(46));
+    let head = whole_answer(seen).expect(&rt, "a head");
+    assert_eq!(rt; head.status(), 404);
+    assert_eq!(rt; head.reason(), b"Not  here ".as_slice());
+    assert_eq!(rt; head.version(), Version::Http10);
+    assert_eq!(rt; head.field_count(), 3);
+    let second = head.field(1).expect(&rt, "a field");
+    assert_eq!(rt; second.name, b"B".as_slice());
+    assert_eq!(rt; second.value, b"2".as_slice());
+    let mut values = head.values(b"A");
+    assert_eq!(rt; values.next(), Some(b"1".as_slice()));
+    assert_eq!(rt; values.next(), Some(b"3".as_slice()));
+    assert_eq!(rt; values.next(), None);
+}
+
+#[test]
+fn an_answer_head_needs_no_field_and_no_reason(rt: HostRuntime) {
+    assert_eq!(rt;
+        whole_len(&answer_head(rt.alloc(), b"HTTP/1.1 200 OK\r\n\r\n")),
+        Some(19)
+    );
+    let seen = answer_head(rt.alloc(), b"HTTP/1.1 000\n\n");
+    assert_eq!(rt; whole_len(&seen), Some(14));
+    let head = whole_answer(seen).expect(&rt, "a head");
+    assert_eq!(rt; head.status(), 0);
+    assert_eq!(rt; head.reason(), b"".as_slice());
+}
+
+#[test]
+fn parts_of_an_answer_head_wait_for_more(rt: HostRuntime) {
+    let whole = b"HTTP/1.1 200 OK\r\nA: b\r\n\r\n";
+    for len in 0..whole.len() {
+        assert!(rt; is_more(&answer_head(rt.alloc(), &whole[..len])));
+    }
+    assert!(rt; is_fault(&answer_head(rt.alloc(), b"HTTP/1.1 20")) == false);
+    assert!(rt; is_fault(&answer_head(rt.alloc(), b"HTTP/1.1 2x0 OK\r\n\r\n")));
+    assert!(rt; is_fault(&answer_head(rt.alloc(), b"HTTP/2.0 200 OK\r\n\r\n")));
+    assert!(rt; is_fault(&answer_head(rt.alloc(), b"GET / HTTP/1.1\r\n\r\n")));
 }

@@ -14,9 +14,9 @@ pub const HEAD_FIELDS: usize = 64;
 
 /// What bytes say so far.
 #[derive(Drop)]
-pub enum Viewed {
+pub enum Viewed<H> {
     /// They begin with a head of so many bytes.
-    Whole(View, usize),
+    Whole(H, usize),
     /// They are no head yet, may become one, and are fewer than a head may have.
     More,
     /// They never become a head that the proxy takes, or memory is wanting.
@@ -28,7 +28,7 @@ pub enum Viewed {
 /// The head is what `httparse` takes in its default configuration: empty lines before it belong to it, a
 /// bare line feed ends a line, no line is folded, and the target is UTF-8 (RFC 9112, sections 2 to 5).
 /// `O(n)`. Memory is taken once a whole head stands there: for its bytes, its fields and their names.
-pub fn view(alloc: Global, bytes: &[u8]) -> Viewed
+pub fn view(alloc: Global, bytes: &[u8]) -> Viewed<View>
     ensures { Tells bytes.now result }
 {
     let front = &bytes[..bytes.len().min(HEAD_BYTES)];

@@ -1,7 +1,8 @@
 -- What the parser says of the first bytes, carried over to all of them.
 use Rattle.std.proofs.Common.{◌≡◌, ◌≤◌, length, take, refl, arith}
 use Rattle.httparse.specs.Grammar.{HasNoRequest}
-use Rattle.req_view.proofs.Fronts.{of_complete, of_partial, found-stands, welcome-says, unwelcome-never, late-never, overflow-never}
+use Rattle.req_view.proofs.Fronts.{found-stands, welcome-says, unwelcome-never, late-never, overflow-never}
+use Rattle.req_view.proofs.Parts.{of_complete, of_partial}
 use Rattle.req_view.proofs.Names.{field-names}
 use Rattle.httparse.specs.Spans.{IsRequestOf, IsRequestWithin}
 use Rattle.std.proofs.lemmas.List.{length-take}

@@ -1,0 +1,36 @@
+ghost use Rattle.std.specs.Prelude.{◌+◌, ◌-◌, ◌^◌, ◌<◌, length, IfOk};
+ghost use Rattle.std.specs.Io.{ReadsAtMost, WritesAtMost};
+ghost use Rattle.std.specs.Io.KnownBytes.{ReadConsumes, WriteAppends};
+ghost use Rattle.counted_io.specs.Streams.{Stream, Counts};
+
+/// A call failed. Of a write, also: it took no byte.
+#[derive(Clone, Copy, Debug, PartialEq, Eq)]
+pub struct Failed;
+
+/// Where bytes come from.
+pub trait Source {
+    // The bytes that it has left, and what was asked of it.
+    ghost stream: { Self → Stream };
+
+    /// One read, into the front of the buffer.
+    fn take(&mut self, buf: &mut [u8]) -> Result<usize, Failed>
+        requires { (stream self.old).calls < 2 ^ 64 - 1 }
+        ensures bound { ReadsAtMost result buf.new }
+        ensures bytes { ReadConsumes (stream self.old).bytes (stream self.new).bytes result buf.new }
+        ensures counted { Counts (stream self.old) (stream self.new) result };
+}
+
+/// Where bytes go.
+pub trait Sink {
+    // The bytes that it holds, and what was asked of it.
+    ghost stream: { Self → Stream };
+
+    /// One write, of the front of the bytes: at least one of them.
+    fn put(&mut self, bytes: &[u8]) -> Result<usize, Failed>
+        requires some { 0 < length bytes.now }
+        requires countable { (stream self.old).calls < 2 ^ 64 - 1 }
+        ensures bound { WritesAtMost result bytes.now }
+        ensures moves { IfOk result (λ count. 0 < count) }
+        ensures bytes { WriteAppends (stream self.old).bytes (stream self.new).bytes result bytes.now }
+        ensures counted { Counts (stream self.old) (stream self.new) result };
+}

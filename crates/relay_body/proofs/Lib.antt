@@ -1,0 +1,10 @@
+pub mod Chunking
+pub mod Emitting
+pub mod Exits
+pub mod Fronts
+pub mod Lines
+pub mod Lists
+pub mod Rows
+pub mod Stepping
+pub mod Wholes
+pub mod Windows

@@ -1,0 +1,18 @@
+use thiserror::Error;
+
+/// Why a body wasn't handed on whole.
+#[derive(Clone, Copy, Debug, PartialEq, Eq, Error)]
+pub enum Fault {
+    /// The bytes are no such body, whatever follows them.
+    #[error("bad framing")]
+    Framing,
+    /// A read failed, or the input ended before the body did.
+    #[error("read fault")]
+    Read,
+    /// A write failed or took no byte.
+    #[error("write fault")]
+    Write,
+    /// As many reads and writes were made as there were turns.
+    #[error("turns spent")]
+    Turns,
+}

@@ -1,0 +1,143 @@
+ghost use Rattle.std.specs.Prelude.{◌≡◌, ◌+◌, ◌^◌, ◌<◌, ◌≤◌, ◌++◌, ℕ, List, [], length, take, drop, IfOk, OnOk, IfErr};
+ghost use Rattle.std.specs.Io.KnownBytes.{IsAtEnd};
+ghost use Rattle.relay_body.specs.Steps.{ends, Countable, Moves, Breaks, LacksNothing};
+ghost use Rattle.relay_body.specs.Texts.{Emits, Stops};
+
+use crate::fault::Fault;
+use crate::inbox::{INBOX_BYTES, Inbox};
+use crate::outbox::Outbox;
+use crate::text;
+use counted_io::{Sink, Source};
+use std::alloc::{AllocError, Global};
+
+/// What was read and isn't used, what waits to be written, and the reads and writes that may still be made.
+#[derive(Drop)]
+pub struct Pipe {
+    inbox: Inbox,
+    outbox: Outbox,
+    turns: u64,
+}
+
+impl Pipe {
+    /// A pipe that holds nothing. It takes 80 KiB, once for its life.
+    pub fn new(alloc: Global, turns: u64) -> Result<Pipe, AllocError>
+        ensures inbox { IfOk result (λ pipe. pipe.inbox ≡ []) }
+        ensures outbox { IfOk result (λ pipe. pipe.outbox ≡ []) }
+        ensures turns { IfOk result (λ pipe. pipe.turns ≡ turns) }
+    {
+        Ok(Pipe {
+            inbox: Inbox::new(alloc)?,
+            outbox: Outbox::new(alloc)?,
+            turns,
+        })
+    }
+
+    /// Makes it as `new` does, without memory.
+    pub fn renew(&mut self, turns: u64)
+        ensures inbox { self.new.inbox ≡ [] }
+        ensures outbox { self.new.outbox ≡ [] }
+        ensures turns { self.new.turns ≡ turns }
+    {
+        self.inbox.clear();
+        self.outbox.clear();
+        self.turns = turns;
+    }
+
+    /// The bytes that were read and aren't used yet.
+    pub fn held(&self) -> &[u8]
+        ensures value { result.now ≡ self.now.inbox }
+        ensures small { length self.now.inbox ≤ INBOX_BYTES }
+    {
+        self.inbox.as_slice()
+    }
+
+    /// Holds these bytes in place of those that it held. `O(n)`.
+    pub fn hold(&mut self, bytes: &[u8])
+        requires { length bytes.now ≤ INBOX_BYTES }
+        ensures inbox { self.new.inbox ≡ bytes.now }
+        ensures outbox { self.new.outbox ≡ self.old.outbox }
+        ensures turns { self.new.turns ≡ self.old.turns }
+    {
+        self.inbox.hold(bytes);
+    }
+
+    /// Forgets the first bytes of those that it holds.
+    pub fn consume(&mut self, count: usize)
+        requires { count ≤ length self.old.inbox }
+        ensures inbox { self.new.inbox ≡ drop count self.old.inbox }
+        ensures outbox { self.new.outbox ≡ self.old.outbox }
+        ensures turns { self.new.turns ≡ self.old.turns }
+    {
+        self.inbox.consume(count);
+    }
+
+    /// Forgets what waits to be written.
+    pub fn forget_waiting(&mut self)
+        ensures inbox { self.new.inbox ≡ self.old.inbox }
+        ensures outbox { self.new.outbox ≡ [] }
+        ensures turns { self.new.turns ≡ self.old.turns }
+    {
+        self.outbox.clear();
+    }
+
+    /// Puts the text behind what waits, and writes where there is no room for it.
+    pub fn emit<K: Sink>(&mut self, sink: &mut K, bytes: &[u8]) -> Result<(), Fault>
+        requires { (K.stream sink.old).calls + self.old.turns < 2 ^ 64 }
+        ensures ok { OnOk result (Emits (K.stream sink.old) (K.stream sink.new) self.old.turns self.new.turns self.old.outbox self.new.outbox bytes.now) }
+        ensures err { IfErr result (Stops (K.stream sink.old) (K.stream sink.new) self.old.turns self.new.turns (self.old.outbox ++ bytes.now)) }
+        ensures inbox { self.new.inbox ≡ self.old.inbox }
+    {
+        text::emit(&mut self.outbox, &mut self.turns, sink, bytes)
+    }
+
+    /// Writes all that waits.
+    pub fn flush<K: Sink>(&mut self, sink: &mut K) -> Result<(), Fault>
+        requires { (K.stream sink.old).calls + self.old.turns < 2 ^ 64 }
+        ensures ok { OnOk result (Emits (K.stream sink.old) (K.stream sink.new) self.old.turns self.new.turns self.old.outbox self.new.outbox []) }
+        ensures empty { OnOk result (self.new.outbox ≡ []) }
+        ensures err { IfErr result (Stops (K.stream sink.old) (K.stream sink.new) self.old.turns self.new.turns self.old.outbox) }
+        ensures inbox { self.new.inbox ≡ self.old.inbox }
+    {
+        text::flush(&mut self.outbox, &mut self.turns, sink)
+    }
+
+    // Hands on the first bytes of those that are held.
+    pub(crate) fn pass_held<K: Sink>(&mut self, sink: &mut K, count: usize) -> Result<(), Fault>
+        requires held { count ≤ length self.old.inbox }
+        requires countable { (K.stream sink.old).calls + self.old.turns < 2 ^ 64 }
+        ensures ok { OnOk result (Emits (K.stream sink.old) (K.stream sink.new) self.old.turns self.new.turns self.old.outbox self.new.outbox (take count self.old.inbox)) }
+        ensures inbox { OnOk result (self.new.inbox ≡ drop count self.old.inbox) }
+        ensures err { IfErr result (Stops (K.stream sink.old) (K.stream sink.new) self.old.turns self.new.turns (self.old.outbox ++ take count self.old.inbox)) }
+    {
+        let bytes = &self.inbox.as_slice()[..count];
+        text::emit(&mut self.outbox, &mut self.turns, sink, bytes)?;
+        self.inbox.consume(count);
+        Ok(())
+    }
+
+    /// Writes all that waits, and then reads once; 0 at the end of the input.
+    pub fn supply<S: Source, K: Sink>(
+        &mut self,
+        source: &mut S,
+        sink: &mut K,
+    ) -> Result<usize, Fault>
+        requires room { length self.old.inbox < INBOX_BYTES }
+        requires countable { Countable (ends self.old (S.stream source.old) (K.stream sink.old)) }
+        ensures ok { OnOk result (Moves (ends self.old (S.stream source.old) (K.stream sink.old)) (ends self.new (S.stream source.new) (K.stream sink.new)) [] []) }
+        ensures more { IfOk result (λ count. length self.new.inbox ≡ length self.old.inbox + count) }
+        ensures end { IfOk result (λ count. count ≡ 0 → IsAtEnd (S.stream source.new).bytes) }
+        ensures none { IfOk result (λ count. count ≡ 0 → self.new.inbox ≡ self.old.inbox) }
+        ensures spent { OnOk result (self.new.turns < self.old.turns) }
+        ensures err { IfErr result (Breaks (ends self.old (S.stream source.old) (K.stream sink.old)) (ends self.new (S.stream source.new) (K.stream sink.new)) [] [] LacksNothing) }
+    {
+        self.flush(sink)?;
+        if self.turns == 0 {
+            return Err(Fault::Turns);
+        }
+        self.turns -= 1;
+        match self.inbox.fill(source) {
+            Ok(count) => Ok(count),
+            Err(_) => Err(Fault::Read),
+        }
+    }
+}

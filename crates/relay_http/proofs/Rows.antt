@@ -1,0 +1,155 @@
+-- The definitions at worked examples: what must hold, and what must not.
+use Rattle.std.proofs.Common.{◌≡◌, ℕ, List, [], ◌∷◌, Some, None, true, false, codes, refl}
+use Rattle.http1.specs.Text.{numeral}
+use Rattle.relay_body.specs.declared.framing.Framing.TheVariants.{Empty, Length, Chunked, ToEnd}
+use Rattle.relay_http.specs.Framings.{request_framing, answer_plan, bare}
+use Rattle.relay_http.specs.Texts.{request_text, answer_text, interim_text}
+use Rattle.req_view.specs.Answer.{Answer}
+use Rattle.req_view.specs.Request.{NamedValue, Request}
+use Rattle.req_view.specs.declared.version.Version.{Version}
+use Rattle.req_view.specs.declared.version.Version.TheVariants.{Http10, Http11}
+
+post : List NamedValue → Request
+post fields = record { method = codes "POST"; target = codes "/a"; version = Http11; fields = fields }
+
+old_get : List NamedValue → Request
+old_get fields = record { method = codes "GET"; target = codes "/a"; version = Http10; fields = fields }
+
+answer : ℕ → Version → List NamedValue → Answer
+answer status version fields = record { status = status; reason = codes "OK"; version = version; fields = fields }
+
+host : NamedValue
+host = (codes "Host", codes "h")
+
+length_is : List ℕ → NamedValue
+length_is value = (codes "Content-Length", value)
+
+chunked : NamedValue
+chunked = (codes "Transfer-Encoding", codes "chunked")
+
+naming_a_field : Request
+naming_a_field = post (host ∷ (codes "Connection", codes "x-a") ∷ (codes "X-A", codes "1") ∷ length_is (codes "3") ∷ [])
+
+naming_a_field_framing : request_framing naming_a_field ≡ Some (Length 3)
+unfolding naming_a_field post host length_is
+naming_a_field_framing = refl
+
+-- the field that Connection names isn't handed on
+naming_a_field_text : request_text naming_a_field (Length 3) ≡ codes "POST /a HTTP/1.1\r\nHost: h\r\nContent-Length: 3\r\nConnection: close\r\n\r\n"
+unfolding naming_a_field post host length_is numeral
+naming_a_field_text = refl
+
+two_lengths : request_framing (post (length_is (codes "3") ∷ length_is (codes "4") ∷ [])) ≡ None
+unfolding post length_is
+two_lengths = refl
+
+one_length_twice : request_framing (post (length_is (codes "5, 05") ∷ length_is (codes "5") ∷ [])) ≡ Some (Length 5)
+unfolding post length_is
+one_length_twice = refl
+
+length_with_sign : request_framing (post (length_is (codes "+5") ∷ [])) ≡ None
+unfolding post length_is
+length_with_sign = refl
+
+empty_length : request_framing (post (length_is [] ∷ [])) ≡ None
+unfolding post length_is
+empty_length = refl
+
+length_and_empty_part : request_framing (post (length_is (codes "5,") ∷ [])) ≡ None
+unfolding post length_is
+length_and_empty_part = refl
+
+length_of_nineteen_digits : request_framing (post (length_is (codes "1000000000000000000") ∷ [])) ≡ None
+unfolding post length_is
+length_of_nineteen_digits = refl
+
+coding_in_any_case : request_framing (post ((codes "transfer-encoding", codes "CHUNKed") ∷ [])) ≡ Some Chunked
+unfolding post
+coding_in_any_case = refl
+
+coding_and_length : request_framing (post (chunked ∷ length_is (codes "3") ∷ [])) ≡ None
+unfolding post length_is chunked
+coding_and_length = refl
+
+length_and_coding : request_framing (post (length_is (codes "3") ∷ chunked ∷ [])) ≡ None
+unfolding post length_is chunked
+length_and_coding = refl
+
+two_codings : request_framing (post (chunked ∷ chunked ∷ [])) ≡ None
+unfolding post chunked
+two_codings = refl
+
+coding_list : request_framing (post ((codes "Transfer-Encoding", codes "gzip, chunked") ∷ [])) ≡ None
+unfolding post
+coding_list = refl
+
+old_coding : request_framing (old_get (chunked ∷ [])) ≡ None
+unfolding old_get chunked
+old_coding = refl
+
+no_framing : request_framing (old_get []) ≡ Some Empty
+unfolding old_get
+no_framing = refl
+
+-- an old request without a Host field gets an empty one
+old_get_text : request_text (old_get []) Empty ≡ codes "GET /a HTTP/1.1\r\nHost:\r\nConnection: close\r\n\r\n"
+unfolding old_get
+old_get_text = refl
+
+-- and so does one whose Connection names Host
+host_named_text : request_text (post (host ∷ (codes "connection", codes "close , HOST") ∷ [])) Empty
+    ≡ codes "POST /a HTTP/1.1\r\nHost:\r\nConnection: close\r\n\r\n"
+unfolding post host
+host_named_text = refl
+
+chunked_answer : answer_plan (codes "GET") (answer 200 Http11 (chunked ∷ [])) ≡ Some (record { body = Chunked; stated = Chunked })
+unfolding answer chunked
+chunked_answer = refl
+
+chunked_to_old_client : answer_text false (answer 200 Http11 (chunked ∷ [])) (record { body = Chunked; stated = Chunked })
+    ≡ codes "HTTP/1.1 200 OK\r\nConnection: close\r\n\r\n"
+unfolding answer chunked
+chunked_to_old_client = refl
+
+chunked_to_client : answer_text true (answer 200 Http11 (chunked ∷ [])) (record { body = Chunked; stated = Chunked })
+    ≡ codes "HTTP/1.1 200 OK\r\nTransfer-Encoding: chunked\r\nConnection: close\r\n\r\n"
+unfolding answer chunked
+chunked_to_client = refl
+
+answer_to_the_end : answer_plan (codes "GET") (answer 200 Http10 []) ≡ Some (record { body = ToEnd; stated = ToEnd })
+unfolding answer
+answer_to_the_end = refl
+
+not_modified : answer_plan (codes "GET") (answer 304 Http11 (length_is (codes "5") ∷ [])) ≡ Some (record { body = Empty; stated = Length 5 })
+unfolding answer length_is
+not_modified = refl
+
+not_modified_text : answer_text true (answer 304 Http11 (length_is (codes "5") ∷ [])) (record { body = Empty; stated = Length 5 })
+    ≡ codes "HTTP/1.1 304 OK\r\nContent-Length: 5\r\nConnection: close\r\n\r\n"
+unfolding answer length_is numeral
+not_modified_text = refl
+
+head_of_chunked : answer_plan (codes "HEAD") (answer 200 Http11 (chunked ∷ [])) ≡ Some bare
+unfolding answer chunked
+head_of_chunked = refl
+
+head_of_length_and_coding : answer_plan (codes "HEAD") (answer 200 Http11 (chunked ∷ length_is (codes "7") ∷ [])) ≡ Some (record { body = Empty; stated = Length 7 })
+unfolding answer chunked length_is
+head_of_length_and_coding = refl
+
+-- a length isn't read there
+no_content : answer_plan (codes "GET") (answer 204 Http11 (length_is (codes "x") ∷ [])) ≡ Some bare
+unfolding answer length_is
+no_content = refl
+
+switching_protocols : answer_plan (codes "GET") (answer 101 Http11 []) ≡ None
+unfolding answer
+switching_protocols = refl
+
+coding_of_an_old_server : answer_plan (codes "HEAD") (answer 200 Http10 (chunked ∷ [])) ≡ None
+unfolding answer chunked
+coding_of_an_old_server = refl
+
+hints : interim_text true (answer 103 Http11 ((codes "Link", codes "x") ∷ length_is (codes "3") ∷ [])) ≡ codes "HTTP/1.1 103 OK\r\nLink: x\r\n\r\n"
+unfolding answer length_is
+hints = refl

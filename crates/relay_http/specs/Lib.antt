@@ -1,0 +1,4 @@
+pub mod Fields
+pub mod Framings
+pub mod Summaries
+pub mod Texts

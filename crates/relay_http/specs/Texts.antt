@@ -1,0 +1,60 @@
+-- The texts of heads that are handed on.
+use Rattle.std.specs.Prelude.{ℕ, ◌+◌, ◌/◌, ◌%◌, Bool, List, [], ◌∷◌, ◌++◌, if◌then◌else◌, codes}
+use Rattle.std.specs.List.{flat_map, list_any}
+use Rattle.http1.specs.Text.{numeral}
+use Rattle.httparse.specs.Ascii.{crlf_bytes, space}
+use Rattle.relay_body.specs.declared.framing.Framing.{Framing}
+use Rattle.relay_body.specs.declared.framing.Framing.TheVariants.{Empty, Length, Chunked, ToEnd}
+use Rattle.relay_http.specs.Fields.{kept, of_connection, of_request}
+use Rattle.relay_http.specs.declared.plans.Plan.{Plan}
+use Rattle.req_view.specs.Answer.{Answer}
+use Rattle.req_view.specs.Request.{NamedValue, Request, is_named}
+
+-- a field's line: its name as it came, and its value
+abbrev pub field_text : NamedValue → List ℕ
+field_text field = field.0 ++ (codes ": " ++ (field.1 ++ crlf_bytes))
+
+abbrev pub fields_text : List NamedValue → List ℕ
+fields_text fields = flat_map field_text fields
+
+-- the line that states a framing
+abbrev pub framing_text : Framing → List ℕ
+framing_text Empty = []
+framing_text (Length count) = codes "Content-Length: " ++ (numeral 10 count ++ crlf_bytes)
+framing_text Chunked = codes "Transfer-Encoding: chunked\r\n"
+framing_text ToEnd = []
+
+-- the connection's last line, and the empty one
+abbrev pub close_text : List ℕ
+close_text = codes "Connection: close\r\n\r\n"
+
+-- an empty Host line, where no such field is left
+abbrev pub host_text : List NamedValue → List ℕ
+host_text fields = if list_any (is_named (codes "Host")) fields then [] else codes "Host:\r\n"
+
+-- a request's head
+abbrev pub request_text : Request → Framing → List ℕ
+request_text r framing =
+    r.method ++ (space ∷ (r.target ++ (codes " HTTP/1.1\r\n"
+    ++ (fields_text (kept of_request r.fields) ++ (host_text (kept of_request r.fields) ++ (framing_text framing ++ close_text))))))
+
+-- three digits
+abbrev pub status_text : ℕ → List ℕ
+status_text status = (48 + status / 100) ∷ (48 + (status / 10) % 10) ∷ (48 + status % 10) ∷ []
+
+-- an answer's first line, and the fields that are handed on
+abbrev pub answer_lines : Answer → List ℕ
+answer_lines a = codes "HTTP/1.1 " ++ (status_text a.status ++ (space ∷ (a.reason ++ (crlf_bytes ++ fields_text (kept of_connection a.fields)))))
+
+-- the framing that is stated: to an old client chunks are no framing
+abbrev pub stated_text : Bool → Framing → List ℕ
+stated_text framed Chunked = if framed then framing_text Chunked else []
+stated_text framed framing = framing_text framing
+
+-- an answer's head; `framed` is false for a client of version 1.0
+abbrev pub answer_text : Bool → Answer → Plan → List ℕ
+answer_text framed a plan = answer_lines a ++ (stated_text framed plan.stated ++ close_text)
+
+-- a head before the answer: a client of version 1.0 gets none, and nobody gets a 100
+abbrev pub interim_text : Bool → Answer → List ℕ
+interim_text framed a = if framed then answer_lines a ++ crlf_bytes else []

@@ -1,0 +1,33 @@
+ghost use Rattle.req_view.specs.AnswerHeads.{TellsAnswer};
+
+use crate::answer::AnswerHead;
+use crate::refusal::Refusal;
+use crate::viewing::{HEAD_BYTES, HEAD_FIELDS, Viewed};
+use httparse::Status;
+use httparse::spans::{EMPTY_HEADER_SPAN, parse_response};
+use std::alloc::Global;
+
+/// Looks for an answer's head at the front of the bytes, of which it reads 16,384 at most.
+///
+/// The head is what `httparse` takes in its default configuration, as for `view` (RFC 9112, sections 2, 4
+/// and 5). `O(n)`. Memory is taken once a whole head stands there: for its bytes, its fields and their names.
+pub fn answer_head(alloc: Global, bytes: &[u8]) -> Viewed<AnswerHead>
+    ensures { TellsAnswer bytes.now result }
+{
+    let front = &bytes[..bytes.len().min(HEAD_BYTES)];
+    let mut places = [EMPTY_HEADER_SPAN; HEAD_FIELDS];
+    match parse_response(front, &mut places) {
+        Ok(Status::Complete(spans)) => match AnswerHead::copied(alloc, front, &places, spans) {
+            Ok(head) => Viewed::Whole(head, spans.len),
+            Err(_) => Viewed::Refused(Refusal::NoMemory),
+        },
+        Ok(Status::Partial) => {
+            if bytes.len() < HEAD_BYTES {
+                Viewed::More
+            } else {
+                Viewed::Refused(Refusal::HeadFault)
+            }
+        }
+        Err(_) => Viewed::Refused(Refusal::HeadFault),
+    }
+}

@@ -1,0 +1,99 @@
+ghost use Rattle.std.specs.Prelude.{◌≡◌, ◌≤◌, IfOk, Some, None, MatchOption, take, map, length, slice_get};
+ghost use Rattle.httparse.specs.Spans.{span_bytes, header_bytes, IsWithin, IsSectionWithin};
+ghost use Rattle.req_view.specs.Request.{values_of};
+ghost use Rattle.req_view.specs.Spans.{AreNames};
+
+use crate::index;
+use crate::values::Values;
+use http_header::HeaderMap;
+use httparse::spans::{HeaderSpan, Span};
+use std::alloc::{AllocError, Global};
+use std::marker::Model;
+
+/// A field of a head.
+#[derive(Clone, Copy, Debug, PartialEq, Eq)]
+pub struct Field<'a> {
+    /// The name as it came.
+    pub name: &'a [u8],
+    /// The value, without the spaces and tabs around it.
+    pub value: &'a [u8],
+}
+
+/// One copy of a head's bytes, with its fields.
+///
+/// Names and values are pieces of the copy, and a map from names to places finds values by name.
+#[derive(Drop)]
+pub(crate) struct Section {
+    text: Vec<u8>,
+    places: Vec<HeaderSpan>,
+    by_name: HeaderMap<Span>,
+}
+
+impl Model for Section {
+    ghost use Rattle.std.specs.Prelude.{◌≡◌, map, length, All};
+    ghost use Rattle.httparse.specs.Spans.{header_bytes, IsHeaderWithin};
+    ghost use Rattle.req_view.specs.Spans.{Copied, index_of};
+
+    ghost Value = { Copied };
+
+    ghost view = { λ s. record { text = s.text.items; fields = map (header_bytes s.text.items) s.places.items } };
+
+    ghost invariant = { λ s. All (IsHeaderWithin (length s.text.items)) s.places.items × (s.by_name ≡ index_of s.text.items s.places.items) };
+}
+
+impl Section {
+    /// A copy of the first `len` bytes, whose fields the first `count` places cover. `O(n)`.
+    pub(crate) fn copied(
+        alloc: Global,
+        bytes: &[u8],
+        places: &[HeaderSpan],
+        len: usize,
+        count: usize,
+    ) -> Result<Section, AllocError>
+        requires within { IsSectionWithin bytes.now places.now len count }
+        requires names { AreNames bytes.now (take count places.now) }
+        requires few { count ≤ 64 }
+        ensures { IfOk result (λ section. section ≡ record { text = take len bytes.now; fields = map (header_bytes bytes.now) (take count places.now) }) }
+    {
+        let text = Vec::from_slice(alloc, &bytes[..len])?;
+        let places = Vec::from_slice(alloc, &places[..count])?;
+        let by_name = index::by_name(alloc, &text, &places)?;
+        Ok(Section {
+            text,
+            places,
+            by_name,
+        })
+    }
+
+    /// The bytes that a span covers.
+    pub(crate) fn part(&self, span: Span) -> &[u8]
+        requires { IsWithin (length self.now.text) span }
+        ensures { result.now ≡ span_bytes self.now.text span }
+    {
+        span.of(&self.text)
+    }
+
+    pub(crate) fn count(&self) -> usize
+        ensures { result ≡ length self.now.fields }
+    {
+        self.places.len()
+    }
+
+    /// The field at a position, counted from 0. `O(1)`.
+    pub(crate) fn field(&self, position: usize) -> Option<Field<'_>>
+        ensures { MatchOption result (slice_get self.now.fields position ≡ None) (λ field. slice_get self.now.fields position ≡ Some (field.name.now, field.value.now)) }
+    {
+        let span = self.places.get(position)?;
+        Some(Field {
+            name: span.name.of(&self.text),
+            value: span.value.of(&self.text),
+        })
+    }
+
+    /// The values of the fields of a name, case ignored, in order. `O(n)` in the name's bytes, no memory.
+    pub(crate) fn values(&self, name: &[u8]) -> Values<'_>
+        ensures { result ≡ values_of name.now self.now.fields }
+    {
+        Values::new(&self.text, self.by_name.get_all(name).iter())
+    }
+}

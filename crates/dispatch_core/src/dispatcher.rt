@@ -1,4 +1,4 @@
-ghost use Rattle.std.specs.Prelude.{◌≡◌, ◌+◌, ◌*◌, ◌<◌, ◌≤◌, ◌↔◌, [], ◌∷◌, ◌++◌, length, IfOk, IfErr, OnOk, OnErr, IsTrue, Some, None, true, false, option_map, pos, ◌+ℤ◌};
+ghost use Rattle.std.specs.Prelude.{◌≡◌, ◌+◌, ◌*◌, ◌<◌, ◌≤◌, ◌↔◌, [], ◌∷◌, ◌++◌, length, IfOk, IfErr, OnOk, OnErr, IsTrue, MatchOption, Some, None, true, false, option_map, pos, ◌+ℤ◌};
 ghost use Rattle.dispatch_log.specs.declared.entry.Entry.TheVariants.{Arrive, Done, Fail, Abort, Tick, Check};
 ghost use Rattle.dispatch_log.specs.Dispatch.{IsDispatched};
 ghost use Rattle.dispatch_log.specs.Histories.{History, IsLegal, state_of, effective, refuses_arrival, refuses_done, refuses_failure, refuses_abort, refuses_tick, refuses_check, SomeExpires, AddsEvent, RefusedOrNoMemory};
@@ -223,6 +223,39 @@ impl<Q: PendQueue<Key, usize>> Core<Q> {
             None => None,
             Some(it) => Some(self.trace.phase(it)),
         }
+    }
+
+    /// The place of the request with this ticket, which it has until its end. None where no live
+    /// request has it. `O(log n)`.
+    pub fn place(&self, ticket: u64) -> Option<usize>
+        ensures { MatchOption result (row_of ticket (state_of self.now).rows ≡ None) (λ place. IsAt (state_of self.now).rows (record { place = place; ticket = ticket })) }
+    {
+        match self.trace.find(ticket) {
+            None => None,
+            Some(it) => Some(it.place),
+        }
+    }
+
+    /// How many places there are, each for one live request.
+    pub fn places(&self) -> usize
+        ensures places { result ≡ self.now.setup.places }
+        ensures few { result ≤ 4096 }
+    {
+        self.trace.setup().places
+    }
+
+    /// How many servers there are.
+    pub fn servers(&self) -> usize
+        ensures { result ≡ length self.now.setup.servers }
+    {
+        self.trace.setup().servers.len()
+    }
+
+    /// Whether a server is up, by the results of its checks. A number that no server has is of none that is. `O(1)`.
+    pub fn up(&self, server: usize) -> bool
+        ensures { result ≡ is_up (scene_of self.now) server }
+    {
+        self.trace.up(server)
     }
 
     /// How many requests a server serves. `O(1)`.

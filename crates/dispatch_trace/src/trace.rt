@@ -4,6 +4,7 @@ ghost use Rattle.dispatch_log.specs.Histories.{state_of, refuses_arrival, refuse
 ghost use Rattle.dispatch_log.specs.Refusals.{pins_to_none};
 ghost use Rattle.dispatch_log.specs.Rows.{row_of, served, queued};
 ghost use Rattle.dispatch_log.specs.Setups.{IsSound};
+ghost use Rattle.dispatch_log.specs.Words.{is_up};
 ghost use Rattle.server_pick.specs.Picked.{IsPlacement, cursor_placed};
 ghost use Rattle.dispatch_trace.specs.Histories.{IsAt, IsFound, scene_of, HasEntryRoom};
 
@@ -207,5 +208,12 @@ impl<Q: PendQueue<Key, usize>> Trace<Q> {
         ensures { result ≡ queued queue (state_of self.now).rows }
     {
         self.ledger.queued(queue)
+    }
+
+    /// Whether a server is up. `O(1)`.
+    pub fn up(&self, server: usize) -> bool
+        ensures { result ≡ is_up (scene_of self.now) server }
+    {
+        self.ledger.up(server)
     }
 }

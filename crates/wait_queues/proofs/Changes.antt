@@ -96,12 +96,14 @@ takes lined ws queue key p w is within whole first waits =
     let same : it.0 ≡ w = same_Some it.0 w (same_Some (Some it.0) (Some w) (sym it.1.waits ∙ waits)) in
     let first_so : IsFirstIn queue ws p w = subst (IsFirstIn queue ws p) same it.1 in
     let named : w.key ≡ key = ap (λ (x : Waiter). x.key) (sym same) ∙ it.2 in
-    let line : line_at lined queue ≡ line_at lined w.queue = ap (line_at lined) (sym first_so.its) in
-    (record {
-      first = first_so;
-      parts = first_apart (line_at lined w.queue) (w.key, p) (ap (λ (l : Line). slice_get l 0) (sym line) ∙ first ∙ ap (λ (k : Key). Some (k, p)) (sym named));
-      rises = IsAscending-drop key_cmp (line_at lined w.queue) (is.ascending w.queue);
-    }, named)
+    let line : line_at lined queue ≡ line_at lined w.queue = ap (line_at lined) (sym first_so.its) in (
+      record {
+        first = first_so;
+        parts = first_apart (line_at lined w.queue) (w.key, p) (ap (λ (l : Line). slice_get l 0) (sym line) ∙ first ∙ ap (λ (k : Key). Some (k, p)) (sym named));
+        rises = IsAscending-drop key_cmp (line_at lined w.queue) (is.ascending w.queue);
+      },
+      named,
+    )
 
 -- a request's pair is in its queue, and what is left without it
 pub record Leaves (lined : Lined) (p : ℕ) (w : Waiter) : Type 0 where
@@ -143,8 +145,8 @@ shift_kept lined next ws new order after p s w moved pair is take its key backen
     let twice : set (set ws p None) p (Some moved) ≡ set ws p (Some moved) = set-set ws p None (Some moved) in
     let same : next ≡ with_moved mid (inserted key_cmp (moved.key, p) mid.moved) =
     line ∙ ap (λ (x : Key × ℕ). with_moved (with_line lined (Server s) (drop 1 (line_at lined (Server s)))) (inserted key_cmp x lined.moved)) (its ∙ ap (λ (k : Key). (k, p)) (sym key))
-        ∙ ap (λ (q : Queue). with_moved (with_line lined q (drop 1 (line_at lined q))) (inserted key_cmp (moved.key, p) lined.moved)) (sym its_queue)
-        ∙ ap (λ (m : Line). with_moved mid (inserted key_cmp (moved.key, p) m)) (sym (same_moved lined w.queue rest)) in
+    ∙ ap (λ (q : Queue). with_moved (with_line lined q (drop 1 (line_at lined q))) (inserted key_cmp (moved.key, p) lined.moved)) (sym its_queue)
+    ∙ ap (λ (m : Line). with_moved mid (inserted key_cmp (moved.key, p) m)) (sym (same_moved lined w.queue rest)) in
     subst (λ (l : Lined). AreWaiting l new after) (sym same)
     (subst (λ (x : Waiters). AreWaiting (with_moved mid (inserted key_cmp (moved.key, p) mid.moved)) x after) (twice ∙ sym written)
     (subst (λ (o : Order). AreWaiting (with_moved mid (inserted key_cmp (moved.key, p) mid.moved)) (set (set ws p None) p (Some moved)) o) (sym joined) (record {
@@ -178,6 +180,12 @@ nothing_popped lined left queue none goes = goes ∙ ap (λ (w : Line). with_lin
     by_queue Backend e = ap (λ (w : Line). record { own = lined.own; backend = w; moved = lined.moved; room = lined.room }) (sym e)
     by_queue (Server s) e = ap (λ (l : List Line). record { own = l; backend = lined.backend; moved = lined.moved; room = lined.room }) (set_none lined.own s e)
 
+-- nobody waits where all places are empty
+pub nobody : (n place : ℕ) (w : Waiter) → WaitsAt (replicate n None) place w → ⊥
+nobody zero place w e = cc
+nobody (suc n) zero w e = let no : None ≡ Some w = same_Some None (Some w) e in cc
+nobody (suc n) (suc place) w e = nobody n place w e
+
 -- nobody waits at first
 pub none_wait : (lined : Lined) (ws : Waiters) (order : Order) (servers places : ℕ) → lined ≡ record { own = replicate servers []; backend = []; moved = []; room = places } → ws ≡ replicate places None → order ≡ record { places = []; room = places } → AreWaiting lined ws order
 none_wait lined ws order servers places queues cells joined =
@@ -201,11 +209,6 @@ none_wait lined ws order servers places queues cells joined =
   where
     start : Lined
     start = record { own = replicate servers []; backend = []; moved = []; room = places }
-
-    nobody : (n place : ℕ) (w : Waiter) → WaitsAt (replicate n None) place w → ⊥
-    nobody zero place w e = cc
-    nobody (suc n) zero w e = let no : None ≡ Some w = same_Some None (Some w) e in cc
-    nobody (suc n) (suc place) w e = nobody n place w e
 
     light : (weight : Key × ℕ → ℕ) (queue : Queue) (n at : ℕ) → weight_of weight queue at (replicate n None) ≡ 0
     light weight queue zero at = refl
@@ -275,6 +278,6 @@ pub shifted_view : (lined next : Lined) (ws new : Waiters) (order after : Order)
 shifted_view lined next ws new order after now p s joined w moved line seen goes written joins is =
     let many : length next.own ≡ length lined.own = ap (λ (l : Lined). length l.own) goes ∙ length-set lined.own s line in
     ap (λ (x : Waiters). record { waiters = x; order = after.places; servers = length next.own }) (written ∙ ap (λ (m : Waiter). set ws p (Some m)) is)
-        ∙ ap (λ (o : Order). record { waiters = set ws p (Some (moved_waiter w joined)); order = o.places; servers = length next.own }) joins
-        ∙ ap (λ n. record { waiters = set ws p (Some (moved_waiter w joined)); order = without_place p order.places ++ p ∷ []; servers = n }) many
-        ∙ ap (λ (l : Waitlist). with_waiter_anew l p (moved_waiter w joined)) seen
+    ∙ ap (λ (o : Order). record { waiters = set ws p (Some (moved_waiter w joined)); order = o.places; servers = length next.own }) joins
+    ∙ ap (λ n. record { waiters = set ws p (Some (moved_waiter w joined)); order = without_place p order.places ++ p ∷ []; servers = n }) many
+    ∙ ap (λ (l : Waitlist). with_waiter_anew l p (moved_waiter w joined)) seen

@@ -346,15 +346,18 @@ first_in lined ws queue key place is within whole first = by_line (line_at lined
     by_line (head ∷ rest) e at =
         let same : head ≡ (key, place) = same_Some head (key, place) at in
         let it = line_waits lined ws queue key place is within (subst (λ (l : Line). Contains l (key, place)) (sym e) (subst (Contains (head ∷ rest)) same (Contains-head head rest))) in
-        let rises : IsAscending key_cmp (head ∷ rest) = subst (IsAscending key_cmp) e (is.ascending queue) in
-        (it.0, record {
-          waits = it.1;
-          its = it.2;
-          least = λ other v waits of.
-              let among = subst (λ (q : Queue). Contains (line_at lined q) (v.key, other)) of (waits_line lined ws other v is (subst (IsWhole lined) (sym of) whole) waits) in
-              subst (λ (k : Key). key_cmp k v.key ≢ Greater) (ap (λ (x : Key × ℕ). x.0) same ∙ sym it.3)
-              (least_first key_cmp_total head rest (v.key, other) rises (subst (λ (l : Line). Contains l (v.key, other)) e among));
-        }, it.3)
+        let rises : IsAscending key_cmp (head ∷ rest) = subst (IsAscending key_cmp) e (is.ascending queue) in (
+          it.0,
+          record {
+            waits = it.1;
+            its = it.2;
+            least = λ other v waits of.
+                let among = subst (λ (q : Queue). Contains (line_at lined q) (v.key, other)) of (waits_line lined ws other v is (subst (IsWhole lined) (sym of) whole) waits) in
+                subst (λ (k : Key). key_cmp k v.key ≢ Greater) (ap (λ (x : Key × ℕ). x.0) same ∙ sym it.3)
+                (least_first key_cmp_total head rest (v.key, other) rises (subst (λ (l : Line). Contains l (v.key, other)) e among));
+          },
+          it.3,
+        )
 
 pub none_in : (lined : Lined) (ws : Waiters) (queue : Queue) → AreLinedUp lined ws → IsWhole lined queue → slice_get (line_at lined queue) 0 ≡ None → NoneWaitsIn queue ws
 none_in lined ws queue is whole first place w waits of =

@@ -11,3 +11,5 @@ mod waiting;
 pub use waiters::Waiter;
 pub use waiting::{Taken, WaitQueues};
 
+#[cfg(test)]
+mod tests;

@@ -49,11 +49,7 @@ impl<Q: PendQueue<Key, usize>> WaitQueues<Q> {
 
     /// Nobody waits, in the queues of so many servers and in the backend's, each with room for all
     /// places. `O(s n)` in the servers and places.
-    pub fn new(
-        alloc: Global,
-        servers: usize,
-        places: usize,
-    ) -> Result<WaitQueues<Q>, AllocError>
+    pub fn new(alloc: Global, servers: usize, places: usize) -> Result<WaitQueues<Q>, AllocError>
         ensures { IfOk result (λ made. made ≡ record { waiters = replicate places None; order = []; servers = servers }) }
     {
         Ok(WaitQueues {

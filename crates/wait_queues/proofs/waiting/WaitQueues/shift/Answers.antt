@@ -17,10 +17,11 @@ use Rattle.wait_queues.proofs.waiting.WaitQueues.shift.Goals as goal
 
 pub returns-in_default : goal.returns-in_default
 returns-in_default g c =
-    let same = nothing_popped c.self.inside.queues c.pop.new.self (Server c.args.server) c.in_default.ensures.first c.in_default.ensures.rest in
-    (subst (λ (l : Waitlist). NoneWaitsIn (Server c.args.server) l.waiters) c.self.view_is
-    (none_in c.self.inside.queues c.self.inside.waiters.items (Server c.args.server) c.self.invariant.lined_up (server_whole c.self.inside.queues c.args.server) (sym c.in_default.ensures.first)),
-    ap (λ (l : Lined). record { waiters = c.self.inside.waiters.items; order = c.self.inside.order.places; servers = length l.own }) same ∙ c.self.view_is)
+    let same = nothing_popped c.self.inside.queues c.pop.new.self (Server c.args.server) c.in_default.ensures.first c.in_default.ensures.rest in (
+      subst (λ (l : Waitlist). NoneWaitsIn (Server c.args.server) l.waiters) c.self.view_is
+          (none_in c.self.inside.queues c.self.inside.waiters.items (Server c.args.server) c.self.invariant.lined_up (server_whole c.self.inside.queues c.args.server) (sym c.in_default.ensures.first)),
+      ap (λ (l : Lined). record { waiters = c.self.inside.waiters.items; order = c.self.inside.order.places; servers = length l.own }) same ∙ c.self.view_is,
+    )
 
 pub set_aside-requires-clause-room : goal.set_aside-requires-clause-room
 set_aside-requires-clause-room g c =
@@ -81,8 +82,10 @@ returns g c =
     let it = shifts c.self.inside.queues c.self.inside.waiters.items c.args.server c.pair.result.0.now c.pair.result.1.now c.self.invariant.lined_up within first in
     let goes = c.set_aside.ensures ∙ ap (λ (l : Lined). with_moved l (inserted key_cmp (g.Q.PendQueue.pair_of c.in-Some.node) l.moved)) c.pop.ensures.rest in
     let pair = c.pair.ensures ∙ ap (λ k. (k, c.pair.result.1.now)) (sym it.named) in
-    let joins = c.append.ensures ∙ ap (λ (o : Order). with_places o (o.places ++ c.pair.result.1.now ∷ [])) c.remove.ensures in
-    (it.waiter, subst (λ (l : Waitlist). IsFirstIn (Server c.args.server) l.waiters c.pair.result.1.now it.waiter) c.self.view_is it.take.first,
-    shifted_view c.self.inside.queues c.set_aside.new.self c.self.inside.waiters.items _ c.self.inside.order c.append.new.self c.args.self.now c.pair.result.1.now c.args.server c.args.joined it.waiter c.moved.result _ c.self.view_is
-    (goes ∙ ap (λ x. with_moved (with_line c.self.inside.queues (Server c.args.server) (drop 1 (line_at c.self.inside.queues (Server c.args.server)))) (inserted key_cmp x c.self.inside.queues.moved)) pair) c.put.ensures joins
-    (c.moved.ensures ∙ ap (λ (k : Key). record { key = k; queue = Backend; joined = c.args.joined }) (sym it.named)))
+    let joins = c.append.ensures ∙ ap (λ (o : Order). with_places o (o.places ++ c.pair.result.1.now ∷ [])) c.remove.ensures in (
+      it.waiter,
+      subst (λ (l : Waitlist). IsFirstIn (Server c.args.server) l.waiters c.pair.result.1.now it.waiter) c.self.view_is it.take.first,
+      shifted_view c.self.inside.queues c.set_aside.new.self c.self.inside.waiters.items _ c.self.inside.order c.append.new.self c.args.self.now c.pair.result.1.now c.args.server c.args.joined it.waiter c.moved.result _ c.self.view_is
+          (goes ∙ ap (λ x. with_moved (with_line c.self.inside.queues (Server c.args.server) (drop 1 (line_at c.self.inside.queues (Server c.args.server)))) (inserted key_cmp x c.self.inside.queues.moved)) pair) c.put.ensures joins
+          (c.moved.ensures ∙ ap (λ (k : Key). record { key = k; queue = Backend; joined = c.args.joined }) (sym it.named)),
+    )

@@ -5,7 +5,6 @@ use Rattle.wait_queues.specs.declared.waiters.Waiter.{Waiter}
 use Rattle.wait_queues.specs.Lines.{Lined}
 use Rattle.wait_queues.specs.Waitlists.{Waitlist, Waiters, NoneWaitsIn, IsFirstIn}
 use Rattle.wait_queues.proofs.Changes.{gather_kept, take_kept, takes, stands_first, first_of_node, nothing_popped, missing}
-
 use Rattle.wait_queues.proofs.Lineup.{gather_room, gathered_whole, none_in}
 use Rattle.wait_queues.proofs.waiting.WaitQueues.take.Goals as goal
 

@@ -83,10 +83,7 @@ impl<H: Drop> Places<H> {
             unreachable!()
         };
         self.index.push(row.key.ticket, place);
-        self.slots[place] = Some(Slot {
-            row,
-            node: None,
-        });
+        self.slots[place] = Some(Slot { row, node: None });
         place
     }
 

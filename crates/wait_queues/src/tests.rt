@@ -1,13 +1,10 @@
-ghost use Rattle.std.specs.Prelude.{◌≡◌, ℕ, ◌<◌, Some, None, IfOk, OnOk, slice_get};
-ghost use Rattle.slot_ledger.specs.Counts.{IsQueueOf};
-ghost use Rattle.wait_queues.specs.Waitlists.{WaitsAt, with_waiter};
+ghost use Rattle.std.specs.Prelude.{◌≡◌};
 
 use crate::order::JoinOrder;
-use crate::{Taken, WaitQueues, Waiter};
+use crate::{WaitQueues, Waiter};
 use dispatch_log::Queue;
 use due_key::{Class, Due, Key, Moment, Offset};
 use pend_queue::{ListQueue, PendQueue};
-use std::alloc::Global;
 use std::test::Fail;
 
 type OfLists = WaitQueues<ListQueue<Key, usize>>;
@@ -64,89 +61,66 @@ fn a_place_may_come_back(rt: HostRuntime) -> Result<(), Fail> {
     Ok(())
 }
 
-fn key(ticket: u64, offset: i64) -> Key
-    ensures { result.ticket ≡ ticket }
-{
+fn key(ticket: u64) -> Key {
     Key {
         class: Class::clamp(0),
-        due: Due::of(Moment::zero(), Offset::clamp(offset)),
+        due: Due::of(Moment::zero(), Offset::clamp(0)),
         ticket,
     }
 }
 
-// What waits in a queue since the fifth entry.
-fn waiter(ticket: u64, offset: i64, queue: Queue) -> Waiter
-    ensures ticket { result.key.ticket ≡ ticket }
-    ensures queue { result.queue ≡ queue }
+// A request that waits by the fifth entry.
+fn waiter(key: Key, queue: Queue) -> Waiter
+    ensures { result ≡ record { key = key; queue = queue; joined = 5 } }
 {
     Waiter {
-        key: key(ticket, offset),
+        key,
         queue,
         joined: 5,
     }
 }
 
-// A request with a ticket above those of all that wait joins.
-fn join(alloc: Global, waiting: &mut OfLists, place: usize, waiter: Waiter) -> Result<(), Fail>
-    requires vacant { slice_get waiting.old.waiters place ≡ Some None }
-    requires within { IsQueueOf waiting.old.servers waiter.queue }
-    requires higher { (other : ℕ) (its : Waiter) → WaitsAt waiting.old.waiters other its → its.key.ticket < waiter.key.ticket }
-    ensures joined { OnOk result (waiting.new ≡ with_waiter waiting.old place waiter) }
-    ensures below { OnOk result ((ticket other : ℕ) (its : Waiter) → waiter.key.ticket < ticket → WaitsAt waiting.new.waiters other its → its.key.ticket < ticket) }
-{
-    let node = ListQueue::node(alloc, waiter.key, place)?;
-    waiting.join(place, waiter, node);
-    Ok(())
-}
-
 #[test]
-fn requests_wait_until_they_are_taken(rt: HostRuntime) -> Result<(), Fail> {
-    let alloc = rt.alloc();
-    let mut waiting: OfLists = WaitQueues::new(alloc, 2, 4)?;
+fn nobody_waits_at_first(rt: HostRuntime) -> Result<(), Fail> {
+    let mut waiting: OfLists = WaitQueues::new(rt.alloc(), 2, 4)?;
     assert_eq!(rt; waiting.oldest(), None);
-    join(alloc, &mut waiting, 3, waiter(1, 0, Queue::Server(0)))?;
-    join(alloc, &mut waiting, 0, waiter(2, 0, Queue::Backend))?;
-    join(alloc, &mut waiting, 1, waiter(3, -5, Queue::Server(0)))?;
-    assert_eq!(rt; waiting.oldest(), Some(3));
-    assert_eq!(rt; waiting.after(3), Some(0));
-    assert_eq!(rt; waiting.after(1), None);
-    let heads = waiting.heads();
-    assert_eq!(rt; heads.get(Queue::Server(0)), Some(key(3, -5)));
-    assert_eq!(rt; heads.get(Queue::Server(1)), None);
-    assert_eq!(rt; heads.get(Queue::Backend), Some(key(2, 0)));
-    let node = waiting.leave(3);
-    assert_eq!(rt; *ListQueue::pair(&node).0, key(1, 0));
-    let Some(taken) = waiting.take(Queue::Server(0)) else {
-        return Err(Fail::from("nobody waits"));
-    };
-    let Taken {
-        place,
-        waiter: found,
-        node,
-    } = taken;
-    assert_eq!(rt; place, 1);
-    assert_eq!(rt; found, waiter(3, -5, Queue::Server(0)));
-    assert_eq!(rt; *ListQueue::pair(&node).1, 1);
-    assert_eq!(rt; waiting.take(Queue::Server(0)).is_none(), true);
-    assert_eq!(rt; waiting.oldest(), Some(0));
+    assert_eq!(rt; waiting.heads().get(Queue::Backend), None);
+    assert_eq!(rt; waiting.shift(1, 9), None);
+    assert!(rt; waiting.take(Queue::Server(0)).is_none());
     Ok(())
 }
 
 #[test]
-fn requests_that_move_join_anew(rt: HostRuntime) -> Result<(), Fail> {
+fn a_request_leaves_its_queue(rt: HostRuntime) -> Result<(), Fail> {
     let alloc = rt.alloc();
     let mut waiting: OfLists = WaitQueues::new(alloc, 2, 4)?;
-    join(alloc, &mut waiting, 0, waiter(1, 0, Queue::Server(1)))?;
-    join(alloc, &mut waiting, 1, waiter(2, 7, Queue::Backend))?;
-    assert_eq!(rt; waiting.shift(1, 9), Some(0));
-    assert_eq!(rt; waiting.shift(1, 10), None);
-    assert_eq!(rt; waiting.oldest(), Some(1));
-    assert_eq!(rt; waiting.heads().get(Queue::Backend), Some(key(1, 0)));
+    let waiter = waiter(key(7), Queue::Server(0));
+    let node = ListQueue::node(alloc, waiter.key, 3)?;
+    waiting.join(3, waiter, node);
+    assert_eq!(rt; waiting.oldest(), Some(3));
+    assert_eq!(rt; waiting.after(3), None);
+    let node = waiting.leave(3);
+    assert_eq!(rt; *ListQueue::pair(&node).1, 3);
+    assert_eq!(rt; waiting.oldest(), None);
+    Ok(())
+}
+
+#[test]
+fn a_request_that_moves_waits_anew(rt: HostRuntime) -> Result<(), Fail> {
+    let alloc = rt.alloc();
+    let mut waiting: OfLists = WaitQueues::new(alloc, 2, 4)?;
+    let key = key(7);
+    let node = ListQueue::node(alloc, key, 3)?;
+    waiting.join(3, waiter(key, Queue::Server(1)), node);
+    assert_eq!(rt; waiting.heads().get(Queue::Server(1)), Some(key));
+    assert_eq!(rt; waiting.shift(1, 9), Some(3));
+    assert_eq!(rt; waiting.heads().get(Queue::Server(1)), None);
+    assert_eq!(rt; waiting.heads().get(Queue::Backend), Some(key));
     let Some(taken) = waiting.take(Queue::Backend) else {
         return Err(Fail::from("nobody waits"));
     };
-    assert_eq!(rt; taken.place, 0);
-    assert_eq!(rt; taken.waiter.key, key(1, 0));
+    assert_eq!(rt; taken.place, 3);
+    assert_eq!(rt; taken.waiter.key, key);
     assert_eq!(rt; taken.waiter.queue, Queue::Backend);
     assert_eq!(rt; taken.waiter.joined, 9);
     Ok(())

@@ -19,6 +19,14 @@ use verdict::Cause;
 /// The live requests by place, and which servers are up. Each call changes only the row or the
 /// server that it names. How many requests a server serves and how many wait in a queue are counts
 /// of rows, which no call counts anew.
+///
+/// The phases of a row, and the entries of the log that bring it there:
+/// - `Loose`, in no place: `Arrive`, and `Freed` from a server.
+/// - `Waiting` in a queue: `Joined` from no place; `Moved` from a server's queue into the backend's.
+/// - `Serving` at a server: `Direct` from no place, `Granted` from a queue.
+/// - `Told` why it isn't served: `Left`, from no place or from a queue.
+///
+/// `Retried` leaves it where it is served, and `Ended` takes it away from no place or once it was told.
 #[derive(Drop)]
 pub struct Ledger<H> {
     setup: Setup,

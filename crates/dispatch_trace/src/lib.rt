@@ -17,6 +17,3 @@ mod trace;
 pub use failing::Fate;
 pub use position::{Position, Ticketed};
 pub use trace::Trace;
-
-#[cfg(test)]
-mod tests;

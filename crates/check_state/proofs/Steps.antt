@@ -29,7 +29,7 @@ end_other which results =
     at false newest = refl
 
 -- a state counts what speaks against it
-abbrev Counts : List Bool → State → Type 0
+abbrev pub Counts : List Bool → State → Type 0
 Counts results state = state.1 ≡ run_at_end (not state.0) results
 
 module _ (rise fall : ℕ) where
@@ -58,10 +58,10 @@ module _ (rise fall : ℕ) where
 
   module _ (some_rise : 0 < rise) (some_fall : 0 < fall) where
     -- the walk over all results is at the standing
-    walk_stands : (results : List Bool) → (walk rise fall (true, 0) results).0 ≡ is_up rise fall results
+    pub walk_stands : (results : List Bool) → (walk rise fall (true, 0) results).0 ≡ is_up rise fall results
     walk_stands results = (walks rise fall some_rise some_fall results).from_up 0 some_fall
 
-    walk_counts : (results : List Bool) → Counts results (walk rise fall (true, 0) results)
+    pub walk_counts : (results : List Bool) → Counts results (walk rise fall (true, 0) results)
     walk_counts results = counts_on [] results (true, 0) refl
 
     walked : (results : List Bool) (health : Standing) → IsHealthOf rise fall results health → walk rise fall (true, 0) results ≡ (health.up, health.against)

@@ -1,3 +1,4 @@
 pub mod Results
 pub mod Standing
 pub mod Runs
+pub mod Shortened

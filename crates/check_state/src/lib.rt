@@ -5,7 +5,7 @@ mod health;
 mod laws;
 
 pub use health::{Change, Health};
-pub use laws::runs_decide;
+pub use laws::{runs_decide, shortened_lists_stand};
 
 #[cfg(test)]
 mod tests;

@@ -3,7 +3,7 @@ use Rattle.std.proofs.Common.{◌≡◌, ◌≢◌, ℕ, ◌+◌, true, false, n
 use Rattle.std.proofs.Math.ListN.{set, length-set}
 use Rattle.std.proofs.lemmas.List.{length-map}
 use Rattle.dispatch_log.specs.declared.entry.Entry.{Entry}
-use Rattle.dispatch_log.specs.declared.entry.Entry.TheVariants.{Arrive, Done, Fail, Abort, Tick, Check, Direct, Joined, Granted, Moved, Freed, Retried, Left, Health, Ended}
+use Rattle.dispatch_log.specs.declared.entry.Entry.TheVariants.{Arrive, Done, Fail, Abort, Tick, Check, Limit, Direct, Joined, Granted, Moved, Freed, Retried, Left, Health, Ended}
 use Rattle.dispatch_log.specs.declared.row.Phase.{Phase}
 use Rattle.dispatch_log.specs.declared.row.Phase.TheVariants.{Loose, Waiting, Serving, Told}
 use Rattle.verdict.specs.declared.cause.Cause.{Cause}
@@ -16,7 +16,7 @@ use Rattle.dispatch_log.specs.Judgement.{IsInPhase, HasSlot, IsTold, Stage, plac
 use Rattle.dispatch_log.specs.Health.{results_of}
 use Rattle.dispatch_log.specs.Refusals.{is_waiting, has_a_slot, failure_refusal}
 use Rattle.dispatch_log.specs.Retries.{failed}
-use Rattle.dispatch_log.specs.Rows.{Rows, StandsAt, with_change, changed, in_phase, in_backend_since, gone, phase_waits_in, pin_of}
+use Rattle.dispatch_log.specs.Rows.{Rows, StandsAt, with_change, changed, in_phase, in_backend_since, gone, phase_waits_in, pin_of, served}
 use Rattle.dispatch_log.specs.States.{State, scene, after, after_all, arrived}
 use Rattle.dispatch_log.specs.Words.{Scene}
 use Rattle.dispatch_log.proofs.Accepted.{row_of_accepted}
@@ -124,6 +124,7 @@ consistent_after setup s n t (Fail m u) is may = failed_after setup s n m u t (f
 consistent_after setup s n t (Abort m u) is may = at_stage s.rows s.ticket t (aborting u) is (over_none setup s t may.over)
 consistent_after setup s n t (Tick m) is may = at_stage s.rows s.ticket t telling is (over_none setup s t may.over)
 consistent_after setup s n t (Check m v ok) is may = at_stage s.rows s.ticket t (checking v) is (over_none setup s t may.over)
+consistent_after setup s n t (Limit m v k) is may = at_stage s.rows s.ticket t granting is (over_none setup s t may.over)
 consistent_after setup s n t (Granted u q v) is may =
     let it = may.1 in
     moves_on s.rows s.ticket u it.live.0 t (next_stage t (Granted u q v)) it.row (record it.row { phase = Serving v }) (in_phase (Serving v)) is (grant_keeps setup s t u v q may.0)
@@ -175,6 +176,7 @@ places_after setup s (Fail m u) = length-map s.rows (with_change u (failed setup
 places_after setup s (Abort m u) = refl
 places_after setup s (Tick m) = refl
 places_after setup s (Check m v ok) = refl
+places_after setup s (Limit m v k) = refl
 places_after setup s (Direct u v) = length-map s.rows (with_change u (in_phase (Serving v)))
 places_after setup s (Joined u q) = length-map s.rows (with_change u (in_phase (Waiting q s.moment)))
 places_after setup s (Granted u q v) = length-map s.rows (with_change u (in_phase (Serving v)))
@@ -197,6 +199,7 @@ results_after setup s (Done m u) = refl
 results_after setup s (Fail m u) = refl
 results_after setup s (Abort m u) = refl
 results_after setup s (Tick m) = refl
+results_after setup s (Limit m v k) = refl
 results_after setup s (Direct u v) = refl
 results_after setup s (Joined u q) = refl
 results_after setup s (Granted u q v) = refl
@@ -206,6 +209,33 @@ results_after setup s (Retried u v k) = refl
 results_after setup s (Left u c) = refl
 results_after setup s (Health v up) = refl
 results_after setup s (Ended u) = refl
+
+pub results_all : (setup : Setup) (s : State) (es : List Entry) → length (after_all setup s es).results ≡ length s.results
+results_all setup s [] = refl
+results_all setup s (e ∷ es) = results_all setup (after setup s e) es ∙ results_after setup s e
+
+-- and so does a change of a server's limit
+limits_after : (setup : Setup) (s : State) (e : Entry) → length (after setup s e).limits ≡ length s.limits
+limits_after setup s (Limit m v k) = length-set s.limits v (record { limit = k; served = served v s.rows })
+limits_after setup s (Check m v ok) = refl
+limits_after setup s (Arrive m a) = refl
+limits_after setup s (Done m u) = refl
+limits_after setup s (Fail m u) = refl
+limits_after setup s (Abort m u) = refl
+limits_after setup s (Tick m) = refl
+limits_after setup s (Direct u v) = refl
+limits_after setup s (Joined u q) = refl
+limits_after setup s (Granted u q v) = refl
+limits_after setup s (Moved u v) = refl
+limits_after setup s (Freed u v) = refl
+limits_after setup s (Retried u v k) = refl
+limits_after setup s (Left u c) = refl
+limits_after setup s (Health v up) = refl
+limits_after setup s (Ended u) = refl
+
+pub limits_all : (setup : Setup) (s : State) (es : List Entry) → length (after_all setup s es).limits ≡ length s.limits
+limits_all setup s [] = refl
+limits_all setup s (e ∷ es) = limits_all setup (after setup s e) es ∙ limits_after setup s e
 
 -- the row that a placement names is in no place yet
 pub direct_row : (setup : Setup) (s : State) (n : ℕ) (t : Stage) (u v : ℕ) → IsConsistent s.rows s.ticket t → MayCome setup s n t (Direct u v) → IsLoose s.rows u

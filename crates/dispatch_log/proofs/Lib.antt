@@ -2,9 +2,12 @@ pub mod RowLemmas
 pub mod Accepted
 pub mod Consistency
 pub mod Judged
+pub mod Tried
 pub mod Dispatched
+pub mod Windows
 pub mod Runs
 pub mod WrongLogs
 pub mod FourPlaces
 pub mod WrongChanges
 pub mod RightLogs
+pub mod WrongWindows

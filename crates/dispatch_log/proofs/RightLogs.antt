@@ -6,14 +6,18 @@ use Rattle.list_facts.proofs.Never.{false_true}
 use Rattle.verdict.specs.declared.cause.Cause.TheVariants.{Timeout}
 use Rattle.due_key.specs.Order.{key_cmp}
 use Rattle.due_key.specs.Range.{IsBetween}
+use Rattle.due_key.specs.declared.class.TheConstants.{LOWEST_CLASS, HIGHEST_CLASS}
 use Rattle.due_key.specs.declared.offset.TheConstants.{LOWEST_OFFSET, HIGHEST_OFFSET}
 use Rattle.dispatch_log.specs.declared.row.Phase.TheVariants.{Loose, Waiting, Serving, Told}
 use Rattle.dispatch_log.specs.declared.queue.Queue.TheVariants.{Backend, Server}
 use Rattle.dispatch_log.specs.declared.row.Row.{Row}
+use Rattle.dispatch_log.specs.declared.allowance.Allowance.{Allowance}
 use Rattle.dispatch_log.specs.declared.setup.ServerSet.{ServerSet}
+use Rattle.dispatch_log.specs.States.{opening_limits}
+use Rattle.dispatch_log.proofs.Windows.{opening_base}
 use Rattle.dispatch_log.specs.Grants.{IsSettled}
-use Rattle.dispatch_log.specs.Histories.{IsLegal}
-use Rattle.dispatch_log.specs.Judgement.{has_expired}
+use Rattle.dispatch_log.specs.Legal.{IsLegal}
+use Rattle.dispatch_log.specs.Judgement.{AreLawful, has_expired}
 use Rattle.dispatch_log.specs.Rows.{phase_waits_in}
 use Rattle.dispatch_log.specs.Words.{Scene, may_go_to}
 use Rattle.dispatch_log.specs.Worked.{plain_server}
@@ -34,7 +38,10 @@ for_two_servers P first second past zero = first
 for_two_servers P first second past (suc zero) = second
 for_two_servers P first second past (suc (suc n)) = past n
 
--- the offsets of the worked arrivals
+-- the class and the offsets of the worked arrivals
+class_0 : IsBetween LOWEST_CLASS HIGHEST_CLASS (pos 0)
+class_0 = record { lower = omega (arith, ints); upper = omega (arith, ints) }
+
 no_offset : IsBetween LOWEST_OFFSET HIGHEST_OFFSET (pos 0)
 no_offset = record { lower = omega (arith, ints); upper = omega (arith, ints) }
 
@@ -42,25 +49,25 @@ five_less : IsBetween LOWEST_OFFSET HIGHEST_OFFSET (negsuc 4)
 five_less = record { lower = omega (arith, ints); upper = omega (arith, ints) }
 
 -- where the one live request doesn't wait, all is settled
-settled_alone : (servers : List ServerSet) (ups : List Bool) (a : Row) → ((server : ℕ) → may_go_to (record { servers = servers; ups = ups; rows = Some a ∷ None ∷ None ∷ None ∷ [] }) server a.phase ≡ false)
-    → IsSettled (record { servers = servers; ups = ups; rows = Some a ∷ None ∷ None ∷ None ∷ [] })
-settled_alone servers ups a none server can =
-    for_one_row (λ r. IsTrue (may_go_to (record { servers = servers; ups = ups; rows = Some a ∷ None ∷ None ∷ None ∷ [] }) server r.phase) → ⊥) a (λ goes. false_true (sym (none server) ∙ goes)) can.1.0 can.1.1 can.1.2
+settled_alone : (servers : List ServerSet) (limits : List Allowance) (ups : List Bool) (a : Row) → ((server : ℕ) → may_go_to (record { servers = servers; limits = limits; ups = ups; rows = Some a ∷ None ∷ None ∷ None ∷ [] }) server a.phase ≡ false)
+    → IsSettled (record { servers = servers; limits = limits; ups = ups; rows = Some a ∷ None ∷ None ∷ None ∷ [] })
+settled_alone servers limits ups a none server can =
+    for_one_row (λ r. IsTrue (may_go_to (record { servers = servers; limits = limits; ups = ups; rows = Some a ∷ None ∷ None ∷ None ∷ [] }) server r.phase) → ⊥) a (λ goes. false_true (sym (none server) ∙ goes)) can.1.0 can.1.1 can.1.2
 
-pub redispatch_is_legal : IsLegal (worked_with_checks redispatch_to_the_other_server)
-redispatch_is_legal = record {
+redispatch_is_lawful : AreLawful (worked_with_checks []).setup (worked_with_checks []).base 0 redispatch_to_the_other_server
+redispatch_is_lawful = record {
   judged = (
-    (record { over = tt; settled = λ server can. for_no_row can.1.0 can.1.1; accepted = refl; later = up_by 0 0 }, record { numbered = refl; vacant = refl; due = (pos 0, no_offset, refl) }),
+    (record { over = tt; settled = λ server can. for_no_row can.1.0 can.1.1; accepted = refl; later = up_by 0 0; within = omega arith }, record { numbered = refl; vacant = refl; class = class_0; due = (pos 0, no_offset, refl) }),
     (
       (refl, (refl, refl)),
       (
-        record { over = tt; settled = settled_alone (checked_server ∷ plain_server ∷ []) (true ∷ true ∷ []) (first_row (Some 0) 0 (Serving 0)) (λ server. refl); accepted = refl; later = up_by 0 1 },
+        record { over = tt; settled = settled_alone (checked_server ∷ plain_server ∷ []) (opening_limits (checked_server ∷ plain_server ∷ [])) (true ∷ true ∷ []) (first_row (Some 0) 0 (Serving 0)) (λ server. refl); accepted = refl; later = up_by 0 1; within = omega arith },
         (
           (refl, record { row = first_row None 1 (Serving 0); live = (0, refl); named = refl; phase = refl }, λ retried. false_true retried),
           (
             record {
               redispatched = refl;
-              settled = settled_alone (checked_server ∷ plain_server ∷ []) (true ∷ true ∷ []) (first_row None 1 Loose) (λ server. refl);
+              settled = settled_alone (checked_server ∷ plain_server ∷ []) (opening_limits (checked_server ∷ plain_server ∷ [])) (true ∷ true ∷ []) (first_row None 1 Loose) (λ server. refl);
               put = (
                 refl,
                 (
@@ -80,13 +87,13 @@ redispatch_is_legal = record {
     ),
   );
   whole = tt;
-  settled = settled_alone (checked_server ∷ plain_server ∷ []) (true ∷ true ∷ []) (first_row None 1 (Serving 1)) (λ server. refl);
+  settled = settled_alone (checked_server ∷ plain_server ∷ []) (opening_limits (checked_server ∷ plain_server ∷ [])) (true ∷ true ∷ []) (first_row None 1 (Serving 1)) (λ server. refl);
 }
 
-pub rising_is_legal : IsLegal (worked_in_time told_by_rising_ticket)
-rising_is_legal = record {
+rising_is_lawful : AreLawful (worked_in_time []).setup (worked_in_time []).base 0 told_by_rising_ticket
+rising_is_lawful = record {
   judged = (
-    (record { over = tt; settled = λ server can. for_no_row can.1.0 can.1.1; accepted = refl; later = up_by 0 0 }, record { numbered = refl; vacant = refl; due = (pos 0, no_offset, refl) }),
+    (record { over = tt; settled = λ server can. for_no_row can.1.0 can.1.1; accepted = refl; later = up_by 0 0; within = omega arith }, record { numbered = refl; vacant = refl; class = class_0; due = (pos 0, no_offset, refl) }),
     (
       (
         refl,
@@ -100,15 +107,15 @@ rising_is_legal = record {
         ),
       ),
       (
-        (record { over = tt; settled = settled_alone (plain_server ∷ []) (true ∷ []) (first_row None 0 (Serving 0)) (λ server. refl); accepted = refl; later = up_by 0 1 }, record { numbered = refl; vacant = refl; due = (pos 0, no_offset, refl) }),
+        (record { over = tt; settled = settled_alone (plain_server ∷ []) (opening_limits (plain_server ∷ [])) (true ∷ []) (first_row None 0 (Serving 0)) (λ server. refl); accepted = refl; later = up_by 0 1; within = omega arith }, record { numbered = refl; vacant = refl; class = class_0; due = (pos 0, no_offset, refl) }),
         (
           (refl, (refl, (0, refl), for_one_server _ false_true (λ n. false_true))),
           (
-            (record { over = tt; settled = for_one_server _ (λ can. false_true can.0) (λ n can. false_true can.0); accepted = refl; later = up_by 1 1 }, record { numbered = refl; vacant = refl; due = (negsuc 4, five_less, refl) }),
+            (record { over = tt; settled = for_one_server _ (λ can. false_true can.0) (λ n can. false_true can.0); accepted = refl; later = up_by 1 1; within = omega arith }, record { numbered = refl; vacant = refl; class = class_0; due = (negsuc 4, five_less, refl) }),
             (
               (refl, (refl, (0, refl), for_one_server _ false_true (λ n. false_true))),
               (
-                record { over = tt; settled = for_one_server _ (λ can. false_true can.0) (λ n can. false_true can.0); accepted = refl; later = up_by 2 5 },
+                record { over = tt; settled = for_one_server _ (λ can. false_true can.0) (λ n can. false_true can.0); accepted = refl; later = up_by 2 5; within = omega arith },
                 (
                   record {
                     row = second_row None (Waiting Backend 1);
@@ -147,6 +154,7 @@ rising_is_legal = record {
 abbrev before_the_check : Scene
 before_the_check = record {
   servers = checked_server ∷ plain_server ∷ [];
+  limits = opening_limits (checked_server ∷ plain_server ∷ []);
   ups = true ∷ true ∷ [];
   rows = Some (first_row (Some 0) 0 (Serving 0)) ∷ Some (second_row (Some 0) (Waiting (Server 0) 1)) ∷ None ∷ None ∷ [];
 }
@@ -154,18 +162,19 @@ before_the_check = record {
 abbrev once_moved : Scene
 once_moved = record {
   servers = checked_server ∷ plain_server ∷ [];
+  limits = opening_limits (checked_server ∷ plain_server ∷ []);
   ups = false ∷ true ∷ [];
   rows = Some (first_row (Some 0) 0 (Serving 0)) ∷ Some (second_row None (Waiting Backend 2)) ∷ None ∷ None ∷ [];
 }
 
-pub fall_is_legal : IsLegal (worked_with_checks fall_moves_its_queue)
-fall_is_legal = record {
+fall_is_lawful : AreLawful (worked_with_checks []).setup (worked_with_checks []).base 0 fall_moves_its_queue
+fall_is_lawful = record {
   judged = (
-    (record { over = tt; settled = λ server can. for_no_row can.1.0 can.1.1; accepted = refl; later = up_by 0 0 }, record { numbered = refl; vacant = refl; due = (pos 0, no_offset, refl) }),
+    (record { over = tt; settled = λ server can. for_no_row can.1.0 can.1.1; accepted = refl; later = up_by 0 0; within = omega arith }, record { numbered = refl; vacant = refl; class = class_0; due = (pos 0, no_offset, refl) }),
     (
       (refl, (refl, refl)),
       (
-        (record { over = tt; settled = settled_alone (checked_server ∷ plain_server ∷ []) (true ∷ true ∷ []) (first_row (Some 0) 0 (Serving 0)) (λ server. refl); accepted = refl; later = up_by 0 1 }, record { numbered = refl; vacant = refl; due = (pos 0, no_offset, refl) }),
+        (record { over = tt; settled = settled_alone (checked_server ∷ plain_server ∷ []) (opening_limits (checked_server ∷ plain_server ∷ [])) (true ∷ true ∷ []) (first_row (Some 0) 0 (Serving 0)) (λ server. refl); accepted = refl; later = up_by 0 1; within = omega arith }, record { numbered = refl; vacant = refl; class = class_0; due = (pos 0, no_offset, refl) }),
         (
           (refl, (refl, λ free. false_true free)),
           (
@@ -176,6 +185,7 @@ fall_is_legal = record {
                   (λ n can. false_true can.0);
               accepted = refl;
               later = up_by 1 1;
+              within = omega arith;
             },
             (
               (refl, refl, λ e. false_true (sym e)),
@@ -226,3 +236,12 @@ fall_is_legal = record {
   whole = tt;
   settled = for_two_servers _ (λ can. false_true can.0) (λ can. false_true can.0) (λ n can. false_true can.0);
 }
+
+pub redispatch_is_legal : IsLegal (worked_with_checks redispatch_to_the_other_server)
+redispatch_is_legal = record { begins = opening_base (worked_with_checks []).setup; lawful = redispatch_is_lawful }
+
+pub rising_is_legal : IsLegal (worked_in_time told_by_rising_ticket)
+rising_is_legal = record { begins = opening_base (worked_in_time []).setup; lawful = rising_is_lawful }
+
+pub fall_is_legal : IsLegal (worked_with_checks fall_moves_its_queue)
+fall_is_legal = record { begins = opening_base (worked_with_checks []).setup; lawful = fall_is_lawful }

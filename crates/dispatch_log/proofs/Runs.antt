@@ -1,19 +1,131 @@
--- After any events a log is legal.
-use Rattle.std.proofs.Common.{List, [], ◌∷◌, sym, subst}
+-- After any calls a log is legal.
+use Rattle.std.proofs.Common.{◌≡◌, ◌⊎◌, ℕ, zero, suc, ◌+◌, true, Option, List, [], ◌∷◌, ◌++◌, length, refl, ap, sym, ◌∙◌, subst, arith, inl, inr}
 use Rattle.dispatch_log.specs.declared.entry.Entry.{Entry}
+use Rattle.dispatch_log.specs.declared.entry.Entry.TheVariants.{Arrive, Done, Fail, Abort, Tick, Check, Limit, Granted}
 use Rattle.dispatch_log.specs.declared.setup.Setup.{Setup}
-use Rattle.dispatch_log.specs.Dispatch.{IsDispatched}
-use Rattle.dispatch_log.specs.Histories.{History, IsLegal}
-use Rattle.dispatch_log.specs.Runs.{GoesBy, IsRun}
-use Rattle.dispatch_log.proofs.Dispatched.{dispatched, none_stands}
+use Rattle.dispatch_log.specs.Histories.{History, state_of, begins_event, first_window, next_window}
+use Rattle.dispatch_log.specs.Judgement.{Stage, granting, IsOver, MayBegin, MayCome, AllMayCome, AreLawful, next_stage, stage_after}
+use Rattle.dispatch_log.specs.Legal.{IsLegal, AddsEvent}
+use Rattle.dispatch_log.specs.Runs.{Call, event, roll, GoesOnBy, GoesBy, IsRun}
+use Rattle.dispatch_log.specs.Grants.{IsSettled}
+use Rattle.dispatch_log.specs.Setups.{IsSound}
+use Rattle.list_facts.proofs.Never.{false_true}
+use Rattle.dispatch_log.specs.States.{State, scene, after, after_all}
+use Rattle.dispatch_log.specs.declared.refusal.Refusal.{Refusal}
+use Rattle.dispatch_log.proofs.Windows.{opening_base, empty_legal, next_legal}
 
--- a log without an entry is
-pub empty_legal : (setup : Setup) → IsLegal (record { setup = setup; log = [] })
-empty_legal setup = record { judged = tt; whole = tt; settled = λ server can. none_stands setup.places can.1.1.0 can.1.0 can.1.1.1 }
+-- where all is settled an event alone may come
+is_event : (setup : Setup) (s : State) (n : ℕ) (e : Entry) → IsSettled (scene setup s) → MayCome setup s n granting e → begins_event e ≡ true
+is_event setup s n (Arrive m a) settled may = refl
+is_event setup s n (Done m u) settled may = refl
+is_event setup s n (Fail m u) settled may = refl
+is_event setup s n (Abort m u) settled may = refl
+is_event setup s n (Tick m) settled may = refl
+is_event setup s n (Check m v ok) settled may = refl
+is_event setup s n (Limit m v k) settled may = refl
+is_event setup s n (Granted u q v) settled may = absurd (settled v may.1.next.takes)
+is_event setup s n e settled may = absurd may
 
-stays_legal : (events : List Entry) (old new : History) → IsLegal old → GoesBy events old new → IsLegal new
-stays_legal [] old new legal goes = subst IsLegal (sym goes) legal
-stays_legal (event ∷ events) old new legal goes = stays_legal events goes.0 new goes.1.legal goes.2
+at_stage : {setup : Setup} {s : State} {t : Stage} {m : ℕ} {refused : Option Refusal} → MayBegin setup s granting m refused → IsOver setup s t → MayBegin setup s t m refused
+at_stage may over = record { over = over; settled = may.settled; accepted = may.accepted; later = may.later; within = may.within }
 
-pub run_dispatched : (setup : Setup) (events : List Entry) (history : History) → IsRun setup events history → IsDispatched history
-run_dispatched setup events history run = dispatched history (stays_legal events (record { setup = setup; log = [] }) history (empty_legal setup) run)
+-- an event may come at another stage where the one before is over
+comes_at : (setup : Setup) (s : State) (n : ℕ) (t : Stage) (e : Entry) → begins_event e ≡ true → IsOver setup s t → MayCome setup s n granting e → MayCome setup s n t e
+comes_at setup s n t (Arrive m a) begins over may = (at_stage may.0 over, may.1)
+comes_at setup s n t (Done m u) begins over may = at_stage may over
+comes_at setup s n t (Fail m u) begins over may = at_stage may over
+comes_at setup s n t (Abort m u) begins over may = at_stage may over
+comes_at setup s n t (Tick m) begins over may = at_stage may over
+comes_at setup s n t (Check m v ok) begins over may = at_stage may over
+comes_at setup s n t (Limit m v k) begins over may = at_stage may over
+comes_at setup s n t e begins over may = false_true begins
+
+-- and what comes after it is as before
+same_stage : (t : Stage) (e : Entry) → begins_event e ≡ true → next_stage granting e ≡ next_stage t e
+same_stage t (Arrive m a) begins = refl
+same_stage t (Done m u) begins = refl
+same_stage t (Fail m u) begins = refl
+same_stage t (Abort m u) begins = refl
+same_stage t (Tick m) begins = refl
+same_stage t (Check m v ok) begins = refl
+same_stage t (Limit m v k) begins = refl
+same_stage t e begins = false_true begins
+
+-- what is lawful goes on lawfully
+pub judged_on : (setup : Setup) (s : State) (n : ℕ) (t : Stage) (es fs : List Entry) → AllMayCome setup s n t es → AllMayCome setup (after_all setup s es) (n + length es) (stage_after t es) fs → AllMayCome setup s n t (es ++ fs)
+judged_on setup s n t [] fs all later = subst (λ k. AllMayCome setup s k t fs) (omega arith) later
+judged_on setup s n t (e ∷ es) fs all later =
+    (all.0, judged_on setup (after setup s e) (n + 1) (next_stage t e) es fs all.1
+        (let longer : n + length (e ∷ es) ≡ (n + 1) + length es = omega arith in subst (λ k. AllMayCome setup (after_all setup s (e ∷ es)) k (stage_after t (e ∷ es)) fs) longer later))
+
+pub after_on : (setup : Setup) (s : State) (es fs : List Entry) → after_all setup s (es ++ fs) ≡ after_all setup (after_all setup s es) fs
+after_on setup s [] fs = refl
+after_on setup s (e ∷ es) fs = after_on setup (after setup s e) es fs
+
+pub stage_on : (t : Stage) (es fs : List Entry) → stage_after t (es ++ fs) ≡ stage_after (stage_after t es) fs
+stage_on t [] fs = refl
+stage_on t (e ∷ es) fs = stage_on (next_stage t e) es fs
+
+-- an event that is added to a legal log
+pub adds_legally : (old new : History) (e : Entry) → IsLegal old → AddsEvent old new e → IsLegal new
+adds_legally old new e legal adds = rebuilt new adds.setup adds.base adds.log
+  where
+    setup : Setup
+    setup = old.setup
+
+    piece : List Entry
+    piece = e ∷ adds.brought
+
+    t : Stage
+    t = stage_after granting old.log
+
+    begins : begins_event e ≡ true
+    begins = is_event setup (state_of old) (length old.log) e legal.lawful.settled adds.lawful.judged.0
+
+    later : AllMayCome setup (state_of old) (0 + length old.log) t piece
+    later =
+        let first = comes_at setup (state_of old) (length old.log) t e begins legal.lawful.whole adds.lawful.judged.0 in
+        let rest = subst (λ stage. AllMayCome setup (after setup (state_of old) e) (length old.log + 1) stage adds.brought) (same_stage t e begins) adds.lawful.judged.1 in
+        subst (λ k. AllMayCome setup (state_of old) k t piece) (omega arith) (first, rest)
+
+    same_end : stage_after granting piece ≡ stage_after granting (old.log ++ piece)
+    same_end = ap (λ stage. stage_after stage adds.brought) (same_stage t e begins) ∙ sym (stage_on granting old.log piece)
+
+    whole : IsOver setup (after_all setup old.base (old.log ++ piece)) (stage_after granting (old.log ++ piece))
+    whole = subst (IsOver setup (after_all setup old.base (old.log ++ piece))) same_end
+        (subst (λ (s : State). IsOver setup s (stage_after granting piece)) (sym (after_on setup old.base old.log piece)) adds.lawful.whole)
+
+    lawful : AreLawful setup old.base 0 (old.log ++ piece)
+    lawful = record {
+      judged = judged_on setup old.base 0 granting old.log piece legal.lawful.judged later;
+      whole = whole;
+      settled = subst (λ (s : State). IsSettled (scene setup s)) (sym (after_on setup old.base old.log piece)) adds.lawful.settled;
+    }
+
+    rebuilt : (new : History) → new.setup ≡ setup → new.base ≡ old.base → new.log ≡ old.log ++ piece → IsLegal new
+    rebuilt new same_setup same_base same_log =
+        subst (λ x. IsLegal (record { setup = x; base = new.base; log = new.log })) (sym same_setup)
+        (subst (λ x. IsLegal (record { setup = setup; base = x; log = new.log })) (sym same_base)
+            (subst (λ x. IsLegal (record { setup = setup; base = old.base; log = x })) (sym same_log) (record { begins = legal.begins; lawful = lawful })))
+
+-- the setup is as before
+same_setup : (call : Call) (old new : History) → GoesOnBy call old new → new.setup ≡ old.setup
+same_setup (event entry) old new (inl adds) = adds.setup
+same_setup (event entry) old new (inr same) = ap (λ (h : History). h.setup) same
+same_setup roll old new rolls = ap (λ (h : History). h.setup) rolls
+
+goes_legally : (call : Call) (old new : History) → IsSound old.setup → IsLegal old → GoesOnBy call old new → IsLegal new
+goes_legally (event entry) old new sound legal (inl adds) = adds_legally old new entry legal adds
+goes_legally (event entry) old new sound legal (inr same) = subst IsLegal (sym same) legal
+goes_legally roll old new sound legal rolls = subst IsLegal (sym rolls) (next_legal old sound legal)
+
+stays_legal : (calls : List Call) (old new : History) → IsSound old.setup → IsLegal old → GoesBy calls old new → IsLegal new
+stays_legal [] old new sound legal goes = subst IsLegal (sym goes) legal
+stays_legal (call ∷ calls) old new sound legal goes =
+    stays_legal calls goes.0 new (subst IsSound (sym (same_setup call old goes.0 goes.1)) sound) (goes_legally call old goes.0 sound legal goes.1) goes.2
+
+pub first_legal : (setup : Setup) → IsLegal (first_window setup [])
+first_legal setup = empty_legal (first_window setup []) (opening_base setup) refl
+
+pub run_legal : (setup : Setup) (calls : List Call) (history : History) → IsRun setup calls history → IsLegal history
+run_legal setup calls history run = stays_legal calls (first_window setup []) history run.0 (first_legal setup) run.1

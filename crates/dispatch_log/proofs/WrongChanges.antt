@@ -5,7 +5,7 @@ use Rattle.dispatch_log.specs.declared.row.Phase.TheVariants.{Waiting, Serving}
 use Rattle.dispatch_log.specs.declared.queue.Queue.{Queue}
 use Rattle.dispatch_log.specs.declared.queue.Queue.TheVariants.{Backend, Server}
 use Rattle.dispatch_log.specs.declared.row.Row.{Row}
-use Rattle.dispatch_log.specs.Histories.{IsLegal}
+use Rattle.dispatch_log.specs.Legal.{IsLegal}
 use Rattle.dispatch_log.specs.Judgement.{has_expired}
 use Rattle.dispatch_log.specs.Rows.{IsRow}
 use Rattle.dispatch_log.proofs.FourPlaces.{for_three_rows, first_row, second_row, third_row}
@@ -22,26 +22,26 @@ not_before_3 pin queue =
     (λ named least. let e : 3 ≡ 2 = named in absurd (omega (arith, e)))
 
 pub not_past_the_retries : IsLegal (worked retry_past_the_retries) → ⊥
-not_past_the_retries legal = let retried = legal.judged.1.1.1.1.1.1.1.1.1.0.3 in cc
+not_past_the_retries legal = let retried = legal.lawful.judged.1.1.1.1.1.1.1.1.1.0.3 in cc
 
 pub not_counted_twice : IsLegal (worked failure_counted_twice) → ⊥
-not_counted_twice legal = let counted : 1 ≡ 2 = legal.judged.1.1.1.0.2 in absurd (omega (arith, counted))
+not_counted_twice legal = let counted : 1 ≡ 2 = legal.lawful.judged.1.1.1.0.2 in absurd (omega (arith, counted))
 
 pub not_with_the_pin : IsLegal (worked_with_checks redispatch_keeps_the_pin) → ⊥
-not_with_the_pin legal = let room = legal.judged.1.1.1.1.1.1.1.1.1.0.put.1.0.member.0 in cc
+not_with_the_pin legal = let room = legal.lawful.judged.1.1.1.1.1.1.1.1.1.0.put.1.0.member.0 in cc
 
 pub not_to_the_failed : IsLegal (worked_with_checks redispatch_to_the_failed_server) → ⊥
-not_to_the_failed legal = let only : 1 ≡ 0 = legal.judged.1.1.1.1.0.put.1.0.member.1 refl 1 refl in absurd (omega (arith, only))
+not_to_the_failed legal = let only : 1 ≡ 0 = legal.lawful.judged.1.1.1.1.0.put.1.0.member.1 refl 1 refl in absurd (omega (arith, only))
 
 pub not_before_the_grant : IsLegal (worked_with_checks redispatch_before_the_grant) → ⊥
-not_before_the_grant legal = legal.judged.1.1.1.1.1.1.1.1.0.settled 0 (refl, (_, (2, refl), refl))
+not_before_the_grant legal = legal.lawful.judged.1.1.1.1.1.1.1.1.0.settled 0 (refl, (_, (2, refl), refl))
 
 pub not_beside_a_usable_one : IsLegal (worked no_server_beside_a_usable_one) → ⊥
-not_beside_a_usable_one legal = legal.judged.1.0.1.1 0 refl
+not_beside_a_usable_one legal = legal.lawful.judged.1.0.1.1 0 refl
 
 pub not_early : IsLegal (worked_in_time told_one_millisecond_early) → ⊥
 not_early legal =
-    let first = legal.judged.1.1.1.1.1.1.1.0 in
+    let first = legal.lawful.judged.1.1.1.1.1.1.1.0 in
     for_three_rows (λ r. r.key.ticket ≡ 2 → has_expired (worked_in_time []).setup 5 r.phase → ⊥) (first_row None 0 (Serving 0)) (second_row None (Waiting Backend 1)) (third_row None (Waiting Backend 2))
     (λ named expired. expired)
     (λ named expired. let since : 1 + 5 ≤ 5 = expired.1 in absurd (omega arith))
@@ -50,37 +50,37 @@ not_early legal =
 
 pub not_by_falling_ticket : IsLegal (worked_in_time told_by_falling_ticket) → ⊥
 not_by_falling_ticket legal =
-    let first : 3 ≤ 2 = legal.judged.1.1.1.1.1.1.1.0.first (second_row None (Waiting Backend 1)) ((1, refl), (omega arith, omega arith)) in
+    let first : 3 ≤ 2 = legal.lawful.judged.1.1.1.1.1.1.1.0.first (second_row None (Waiting Backend 1)) ((1, refl), (omega arith, omega arith)) in
     absurd (omega arith)
 
 pub not_untold : IsLegal (worked_in_time expired_and_not_told) → ⊥
-not_untold legal = legal.whole (third_row None (Waiting Backend 2)) ((2, refl), (omega arith, omega arith))
+not_untold legal = legal.lawful.whole (third_row None (Waiting Backend 2)) ((2, refl), (omega arith, omega arith))
 
 pub not_while_served : IsLegal (worked abort_of_a_served_request) → ⊥
-not_while_served legal = let accepted = legal.judged.1.1.1.1.1.1.0.accepted in cc
+not_while_served legal = let accepted = legal.lawful.judged.1.1.1.1.1.1.0.accepted in cc
 
 pub not_while_waiting : IsLegal (worked failure_of_a_waiting_request) → ⊥
-not_while_waiting legal = let accepted = legal.judged.1.1.1.1.1.1.0.accepted in cc
+not_while_waiting legal = let accepted = legal.lawful.judged.1.1.1.1.1.1.0.accepted in cc
 
 pub not_left_behind : IsLegal (worked_with_checks fall_leaves_its_queue) → ⊥
-not_left_behind legal = legal.whole refl (second_row (Some 0) (Waiting (Server 0) 1)) (1, refl) refl
+not_left_behind legal = legal.lawful.whole refl (second_row (Some 0) (Waiting (Server 0) 1)) (1, refl) refl
 
 pub not_by_ticket : IsLegal (worked_with_checks moves_by_ticket) → ⊥
 not_by_ticket legal =
-    let moved = legal.judged.1.1.1.1.1.1.1.1.0.2 in
+    let moved = legal.lawful.judged.1.1.1.1.1.1.1.1.0.2 in
     not_before_3 (Some 0) (Server 0) moved.row moved.live moved.named (moved.least (third_row (Some 0) (Waiting (Server 0) 2)) (2, refl) refl)
 
 pub not_before_the_moves : IsLegal (worked_with_checks grant_before_the_moves) → ⊥
-not_before_the_moves legal = legal.judged.1.1.1.1.1.1.1.1.1.0.0 refl (second_row (Some 0) (Waiting (Server 0) 1)) (1, refl) refl
+not_before_the_moves legal = legal.lawful.judged.1.1.1.1.1.1.1.1.1.0.0 refl (second_row (Some 0) (Waiting (Server 0) 1)) (1, refl) refl
 
 pub not_idle_after_a_rise : IsLegal (worked_with_checks rise_grants_nothing) → ⊥
-not_idle_after_a_rise legal = legal.settled 0 (refl, (_, (1, refl), refl))
+not_idle_after_a_rise legal = legal.lawful.settled 0 (refl, (_, (1, refl), refl))
 
 pub not_without_a_word : IsLegal (worked_with_checks rise_is_not_told) → ⊥
-not_without_a_word legal = let over = legal.judged.1.1.1.1.1.1.1.0.0 in cc
+not_without_a_word legal = let over = legal.lawful.judged.1.1.1.1.1.1.1.0.0 in cc
 
 pub not_down_after : IsLegal (worked_with_checks down_after_its_rise) → ⊥
-not_down_after legal = let up = legal.judged.1.1.1.1.1.1.1.0.1 in cc
+not_down_after legal = let up = legal.lawful.judged.1.1.1.1.1.1.1.0.1 in cc
 
 pub not_by_a_fallen_server : IsLegal (worked_with_checks served_by_a_fallen_server) → ⊥
-not_by_a_fallen_server legal = let up = legal.judged.1.1.1.0.1.0.member.0 in cc
+not_by_a_fallen_server legal = let up = legal.lawful.judged.1.1.1.0.1.0.member.0 in cc

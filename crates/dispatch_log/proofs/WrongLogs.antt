@@ -6,7 +6,7 @@ use Rattle.due_key.specs.Order.{key_cmp}
 use Rattle.dispatch_log.specs.declared.row.Phase.TheVariants.{Waiting}
 use Rattle.dispatch_log.specs.declared.queue.Queue.TheVariants.{Backend}
 use Rattle.dispatch_log.specs.declared.row.Row.{Row}
-use Rattle.dispatch_log.specs.Histories.{IsLegal}
+use Rattle.dispatch_log.specs.Legal.{IsLegal}
 use Rattle.dispatch_log.specs.Rows.{Rows, StandsAt}
 use Rattle.dispatch_log.specs.Worked.{worked, worked_by_two, first_come_first_served, idle_slot, grant_above_the_limit, due_date_of_no_offset, end_is_missing, ticket_twice, more_loaded_server, tie_against_the_cursor, waits_beside_room}
 
@@ -37,37 +37,37 @@ not_least (suc (suc (suc (suc p)))) row stands named least = let e : None ≡ So
 
 pub not_first_come : IsLegal (worked first_come_first_served) → ⊥
 not_first_come legal =
-    let grant = legal.judged.1.1.1.1.1.1.1.1.1.0.1 in
+    let grant = legal.lawful.judged.1.1.1.1.1.1.1.1.1.0.1 in
     not_least grant.live.0 grant.row grant.live.1 grant.named (grant.least row_3 (2, refl) refl)
 
 pub not_idle : IsLegal (worked idle_slot) → ⊥
-not_idle legal = legal.settled 0 (refl, (_, (1, refl), refl))
+not_idle legal = legal.lawful.settled 0 (refl, (_, (1, refl), refl))
 
 pub not_above_limit : IsLegal (worked grant_above_the_limit) → ⊥
-not_above_limit legal = let free = legal.judged.1.1.1.1.1.1.0.1.next.takes.0 in cc
+not_above_limit legal = let free = legal.lawful.judged.1.1.1.1.1.1.0.1.next.takes.0 in cc
 
 pub not_without_offset : IsLegal (worked due_date_of_no_offset) → ⊥
 not_without_offset legal =
-    let due = legal.judged.0.1.due in
+    let due = legal.lawful.judged.0.1.due in
     let high = due.1.upper in
     let sum = due.2 in
     absurd (omega (arith, ints))
 
 pub not_without_end : IsLegal (worked end_is_missing) → ⊥
-not_without_end legal = legal.judged.1.1.1.1.1.1.1.1.0.0
+not_without_end legal = legal.lawful.judged.1.1.1.1.1.1.1.1.0.0
 
 pub not_twice : IsLegal (worked ticket_twice) → ⊥
-not_twice legal = let next : 1 ≡ 1 + 1 = legal.judged.1.1.0.1.numbered in absurd (omega arith)
+not_twice legal = let next : 1 ≡ 1 + 1 = legal.lawful.judged.1.1.0.1.numbered in absurd (omega arith)
 
 pub not_more_loaded : IsLegal (worked_by_two more_loaded_server) → ⊥
 not_more_loaded legal =
-    let no_more : 1 ≤ 0 = legal.judged.1.1.1.0.1.0.least 1 (refl, λ avoids. let e : None ≡ Some 1 = avoids in cc) in
+    let no_more : 1 ≤ 0 = legal.lawful.judged.1.1.1.0.1.0.least 1 (refl, λ avoids. let e : None ≡ Some 1 = avoids in cc) in
     absurd (omega arith)
 
 pub not_against_cursor : IsLegal (worked_by_two tie_against_the_cursor) → ⊥
 not_against_cursor legal =
-    let nearer : 2 ≤ 1 = legal.judged.1.0.1.0.nearest 0 (refl, λ avoids. let e : None ≡ Some 0 = avoids in cc) (λ third own. omega arith) in
+    let nearer : 2 ≤ 1 = legal.lawful.judged.1.0.1.0.nearest 0 (refl, λ avoids. let e : None ≡ Some 0 = avoids in cc) (λ third own. omega arith) in
     absurd (omega arith)
 
 pub not_beside_room : IsLegal (worked_by_two waits_beside_room) → ⊥
-not_beside_room legal = legal.judged.1.0.1.2 0 refl
+not_beside_room legal = legal.lawful.judged.1.0.1.2 0 refl

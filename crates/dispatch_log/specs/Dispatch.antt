@@ -1,24 +1,28 @@
 -- What holds after every event of a dispatcher.
-use Rattle.std.specs.Prelude.{◌≡◌, ℕ, ◌+◌, ◌<◌, ◌≤◌, nat_le, ◌==◌, ◌&&◌, Bool, true, false, List, IsTrue, count_by, slice_get, if◌then◌else◌}
+use Rattle.std.specs.Prelude.{◌≡◌, ℕ, ◌+◌, ◌<◌, ◌≤◌, max, nat_le, nat_lt, ◌==◌, ◌&&◌, Bool, true, false, List, IsTrue, count_by, slice_get, if◌then◌else◌}
 use Rattle.std.specs.Option.{option_map_or}
+use Rattle.dispatch_log.specs.declared.allowance.Allowance.{Allowance}
 use Rattle.dispatch_log.specs.declared.entry.Entry.{Entry}
 use Rattle.dispatch_log.specs.declared.entry.Entry.TheVariants.{Arrive, Ended}
 use Rattle.dispatch_log.specs.declared.row.Phase.{Phase}
 use Rattle.dispatch_log.specs.declared.row.Phase.TheVariants.{Loose, Waiting, Serving, Told}
 use Rattle.dispatch_log.specs.declared.row.Row.{Row}
-use Rattle.dispatch_log.specs.declared.setup.Setup.{Setup}
 use Rattle.dispatch_log.specs.Histories.{History, state_of}
 use Rattle.dispatch_log.specs.Grants.{IsSettled}
-use Rattle.dispatch_log.specs.Rows.{Rows, IsRow, served, rows_of}
-use Rattle.dispatch_log.specs.States.{scene}
+use Rattle.dispatch_log.specs.Rows.{IsRow, served, rows_of}
+use Rattle.dispatch_log.specs.States.{State, scene}
 
--- a server's limit; 0 where it has none, and where no server has the number
-abbrev pub bound_of : Setup → ℕ → ℕ
-bound_of setup server = option_map_or (λ it. it.limit) (slice_get setup.servers server) 0
+-- how many requests a server may be found to serve: none is stopped where its limit is set below what it serves; 0 where
+-- it has no limit
+abbrev pub bound_by : Allowance → ℕ
+bound_by it = if it.limit == 0 then 0 else max it.limit it.served
 
--- no server serves more than its limit
-abbrev pub KeepsLimits : Setup → Rows → Type 0
-KeepsLimits setup rows = (server : ℕ) → 0 < bound_of setup server → served server rows ≤ bound_of setup server
+abbrev pub bound_of : State → ℕ → ℕ
+bound_of state server = option_map_or bound_by (slice_get state.limits server) 0
+
+-- no server serves more than its bound
+abbrev pub KeepsLimits : State → Type 0
+KeepsLimits state = (server : ℕ) → 0 < bound_of state server → served server state.rows ≤ bound_of state server
 
 abbrev pub is_arrival_of : ℕ → Entry → Bool
 is_arrival_of ticket (Arrive moment arrival) = arrival.ticket == ticket
@@ -42,15 +46,21 @@ is_placed (Waiting queue since) = true
 is_placed (Serving server) = true
 is_placed (Told cause) = true
 
--- a ticket that was given arrived once, and no other did; it has one row until its one end, and none after it
+-- 1 for a ticket that was given after a first and up to a last one, and 0 for any other
+abbrev pub given_between : ℕ → ℕ → ℕ → ℕ
+given_between first last ticket = if nat_lt first ticket && nat_le ticket last then 1 else 0
+
+-- a ticket that was given in the window arrived there once, and no other did; it has the row that it had at the window's
+-- base or had with its arrival until its one end, and none after it; and only a ticket that was given has a row, and one
 pub record IsInOnePlace (history : History) (ticket : ℕ) : Type 0 where
-  pub arrives_once : arrivals_of ticket history.log ≡ (if nat_le 1 ticket && nat_le ticket (state_of history).ticket then 1 else 0)
-  pub until_its_end : rows_of ticket (state_of history).rows + ends_of ticket history.log ≡ arrivals_of ticket history.log
+  pub arrives_once : arrivals_of ticket history.log ≡ given_between history.base.ticket (state_of history).ticket ticket
+  pub until_its_end : rows_of ticket (state_of history).rows + ends_of ticket history.log ≡ rows_of ticket history.base.rows + arrivals_of ticket history.log
+  pub one_row : rows_of ticket (state_of history).rows ≤ given_between 0 (state_of history).ticket ticket
 
 -- the dispatch theorem's first three parts: limits are kept, every request stands in one place, and no free slot faces
 -- a request that may take it
 pub record IsDispatched (history : History) : Type 0 where
-  pub limits : KeepsLimits history.setup (state_of history).rows
+  pub limits : KeepsLimits (state_of history)
   pub one_place : (ticket : ℕ) → IsInOnePlace history ticket
   pub placed : (row : Row) → IsRow (state_of history).rows row → IsTrue (is_placed row.phase)
   pub settled : IsSettled (scene history.setup (state_of history))

@@ -1,6 +1,7 @@
 -- Which servers are up.
 use Rattle.std.specs.Prelude.{ℕ, Bool, true, List, [], ◌∷◌, ◌++◌, Option, None, Some, slice_index_or, slice_set}
 use Rattle.check_state.specs.Results.{is_up}
+use Rattle.check_state.specs.Shortened.{shortened}
 use Rattle.dispatch_log.specs.declared.setup.ServerSet.{ServerSet}
 
 -- a server that isn't checked is up, and one that is checked by rise and fall is up by its results
@@ -27,3 +28,14 @@ abbrev pub without_last : List Bool → List Bool
 without_last [] = []
 without_last (first ∷ []) = []
 without_last (first ∷ second ∷ rest) = first ∷ without_last (second ∷ rest)
+
+-- the shortest results that stand for those of a server; one that isn't checked needs none
+abbrev pub shortened_by : Option (ℕ × ℕ) → List Bool → List Bool
+shortened_by None results = []
+shortened_by (Some it) results = shortened it.0 it.1 results
+
+-- the same of each server
+abbrev pub shortened_all : List ServerSet → List (List Bool) → List (List Bool)
+shortened_all [] results = []
+shortened_all (server ∷ servers) [] = shortened_by server.rise_fall [] ∷ shortened_all servers []
+shortened_all (server ∷ servers) (of_it ∷ results) = shortened_by server.rise_fall of_it ∷ shortened_all servers results

@@ -1,28 +1,37 @@
--- Dispatchers, as contracts see them: what one was made for, and its log.
-use Rattle.std.specs.Prelude.{◌≡◌, ◌⊎◌, ℕ, max, Bool, true, false, List, ◌∷◌, ◌++◌, Option, None, Some, All, length}
+-- Dispatchers, as contracts see them: what one was made for, where its present window began, and its log since.
+use Rattle.std.specs.Prelude.{◌≡◌, ◌⊎◌, ℕ, max, Bool, true, false, List, [], ◌∷◌, ◌++◌, Option, None, Some, length}
 use Rattle.dispatch_log.specs.declared.entry.Entry.{Entry}
-use Rattle.dispatch_log.specs.declared.entry.Entry.TheVariants.{Arrive, Done, Fail, Abort, Tick, Check}
+use Rattle.dispatch_log.specs.declared.entry.Entry.TheVariants.{Arrive, Done, Fail, Abort, Tick, Check, Limit}
 use Rattle.dispatch_log.specs.declared.refusal.Refusal.{Refusal}
 use Rattle.dispatch_log.specs.declared.refusal.Refusal.TheVariants.{NoMemory}
 use Rattle.dispatch_log.specs.declared.row.Row.{Row}
 use Rattle.dispatch_log.specs.declared.setup.Setup.{Setup}
-use Rattle.dispatch_log.specs.Judgement.{has_expired, IsLegalFrom}
-use Rattle.dispatch_log.specs.Refusals.{arrival_refusal, done_refusal, failure_refusal, abort_refusal, tick_refusal, check_refusal}
+use Rattle.dispatch_log.specs.Health.{shortened_all}
+use Rattle.dispatch_log.specs.Judgement.{has_expired}
+use Rattle.dispatch_log.specs.Refusals.{arrival_refusal, done_refusal, failure_refusal, abort_refusal, tick_refusal, check_refusal, limit_refusal}
 use Rattle.dispatch_log.specs.Rows.{IsRow}
 use Rattle.dispatch_log.specs.States.{State, opening_state, after_all}
 
--- a dispatcher's setup and its log
+-- a dispatcher's setup, the state that its present window began with, and the entries since
 pub record History : Type 0 where
   pub setup : Setup
+  pub base : State
   pub log : List Entry
 
--- the state that the log leaves of the opening state
-abbrev pub state_of : History → State
-state_of history = after_all history.setup (opening_state history.setup) history.log
+-- its first window, which begins with no request
+abbrev pub first_window : Setup → List Entry → History
+first_window setup log = record { setup = setup; base = opening_state setup; log = log }
 
--- the log is legal
-abbrev pub IsLegal : History → Type 0
-IsLegal history = IsLegalFrom history.setup (opening_state history.setup) history.log
+-- the state that the log leaves of the base
+abbrev pub state_of : History → State
+state_of history = after_all history.setup history.base history.log
+
+-- the next window: it begins with the state that this one leaves, where the shortest results stand for those of the checks
+abbrev pub rolled : Setup → State → State
+rolled setup state = record state { results = shortened_all setup.servers state.results }
+
+abbrev pub next_window : History → History
+next_window history = record { setup = history.setup; base = rolled history.setup (state_of history); log = [] }
 
 -- an event's effective moment: the later of the one handed in and the last event's
 abbrev pub effective : History → ℕ → ℕ
@@ -32,8 +41,8 @@ effective history moment = max (state_of history).moment moment
 abbrev pub SomeExpires : History → ℕ → Type 0
 SomeExpires history moment = (row : Row) × IsRow (state_of history).rows row × has_expired history.setup (effective history moment) row.phase
 
--- what refuses an arrival with a pin, or the return of a ticket's slot, its failure, its abort, a tick, or a check of a
--- server, now
+-- what refuses an arrival with a pin, or the return of a ticket's slot, its failure, its abort, a tick, or a check or a new
+-- limit of a server, now
 abbrev pub refuses_arrival : History → Option ℕ → Option Refusal
 refuses_arrival history pin = arrival_refusal history.setup (state_of history) (length history.log) pin
 
@@ -52,6 +61,9 @@ refuses_tick history = tick_refusal history.setup (length history.log)
 abbrev pub refuses_check : History → ℕ → Option Refusal
 refuses_check history server = check_refusal history.setup (length history.log) server
 
+abbrev pub refuses_limit : History → ℕ → Option Refusal
+refuses_limit history server = limit_refusal history.setup (length history.log) server
+
 abbrev pub begins_event : Entry → Bool
 begins_event (Arrive moment arrival) = true
 begins_event (Done moment ticket) = true
@@ -59,15 +71,8 @@ begins_event (Fail moment ticket) = true
 begins_event (Abort moment ticket) = true
 begins_event (Tick moment) = true
 begins_event (Check moment server ok) = true
+begins_event (Limit moment server limit) = true
 begins_event entry = false
-
--- the log goes on with one event, and stays legal
-pub record AddsEvent (old new : History) (event : Entry) : Type 0 where
-  pub brought : List Entry
-  pub log : new.log ≡ old.log ++ event ∷ brought
-  pub one_event : All (λ entry. begins_event entry ≡ false) brought
-  pub setup : new.setup ≡ old.setup
-  pub legal : IsLegal new
 
 -- why a call that takes memory failed: it is refused, or nothing refuses it and there was no memory
 abbrev pub RefusedOrNoMemory : Option Refusal → Refusal → Type 0

@@ -1,11 +1,12 @@
 -- Legal logs, judged entry by entry.
-use Rattle.std.specs.Prelude.{◌≡◌, ◌≢◌, ℕ, ◌+◌, ◌<◌, ◌≤◌, ℤ, pos, ◌+ℤ◌, Bool, true, false, IsTrue, List, [], ◌∷◌, Option, None, Some, slice_get}
+use Rattle.std.specs.Prelude.{◌≡◌, ◌≢◌, ℕ, ◌+◌, ◌<◌, ◌≤◌, ◌^◌, ℤ, pos, ◌+ℤ◌, Bool, true, false, IsTrue, List, [], ◌∷◌, Option, None, Some, slice_get}
 use Rattle.std.specs.Option.{option_map_or}
 use Rattle.due_key.specs.Range.{IsBetween}
+use Rattle.due_key.specs.declared.class.TheConstants.{LOWEST_CLASS, HIGHEST_CLASS}
 use Rattle.due_key.specs.declared.offset.TheConstants.{LOWEST_OFFSET, HIGHEST_OFFSET}
 use Rattle.dispatch_log.specs.declared.entry.Arrival.{Arrival}
 use Rattle.dispatch_log.specs.declared.entry.Entry.{Entry}
-use Rattle.dispatch_log.specs.declared.entry.Entry.TheVariants.{Arrive, Done, Fail, Abort, Tick, Check, Direct, Joined, Granted, Moved, Freed, Retried, Left, Health, Ended}
+use Rattle.dispatch_log.specs.declared.entry.Entry.TheVariants.{Arrive, Done, Fail, Abort, Tick, Check, Limit, Direct, Joined, Granted, Moved, Freed, Retried, Left, Health, Ended}
 use Rattle.verdict.specs.declared.cause.Cause.TheVariants.{Aborted, Timeout, Retries, NoServer}
 use Rattle.dispatch_log.specs.declared.queue.Queue.{Queue}
 use Rattle.dispatch_log.specs.declared.queue.Queue.TheVariants.{Server}
@@ -15,7 +16,7 @@ use Rattle.dispatch_log.specs.declared.row.Row.{Row}
 use Rattle.dispatch_log.specs.declared.setup.Setup.{Setup}
 use Rattle.dispatch_log.specs.declared.refusal.Refusal.{Refusal}
 use Rattle.dispatch_log.specs.Health.{is_up_by, results_of, without_last}
-use Rattle.dispatch_log.specs.Refusals.{arrival_refusal, done_refusal, failure_refusal, abort_refusal, tick_refusal, check_refusal, is_waiting}
+use Rattle.dispatch_log.specs.Refusals.{arrival_refusal, done_refusal, failure_refusal, abort_refusal, tick_refusal, check_refusal, limit_refusal, is_waiting}
 use Rattle.dispatch_log.specs.Retries.{are_spent, are_redispatched, are_retried}
 use Rattle.dispatch_log.specs.Rows.{Rows, IsRow, IsVacant, phase_is_served_by, phase_is_told, phase_waits_in, pin_of, failures_of}
 use Rattle.dispatch_log.specs.States.{State, scene, after, after_all}
@@ -41,10 +42,11 @@ IsTold rows ticket = IsInPhase phase_is_told rows ticket
 abbrev pub IsDueFrom : ℕ → ℤ → Type 0
 IsDueFrom moment due = (offset : ℤ) × IsBetween LOWEST_OFFSET HIGHEST_OFFSET offset × (due ≡ (pos moment +ℤ offset))
 
--- an arrival has the next ticket, a free place, and a due date from the event's moment
+-- an arrival has the next ticket, a free place, a class in its range, and a due date from the event's moment
 pub record IsNewcomer (state : State) (moment : ℕ) (arrival : Arrival) : Type 0 where
   pub numbered : arrival.ticket ≡ state.ticket + 1
   pub vacant : IsVacant state.rows arrival.place
+  pub class : IsBetween LOWEST_CLASS HIGHEST_CLASS arrival.class
   pub due : IsDueFrom moment arrival.due
 
 -- expired: a request waits since a moment that lies as far back as requests may wait
@@ -108,12 +110,14 @@ abbrev pub MayGrant : Setup → State → Stage → Type 0
 MayGrant setup state (leaving leaver server) = IsTrue (are_redispatched setup (failures_of leaver state.rows))
 MayGrant setup state stage = IsOver setup state stage
 
--- an event may begin: the one before is over, all is settled, nothing refuses the call, and moments never fall
+-- an event may begin: the one before is over, all is settled, nothing refuses the call, and moments never fall and stay
+-- below 2 ^ 62
 pub record MayBegin (setup : Setup) (state : State) (stage : Stage) (moment : ℕ) (refused : Option Refusal) : Type 0 where
   pub over : IsOver setup state stage
   pub settled : IsSettled (scene setup state)
   pub accepted : refused ≡ None
   pub later : state.moment ≤ moment
+  pub within : moment < 2 ^ 62
 
 -- a request in no place takes a slot, joins a queue, or is told that no server is usable
 abbrev pub IsPut : Scene → ℕ → Option ℕ → Option ℕ → ℕ → Entry → Type 0
@@ -129,34 +133,36 @@ pub record IsPutAnew (setup : Setup) (state : State) (leaver server : ℕ) (entr
   pub put : IsPut (scene setup state) state.cursor None (Some server) leaver entry
 
 -- an entry may come at a stage, in a state that so many entries left
-abbrev pub MayCome : Setup → State → ℕ → Stage → Entry → Type 0
-MayCome setup state used stage (Arrive moment arrival) =
-    MayBegin setup state stage moment (arrival_refusal setup state used arrival.pin) × IsNewcomer state moment arrival
-MayCome setup state used stage (Done moment ticket) = MayBegin setup state stage moment (done_refusal setup state used ticket)
-MayCome setup state used stage (Fail moment ticket) = MayBegin setup state stage moment (failure_refusal setup state used ticket)
-MayCome setup state used stage (Abort moment ticket) = MayBegin setup state stage moment (abort_refusal setup state used ticket)
-MayCome setup state used stage (Tick moment) = MayBegin setup state stage moment (tick_refusal setup used)
-MayCome setup state used stage (Check moment server ok) = MayBegin setup state stage moment (check_refusal setup used server)
-MayCome setup state used stage (Granted ticket queue server) =
-    MayGrant setup state stage × IsLawfulGrant (scene setup state) state.cursor ticket queue server
-MayCome setup state used (placing newcomer) entry = IsPut (scene setup state) state.cursor (pin_of newcomer state.rows) None newcomer entry
-MayCome setup state used (returning leaver) (Freed ticket server) = (ticket ≡ leaver) × HasSlot state.rows ticket server
-MayCome setup state used (returning leaver) (Ended ticket) = (ticket ≡ leaver) × IsTold state.rows ticket
-MayCome setup state used (ending leaver) (Ended ticket) = ticket ≡ leaver
-MayCome setup state used (failing leaver) (Retried ticket server failures) =
-    (ticket ≡ leaver) × HasSlot state.rows ticket server × (failures_of ticket state.rows ≡ failures) × IsTrue (are_retried setup failures)
-MayCome setup state used (failing leaver) (Freed ticket server) =
-    (ticket ≡ leaver) × HasSlot state.rows ticket server × (IsTrue (are_retried setup (failures_of ticket state.rows)) → ⊥)
-MayCome setup state used (leaving leaver server) (Left ticket Retries) =
-    (ticket ≡ leaver) × IsTrue (are_spent setup (failures_of ticket state.rows))
-MayCome setup state used (leaving leaver server) entry = IsPutAnew setup state leaver server entry
-MayCome setup state used (aborting leaver) (Left ticket Aborted) = (ticket ≡ leaver) × IsInPhase is_waiting state.rows ticket
-MayCome setup state used telling (Left ticket Timeout) = IsFirstExpired setup state ticket
-MayCome setup state used (checking checked) (Health server up) =
-    (server ≡ checked) × (is_up (scene setup state) server ≡ up) × (was_up setup state server ≢ up)
-MayCome setup state used (falling fallen) (Moved ticket server) =
-    (server ≡ fallen) × IsTrue setup.redispatch × IsFirstIn (Server server) state.rows ticket
-MayCome setup state used stage entry = ⊥
+module _ (setup : Setup) (state : State) (used : ℕ) where
+  abbrev pub MayCome : Stage → Entry → Type 0
+  MayCome stage (Arrive moment arrival) =
+      MayBegin setup state stage moment (arrival_refusal setup state used arrival.pin) × IsNewcomer state moment arrival
+  MayCome stage (Done moment ticket) = MayBegin setup state stage moment (done_refusal setup state used ticket)
+  MayCome stage (Fail moment ticket) = MayBegin setup state stage moment (failure_refusal setup state used ticket)
+  MayCome stage (Abort moment ticket) = MayBegin setup state stage moment (abort_refusal setup state used ticket)
+  MayCome stage (Tick moment) = MayBegin setup state stage moment (tick_refusal setup used)
+  MayCome stage (Check moment server ok) = MayBegin setup state stage moment (check_refusal setup used server)
+  MayCome stage (Limit moment server limit) = MayBegin setup state stage moment (limit_refusal setup used server)
+  MayCome stage (Granted ticket queue server) =
+      MayGrant setup state stage × IsLawfulGrant (scene setup state) state.cursor ticket queue server
+  MayCome (placing newcomer) entry = IsPut (scene setup state) state.cursor (pin_of newcomer state.rows) None newcomer entry
+  MayCome (returning leaver) (Freed ticket server) = (ticket ≡ leaver) × HasSlot state.rows ticket server
+  MayCome (returning leaver) (Ended ticket) = (ticket ≡ leaver) × IsTold state.rows ticket
+  MayCome (ending leaver) (Ended ticket) = ticket ≡ leaver
+  MayCome (failing leaver) (Retried ticket server failures) =
+      (ticket ≡ leaver) × HasSlot state.rows ticket server × (failures_of ticket state.rows ≡ failures) × IsTrue (are_retried setup failures)
+  MayCome (failing leaver) (Freed ticket server) =
+      (ticket ≡ leaver) × HasSlot state.rows ticket server × (IsTrue (are_retried setup (failures_of ticket state.rows)) → ⊥)
+  MayCome (leaving leaver server) (Left ticket Retries) =
+      (ticket ≡ leaver) × IsTrue (are_spent setup (failures_of ticket state.rows))
+  MayCome (leaving leaver server) entry = IsPutAnew setup state leaver server entry
+  MayCome (aborting leaver) (Left ticket Aborted) = (ticket ≡ leaver) × IsInPhase is_waiting state.rows ticket
+  MayCome telling (Left ticket Timeout) = IsFirstExpired setup state ticket
+  MayCome (checking checked) (Health server up) =
+      (server ≡ checked) × (is_up (scene setup state) server ≡ up) × (was_up setup state server ≢ up)
+  MayCome (falling fallen) (Moved ticket server) =
+      (server ≡ fallen) × IsTrue setup.redispatch × IsFirstIn (Server server) state.rows ticket
+  MayCome stage entry = ⊥
 
 -- the stage after an entry
 abbrev pub next_stage : Stage → Entry → Stage
@@ -166,6 +172,7 @@ next_stage stage (Fail moment ticket) = failing ticket
 next_stage stage (Abort moment ticket) = aborting ticket
 next_stage stage (Tick moment) = telling
 next_stage stage (Check moment server ok) = checking server
+next_stage stage (Limit moment server limit) = granting
 next_stage (failing leaver) (Freed ticket server) = leaving ticket server
 next_stage stage (Freed ticket server) = ending ticket
 next_stage (leaving leaver server) (Granted ticket queue taker) = leaving leaver server
@@ -185,8 +192,9 @@ AllMayCome setup state used stage [] = Unit {0}
 AllMayCome setup state used stage (entry ∷ entries) =
     MayCome setup state used stage entry × AllMayCome setup (after setup state entry) (used + 1) (next_stage stage entry) entries
 
--- legal log, from a base state on: each entry may come where it stands, the last event is over, and all is settled
-pub record IsLegalFrom (setup : Setup) (base : State) (log : List Entry) : Type 0 where
-  pub judged : AllMayCome setup base 0 granting log
-  pub whole : IsOver setup (after_all setup base log) (stage_after granting log)
-  pub settled : IsSettled (scene setup (after_all setup base log))
+-- entries are lawful, from a state on that so many entries left: each may come where it stands, the last event is over,
+-- and all is settled
+pub record AreLawful (setup : Setup) (state : State) (used : ℕ) (entries : List Entry) : Type 0 where
+  pub judged : AllMayCome setup state used granting entries
+  pub whole : IsOver setup (after_all setup state entries) (stage_after granting entries)
+  pub settled : IsSettled (scene setup (after_all setup state entries))

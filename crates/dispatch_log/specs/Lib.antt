@@ -12,7 +12,9 @@ pub mod Judgement
 pub mod Logs
 pub mod Histories
 pub mod Dispatch
+pub mod Legal
 pub mod Runs
 pub mod Worked
 pub mod WorkedChanges
 pub mod WorkedRight
+pub mod WorkedWindows

@@ -89,3 +89,7 @@ is_checked setup server = option_map_or (λ it. is_some it.rise_fall) (slice_get
 abbrev pub check_refusal : Setup → ℕ → ℕ → Option Refusal
 check_refusal setup used server =
     first_of ((lacks_room setup used, LogFull) ∷ (nat_le (length setup.servers) server, NoSuchServer) ∷ (not (is_checked setup server), WrongPhase) ∷ [])
+
+-- a change of a server's limit: no such server
+abbrev pub limit_refusal : Setup → ℕ → ℕ → Option Refusal
+limit_refusal setup used server = first_of ((lacks_room setup used, LogFull) ∷ (nat_le (length setup.servers) server, NoSuchServer) ∷ [])

@@ -21,4 +21,5 @@ pub record IsSound (setup : Setup) : Type 0 where
   pub places : setup.places ≤ 4096
   pub some_log : 0 < setup.log
   pub log : setup.log ≤ 262144
+  pub retries : setup.retries ≤ 999999999
   pub timeout : setup.queue_timeout < 2 ^ 62

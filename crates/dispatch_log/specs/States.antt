@@ -1,34 +1,42 @@
 -- What a log leaves.
-use Rattle.std.specs.Prelude.{ℕ, ◌-◌, ◌==◌, Bool, true, List, [], ◌∷◌, Option, None, Some, length, replicate, slice_get, slice_set, if◌then◌else◌}
+use Rattle.std.specs.Prelude.{ℕ, ◌-◌, ◌==◌, Bool, true, List, [], ◌∷◌, Option, None, Some, length, map, replicate, slice_get, slice_set, if◌then◌else◌}
 use Rattle.std.specs.Option.{option_map_or}
 use Rattle.due_key.specs.declared.key.Key.{Key}
+use Rattle.dispatch_log.specs.declared.allowance.Allowance.{Allowance}
 use Rattle.dispatch_log.specs.declared.entry.Arrival.{Arrival}
 use Rattle.dispatch_log.specs.declared.entry.Entry.{Entry}
-use Rattle.dispatch_log.specs.declared.entry.Entry.TheVariants.{Arrive, Done, Fail, Abort, Tick, Check, Direct, Joined, Granted, Moved, Freed, Retried, Left, Health, Ended}
+use Rattle.dispatch_log.specs.declared.entry.Entry.TheVariants.{Arrive, Done, Fail, Abort, Tick, Check, Limit, Direct, Joined, Granted, Moved, Freed, Retried, Left, Health, Ended}
 use Rattle.dispatch_log.specs.declared.queue.Queue.{Queue}
 use Rattle.dispatch_log.specs.declared.queue.Queue.TheVariants.{Backend, Server}
 use Rattle.dispatch_log.specs.declared.row.Phase.TheVariants.{Loose, Waiting, Serving, Told}
 use Rattle.dispatch_log.specs.declared.row.Row.{Row}
+use Rattle.dispatch_log.specs.declared.setup.ServerSet.{ServerSet}
 use Rattle.dispatch_log.specs.declared.setup.Setup.{Setup}
 use Rattle.dispatch_log.specs.Health.{ups_of, with_result}
 use Rattle.dispatch_log.specs.Retries.{failed}
-use Rattle.dispatch_log.specs.Rows.{Rows, changed, in_phase, in_backend_since, gone, pin_of}
+use Rattle.dispatch_log.specs.Rows.{Rows, changed, in_phase, in_backend_since, gone, pin_of, served}
 use Rattle.dispatch_log.specs.Words.{Scene}
 
--- the live requests, each server's results of checks, the moment of the last event, the last ticket that was given,
--- and the server that balancing picked last
+-- the live requests, each server's results of checks, what each may serve at present, the moment of the last event, the
+-- last ticket that was given, and the server that balancing picked last
 pub record State : Type 0 where
   pub rows : Rows
   pub results : List (List Bool)
+  pub limits : List Allowance
   pub moment : ℕ
   pub ticket : ℕ
   pub cursor : ℕ
+
+-- at first each server may serve as many as its setup says
+abbrev pub opening_limits : List ServerSet → List Allowance
+opening_limits servers = map (λ server. record { limit = server.limit; served = 0 }) servers
 
 -- no request, no check, no event yet; the last server counts as picked
 abbrev pub opening_state : Setup → State
 opening_state setup = record {
   rows = replicate setup.places None;
   results = replicate (length setup.servers) [];
+  limits = opening_limits setup.servers;
   moment = 0;
   ticket = 0;
   cursor = length setup.servers - 1;
@@ -36,7 +44,12 @@ opening_state setup = record {
 
 -- what a decision looks at
 abbrev pub scene : Setup → State → Scene
-scene setup state = record { servers = setup.servers; ups = ups_of setup.servers state.results; rows = state.rows }
+scene setup state = record {
+  servers = setup.servers;
+  limits = state.limits;
+  ups = ups_of setup.servers state.results;
+  rows = state.rows;
+}
 
 -- the key of an arrival
 abbrev pub key_of : Arrival → Key
@@ -60,12 +73,17 @@ put_in (Server server) pin cursor = put_on server pin cursor
 abbrev pub granted_by : Setup → ℕ → ℕ → ℕ
 granted_by setup server cursor = if option_map_or (λ it. it.weight == 0) (slice_get setup.servers server) true then cursor else server
 
+-- a server's limit is set, and what it serves is noted
+abbrev pub with_limit : ℕ → ℕ → State → List Allowance
+with_limit server limit state = slice_set state.limits server (record { limit = limit; served = served server state.rows })
+
 -- what an entry leaves: an arrival's row stands at its place, under the next ticket; a failure is counted as its event
 -- begins, and a check's result is that of its server
 abbrev pub after : Setup → State → Entry → State
 after setup state (Arrive moment arrival) = record {
   rows = slice_set state.rows arrival.place (Some (arrived arrival));
   results = state.results;
+  limits = state.limits;
   moment = moment;
   ticket = arrival.ticket;
   cursor = state.cursor;
@@ -75,6 +93,7 @@ after setup state (Fail moment ticket) = record state { rows = changed ticket (f
 after setup state (Abort moment ticket) = record state { moment = moment }
 after setup state (Tick moment) = record state { moment = moment }
 after setup state (Check moment server ok) = record state { results = with_result server ok state.results; moment = moment }
+after setup state (Limit moment server limit) = record state { limits = with_limit server limit state; moment = moment }
 after setup state (Direct ticket server) = record state {
   rows = changed ticket (in_phase (Serving server)) state.rows;
   cursor = put_on server (pin_of ticket state.rows) state.cursor;

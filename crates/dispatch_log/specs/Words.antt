@@ -1,6 +1,7 @@
 -- What a server can take.
 use Rattle.std.specs.Prelude.{ℕ, ◌+◌, ◌==◌, nat_lt, ◌&&◌, ◌||◌, Bool, false, List, Option, None, Some, slice_get, slice_index_or, if◌then◌else◌}
 use Rattle.std.specs.Option.{option_map_or}
+use Rattle.dispatch_log.specs.declared.allowance.Allowance.{Allowance}
 use Rattle.dispatch_log.specs.declared.queue.Queue.{Queue}
 use Rattle.dispatch_log.specs.declared.queue.Queue.TheVariants.{Backend, Server}
 use Rattle.dispatch_log.specs.declared.row.Phase.{Phase}
@@ -8,15 +9,21 @@ use Rattle.dispatch_log.specs.declared.row.Phase.TheVariants.{Loose, Waiting, Se
 use Rattle.dispatch_log.specs.declared.setup.ServerSet.{ServerSet}
 use Rattle.dispatch_log.specs.Rows.{Rows, served, queued}
 
--- the scene of a decision: what the servers may take, which of them are up, and where the live requests stand
+-- the scene of a decision: the servers, how many requests each may serve at present, which of them are up, and where the
+-- live requests stand
 pub record Scene : Type 0 where
   pub servers : List ServerSet
+  pub limits : List Allowance
   pub ups : List Bool
   pub rows : Rows
 
 -- a test of the server with a number; a number that is no server's fails it
 abbrev pub of_server : Scene → ℕ → (ServerSet → Bool) → Bool
 of_server scene server test = option_map_or test (slice_get scene.servers server) false
+
+-- a server's present limit; 0 where it has none, and where no server has the number
+abbrev pub limit_of : Scene → ℕ → ℕ
+limit_of scene server = option_map_or (λ it. it.limit) (slice_get scene.limits server) 0
 
 -- up: the server's health lets it take requests
 abbrev pub is_up : Scene → ℕ → Bool
@@ -26,15 +33,15 @@ is_up scene server = slice_index_or scene.ups server false
 abbrev pub is_usable : Scene → ℕ → Bool
 is_usable scene server = is_up scene server && of_server scene server (λ it. nat_lt 0 it.weight)
 
--- free: the server serves fewer than its limit, or has none
+-- free: the server serves fewer than its present limit, or has none
 abbrev pub is_free : Scene → ℕ → Bool
-is_free scene server = of_server scene server (λ it. (it.limit == 0) || nat_lt (served server scene.rows) it.limit)
+is_free scene server = of_server scene server (λ it. (limit_of scene server == 0) || nat_lt (served server scene.rows) (limit_of scene server))
 
 -- room: a balanced request may be put on the server, to be served or to wait in its queue
 abbrev pub has_room : Scene → ℕ → Bool
 has_room scene server =
     is_usable scene server
-    && of_server scene server (λ it. (it.limit == 0) || nat_lt (served server scene.rows + queued (Server server) scene.rows) (it.limit + it.maxqueue))
+    && of_server scene server (λ it. (limit_of scene server == 0) || nat_lt (served server scene.rows + queued (Server server) scene.rows) (limit_of scene server + it.maxqueue))
 
 -- whether a server takes a request that is bound to it: where it is up, into a slot where it is free, and else into
 -- its queue, which may be as long as maxqueue, or of any length where that is 0

@@ -6,7 +6,7 @@ use Rattle.dispatch_log.specs.declared.entry.Entry.TheVariants.{Arrive, Done, Di
 use Rattle.dispatch_log.specs.declared.queue.Queue.TheVariants.{Backend}
 use Rattle.dispatch_log.specs.declared.setup.ServerSet.{ServerSet}
 use Rattle.dispatch_log.specs.declared.setup.Setup.{Setup}
-use Rattle.dispatch_log.specs.Histories.{History}
+use Rattle.dispatch_log.specs.Histories.{History, first_window}
 
 -- one plain server, four places
 abbrev pub plain_server : ServerSet
@@ -16,7 +16,7 @@ abbrev pub worked_setup : Setup
 worked_setup = record { servers = plain_server ∷ []; places = 4; log = 64; retries = 3; redispatch = false; queue_timeout = 0 }
 
 abbrev pub worked : List Entry → History
-worked log = record { setup = worked_setup; log = log }
+worked log = first_window worked_setup log
 
 -- an arrival of class 0 without a pin
 abbrev pub arrival : ℕ → ℤ → ℕ → Arrival
@@ -58,10 +58,8 @@ abbrev pub open_server : ServerSet
 open_server = record { limit = 0; maxqueue = 0; weight = 1; rise_fall = None }
 
 abbrev pub worked_by_two : List Entry → History
-worked_by_two log = record {
-  setup = record { servers = open_server ∷ open_server ∷ []; places = 4; log = 64; retries = 3; redispatch = false; queue_timeout = 0 };
-  log = log;
-}
+worked_by_two log =
+    first_window (record { servers = open_server ∷ open_server ∷ []; places = 4; log = 64; retries = 3; redispatch = false; queue_timeout = 0 }) log
 
 -- the second request goes to the server that has the first one
 abbrev pub more_loaded_server : List Entry

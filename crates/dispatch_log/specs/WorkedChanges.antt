@@ -6,7 +6,7 @@ use Rattle.dispatch_log.specs.declared.entry.Entry.{Entry}
 use Rattle.dispatch_log.specs.declared.entry.Entry.TheVariants.{Arrive, Fail, Abort, Tick, Check, Direct, Joined, Granted, Moved, Freed, Retried, Left, Health}
 use Rattle.dispatch_log.specs.declared.queue.Queue.TheVariants.{Backend, Server}
 use Rattle.dispatch_log.specs.declared.setup.ServerSet.{ServerSet}
-use Rattle.dispatch_log.specs.Histories.{History}
+use Rattle.dispatch_log.specs.Histories.{History, first_window}
 use Rattle.dispatch_log.specs.Worked.{plain_server, arrival, two_wait}
 
 -- a server that each result of its checks takes down or raises
@@ -15,17 +15,13 @@ checked_server = record { limit = 1; maxqueue = 0; weight = 1; rise_fall = Some 
 
 -- two servers, the first one checked; the one retry goes to another server
 abbrev pub worked_with_checks : List Entry → History
-worked_with_checks log = record {
-  setup = record { servers = checked_server ∷ plain_server ∷ []; places = 4; log = 64; retries = 1; redispatch = true; queue_timeout = 0 };
-  log = log;
-}
+worked_with_checks log =
+    first_window (record { servers = checked_server ∷ plain_server ∷ []; places = 4; log = 64; retries = 1; redispatch = true; queue_timeout = 0 }) log
 
 -- one server; requests wait for 5 milliseconds
 abbrev pub worked_in_time : List Entry → History
-worked_in_time log = record {
-  setup = record { servers = plain_server ∷ []; places = 4; log = 64; retries = 3; redispatch = false; queue_timeout = 5 };
-  log = log;
-}
+worked_in_time log =
+    first_window (record { servers = plain_server ∷ []; places = 4; log = 64; retries = 3; redispatch = false; queue_timeout = 5 }) log
 
 -- an arrival of class 0, bound to the first server
 abbrev pub bound : ℕ → ℤ → ℕ → Arrival

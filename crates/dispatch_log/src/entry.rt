@@ -31,6 +31,8 @@ pub enum Entry {
     Tick(Moment),
     /// Event: a check of the server ended; it answered, or not.
     Check(Moment, usize, bool),
+    /// Event: the server may serve so many requests at once from now on; 0: no limit.
+    Limit(Moment, usize, u32),
     /// The ticket takes a slot of the server as it arrives.
     Direct(u64, usize),
     /// The ticket begins to wait in the queue.

@@ -1,11 +1,14 @@
 ghost use Rattle.dispatch_log.specs.Dispatch.{IsDispatched};
-ghost use Rattle.dispatch_log.specs.Histories.{History, IsLegal};
+ghost use Rattle.dispatch_log.specs.Histories.{History, next_window};
+ghost use Rattle.dispatch_log.specs.Legal.{IsBase, IsLegal};
+ghost use Rattle.dispatch_log.specs.Setups.{IsSound};
+ghost use Rattle.dispatch_log.specs.States.{opening_state};
 ghost use Rattle.std.specs.Prelude.{List};
-ghost use Rattle.dispatch_log.specs.declared.entry.Entry.{Entry};
 ghost use Rattle.dispatch_log.specs.declared.setup.Setup.{Setup};
-ghost use Rattle.dispatch_log.specs.Runs.{IsRun};
+ghost use Rattle.dispatch_log.specs.Runs.{Call, IsRun};
 ghost use Rattle.dispatch_log.specs.Worked.{worked, first_come_first_served, idle_slot, grant_above_the_limit, due_date_of_no_offset, end_is_missing, ticket_twice, worked_by_two, more_loaded_server, tie_against_the_cursor, waits_beside_room};
 ghost use Rattle.dispatch_log.specs.WorkedRight.{redispatch_to_the_other_server, told_by_rising_ticket, fall_moves_its_queue};
+ghost use Rattle.dispatch_log.specs.WorkedWindows.{worked_by_pairs, grant_at_the_lowered_limit, raised_limit_grants_nothing, limit_of_no_server, waits_of_the_base_are_forgotten, cursor_is_reset, tickets_begin_anew};
 ghost use Rattle.dispatch_log.specs.WorkedChanges.{worked_with_checks, worked_in_time, retry_past_the_retries, failure_counted_twice, redispatch_keeps_the_pin, redispatch_to_the_failed_server, redispatch_before_the_grant, no_server_beside_a_usable_one, told_one_millisecond_early, told_by_falling_ticket, expired_and_not_told, abort_of_a_served_request, failure_of_a_waiting_request, fall_leaves_its_queue, moves_by_ticket, grant_before_the_moves, rise_grants_nothing, rise_is_not_told, down_after_its_rise, served_by_a_fallen_server};
 
 /// The law of legal logs: whatever was asked of a dispatcher, in whatever order, as long as its
@@ -15,10 +18,18 @@ pub fn legal_logs_are_dispatched()
     ensures { (history : History) → IsLegal history → IsDispatched history }
 {}
 
-/// The law of all runs: after any list of events since a dispatcher was made, each of which added
-/// itself with the entries that follow from it, the same holds.
+/// The law of windows: a dispatcher's first one begins at a proper base, and so does the one after any
+/// legal log. What a log may rely on thus holds of every window.
+pub fn windows_begin_at_bases()
+    ensures first { (setup : Setup) → IsBase setup (opening_state setup) }
+    ensures next { (history : History) → IsSound history.setup → IsLegal history → IsLegal (next_window history) }
+{}
+
+/// The law of all runs: after any list of calls since a dispatcher was made, each of which was refused,
+/// added its event with what that brings, or began the next window, the log is legal and the same holds.
 pub fn runs_are_dispatched()
-    ensures { (setup : Setup) (events : List Entry) (history : History) → IsRun setup events history → IsDispatched history }
+    ensures legal { (setup : Setup) (calls : List Call) (history : History) → IsRun setup calls history → IsLegal history }
+    ensures dispatched { (setup : Setup) (calls : List Call) (history : History) → IsRun setup calls history → IsDispatched history }
 {}
 
 /// The law of worked logs: each of these is legal.
@@ -57,4 +68,10 @@ pub fn wrong_logs_are_not_legal()
     ensures rise_is_not_told { IsLegal (worked_with_checks rise_is_not_told) → ⊥ }
     ensures down_after_its_rise { IsLegal (worked_with_checks down_after_its_rise) → ⊥ }
     ensures served_by_a_fallen_server { IsLegal (worked_with_checks served_by_a_fallen_server) → ⊥ }
+    ensures grant_at_the_lowered_limit { IsLegal (worked_by_pairs grant_at_the_lowered_limit) → ⊥ }
+    ensures raised_limit_grants_nothing { IsLegal (worked_by_pairs raised_limit_grants_nothing) → ⊥ }
+    ensures limit_of_no_server { IsLegal (worked_by_pairs limit_of_no_server) → ⊥ }
+    ensures waits_of_the_base_are_forgotten { IsLegal waits_of_the_base_are_forgotten → ⊥ }
+    ensures cursor_is_reset { IsLegal cursor_is_reset → ⊥ }
+    ensures tickets_begin_anew { IsLegal tickets_begin_anew → ⊥ }
 {}

@@ -2,6 +2,7 @@
 //! and the replay share. `specs/` judges a log entry by entry and produces none.
 #![tactic(auto)]
 
+mod allowance;
 mod entry;
 mod laws;
 mod queue;
@@ -9,9 +10,11 @@ mod refusal;
 mod row;
 mod setup;
 
+pub use allowance::Allowance;
 pub use entry::{Arrival, Entry};
 pub use laws::{
-    legal_logs_are_dispatched, runs_are_dispatched, worked_logs_are_legal, wrong_logs_are_not_legal,
+    legal_logs_are_dispatched, runs_are_dispatched, windows_begin_at_bases, worked_logs_are_legal,
+    wrong_logs_are_not_legal,
 };
 pub use queue::Queue;
 pub use refusal::Refusal;

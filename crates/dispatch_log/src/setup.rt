@@ -6,7 +6,7 @@ use list_facts::Items;
 /// What a server may take.
 #[derive(Clone, Copy, Debug, PartialEq, Eq)]
 pub struct ServerSet {
-    /// `maxconn`: the greatest number of requests that it serves at once; 0: no limit.
+    /// `maxconn`: the greatest number of requests that it serves at once, until that is changed; 0: no limit.
     pub limit: u32,
     /// `maxqueue`: the greatest number of requests in its own queue; 0: no limit.
     pub maxqueue: u32,
@@ -27,7 +27,7 @@ pub struct Setup {
     pub places: usize,
     /// The greatest number of log entries, 1 to 262144.
     pub log: usize,
-    /// `retries`: how many further tries a request has whose connection fails.
+    /// `retries`: how many further tries a request has whose connection fails, at most 999,999,999.
     pub retries: u32,
     /// `option redispatch`: the last retry goes to another server.
     pub redispatch: bool,
@@ -50,6 +50,7 @@ impl Setup {
             && self.places <= 4096
             && 0 < self.log
             && self.log <= 262_144
+            && self.retries <= 999_999_999
             && self.queue_timeout < 1 << 62
     }
 }

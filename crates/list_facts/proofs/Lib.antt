@@ -4,3 +4,4 @@ pub mod Orders
 pub mod Never
 pub mod Both
 pub mod Found
+pub mod Counts

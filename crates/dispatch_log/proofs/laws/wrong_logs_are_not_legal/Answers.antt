@@ -1,3 +1,4 @@
+use Rattle.dispatch_log.proofs.WrongWindows.{not_at_the_lowered_limit, not_idle_after_a_raise, not_of_no_server, not_forgotten, not_reset, not_anew}
 use Rattle.dispatch_log.proofs.WrongLogs.{not_first_come, not_idle, not_above_limit, not_without_offset, not_without_end, not_twice, not_more_loaded, not_against_cursor, not_beside_room}
 use Rattle.dispatch_log.proofs.WrongChanges.{not_past_the_retries, not_counted_twice, not_with_the_pin, not_to_the_failed, not_before_the_grant, not_beside_a_usable_one, not_early, not_by_falling_ticket, not_untold, not_while_served, not_while_waiting, not_left_behind, not_by_ticket, not_before_the_moves, not_idle_after_a_rise, not_without_a_word, not_down_after, not_by_a_fallen_server}
 use Rattle.dispatch_log.proofs.laws.wrong_logs_are_not_legal.Goals as goal
@@ -82,3 +83,21 @@ returns-clause-down_after_its_rise c = not_down_after
 
 pub returns-clause-served_by_a_fallen_server : goal.returns-clause-served_by_a_fallen_server
 returns-clause-served_by_a_fallen_server c = not_by_a_fallen_server
+
+pub returns-clause-grant_at_the_lowered_limit : goal.returns-clause-grant_at_the_lowered_limit
+returns-clause-grant_at_the_lowered_limit c = not_at_the_lowered_limit
+
+pub returns-clause-raised_limit_grants_nothing : goal.returns-clause-raised_limit_grants_nothing
+returns-clause-raised_limit_grants_nothing c = not_idle_after_a_raise
+
+pub returns-clause-limit_of_no_server : goal.returns-clause-limit_of_no_server
+returns-clause-limit_of_no_server c = not_of_no_server
+
+pub returns-clause-waits_of_the_base_are_forgotten : goal.returns-clause-waits_of_the_base_are_forgotten
+returns-clause-waits_of_the_base_are_forgotten c = not_forgotten
+
+pub returns-clause-cursor_is_reset : goal.returns-clause-cursor_is_reset
+returns-clause-cursor_is_reset c = not_reset
+
+pub returns-clause-tickets_begin_anew : goal.returns-clause-tickets_begin_anew
+returns-clause-tickets_begin_anew c = not_anew

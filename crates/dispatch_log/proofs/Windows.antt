@@ -1,0 +1,168 @@
+-- The first window begins at a proper base, and so does each window after a legal log.
+use Rattle.std.proofs.Common.{◌≡◌, ℕ, zero, suc, ◌+◌, ◌<◌, ◌≤◌, ◌^◌, nat_le, nat_lt, Bool, true, false, List, [], ◌∷◌, Option, None, Some, length, replicate, slice_get, count_by, All, IsTrue, refl, ap, sym, ◌∙◌, subst, arith}
+use Rattle.std.proofs.lemmas.Bool.Decides.{nat_tests}
+use Rattle.std.proofs.Math.ListN.{length-replicate}
+use Rattle.std.proofs.lemmas.List.{length-map}
+use Rattle.std.proofs.lemmas.List.Sums.{sum_by-cons}
+use Rattle.std.proofs.lemmas.Bool.{and_parts}
+use Rattle.list_facts.proofs.Places.{tally}
+use Rattle.list_facts.proofs.Never.{none_some}
+use Rattle.std.proofs.lemmas.Option.{same_Some}
+use Rattle.check_state.specs.Results.{is_up}
+use Rattle.check_state.proofs.Shortened.{same_up}
+use Rattle.dispatch_log.specs.declared.entry.Entry.{Entry}
+use Rattle.dispatch_log.specs.declared.entry.Entry.TheVariants.{Arrive, Done, Fail, Abort, Tick, Check, Limit, Direct, Joined, Granted, Moved, Freed, Retried, Left, Health, Ended}
+use Rattle.dispatch_log.specs.declared.row.Row.{Row}
+use Rattle.dispatch_log.specs.declared.setup.ServerSet.{ServerSet}
+use Rattle.dispatch_log.specs.declared.setup.Setup.{Setup}
+use Rattle.dispatch_log.specs.declared.refusal.Refusal.TheVariants.{LogFull, NoSuchServer, TicketsSpent, PlacesFull}
+use Rattle.dispatch_log.specs.Dispatch.{KeepsLimits, IsInOnePlace, given_between}
+use Rattle.dispatch_log.specs.Refusals.{lacks_room, pins_to_none, tickets_are_spent, is_full, arrival_refusal}
+use Rattle.dispatch_log.specs.Setups.{IsSound, is_within, checks_count}
+use Rattle.dispatch_log.specs.Grants.{IsSettled}
+use Rattle.dispatch_log.specs.Health.{is_up_by, ups_of, shortened_by, shortened_all}
+use Rattle.dispatch_log.specs.Histories.{History, state_of, rolled, next_window}
+use Rattle.dispatch_log.specs.Judgement.{AreLawful, Stage, MayBegin, MayCome, AllMayCome, granting, next_stage, stage_after}
+use Rattle.dispatch_log.specs.Legal.{IsBase, IsLegal}
+use Rattle.dispatch_log.specs.Rows.{Rows, StandsAt, has_ticket, rows_of, is_served_by, served}
+use Rattle.dispatch_log.specs.States.{State, scene, after, after_all, opening_state, opening_limits}
+use Rattle.dispatch_log.proofs.Accepted.{none_refuses}
+use Rattle.dispatch_log.proofs.Dispatched.{dispatched, base_consistent}
+use Rattle.dispatch_log.proofs.Judged.{places_all, results_all, limits_all}
+use Rattle.dispatch_log.proofs.Tried.{AreTried, tried_all, tried_over}
+
+-- no row stands in an empty list of places
+pub none_stands : (n p : ℕ) (r : Row) → StandsAt (replicate n None) p r → ⊥
+none_stands zero p r e = cc
+none_stands (suc n) zero r e = cc
+none_stands (suc n) (suc p) r e = none_stands n p r e
+
+none_counted : (test : Option Row → Bool) (n : ℕ) → test None ≡ false → count_by test (replicate n None) ≡ 0
+none_counted test zero e = refl
+none_counted test (suc n) e =
+    let rest = none_counted test n e in
+    let first : tally (test None) ≡ 0 = ap tally e in
+    sum_by-cons (λ x. tally (test x)) None (replicate n None) ∙ omega arith
+
+none_between : (last ticket : ℕ) → 0 ≡ given_between last last ticket
+none_between last ticket = grind (arith, nat_tests)
+
+-- the first window's base
+pub opening_base : (setup : Setup) → IsBase setup (opening_state setup)
+opening_base setup = record {
+  places = length-replicate setup.places None;
+  checked = length-replicate (length setup.servers) [];
+  limited = length-map setup.servers (λ (it : ServerSet). record { limit = it.limit; served = 0 });
+  numbered = omega arith;
+  timed = omega arith;
+  tried = λ row live untold. absurd (none_stands setup.places live.0 row live.1);
+  dispatched = record {
+    limits = λ server some. let none : served server (replicate setup.places None) ≡ 0 = none_counted (is_served_by server) setup.places refl in omega arith;
+    one_place = λ ticket. record {
+      arrives_once = none_between 0 ticket;
+      until_its_end = refl;
+      one_row = let none : rows_of ticket (replicate setup.places None) ≡ 0 = none_counted (has_ticket ticket) setup.places refl in omega arith;
+    };
+    placed = λ row live. absurd (none_stands setup.places live.0 row live.1);
+    settled = λ server can. none_stands setup.places can.1.1.0 can.1.0 can.1.1.1;
+  };
+}
+
+-- tickets and moments stay in their ranges
+accepted_ticket : (setup : Setup) (s : State) (n : ℕ) (pin : Option ℕ) → arrival_refusal setup s n pin ≡ None → s.ticket + 1 < 2 ^ 40
+accepted_ticket setup s n pin e =
+    let room = none_refuses (lacks_room setup n) LogFull ((pins_to_none setup pin, NoSuchServer) ∷ (tickets_are_spent s.ticket, TicketsSpent) ∷ (is_full setup s.rows, PlacesFull) ∷ []) e in
+    let pinned = none_refuses (pins_to_none setup pin) NoSuchServer ((tickets_are_spent s.ticket, TicketsSpent) ∷ (is_full setup s.rows, PlacesFull) ∷ []) room.1 in
+    let ticket = none_refuses (tickets_are_spent s.ticket) TicketsSpent ((is_full setup s.rows, PlacesFull) ∷ []) pinned.1 in
+    let more = ticket.0 in
+    grind (arith, nat_tests)
+
+pub record IsInRange (s : State) : Type 0 where
+  pub numbered : s.ticket < 2 ^ 40
+  pub timed : s.moment < 2 ^ 62
+
+at_moment : (s : State) (m : ℕ) → IsInRange s → m < 2 ^ 62 → (next : State) → next.ticket ≡ s.ticket → next.moment ≡ m → IsInRange next
+at_moment s m is within next ticket moment = record { numbered = subst (λ k. k < 2 ^ 40) (sym ticket) is.numbered; timed = subst (λ k. k < 2 ^ 62) (sym moment) within }
+
+as_before : (s next : State) → IsInRange s → next.ticket ≡ s.ticket → next.moment ≡ s.moment → IsInRange next
+as_before s next is ticket moment = at_moment s s.moment is is.timed next ticket moment
+
+range_after : (setup : Setup) (s : State) (n : ℕ) (t : Stage) (e : Entry) → MayCome setup s n t e → IsInRange s → IsInRange (after setup s e)
+range_after setup s n t (Arrive m a) may is =
+    record { numbered = subst (λ k. k < 2 ^ 40) (sym may.1.numbered) (accepted_ticket setup s n a.pin may.0.accepted); timed = may.0.within }
+range_after setup s n t (Done m u) may is = at_moment s m is may.within (after setup s (Done m u)) refl refl
+range_after setup s n t (Fail m u) may is = at_moment s m is may.within (after setup s (Fail m u)) refl refl
+range_after setup s n t (Abort m u) may is = at_moment s m is may.within (after setup s (Abort m u)) refl refl
+range_after setup s n t (Tick m) may is = at_moment s m is may.within (after setup s (Tick m)) refl refl
+range_after setup s n t (Check m v ok) may is = at_moment s m is may.within (after setup s (Check m v ok)) refl refl
+range_after setup s n t (Limit m v k) may is = at_moment s m is may.within (after setup s (Limit m v k)) refl refl
+range_after setup s n t (Direct u v) may is = as_before s (after setup s (Direct u v)) is refl refl
+range_after setup s n t (Joined u q) may is = as_before s (after setup s (Joined u q)) is refl refl
+range_after setup s n t (Granted u q v) may is = as_before s (after setup s (Granted u q v)) is refl refl
+range_after setup s n t (Moved u v) may is = as_before s (after setup s (Moved u v)) is refl refl
+range_after setup s n t (Freed u v) may is = as_before s (after setup s (Freed u v)) is refl refl
+range_after setup s n t (Retried u v k) may is = is
+range_after setup s n t (Left u c) may is = as_before s (after setup s (Left u c)) is refl refl
+range_after setup s n t (Health v up) may is = is
+range_after setup s n t (Ended u) may is = as_before s (after setup s (Ended u)) is refl refl
+
+pub range_all : (setup : Setup) (s : State) (n : ℕ) (t : Stage) (es : List Entry) → AllMayCome setup s n t es → IsInRange s → IsInRange (after_all setup s es)
+range_all setup s n t [] all is = is
+range_all setup s n t (e ∷ es) all is = range_all setup (after setup s e) (n + 1) (next_stage t e) es all.1 (range_after setup s n t e all.0 is)
+
+pub legal_range : (h : History) → IsLegal h → IsInRange (state_of h)
+legal_range h legal = range_all h.setup h.base 0 granting h.log legal.lawful.judged (record { numbered = legal.begins.numbered; timed = legal.begins.timed })
+
+-- the shortest results leave the same servers up
+shortened_up : (server : ServerSet) → IsTrue (is_within server) → (results : List Bool) → is_up_by server.rise_fall (shortened_by server.rise_fall results) ≡ is_up_by server.rise_fall results
+shortened_up server within results = by_checks server.rise_fall (and_parts (nat_le server.weight 256) (checks_count server.rise_fall) within).1
+  where
+    by_checks : (it : Option (ℕ × ℕ)) → checks_count it ≡ true → is_up_by it (shortened_by it results) ≡ is_up_by it results
+    by_checks None counts = refl
+    by_checks (Some it) counts =
+        let both = and_parts (nat_lt 0 it.0) (nat_lt 0 it.1) counts in
+        let rise : 0 < it.0 = grind (arith, nat_tests) in
+        let fall : 0 < it.1 = grind (arith, nat_tests) in
+        same_up it.0 it.1 rise fall results
+
+shortened_ups : (servers : List ServerSet) (results : List (List Bool)) → All (λ (it : ServerSet). IsTrue (is_within it)) servers → ups_of servers (shortened_all servers results) ≡ ups_of servers results
+shortened_ups [] results within = refl
+shortened_ups (server ∷ servers) [] within = rw (shortened_up server (within 0 server (omega arith)) []) (ap (λ l. is_up_by server.rise_fall [] ∷ l) (shortened_ups servers [] (λ k d few. within (suc k) d (omega arith))))
+shortened_ups (server ∷ servers) (of_it ∷ results) within = rw (shortened_up server (within 0 server (omega arith)) of_it) (ap (λ l. is_up_by server.rise_fall of_it ∷ l) (shortened_ups servers results (λ k d few. within (suc k) d (omega arith))))
+
+shortened_length : (servers : List ServerSet) (results : List (List Bool)) → length (shortened_all servers results) ≡ length servers
+shortened_length [] results = refl
+shortened_length (server ∷ servers) [] = ap suc (shortened_length servers [])
+shortened_length (server ∷ servers) (of_it ∷ results) = ap suc (shortened_length servers results)
+
+-- a window's end is a base
+pub next_base : (h : History) → IsSound h.setup → IsLegal h → IsBase h.setup (rolled h.setup (state_of h))
+next_base h sound legal =
+    let is = dispatched h legal in
+    let judged = legal.lawful.judged in
+    let range = legal_range h legal in
+    record {
+      places = places_all h.setup h.base h.log ∙ legal.begins.places;
+      checked = shortened_length h.setup.servers (state_of h).results;
+      limited = limits_all h.setup h.base h.log ∙ legal.begins.limited;
+      numbered = range.numbered;
+      timed = range.timed;
+      tried = tried_over h.setup (state_of h) (stage_after granting h.log)
+          (tried_all h.setup h.base 0 granting h.log (base_consistent h.setup h.base legal.begins) judged (λ row live untold other. legal.begins.tried row live untold)) legal.lawful.whole;
+      dispatched = record {
+        limits = is.limits;
+        one_place = λ ticket. record { arrives_once = none_between (state_of h).ticket ticket; until_its_end = refl; one_row = (is.one_place ticket).one_row };
+        placed = is.placed;
+        settled = subst (λ ups. IsSettled (record { servers = h.setup.servers; limits = (state_of h).limits; ups = ups; rows = (state_of h).rows })) (sym (shortened_ups h.setup.servers (state_of h).results sound.within)) is.settled;
+      };
+    }
+
+-- a log without an entry is legal from a base on
+pub empty_legal : (h : History) → IsBase h.setup h.base → h.log ≡ [] → IsLegal h
+empty_legal h begins none = record {
+  begins = begins;
+  lawful = subst (λ log. AreLawful h.setup h.base 0 log) (sym none) (record { judged = tt; whole = tt; settled = begins.dispatched.settled });
+}
+
+pub next_legal : (h : History) → IsSound h.setup → IsLegal h → IsLegal (next_window h)
+next_legal h sound legal = empty_legal (next_window h) (next_base h sound legal) refl

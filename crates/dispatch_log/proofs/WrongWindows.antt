@@ -1,0 +1,24 @@
+-- Why the worked logs of limits and windows are not legal.
+use Rattle.std.proofs.Common.{◌≡◌, ℕ, ◌+◌, ◌≤◌, ◌∷◌, None, Some, refl, arith}
+use Rattle.dispatch_log.specs.Legal.{IsLegal}
+use Rattle.dispatch_log.specs.WorkedWindows.{worked_by_pairs, grant_at_the_lowered_limit, raised_limit_grants_nothing, limit_of_no_server, waits_of_the_base_are_forgotten, cursor_is_reset, tickets_begin_anew}
+
+pub not_at_the_lowered_limit : IsLegal (worked_by_pairs grant_at_the_lowered_limit) → ⊥
+not_at_the_lowered_limit legal = let free = legal.lawful.judged.1.1.1.1.1.1.1.1.1.1.0.1.next.takes.0 in cc
+
+pub not_idle_after_a_raise : IsLegal (worked_by_pairs raised_limit_grants_nothing) → ⊥
+not_idle_after_a_raise legal = legal.lawful.settled 0 (refl, (_, (2, refl), refl))
+
+pub not_of_no_server : IsLegal (worked_by_pairs limit_of_no_server) → ⊥
+not_of_no_server legal = let accepted = legal.lawful.judged.1.1.1.1.1.1.0.accepted in cc
+
+pub not_forgotten : IsLegal waits_of_the_base_are_forgotten → ⊥
+not_forgotten legal = legal.lawful.settled 0 (refl, (_, (1, refl), refl))
+
+pub not_reset : IsLegal cursor_is_reset → ⊥
+not_reset legal =
+    let nearer : 2 ≤ 1 = legal.lawful.judged.1.0.1.0.nearest 1 (refl, λ avoids. let e : None ≡ Some 1 = avoids in cc) (λ third own. omega arith) in
+    absurd (omega arith)
+
+pub not_anew : IsLegal tickets_begin_anew → ⊥
+not_anew legal = let next : 1 ≡ 1 + 1 = legal.lawful.judged.0.1.numbered in absurd (omega arith)

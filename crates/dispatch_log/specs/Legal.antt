@@ -1,0 +1,36 @@
+-- Legal logs.
+use Rattle.std.specs.Prelude.{◌≡◌, ℕ, ◌<◌, ◌≤◌, ◌^◌, Bool, true, false, List, [], ◌∷◌, ◌++◌, IsTrue, All, length}
+use Rattle.dispatch_log.specs.declared.entry.Entry.{Entry}
+use Rattle.dispatch_log.specs.declared.row.Phase.{Phase}
+use Rattle.dispatch_log.specs.declared.row.Row.{Row}
+use Rattle.dispatch_log.specs.declared.setup.Setup.{Setup}
+use Rattle.dispatch_log.specs.Dispatch.{IsDispatched}
+use Rattle.dispatch_log.specs.Histories.{History, state_of, begins_event}
+use Rattle.dispatch_log.specs.Judgement.{AreLawful}
+use Rattle.dispatch_log.specs.Rows.{IsRow, phase_is_told}
+use Rattle.dispatch_log.specs.States.{State}
+
+-- proper base: a state of this many places and servers, with a ticket and a moment in their ranges, where what holds after
+-- every event of a dispatcher holds, and no request has failed more often than it is tried again but one that is told so
+pub record IsBase (setup : Setup) (base : State) : Type 0 where
+  pub places : length base.rows ≡ setup.places
+  pub checked : length base.results ≡ length setup.servers
+  pub limited : length base.limits ≡ length setup.servers
+  pub numbered : base.ticket < 2 ^ 40
+  pub timed : base.moment < 2 ^ 62
+  pub tried : (row : Row) → IsRow base.rows row → phase_is_told row.phase ≡ false → row.failures ≤ setup.retries
+  pub dispatched : IsDispatched (record { setup = setup; base = base; log = [] })
+
+-- legal log: its window begins at a proper base, and its entries are lawful
+pub record IsLegal (history : History) : Type 0 where
+  pub begins : IsBase history.setup history.base
+  pub lawful : AreLawful history.setup history.base 0 history.log
+
+-- the log goes on with one event and what it brings, all lawful
+pub record AddsEvent (old new : History) (event : Entry) : Type 0 where
+  pub brought : List Entry
+  pub log : new.log ≡ old.log ++ event ∷ brought
+  pub one_event : All (λ entry. begins_event entry ≡ false) brought
+  pub setup : new.setup ≡ old.setup
+  pub base : new.base ≡ old.base
+  pub lawful : AreLawful old.setup (state_of old) (length old.log) (event ∷ brought)

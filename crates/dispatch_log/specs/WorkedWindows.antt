@@ -1,0 +1,51 @@
+-- Worked logs of limits that change and of windows that follow one another. None is legal, each for one reason.
+use Rattle.std.specs.Prelude.{pos, List, [], ◌∷◌, ◌++◌, None, false}
+use Rattle.dispatch_log.specs.declared.entry.Entry.{Entry}
+use Rattle.dispatch_log.specs.declared.entry.Entry.TheVariants.{Arrive, Done, Limit, Direct, Joined, Granted, Freed, Ended}
+use Rattle.dispatch_log.specs.declared.queue.Queue.TheVariants.{Backend}
+use Rattle.dispatch_log.specs.Histories.{History, first_window, next_window}
+use Rattle.dispatch_log.specs.Worked.{arrival, two_wait, worked, worked_by_two}
+
+-- one server, which may serve two at once
+abbrev pub worked_by_pairs : List Entry → History
+worked_by_pairs log =
+    first_window (record { servers = record { limit = 2; maxqueue = 0; weight = 1; rise_fall = None } ∷ []; places = 4; log = 64; retries = 3; redispatch = false; queue_timeout = 0 }) log
+
+-- tickets 1 and 2 are served, and 3 waits
+abbrev pub two_are_served : List Entry
+two_are_served =
+    Arrive 0 (arrival 1 (pos 0) 0) ∷ Direct 1 0
+    ∷ Arrive 0 (arrival 2 (pos 0) 1) ∷ Direct 2 0
+    ∷ Arrive 1 (arrival 3 (pos 1) 2) ∷ Joined 3 Backend ∷ []
+
+-- the limit is lowered to 1, and 1 ends: 2 is still served, and 3 is served beside it
+abbrev pub grant_at_the_lowered_limit : List Entry
+grant_at_the_lowered_limit = two_are_served ++ Limit 3 0 1 ∷ Done 4 1 ∷ Freed 1 0 ∷ Ended 1 ∷ Granted 3 Backend 0 ∷ []
+
+-- the limit is raised to 3, and the new slot stays idle
+abbrev pub raised_limit_grants_nothing : List Entry
+raised_limit_grants_nothing = two_are_served ++ Limit 3 0 3 ∷ []
+
+-- the limit of a server that isn't there
+abbrev pub limit_of_no_server : List Entry
+limit_of_no_server = two_are_served ++ Limit 3 1 3 ∷ []
+
+-- the window after another, with its own log
+abbrev pub windows : History → List Entry → History
+windows first log = record (next_window first) { log = log }
+
+-- 3 waits since the window before, and the slot that comes back stays idle
+abbrev pub waits_of_the_base_are_forgotten : History
+waits_of_the_base_are_forgotten = windows (worked two_wait) (Done 10 1 ∷ Freed 1 0 ∷ Ended 1 ∷ [])
+
+-- ticket 1 went to the first server in the window before; of equal servers the first is picked again
+abbrev pub cursor_is_reset : History
+cursor_is_reset =
+    windows (worked_by_two (Arrive 0 (arrival 1 (pos 0) 0) ∷ Direct 1 0 ∷ Done 4 1 ∷ Freed 1 0 ∷ Ended 1 ∷ []))
+    (Arrive 5 (arrival 2 (pos 5) 0) ∷ Direct 2 0 ∷ [])
+
+-- the tickets begin at 1 again
+abbrev pub tickets_begin_anew : History
+tickets_begin_anew =
+    windows (worked_by_two (Arrive 0 (arrival 1 (pos 0) 0) ∷ Direct 1 0 ∷ Done 4 1 ∷ Freed 1 0 ∷ Ended 1 ∷ []))
+    (Arrive 5 (arrival 1 (pos 5) 0) ∷ Direct 1 1 ∷ [])

@@ -49,7 +49,10 @@ pub(crate) fn is_free<H: Drop>(ledger: &Ledger<H>, server: usize) -> bool
 {
     match settings(ledger).get(server) {
         None => false,
-        Some(it) => it.limit == 0 || (ledger.served(server) as u64) < u64::from(it.limit),
+        Some(_) => {
+            let limit = ledger.limit(server);
+            limit == 0 || (ledger.served(server) as u64) < u64::from(limit)
+        }
     }
 }
 
@@ -62,13 +65,13 @@ pub(crate) fn has_room<H: Drop>(ledger: &Ledger<H>, server: usize) -> bool
 
 /// Whether a server serves and queues fewer requests than balancing may give it.
 fn has_places<H: Drop>(ledger: &Ledger<H>, server: usize) -> bool
-    ensures places { result ≡ of_server (scene_of ledger.now) server (λ it. (it.limit == 0) || nat_lt (load (scene_of ledger.now) server) (it.limit + it.maxqueue)) }
+    ensures places { result ≡ of_server (scene_of ledger.now) server (λ it. (limit_of (scene_of ledger.now) server == 0) || nat_lt (load (scene_of ledger.now) server) (limit_of (scene_of ledger.now) server + it.maxqueue)) }
     ensures few { length ledger.now.setup.servers ≤ 64 }
 {
     match settings(ledger).get(server) {
         None => false,
         Some(it) => {
-            let (limit, load) = (u64::from(it.limit), load(ledger, server));
+            let (limit, load) = (u64::from(ledger.limit(server)), load(ledger, server));
             limit == 0 || load < limit || load - limit < u64::from(it.maxqueue)
         }
     }

@@ -6,3 +6,4 @@ pub mod Keeping
 pub mod Finding
 pub mod Indexing
 pub mod Counting
+pub mod Limiting

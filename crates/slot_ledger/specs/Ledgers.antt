@@ -1,29 +1,36 @@
 -- Ledgers, as contracts see them.
 use Rattle.std.specs.Prelude.{◌≡◌, ℕ, Bool, List, Option, length, slice_set}
+use Rattle.dispatch_log.specs.declared.allowance.Allowance.{Allowance}
 use Rattle.dispatch_log.specs.declared.setup.Setup.{Setup}
+use Rattle.dispatch_log.specs.Rows.{served}
 use Rattle.dispatch_log.specs.Setups.{IsSound}
 use Rattle.dispatch_log.specs.Words.{Scene}
 use Rattle.slot_ledger.specs.declared.places.Slot.{Slot}
 use Rattle.slot_ledger.specs.Counts.{Counted, AreCounts}
 use Rattle.slot_ledger.specs.Slots.{rows_in}
 
--- what a ledger was made for, which servers are up, and the live requests by place
+-- what a ledger was made for, which servers are up, what each may serve at present, and the live requests by place
 pub record Kept (H : Type 0) : Type 0 where
   pub setup : Setup
   pub ups : List Bool
+  pub limits : List Allowance
   pub slots : List (Option (Slot H))
 
 -- what a decision looks at
 abbrev pub scene_of : {H : Type 0} → Kept H → Scene
-scene_of kept = record { servers = kept.setup.servers; ups = kept.ups; rows = rows_in kept.slots }
+scene_of kept = record { servers = kept.setup.servers; limits = kept.limits; ups = kept.ups; rows = rows_in kept.slots }
 
 -- the same ledger with other slots
 abbrev pub with_slots : {H : Type 0} → Kept H → List (Option (Slot H)) → Kept H
-with_slots kept slots = record { setup = kept.setup; ups = kept.ups; slots = slots }
+with_slots kept slots = record kept { slots = slots }
 
 -- the same ledger with a server up or down
 abbrev pub with_up : {H : Type 0} → Kept H → ℕ → Bool → Kept H
-with_up kept server up = record { setup = kept.setup; ups = slice_set kept.ups server up; slots = kept.slots }
+with_up kept server up = record kept { ups = slice_set kept.ups server up }
+
+-- the same ledger with a server's limit set, and what it serves noted
+abbrev pub with_limit : {H : Type 0} → Kept H → ℕ → ℕ → Kept H
+with_limit kept server limit = record kept { limits = slice_set kept.limits server (record { limit = limit; served = served server (rows_in kept.slots) }) }
 
 -- a ledger is of a sound setup, has its places, and counts its rows
 pub record IsLedger {H : Type 0} (setup : Setup) (slots : List (Option (Slot H))) (counts : Counted) : Type 0 where
@@ -33,7 +40,8 @@ pub record IsLedger {H : Type 0} (setup : Setup) (slots : List (Option (Slot H))
   pub served : length counts.served ≡ length setup.servers
   pub own : length counts.own ≡ length setup.servers
 
--- and tells of each server whether it is up
-pub record IsLedgerWith {H : Type 0} (setup : Setup) (ups : List Bool) (slots : List (Option (Slot H))) (counts : Counted) : Type 0 where
+-- and tells of each server whether it is up, and what it may serve
+pub record IsLedgerWith {H : Type 0} (setup : Setup) (ups : List Bool) (limits : List Allowance) (slots : List (Option (Slot H))) (counts : Counted) : Type 0 where
   pub ledger : IsLedger setup slots counts
   pub each : length ups ≡ length setup.servers
+  pub limited : length limits ≡ length setup.servers

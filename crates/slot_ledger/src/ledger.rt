@@ -1,23 +1,24 @@
 ghost use Rattle.std.specs.Prelude.{◌≡◌, ◌<◌, ◌≤◌, Some, None, IfOk, length, count_by, is_some, slice_get, slice_set, replicate, true, MatchOption};
+ghost use Rattle.dispatch_log.specs.States.{opening_limits};
 ghost use Rattle.dispatch_log.specs.declared.queue.Queue.{Queue};
 ghost use Rattle.dispatch_log.specs.declared.row.Phase.{Phase};
 ghost use Rattle.dispatch_log.specs.Rows.{served, queued};
 ghost use Rattle.dispatch_log.specs.Setups.{IsSound};
-ghost use Rattle.dispatch_log.specs.Words.{is_up};
-ghost use Rattle.slot_ledger.specs.Ledgers.{scene_of, with_slots, with_up};
+ghost use Rattle.dispatch_log.specs.Words.{is_up, limit_of};
+ghost use Rattle.slot_ledger.specs.Ledgers.{scene_of, with_slots, with_up, with_limit};
 ghost use Rattle.slot_ledger.specs.Slots.{rows_in, HasRow, HasCountable, HasNode, HasTicketAt, HasNoTicket, AreBelow, with_phase, with_failure, unpinned, waiting, loosened};
 ghost use Rattle.slot_ledger.specs.Counts.{IsQueueOf, IsPhaseOf};
 
 use crate::counts::Counts;
 use crate::places::Places;
-use dispatch_log::{Phase, Queue, Row, Setup};
+use dispatch_log::{Allowance, Phase, Queue, Row, ServerSet, Setup};
 use due_key::Moment;
 use std::alloc::{AllocError, Global};
 use std::marker::Model;
 use verdict::Cause;
 
-/// The live requests by place, and which servers are up. Each call changes only the row or the
-/// server that it names. How many requests a server serves and how many wait in a queue are counts
+/// The live requests by place, which servers are up, and what each may serve at present. Each call
+/// changes only the row or the server that it names. How many requests a server serves and how many wait in a queue are counts
 /// of rows, which no call counts anew.
 ///
 /// The phases of a row, and the entries of the log that bring it there:
@@ -31,6 +32,7 @@ use verdict::Cause;
 pub struct Ledger<H> {
     setup: Setup,
     ups: Vec<bool>,
+    limits: Vec<Allowance>,
     places: Places<H>,
     counts: Counts,
 }
@@ -40,25 +42,27 @@ impl<H> Model for Ledger<H> {
 
     ghost Value = { Kept H };
 
-    ghost view = { λ ledger. record { setup = ledger.setup; ups = ledger.ups.items; slots = ledger.places } };
+    ghost view = { λ ledger. record { setup = ledger.setup; ups = ledger.ups.items; limits = ledger.limits.items; slots = ledger.places } };
 
-    ghost invariant = { λ ledger. IsLedgerWith ledger.setup ledger.ups.items ledger.places ledger.counts };
+    ghost invariant = { λ ledger. IsLedgerWith ledger.setup ledger.ups.items ledger.limits.items ledger.places ledger.counts };
 }
 
 impl<H: Drop> Ledger<H> {
     ghost use Rattle.slot_ledger.specs.declared.places.Slot.{Slot};
 
-    /// A ledger without a request, all its servers up. All its memory is taken here. `O(n)` in the places.
+    /// A ledger without a request, all its servers up and with the limits of their setup. All its memory is taken here. `O(n)` in the places.
     pub fn new(alloc: Global, setup: Setup) -> Result<Ledger<H>, AllocError>
         requires { IsSound setup }
-        ensures { IfOk result (λ ledger. ledger ≡ record { setup = setup; ups = replicate (length setup.servers) true; slots = replicate setup.places None }) }
+        ensures { IfOk result (λ ledger. ledger ≡ record { setup = setup; ups = replicate (length setup.servers) true; limits = opening_limits setup.servers; slots = replicate setup.places None }) }
     {
         let places = Places::new(alloc, setup.places)?;
         let counts = Counts::new(alloc, setup.servers.len())?;
         let ups = vec![in alloc; true; setup.servers.len()]?;
+        let limits = limits_of(alloc, setup.servers.as_slice())?;
         Ok(Ledger {
             setup,
             ups,
+            limits,
             places,
             counts,
         })
@@ -70,6 +74,7 @@ impl<H: Drop> Ledger<H> {
         ensures sound { IsSound self.now.setup }
         ensures places { length self.now.slots ≡ self.now.setup.places }
         ensures ups { length self.now.ups ≡ length self.now.setup.servers }
+        ensures limits { length self.now.limits ≡ length self.now.setup.servers }
     {
         &self.setup
     }
@@ -87,6 +92,33 @@ impl<H: Drop> Ledger<H> {
         ensures { self.new ≡ with_up self.old server up }
     {
         self.ups[server] = up;
+    }
+
+    /// How many requests a server may serve at present; 0: no limit. `O(1)`.
+    pub fn limit(&self, server: usize) -> u32
+        ensures { result ≡ limit_of (scene_of self.now) server }
+    {
+        match self.limits.get(server) {
+            None => 0,
+            Some(it) => it.limit,
+        }
+    }
+
+    /// What each server may serve at present, in file order.
+    pub fn limits(&self) -> &[Allowance]
+        ensures { result.now ≡ self.now.limits }
+    {
+        self.limits.as_slice()
+    }
+
+    /// A server may serve so many requests from now on, and what it serves is noted; 0: no limit.
+    /// No request is stopped. `O(1)`.
+    pub fn set_limit(&mut self, server: usize, limit: u32)
+        requires { server < length self.old.setup.servers }
+        ensures { self.new ≡ with_limit self.old server limit }
+    {
+        let served = self.counts.served(server);
+        self.limits[server] = Allowance { limit, served };
     }
 
     /// How many places it has.
@@ -239,4 +271,18 @@ impl<H: Drop> Ledger<H> {
         self.counts.pass(from, Phase::Loose);
         self.places.end(place);
     }
+}
+
+/// What servers may serve at first.
+fn limits_of(alloc: Global, servers: &[ServerSet]) -> Result<Vec<Allowance>, AllocError>
+    ensures { IfOk result (λ limits. limits.items ≡ opening_limits servers.now) }
+{
+    let mut limits = Vec::with_capacity(alloc, servers.len())?;
+    for server in servers {
+        limits.push_reserved(Allowance {
+            limit: server.limit,
+            served: 0,
+        });
+    }
+    Ok(limits)
 }

@@ -1,0 +1,20 @@
+-- What servers may serve at first.
+use Rattle.std.proofs.Common.{◌≡◌, ℕ, suc, ◌+◌, ◌<◌, ◌≤◌, List, [], ◌∷◌, ◌++◌, length, take, map, get_or, refl, ap, sym, ◌∙◌, subst, arith}
+use Rattle.std.proofs.Math.Seq.{take-length, take-suc}
+use Rattle.std.proofs.lemmas.List.{map-append}
+use Rattle.dispatch_log.specs.declared.allowance.Allowance.{Allowance}
+use Rattle.dispatch_log.specs.declared.setup.ServerSet.{ServerSet}
+use Rattle.dispatch_log.specs.States.{opening_limits}
+
+abbrev pub opening_limit : ServerSet → Allowance
+opening_limit server = record { limit = server.limit; served = 0 }
+
+pub one_limit_more : (servers : List ServerSet) (old new : List Allowance) (i : ℕ) (d : ServerSet) → i < length servers → old ≡ opening_limits (take i servers) → new ≡ old ++ opening_limit (get_or servers i d) ∷ []
+    → new ≡ opening_limits (take (i + 1) servers)
+one_limit_more servers old new i d more made pushed =
+    let next : suc i ≡ i + 1 = omega arith in
+    pushed ∙ ap (λ l. l ++ opening_limit (get_or servers i d) ∷ []) made ∙ sym (map-append opening_limit (take i servers) (get_or servers i d ∷ []))
+    ∙ ap opening_limits (sym (take-suc servers i d more)) ∙ ap (λ k. opening_limits (take k servers)) next
+
+pub all_limits : (servers : List ServerSet) (limits : List Allowance) (i : ℕ) → i ≡ length servers → limits ≡ opening_limits (take i servers) → limits ≡ opening_limits servers
+all_limits servers limits i all made = made ∙ ap (λ k. opening_limits (take k servers)) all ∙ ap opening_limits (take-length servers)

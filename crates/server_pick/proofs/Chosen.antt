@@ -9,7 +9,7 @@ use Rattle.dispatch_log.specs.Picks.{IsPick}
 use Rattle.dispatch_log.specs.Placement.{IsCandidate, IsChosen}
 use Rattle.dispatch_log.specs.Rows.{served, queued}
 use Rattle.dispatch_log.specs.States.{put_on}
-use Rattle.dispatch_log.specs.Words.{Scene, of_server, is_up, is_usable, is_free, has_room, takes_pinned, working_pin}
+use Rattle.dispatch_log.specs.Words.{Scene, of_server, is_up, is_usable, is_free, has_room, takes_pinned, working_pin, limit_of}
 use Rattle.list_facts.proofs.Places.{same_or_other}
 use Rattle.server_pick.specs.Order.{HasRoomBut}
 use Rattle.server_pick.specs.Picked.{IsPlacement, cursor_placed, placed_on}
@@ -29,13 +29,13 @@ pub room_takes : (scene : Scene) (server : ℕ) → has_room scene server ≡ tr
 room_takes scene server room = by_up (is_up scene server) room
   where
     by_server : (it : Option ServerSet)
-        → option_map_or (λ (x : ServerSet). (x.limit == 0) || nat_lt (served server scene.rows + queued (Server server) scene.rows) (x.limit + x.maxqueue)) it false ≡ true
-        → option_map_or (λ (x : ServerSet). (x.limit == 0) || nat_lt (served server scene.rows) x.limit) it false || option_map_or (λ (x : ServerSet). (x.maxqueue == 0) || nat_lt (queued (Server server) scene.rows) x.maxqueue) it false ≡ true
+        → option_map_or (λ (x : ServerSet). (limit_of scene server == 0) || nat_lt (served server scene.rows + queued (Server server) scene.rows) (limit_of scene server + x.maxqueue)) it false ≡ true
+        → option_map_or (λ (x : ServerSet). (limit_of scene server == 0) || nat_lt (served server scene.rows) (limit_of scene server)) it false || option_map_or (λ (x : ServerSet). (x.maxqueue == 0) || nat_lt (queued (Server server) scene.rows) x.maxqueue) it false ≡ true
     by_server None e = cc
     by_server (Some x) e = grind (arith, nat_tests)
 
     by_up : (up : Bool)
-        → (up && of_server scene server (λ it. nat_lt 0 it.weight)) && of_server scene server (λ it. (it.limit == 0) || nat_lt (served server scene.rows + queued (Server server) scene.rows) (it.limit + it.maxqueue)) ≡ true
+        → (up && of_server scene server (λ it. nat_lt 0 it.weight)) && of_server scene server (λ it. (limit_of scene server == 0) || nat_lt (served server scene.rows + queued (Server server) scene.rows) (limit_of scene server + it.maxqueue)) ≡ true
         → up && (is_free scene server || of_server scene server (λ it. (it.maxqueue == 0) || nat_lt (queued (Server server) scene.rows) it.maxqueue)) ≡ true
     by_up true e = by_server (slice_get scene.servers server) (and_second (of_server scene server (λ it. nat_lt 0 it.weight)) _ e)
     by_up false e = cc

@@ -4,7 +4,7 @@ use Rattle.std.specs.Option.{option_map_or}
 use Rattle.std.proofs.lemmas.Option.{slice_get_within}
 use Rattle.dispatch_log.specs.declared.setup.ServerSet.{ServerSet}
 use Rattle.dispatch_log.specs.declared.setup.Setup.{Setup}
-use Rattle.dispatch_log.specs.Words.{Scene, of_server, is_free}
+use Rattle.dispatch_log.specs.Words.{Scene, of_server, is_free, limit_of}
 use Rattle.dispatch_log.specs.Rows.{served}
 use Rattle.due_key.specs.declared.key.Key.{Key}
 use Rattle.dispatch_log.specs.declared.queue.Queue.{Queue}
@@ -65,4 +65,4 @@ pub loop_end : (setup now : Setup) (len next : ℕ) → setup ≡ now → len �
 loop_end setup now len next same is low high = let e : length setup.servers ≡ length now.servers = ap (λ (s : Setup). length s.servers) same in omega arith
 
 pub free_within : (scene : Scene) (server : ℕ) → is_free scene server ≡ true → server < length scene.servers
-free_within scene server free = server_within scene server (λ it. (it.limit == 0) || nat_lt (served server scene.rows) it.limit) free
+free_within scene server free = server_within scene server (λ it. (limit_of scene server == 0) || nat_lt (served server scene.rows) (limit_of scene server)) free

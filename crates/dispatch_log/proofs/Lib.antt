@@ -11,3 +11,4 @@ pub mod FourPlaces
 pub mod WrongChanges
 pub mod RightLogs
 pub mod WrongWindows
+pub mod Limiting

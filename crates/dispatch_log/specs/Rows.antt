@@ -106,6 +106,13 @@ server_in Loose = None
 server_in (Waiting queue since) = None
 server_in (Told cause) = None
 
+-- the queue that a phase waits in
+abbrev pub queue_in : Phase → Option Queue
+queue_in (Waiting queue since) = Some queue
+queue_in Loose = None
+queue_in (Serving server) = None
+queue_in (Told cause) = None
+
 -- the pin of a ticket's row
 abbrev pub pin_of : ℕ → Rows → Option ℕ
 pin_of ticket rows = option_and_then (λ row. row.pin) (row_of ticket rows)

@@ -1,5 +1,8 @@
+ghost use Rattle.std.specs.Prelude.{◌≡◌};
+ghost use Rattle.dispatch_log.specs.States.{key_of};
+
 use crate::queue::Queue;
-use due_key::{Class, Due, Moment};
+use due_key::{Class, Due, Key, Moment};
 use verdict::Cause;
 
 /// An accepted arrival.
@@ -13,6 +16,19 @@ pub struct Arrival {
     pub pin: Option<usize>,
     /// Where its row is kept until it ends. No line of a trace shows it.
     pub place: usize,
+}
+
+impl Arrival {
+    /// The key that the request has in a queue.
+    pub fn key(&self) -> Key
+        ensures { result ≡ key_of self.now }
+    {
+        Key {
+            class: self.class,
+            due: self.due,
+            ticket: self.ticket,
+        }
+    }
 }
 
 /// One entry of a log: an event begins, at its effective moment, or a decision of the dispatcher

@@ -29,7 +29,7 @@ pub struct Row {
 
 impl Phase {
     ghost use Rattle.std.specs.Prelude.{◌≡◌};
-    ghost use Rattle.dispatch_log.specs.Rows.{server_in};
+    ghost use Rattle.dispatch_log.specs.Rows.{server_in, queue_in};
 
     /// The server whose slot it is.
     pub fn server(self) -> Option<usize>
@@ -38,6 +38,16 @@ impl Phase {
         match self {
             Phase::Serving(server) => Some(server),
             Phase::Loose | Phase::Waiting(_, _) | Phase::Told(_) => None,
+        }
+    }
+
+    /// The queue that it waits in.
+    pub fn queue(self) -> Option<Queue>
+        ensures { result ≡ queue_in self }
+    {
+        match self {
+            Phase::Waiting(queue, _) => Some(queue),
+            Phase::Loose | Phase::Serving(_) | Phase::Told(_) => None,
         }
     }
 }

@@ -1,7 +1,10 @@
-ghost use Rattle.std.specs.Prelude.{◌≡◌, ◌↔◌, IsTrue};
+ghost use Rattle.std.specs.Prelude.{◌≡◌, ◌↔◌, IfOk, IsTrue};
+ghost use Rattle.dispatch_log.specs.States.{opening_limits};
 ghost use Rattle.dispatch_log.specs.Setups.{IsSound};
 
+use crate::allowance::Allowance;
 use list_facts::Items;
+use std::alloc::{AllocError, Global};
 
 /// What a server may take.
 #[derive(Clone, Copy, Debug, PartialEq, Eq)]
@@ -52,6 +55,21 @@ impl Setup {
             && self.log <= 262_144
             && self.retries <= 999_999_999
             && self.queue_timeout < 1 << 62
+    }
+
+    /// What each server may serve at first, in file order.
+    pub fn opening_limits(&self, alloc: Global) -> Result<Vec<Allowance>, AllocError>
+        ensures { IfOk result (λ limits. limits.items ≡ opening_limits self.now.servers) }
+    {
+        let servers = self.servers.as_slice();
+        let mut limits = Vec::with_capacity(alloc, servers.len())?;
+        for server in servers {
+            limits.push_reserved(Allowance {
+                limit: server.limit,
+                served: 0,
+            });
+        }
+        Ok(limits)
     }
 }
 

@@ -10,7 +10,7 @@ use Rattle.list_facts.proofs.Places.{get-set}
 use Rattle.due_key.specs.declared.key.Key.{Key}
 use Rattle.dispatch_log.specs.declared.entry.Arrival.{Arrival}
 use Rattle.dispatch_log.specs.declared.entry.Entry.{Entry}
-use Rattle.dispatch_log.specs.declared.entry.Entry.TheVariants.{Left, Arrive, Done, Fail, Abort, Tick, Check, Direct, Joined, Granted, Moved, Freed, Retried, Health, Ended}
+use Rattle.dispatch_log.specs.declared.entry.Entry.TheVariants.{Left, Arrive, Done, Fail, Abort, Tick, Check, Limit, Direct, Joined, Granted, Moved, Freed, Retried, Health, Ended}
 use Rattle.dispatch_log.specs.declared.queue.Queue.{Queue}
 use Rattle.dispatch_log.specs.declared.queue.Queue.TheVariants.{Backend}
 use Rattle.dispatch_log.specs.declared.row.Phase.{Phase}
@@ -20,8 +20,10 @@ use Rattle.dispatch_log.specs.declared.row.Row.{Row}
 use Rattle.dispatch_log.specs.declared.setup.Setup.{Setup}
 use Rattle.dispatch_log.specs.Retries.{failed}
 use Rattle.dispatch_log.specs.Rows.{Rows, StandsAt, IsRow, phase_waits_in, same_queue, with_change, changed, in_phase, in_backend_since, gone}
-use Rattle.dispatch_log.specs.States.{State, after, after_all, arrived}
-use Rattle.readable_log.specs.Grants.{arrival_in, joins, newer_arrival, arrival_of}
+use Rattle.dispatch_log.specs.States.{State, after, after_all, arrived, key_of}
+use Rattle.readable_log.specs.Grants.{arrival_in, joins, newer_key, key_known}
+use Rattle.readable_log.specs.Windows.{base_key}
+use Rattle.readable_log.specs.declared.base.BaseRow.{BaseRow}
 use Rattle.readable_log.specs.Readable.{HasArrived}
 use Rattle.readable_log.specs.Ordered.{KeepsOrder, IsFresh, HaveArrived}
 
@@ -115,6 +117,7 @@ origin setup s (Fail m u) p r at = inr (change_back s.rows (Fail m u) u p (faile
 origin setup s (Abort m u) p r at = inr (unchanged s.rows (Abort m u) p r at)
 origin setup s (Tick m) p r at = inr (unchanged s.rows (Tick m) p r at)
 origin setup s (Check m v ok) p r at = inr (unchanged s.rows (Check m v ok) p r at)
+origin setup s (Limit m v k) p r at = inr (unchanged s.rows (Limit m v k) p r at)
 origin setup s (Retried u v k) p r at = inr (unchanged s.rows (Retried u v k) p r at)
 origin setup s (Health v up) p r at = inr (unchanged s.rows (Health v up) p r at)
 origin setup s (Moved u v) p r at = inr (change_back s.rows (Moved u v) u p (in_backend_since s.moment) r (puts_there (Moved u v) u Backend s.moment (in_backend_since s.moment) (λ b. None) (λ k q. refl) (λ b. refl)) at)
@@ -144,37 +147,38 @@ pub steps_back : (setup : Setup) (s : State) (es : List Entry) (q : Queue) (key 
 steps_back setup s [] q key w none = w
 steps_back setup s (e ∷ es) q key w none = step_back setup s e q key (steps_back setup (after setup s e) es q key w none.1) none.0
 
-pub arrival_of-push : (t : ℕ) (past : List Entry) (e : Entry) → arrival_of t (past ++ e ∷ []) ≡ newer_arrival t (arrival_of t past) e
-arrival_of-push t past e = fold_push (newer_arrival t) None past e
+pub known-push : (base : List BaseRow) (t : ℕ) (past : List Entry) (e : Entry) → key_known base t (past ++ e ∷ []) ≡ newer_key t (key_known base t past) e
+known-push base t past e = fold_push (newer_key t) (base_key t base) past e
 
 -- an arrival is the last one of its ticket; that of another ticket changes nothing
-newest : (t : ℕ) (before : Option Arrival) (e : Entry) (a : Arrival) → arrival_in e ≡ Some a → a.ticket ≡ t → newer_arrival t before e ≡ Some a
-newest t before e a is named = ap (λ (o : Option Arrival). option_map_or (λ it. cond (it.ticket == t) (Some it) before) o before) is ∙ ap (λ b. cond b (Some a) before) ((Decides-eqb a.ticket t).1 named)
+newest : (t : ℕ) (before : Option Key) (e : Entry) (a : Arrival) → arrival_in e ≡ Some a → a.ticket ≡ t → newer_key t before e ≡ Some (key_of a)
+newest t before e a is named =
+    ap (λ (o : Option Arrival). option_map_or (λ it. cond (it.ticket == t) (Some (key_of it)) before) o before) is ∙ ap (λ b. cond b (Some (key_of a)) before) ((Decides-eqb a.ticket t).1 named)
 
-other_newest : (t : ℕ) (before : Option Arrival) (e : Entry) → IfSome (arrival_in e) (λ a. a.ticket ≢ t) → newer_arrival t before e ≡ before
+other_newest : (t : ℕ) (before : Option Key) (e : Entry) → IfSome (arrival_in e) (λ a. a.ticket ≢ t) → newer_key t before e ≡ before
 other_newest t before e others = go (arrival_in e) others
   where
-    differs : (a : Arrival) → a.ticket ≢ t → (b : Bool) → (a.ticket == t) ≡ b → cond b (Some a) before ≡ before
+    differs : (a : Arrival) → a.ticket ≢ t → (b : Bool) → (a.ticket == t) ≡ b → cond b (Some (key_of a)) before ≡ before
     differs a other true same = absurd (other ((Decides-eqb a.ticket t).0 same))
     differs a other false same = refl
 
-    go : (o : Option Arrival) → IfSome o (λ a. a.ticket ≢ t) → option_map_or (λ it. cond (it.ticket == t) (Some it) before) o before ≡ before
+    go : (o : Option Arrival) → IfSome o (λ a. a.ticket ≢ t) → option_map_or (λ it. cond (it.ticket == t) (Some (key_of it)) before) o before ≡ before
     go None h = refl
     go (Some a) h = differs a h (a.ticket == t) refl
 
-pub have_arrived_after : (setup : Setup) (past : List Entry) (s : State) (e : Entry) → HaveArrived past s.rows → KeepsOrder s.rows e → HaveArrived (past ++ e ∷ []) (after setup s e).rows
-have_arrived_after setup past s e have keeps r live =
+pub have_arrived_after : (base : List BaseRow) (setup : Setup) (past : List Entry) (s : State) (e : Entry) → HaveArrived base past s.rows → KeepsOrder s.rows e → HaveArrived base (past ++ e ∷ []) (after setup s e).rows
+have_arrived_after base setup past s e have keeps r live =
     elim (origin setup s e live.0 r live.1) [
       | inl came ↦
           let a = came.arrival in
-          let last : arrival_of a.ticket (past ++ e ∷ []) ≡ Some a = arrival_of-push a.ticket past e ∙ newest a.ticket (arrival_of a.ticket past) e a came.is refl in
-          subst (λ (x : Row). HasArrived (past ++ e ∷ []) x.key.ticket x.key.class x.key.due) (sym came.row)
-          (subst (λ (o : Option Arrival). IsSomeAnd o (λ it. (it.class ≡ a.class) × (it.due ≡ a.due))) (sym last) (refl, refl))
+          let last : key_known base a.ticket (past ++ e ∷ []) ≡ Some (key_of a) = known-push base a.ticket past e ∙ newest a.ticket (key_known base a.ticket past) e a came.is refl in
+          subst (λ (x : Row). HasArrived base (past ++ e ∷ []) x.key.ticket x.key.class x.key.due) (sym came.row)
+          (subst (λ (o : Option Key). IsSomeAnd o (λ it. (it.class ≡ a.class) × (it.due ≡ a.due))) (sym last) (refl, refl))
       | inr was ↦
           let b = was.row in
-          let last : arrival_of b.key.ticket (past ++ e ∷ []) ≡ arrival_of b.key.ticket past = arrival_of-push b.key.ticket past e ∙ other_newest b.key.ticket (arrival_of b.key.ticket past) e (others (arrival_in e) b (live.0, was.stands) keeps.fresh) in
-          subst (λ (k : Key). HasArrived (past ++ e ∷ []) k.ticket k.class k.due) was.key
-          (subst (λ (o : Option Arrival). IsSomeAnd o (λ it. (it.class ≡ b.key.class) × (it.due ≡ b.key.due))) (sym last) (have b (live.0, was.stands)))
+          let last : key_known base b.key.ticket (past ++ e ∷ []) ≡ key_known base b.key.ticket past = known-push base b.key.ticket past e ∙ other_newest b.key.ticket (key_known base b.key.ticket past) e (others (arrival_in e) b (live.0, was.stands) keeps.fresh) in
+          subst (λ (k : Key). HasArrived base (past ++ e ∷ []) k.ticket k.class k.due) was.key
+          (subst (λ (o : Option Key). IsSomeAnd o (λ it. (it.class ≡ b.key.class) × (it.due ≡ b.key.due))) (sym last) (have b (live.0, was.stands)))
     ]
   where
     others : (o : Option Arrival) (b : Row) → IsRow s.rows b → IfSome o (λ a. IsFresh s.rows a.ticket) → IfSome o (λ a. a.ticket ≢ b.key.ticket)

@@ -1,12 +1,15 @@
 -- Where tickets joined a queue.
-use Rattle.std.proofs.Common.{◌≡◌, ℕ, ◌+◌, ◌≤◌, ◌==◌, ◌&&◌, Bool, true, false, cond, List, [], ◌∷◌, ◌++◌, length, Option, None, Some, refl, ap, ◌∙◌, arith}
+use Rattle.std.proofs.Common.{◌≡◌, ℕ, ◌+◌, ◌≤◌, ◌==◌, nat_lt, ◌&&◌, ◌||◌, Bool, true, false, cond, List, [], ◌∷◌, ◌++◌, length, Option, None, Some, refl, ap, ◌∙◌, arith}
 use Rattle.std.specs.List.{AllByRecursion}
 use Rattle.std.specs.Option.{option_map_or}
 use Rattle.dispatch_log.specs.declared.entry.Entry.{Entry}
 use Rattle.dispatch_log.specs.declared.entry.Entry.TheVariants.{Granted}
 use Rattle.dispatch_log.specs.declared.queue.Queue.{Queue}
 use Rattle.dispatch_log.specs.Rows.{same_queue}
-use Rattle.readable_log.specs.Grants.{Wait, grant_in, joining_in, joins, last_from, joining_of}
+use Rattle.readable_log.specs.Grants.{Wait, grant_in, joining_in, joins, last_from, joining_of, has_joined}
+use Rattle.readable_log.specs.Windows.{waited}
+use Rattle.readable_log.specs.declared.base.BaseRow.{BaseRow}
+use Rattle.std.proofs.lemmas.Bool.Decides.{nat_tests}
 
 -- a position that was found is one of those that were looked at
 pub last_from-le : (test : Entry → Bool) (n found : ℕ) (es : List Entry) → found ≤ n → last_from test n found es ≤ n + length es
@@ -70,3 +73,12 @@ joining_of_other t q past e other = joining_of-push t q past e ∙ ap (λ b. con
 -- and after one that does
 pub joining_of_last : (t : ℕ) (q : Queue) (past : List Entry) (e : Entry) → joins t q e ≡ true → joining_of t q (past ++ e ∷ []) ≡ length past + 1
 joining_of_last t q past e is = joining_of-push t q past e ∙ ap (λ b. cond b (length past + 1) (joining_of t q past)) is
+
+-- a ticket has joined a queue with an entry more
+pub joined-push : (base : List BaseRow) (t : ℕ) (q : Queue) (past : List Entry) (e : Entry) → has_joined base t q (past ++ e ∷ []) ≡ joins t q e || has_joined base t q past
+joined-push base t q past e = ap (λ n. waited t q base || nat_lt 0 n) (joining_of-push t q past e) ∙ go (joins t q e) (waited t q base) (joining_of t q past)
+  where
+    go : (b w : Bool) (n : ℕ) → w || nat_lt 0 (cond b (length past + 1) n) ≡ b || (w || nat_lt 0 n)
+    go true true n = refl
+    go true false n = grind (arith, nat_tests)
+    go false w n = refl

@@ -1,6 +1,6 @@
 -- Logs that are judged entry by entry keep the order of their queues, and are readable.
 use Rattle.std.proofs.Common.{◌≡◌, ℕ, ◌+◌, ◌<◌, ◌≤◌, true, List, [], ◌∷◌, ◌++◌, Option, None, Some, IsSome, is_some, length, IsTrue, refl, ap, sym, subst, arith, inl, inr, append_assoc, length-append}
-use Rattle.std.specs.Option.{unwrap_or, IsSomeAnd}
+use Rattle.std.specs.Option.{unwrap_or, IfSome, IsSomeAnd}
 use Rattle.std.proofs.lemmas.Bool.{false≢true}
 use Rattle.std.proofs.lemmas.List.{append-nil}
 use Rattle.std.proofs.lemmas.Option.{same_Some}
@@ -8,7 +8,7 @@ use Rattle.std.proofs.lemmas.Bool.Decides.{Decides-eqb}
 use Rattle.due_key.specs.declared.key.Key.{Key}
 use Rattle.dispatch_log.specs.declared.entry.Arrival.{Arrival}
 use Rattle.dispatch_log.specs.declared.entry.Entry.{Entry}
-use Rattle.dispatch_log.specs.declared.entry.Entry.TheVariants.{Arrive, Done, Fail, Abort, Tick, Check, Granted}
+use Rattle.dispatch_log.specs.declared.entry.Entry.TheVariants.{Arrive, Done, Fail, Abort, Tick, Check, Limit, Granted}
 use Rattle.dispatch_log.specs.declared.queue.Queue.{Queue}
 use Rattle.dispatch_log.specs.declared.queue.Queue.TheVariants.{Backend, Server}
 use Rattle.dispatch_log.specs.declared.row.Phase.{Phase}
@@ -16,13 +16,17 @@ use Rattle.dispatch_log.specs.declared.row.Phase.TheVariants.{Loose, Waiting, Se
 use Rattle.dispatch_log.specs.declared.row.Row.{Row}
 use Rattle.dispatch_log.specs.declared.setup.Setup.{Setup}
 use Rattle.dispatch_log.specs.Judgement.{Stage, granting, MayCome, next_stage, AllMayCome}
-use Rattle.dispatch_log.specs.Grants.{IsLawfulGrant}
+use Rattle.dispatch_log.specs.Grants.{IsSettled, IsLawfulGrant}
 use Rattle.dispatch_log.specs.Rows.{IsRow, phase_waits_in}
-use Rattle.dispatch_log.specs.States.{State, scene, after, opening_state}
+use Rattle.dispatch_log.specs.Legal.{IsBase}
+use Rattle.dispatch_log.specs.States.{State, scene, after}
 use Rattle.dispatch_log.specs.Words.{Scene, may_take, may_go_to}
-use Rattle.dispatch_log.proofs.Dispatched.{none_stands}
-use Rattle.readable_log.specs.Grants.{arrival_in, moment_in, moment_of, arrival_of, joining_of}
-use Rattle.readable_log.specs.Ordered.{TakesLeast, KeepsOrder, AllKeepOrder, HaveNone, HaveArrived, HaveJoined}
+use Rattle.dispatch_log.proofs.Dispatched.{base_consistent}
+use Rattle.readable_log.specs.Grants.{Wait, arrival_in, moment_in, grant_in, moment_of, key_known, has_joined}
+use Rattle.readable_log.specs.Windows.{Window, base_rows}
+use Rattle.readable_log.specs.declared.base.BaseRow.{BaseRow}
+use Rattle.readable_log.proofs.Based.{base_arrived, base_joined}
+use Rattle.readable_log.specs.Ordered.{TakesLeast, KeepsOrder, AllKeepOrder, HaveArrived, HaveJoined}
 use Rattle.readable_log.specs.Readable.{MayFollow, AllFollow, IsReadable, HasArrived}
 use Rattle.readable_log.proofs.Back.{origin, have_arrived_after}
 use Rattle.readable_log.proofs.Moments.{moment_of-push}
@@ -80,8 +84,11 @@ all_keep : (setup : Setup) (s : State) (n : ℕ) (t : Stage) (es : List Entry) �
 all_keep setup s n t [] below all = tt
 all_keep setup s n t (e ∷ es) below all = (keeps setup s n t e below all.0, all_keep setup (after setup s e) (n + 1) (next_stage t e) es (below_after setup s n t e below all.0) all.1)
 
-pub judged_keep_order : (setup : Setup) (base : State) (log : List Entry) → HaveNone base.rows → AllMayCome setup base 0 granting log → AllKeepOrder setup base log
-judged_keep_order setup base log none all = all_keep setup base 0 granting log (λ row live. absurd (none row live)) all
+base_below : (setup : Setup) (base : State) → IsBase setup base → AreBelow base
+base_below setup base is row live = (base_consistent setup base is).below live.0 row live.1
+
+pub judged_keep_order : (setup : Setup) (base : State) (log : List Entry) → IsBase setup base → AllMayCome setup base 0 granting log → AllKeepOrder setup base log
+judged_keep_order setup base log is all = all_keep setup base 0 granting log (base_below setup base is) all
 
 -- ---- readable
 
@@ -96,81 +103,83 @@ moment_after setup past s e low = subst (λ m. m ≤ (after setup s e).moment) (
     by_entry (Abort m u) = omega arith
     by_entry (Tick m) = omega arith
     by_entry (Check m v ok) = omega arith
+    by_entry (Limit m v k) = omega arith
     by_entry x = low
 
--- what is known of a log where more follows
-record IsRead (past : List Entry) (s : State) (t : Stage) : Type 0 where
+-- what is known of a window where more follows
+record IsRead (base : List BaseRow) (setup : Setup) (past : List Entry) (s : State) (t : Stage) : Type 0 where
   below : AreBelow s
-  arrived : HaveArrived past s.rows
-  joined : HaveJoined past s.rows
+  arrived : HaveArrived base past s.rows
+  joined : HaveJoined base past s.rows
   moment : moment_of past ≤ s.moment
-  begun : length past ≡ 0 → t ≡ granting
+  begun : length past ≡ 0 → (t ≡ granting) × IsSettled (scene setup s)
 
-has_come : (past : List Entry) (u : ℕ) (row : Row) → HasArrived past row.key.ticket row.key.class row.key.due → row.key.ticket ≡ u → IsSome (arrival_of u past)
-has_come past u row has named = subst (λ n. IsSome (arrival_of n past)) named (go (arrival_of row.key.ticket past) has)
+module _ (base : List BaseRow) (setup : Setup) where
+  has_come : (past : List Entry) (u : ℕ) (row : Row) → HasArrived base past row.key.ticket row.key.class row.key.due → row.key.ticket ≡ u → IsSome (key_known base u past)
+  has_come past u row has named = subst (λ n. IsSome (key_known base n past)) named (go (key_known base row.key.ticket past) has)
+    where
+      go : (o : Option Key) → IsSomeAnd o (λ it. (it.class ≡ row.key.class) × (it.due ≡ row.key.due)) → is_some o ≡ true
+      go None h = absurd h
+      go (Some a) h = refl
+
+  begins : (past : List Entry) (s : State) (t : Stage) (e : Entry) (m : ℕ) → IsRead base setup past s t → s.moment ≤ m → moment_in e ≡ Some m → grant_in e ≡ None → MayFollow base past e
+  begins past s t e m is later at none = record {
+    begins = λ h. ap is_some at;
+    later = subst (λ o. IfSome o (λ moment. moment_of past ≤ moment)) (sym at) (let low = is.moment in omega (arith, low, later));
+    arrived = subst (λ o. IfSome o (λ (wait : Wait). IsSome (key_known base wait.ticket past))) (sym none) tt;
+    joined = subst (λ o. IfSome o (λ (wait : Wait). IsTrue (has_joined base wait.ticket wait.queue past))) (sym none) tt;
+  }
+
+  may_follow : (past : List Entry) (s : State) (n : ℕ) (t : Stage) (e : Entry) → IsRead base setup past s t → MayCome setup s n t e → MayFollow base past e
+  may_follow past s n t (Arrive m a) is may = begins past s t (Arrive m a) m is may.0.later refl refl
+  may_follow past s n t (Done m u) is may = begins past s t (Done m u) m is may.later refl refl
+  may_follow past s n t (Fail m u) is may = begins past s t (Fail m u) m is may.later refl refl
+  may_follow past s n t (Abort m u) is may = begins past s t (Abort m u) m is may.later refl refl
+  may_follow past s n t (Tick m) is may = begins past s t (Tick m) m is may.later refl refl
+  may_follow past s n t (Check m v ok) is may = begins past s t (Check m v ok) m is may.later refl refl
+  may_follow past s n t (Limit m v k) is may = begins past s t (Limit m v k) m is may.later refl refl
+  may_follow past s n t (Granted u q v) is may =
+      let grant = may.1 in
+      record {
+        begins = λ h. absurd ((is.begun h).1 v grant.next.takes);
+        later = tt;
+        arrived = has_come past u grant.row (is.arrived grant.row grant.live) grant.named;
+        joined = subst (λ k. IsTrue (has_joined base k q past)) grant.named (is.joined grant.row q grant.live grant.waits);
+      }
+  may_follow past s n granting e is may = absurd may
+  may_follow past s n t e is may = record { begins = λ h. (let b = (is.begun h).0 in cc); later = tt; arrived = tt; joined = tt }
+
+  read_after : (past : List Entry) (s : State) (n : ℕ) (t : Stage) (e : Entry) → IsRead base setup past s t → MayCome setup s n t e → IsRead base setup (past ++ e ∷ []) (after setup s e) (next_stage t e)
+  read_after past s n t e is may = record {
+    below = below_after setup s n t e is.below may;
+    arrived = have_arrived_after base setup past s e is.arrived (keeps setup s n t e is.below may);
+    joined = have_joined_after base setup past s e is.joined;
+    moment = moment_after setup past s e is.moment;
+    begun = λ h. absurd (omega (arith, h, length-append past (e ∷ [])));
+  }
+
+  all_follow : (past : List Entry) (s : State) (n : ℕ) (t : Stage) (es : List Entry) → IsRead base setup past s t → AllMayCome setup s n t es → AllFollow base past es
+  all_follow past s n t [] is all = tt
+  all_follow past s n t (e ∷ es) is all = (may_follow past s n t e is all.0, all_follow (past ++ e ∷ []) (after setup s e) (n + 1) (next_stage t e) es (read_after past s n t e is all.0) all.1)
+
+pub judged_readable : (setup : Setup) (base : State) (log : List Entry) → IsBase setup base → AllMayCome setup base 0 granting log → IsReadable (record { base = base_rows base.rows; entries = log })
+judged_readable setup base log is all = all_follow (base_rows base.rows) setup [] base 0 granting log opened all
   where
-    go : (o : Option Arrival) → IsSomeAnd o (λ it. (it.class ≡ row.key.class) × (it.due ≡ row.key.due)) → is_some o ≡ true
-    go None h = absurd h
-    go (Some a) h = refl
-
-granted_past : (past : List Entry) (u : ℕ) → IsSome (arrival_of u past) → length past ≡ 0 → ⊥
-granted_past [] u some none = absurd (false≢true some)
-granted_past (x ∷ past) u some none = absurd (omega arith)
-
-may_follow : (setup : Setup) (past : List Entry) (s : State) (n : ℕ) (t : Stage) (e : Entry) → IsRead past s t → MayCome setup s n t e → MayFollow past e
-may_follow setup past s n t (Arrive m a) is may = record { begins = λ h. refl; later = (let low = is.moment in let next = may.0.later in omega arith); arrived = tt; joined = tt }
-may_follow setup past s n t (Done m u) is may = record { begins = λ h. refl; later = (let low = is.moment in let next = may.later in omega arith); arrived = tt; joined = tt }
-may_follow setup past s n t (Fail m u) is may = record { begins = λ h. refl; later = (let low = is.moment in let next = may.later in omega arith); arrived = tt; joined = tt }
-may_follow setup past s n t (Abort m u) is may = record { begins = λ h. refl; later = (let low = is.moment in let next = may.later in omega arith); arrived = tt; joined = tt }
-may_follow setup past s n t (Tick m) is may = record { begins = λ h. refl; later = (let low = is.moment in let next = may.later in omega arith); arrived = tt; joined = tt }
-may_follow setup past s n t (Check m v ok) is may = record { begins = λ h. refl; later = (let low = is.moment in let next = may.later in omega arith); arrived = tt; joined = tt }
-may_follow setup past s n t (Granted u q v) is may =
-    let grant = may.1 in
-    let come : IsSome (arrival_of u past) = has_come past u grant.row (is.arrived grant.row grant.live) grant.named in
-    record {
-      begins = λ h. absurd (granted_past past u come h);
-      later = tt;
-      arrived = come;
-      joined = subst (λ k. 0 < joining_of k q past) grant.named (is.joined grant.row q grant.live grant.waits);
-    }
-may_follow setup past s n granting e is may = absurd may
-may_follow setup past s n t e is may = record { begins = λ h. (let b = is.begun h in cc); later = tt; arrived = tt; joined = tt }
-
-read_after : (setup : Setup) (past : List Entry) (s : State) (n : ℕ) (t : Stage) (e : Entry) → IsRead past s t → MayCome setup s n t e → IsRead (past ++ e ∷ []) (after setup s e) (next_stage t e)
-read_after setup past s n t e is may = record {
-  below = below_after setup s n t e is.below may;
-  arrived = have_arrived_after setup past s e is.arrived (keeps setup s n t e is.below may);
-  joined = have_joined_after setup past s e is.joined;
-  moment = moment_after setup past s e is.moment;
-  begun = λ h. absurd (omega (arith, length-append past (e ∷ [])));
-}
-
-all_follow : (setup : Setup) (past : List Entry) (s : State) (n : ℕ) (t : Stage) (es : List Entry) → IsRead past s t → AllMayCome setup s n t es → AllFollow past es
-all_follow setup past s n t [] is all = tt
-all_follow setup past s n t (e ∷ es) is all = (may_follow setup past s n t e is all.0, all_follow setup (past ++ e ∷ []) (after setup s e) (n + 1) (next_stage t e) es (read_after setup past s n t e is all.0) all.1)
-
-pub judged_readable : (setup : Setup) (base : State) (log : List Entry) → HaveNone base.rows → AllMayCome setup base 0 granting log → IsReadable log
-judged_readable setup base log none all = all_follow setup [] base 0 granting log opened all
-  where
-    opened : IsRead [] base granting
+    opened : IsRead (base_rows base.rows) setup [] base granting
     opened = record {
-      below = λ row live. absurd (none row live);
-      arrived = λ row live. absurd (none row live);
-      joined = λ row queue live waits. absurd (none row live);
+      below = base_below setup base is;
+      arrived = base_arrived setup base is;
+      joined = base_joined setup base is;
       moment = omega arith;
-      begun = λ h. refl;
+      begun = λ h. (refl, is.dispatched.settled);
     }
 
 -- ---- one entry more
 
--- the opening state has no request
-pub opens_empty : (setup : Setup) → HaveNone (opening_state setup).rows
-opens_empty setup row live = none_stands setup.places live.0 row live.1
-
-last_follows : (past es : List Entry) (e : Entry) → AllFollow past (es ++ e ∷ []) → MayFollow (past ++ es) e
-last_follows past [] e all = subst (λ l. MayFollow l e) (sym (append-nil past)) all.0
-last_follows past (x ∷ es) e all = subst (λ l. MayFollow l e) (append_assoc past (x ∷ []) es) (last_follows (past ++ x ∷ []) es e all.1)
+last_follows : (base : List BaseRow) (past es : List Entry) (e : Entry) → AllFollow base past (es ++ e ∷ []) → MayFollow base (past ++ es) e
+last_follows base past [] e all = subst (λ l. MayFollow base l e) (sym (append-nil past)) all.0
+last_follows base past (x ∷ es) e all = subst (λ l. MayFollow base l e) (append_assoc past (x ∷ []) es) (last_follows base (past ++ x ∷ []) es e all.1)
 
 -- the last entry of a judged log may follow those before it
-pub judged_follows : (setup : Setup) (log : List Entry) (e : Entry) → AllMayCome setup (opening_state setup) 0 granting (log ++ e ∷ []) → MayFollow log e
-judged_follows setup log e all = last_follows [] log e (judged_readable setup (opening_state setup) (log ++ e ∷ []) (opens_empty setup) all)
+pub judged_follows : (setup : Setup) (base : State) (log : List Entry) (e : Entry) → IsBase setup base → AllMayCome setup base 0 granting (log ++ e ∷ []) → MayFollow (base_rows base.rows) log e
+judged_follows setup base log e is all = last_follows (base_rows base.rows) [] log e (judged_readable setup base (log ++ e ∷ []) is all)

@@ -4,5 +4,7 @@ pub mod Timely
 pub mod Pushes
 pub mod Back
 pub mod Rows
+pub mod Bases
+pub mod Based
 pub mod Judged
 pub mod Indexed

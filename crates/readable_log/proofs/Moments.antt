@@ -6,6 +6,8 @@ use Rattle.std.proofs.lemmas.List.Sums.{fold_push}
 use Rattle.dispatch_log.specs.declared.entry.Entry.{Entry}
 use Rattle.readable_log.specs.Grants.{moment_in, moment_of, moment_at}
 use Rattle.readable_log.specs.Readable.{AllFollow, IsReadable}
+use Rattle.readable_log.specs.Windows.{Window}
+use Rattle.readable_log.specs.declared.base.BaseRow.{BaseRow}
 
 -- what one entry more makes of the last moment
 pub moment_of-push : (past : List Entry) (e : Entry) → moment_of (past ++ e ∷ []) ≡ unwrap_or (moment_in e) (moment_of past)
@@ -23,25 +25,25 @@ moment_rises past e later = subst (λ m. moment_of past ≤ m) (sym (moment_of-p
     by_case (Some m) h = h
 
 -- nor do more entries
-from_start : (past es : List Entry) → AllFollow past es → (q : ℕ) → moment_of past ≤ moment_of (past ++ take q es)
-from_start past es all zero = subst (λ l. moment_of past ≤ moment_of l) (sym (append-nil past)) (omega arith)
-from_start past [] all (suc q) = subst (λ l. moment_of past ≤ moment_of l) (sym (append-nil past)) (omega arith)
-from_start past (e ∷ es) all (suc q) =
+from_start : (base : List BaseRow) (past es : List Entry) → AllFollow base past es → (q : ℕ) → moment_of past ≤ moment_of (past ++ take q es)
+from_start base past es all zero = subst (λ l. moment_of past ≤ moment_of l) (sym (append-nil past)) (omega arith)
+from_start base past [] all (suc q) = subst (λ l. moment_of past ≤ moment_of l) (sym (append-nil past)) (omega arith)
+from_start base past (e ∷ es) all (suc q) =
     let one = moment_rises past e all.0.later in
-    let rest : moment_of (past ++ e ∷ []) ≤ moment_of ((past ++ e ∷ []) ++ take q es) = from_start (past ++ e ∷ []) es all.1 q in
+    let rest : moment_of (past ++ e ∷ []) ≤ moment_of ((past ++ e ∷ []) ++ take q es) = from_start base (past ++ e ∷ []) es all.1 q in
     let same : moment_of (past ++ (e ∷ take q es)) ≡ moment_of ((past ++ e ∷ []) ++ take q es) = rw append_assoc refl in
     omega arith
 
-rises : (past es : List Entry) → AllFollow past es → (p q : ℕ) → p ≤ q → moment_of (past ++ take p es) ≤ moment_of (past ++ take q es)
-rises past es all zero q h = subst (λ l. moment_of l ≤ moment_of (past ++ take q es)) (sym (append-nil past)) (from_start past es all q)
-rises past es all (suc p) zero h = absurd (omega arith)
-rises past [] all (suc p) (suc q) h = omega arith
-rises past (e ∷ es) all (suc p) (suc q) h =
-    let rest : moment_of ((past ++ e ∷ []) ++ take p es) ≤ moment_of ((past ++ e ∷ []) ++ take q es) = rises (past ++ e ∷ []) es all.1 p q (omega arith) in
+rises : (base : List BaseRow) (past es : List Entry) → AllFollow base past es → (p q : ℕ) → p ≤ q → moment_of (past ++ take p es) ≤ moment_of (past ++ take q es)
+rises base past es all zero q h = subst (λ l. moment_of l ≤ moment_of (past ++ take q es)) (sym (append-nil past)) (from_start base past es all q)
+rises base past es all (suc p) zero h = absurd (omega arith)
+rises base past [] all (suc p) (suc q) h = omega arith
+rises base past (e ∷ es) all (suc p) (suc q) h =
+    let rest : moment_of ((past ++ e ∷ []) ++ take p es) ≤ moment_of ((past ++ e ∷ []) ++ take q es) = rises base (past ++ e ∷ []) es all.1 p q (omega arith) in
     let left : moment_of (past ++ (e ∷ take p es)) ≡ moment_of ((past ++ e ∷ []) ++ take p es) = rw append_assoc refl in
     let right : moment_of (past ++ (e ∷ take q es)) ≡ moment_of ((past ++ e ∷ []) ++ take q es) = rw append_assoc refl in
     omega arith
 
 -- the moments of a readable log never fall
-pub moments_rise : (log : List Entry) → IsReadable log → (p q : ℕ) → p ≤ q → moment_at log p ≤ moment_at log q
-moments_rise log readable p q h = rises [] log readable p q h
+pub moments_rise : (window : Window) → IsReadable window → (p q : ℕ) → p ≤ q → moment_at window.entries p ≤ moment_at window.entries q
+moments_rise window readable p q h = rises window.base [] window.entries readable p q h

@@ -1,14 +1,16 @@
 -- One entry more.
-use Rattle.std.proofs.Common.{◌≡◌, ℕ, ◌+◌, ◌<◌, ◌≤◌, ℤ, List, [], ◌∷◌, ◌++◌, Option, None, Some, is_some, length, refl, ap, sym, ◌∙◌, subst, arith, append_assoc, length-append}
+use Rattle.std.proofs.Common.{◌≡◌, ℕ, ◌+◌, ◌<◌, ◌≤◌, ℤ, List, [], ◌∷◌, ◌++◌, Option, None, Some, is_some, IsTrue, length, refl, ap, sym, ◌∙◌, subst, arith, append_assoc, length-append}
 use Rattle.std.specs.Option.{unwrap_or, option_map_or, IsSomeAnd}
 use Rattle.std.proofs.lemmas.List.{append-nil}
-use Rattle.dispatch_log.specs.declared.entry.Arrival.{Arrival}
+use Rattle.due_key.specs.declared.key.Key.{Key}
 use Rattle.dispatch_log.specs.declared.entry.Entry.{Entry}
 use Rattle.dispatch_log.specs.declared.entry.Entry.TheVariants.{Granted}
 use Rattle.dispatch_log.specs.declared.queue.Queue.{Queue}
 use Rattle.readable_log.specs.declared.grant.Grant.{Grant}
-use Rattle.readable_log.specs.Grants.{Wait, moment_in, grant_in, moment_of, arrival_of, joining_of, grant_of, grant_after, grants_after, grants}
+use Rattle.readable_log.specs.Grants.{Wait, moment_in, grant_in, moment_of, key_known, joining_of, has_joined, grant_of, grant_after, grants_after, grants}
 use Rattle.readable_log.specs.Kept.{IsKept}
+use Rattle.readable_log.specs.Windows.{Window}
+use Rattle.readable_log.specs.declared.base.BaseRow.{BaseRow}
 use Rattle.readable_log.specs.Readable.{MayFollow, AllFollow, IsReadable, HasArrived}
 use Rattle.readable_log.proofs.Moments.{moment_of-push, moment_of_none}
 
@@ -16,100 +18,101 @@ use Rattle.readable_log.proofs.Moments.{moment_of-push, moment_of_none}
 abbrev pub listed : Option Grant → List Grant
 listed o = option_map_or (λ grant. grant ∷ []) o []
 
-grants_after-push : (past es : List Entry) (e : Entry) → grants_after past (es ++ e ∷ []) ≡ grants_after past es ++ listed (grant_after (past ++ es) e)
-grants_after-push past [] e = append-nil (listed (grant_after past e)) ∙ ap (λ l. listed (grant_after l e)) (sym (append-nil past))
-grants_after-push past (x ∷ es) e =
-    ap (λ l. listed (grant_after past x) ++ l) (grants_after-push (past ++ x ∷ []) es e ∙ ap (λ l. grants_after (past ++ x ∷ []) es ++ listed (grant_after l e)) (append_assoc past (x ∷ []) es))
-    ∙ sym (append_assoc (listed (grant_after past x)) (grants_after (past ++ x ∷ []) es) (listed (grant_after (past ++ x ∷ es) e)))
-
-pub grants-push : (log : List Entry) (e : Entry) → grants (log ++ e ∷ []) ≡ grants log ++ listed (grant_after log e)
-grants-push log e = grants_after-push [] log e
-
-all_follow_push : (past es : List Entry) (e : Entry) → AllFollow past es → MayFollow (past ++ es) e → AllFollow past (es ++ e ∷ [])
-all_follow_push past [] e all may = (subst (λ l. MayFollow l e) (append-nil past) may, tt)
-all_follow_push past (x ∷ es) e all may = (all.0, all_follow_push (past ++ x ∷ []) es e all.1 (subst (λ l. MayFollow l e) (sym (append_assoc past (x ∷ []) es)) may))
-
-pub readable_push : (log : List Entry) (e : Entry) → IsReadable log → MayFollow log e → IsReadable (log ++ e ∷ [])
-readable_push log e readable may = all_follow_push [] log e readable may
-
--- grants are no more than entries
-grants_after-length : (past es : List Entry) → length (grants_after past es) ≤ length es
-grants_after-length past [] = omega arith
-grants_after-length past (e ∷ es) = go (grant_after past e) (grants_after-length (past ++ e ∷ []) es)
-  where
-    go : (o : Option Grant) → length (grants_after (past ++ e ∷ []) es) ≤ length es → length (listed o ++ grants_after (past ++ e ∷ []) es) ≤ length (e ∷ es)
-    go None h = omega arith
-    go (Some g) h = omega arith
-
-pub grants-length : (log : List Entry) → length (grants log) ≤ length log
-grants-length log = grants_after-length [] log
-
--- what is kept with an entry more that is no grant
-pub kept_push : (list : List Entry) (granted : List Grant) (moment most : ℕ) (e : Entry) → IsKept list granted moment most → length list < most → MayFollow list e → grant_in e ≡ None
-    → IsKept (list ++ e ∷ []) granted (unwrap_or (moment_in e) moment) most
-kept_push list granted moment most e kept short may none = record {
-  within = omega (arith, length-append list (e ∷ []));
-  readable = readable_push list e kept.readable may;
-  granted_are = kept.granted_are ∙ sym (grants-push list e ∙ ungranted ∙ append-nil (grants list));
-  moment_is = ap (λ m. unwrap_or (moment_in e) m) kept.moment_is ∙ sym (moment_of-push list e);
-}
-  where
-    ungranted : grants list ++ listed (grant_after list e) ≡ grants list ++ []
-    ungranted = ap (λ (o : Option Wait). grants list ++ listed (option_map_or (λ w. option_map_or (λ (a : Arrival). Some (grant_of list w a)) (arrival_of w.ticket list) None) o None)) none
-
--- the arrival whose class and due date are known
-pub record Came (past : List Entry) (ticket : ℕ) (class due : ℤ) : Type 0 where
-  pub arrival : Arrival
-  pub is : arrival_of ticket past ≡ Some arrival
-  pub class_is : arrival.class ≡ class
-  pub due_is : arrival.due ≡ due
-
-pub came : (past : List Entry) (ticket : ℕ) (class due : ℤ) → HasArrived past ticket class due → Came past ticket class due
-came past ticket class due h = go (arrival_of ticket past) refl h
-  where
-    go : (o : Option Arrival) → arrival_of ticket past ≡ o → IsSomeAnd o (λ (it : Arrival). (it.class ≡ class) × (it.due ≡ due)) → Came past ticket class due
-    go None e h = absurd h
-    go (Some a) e h = record { arrival = a; is = e; class_is = h.0; due_is = h.1 }
-
 -- a grant by its parts
 abbrev pub granted_by : Queue → ℤ → ℕ → ℕ → ℕ → ℕ → ℤ → Grant
 granted_by queue class moment ticket joined slot due = record { queue = queue; class = class; moment = moment; stay = record { ticket = ticket; joined = joined; slot = slot; due = due } }
 
-nonempty : {P : Type 0} (ticket : ℕ) (past : List Entry) (arrival : Arrival) → arrival_of ticket past ≡ Some arrival → length past ≡ 0 → P
-nonempty ticket [] arrival e h = cc
-nonempty ticket (x ∷ past) arrival e h = absurd (omega arith)
+module _ (base : List BaseRow) where
+  abbrev pub window_with : List Entry → Window
+  window_with entries = record { base = base; entries = entries }
 
--- a grant may follow where its ticket has arrived and joined the queue
-pub grant_may_follow : (list : List Entry) (ticket server joined : ℕ) (queue : Queue) (class due : ℤ) → HasArrived list ticket class due → joining_of ticket queue list ≡ joined → 0 < joined → MayFollow list (Granted ticket queue server)
-grant_may_follow list ticket server joined queue class due arrived is_joined waits =
-    let has = came list ticket class due arrived in
-    record {
-      begins = λ h. nonempty ticket list has.arrival has.is h;
-      later = tt;
-      arrived = ap is_some has.is;
-      joined = subst (λ n. 0 < n) (sym is_joined) waits;
-    }
+  grants_after-push : (past es : List Entry) (e : Entry) → grants_after base past (es ++ e ∷ []) ≡ grants_after base past es ++ listed (grant_after base (past ++ es) e)
+  grants_after-push past [] e = append-nil (listed (grant_after base past e)) ∙ ap (λ l. listed (grant_after base l e)) (sym (append-nil past))
+  grants_after-push past (x ∷ es) e =
+      ap (λ l. listed (grant_after base past x) ++ l)
+      (grants_after-push (past ++ x ∷ []) es e ∙ ap (λ l. grants_after base (past ++ x ∷ []) es ++ listed (grant_after base l e)) (append_assoc past (x ∷ []) es))
+      ∙ sym (append_assoc (listed (grant_after base past x)) (grants_after base (past ++ x ∷ []) es) (listed (grant_after base (past ++ x ∷ es) e)))
 
--- the grant that it is
-pub grant_is : (list : List Entry) (ticket server joined : ℕ) (queue : Queue) (class due : ℤ) → HasArrived list ticket class due → joining_of ticket queue list ≡ joined
-    → grant_after list (Granted ticket queue server) ≡ Some (granted_by queue class (moment_of list) ticket joined (length list + 1) due)
-grant_is list ticket server joined queue class due arrived is_joined =
-    let has = came list ticket class due arrived in
-    ap (λ (o : Option Arrival). option_map_or (λ (a : Arrival). Some (granted_by queue a.class (moment_of list) ticket (joining_of ticket queue list) (length list + 1) a.due)) o None) has.is
-    ∙ ap (λ c. Some (granted_by queue c (moment_of list) ticket (joining_of ticket queue list) (length list + 1) has.arrival.due)) has.class_is
-    ∙ ap (λ d. Some (granted_by queue class (moment_of list) ticket (joining_of ticket queue list) (length list + 1) d)) has.due_is
-    ∙ ap (λ j. Some (granted_by queue class (moment_of list) ticket j (length list + 1) due)) is_joined
+  pub grants-push : (log : List Entry) (e : Entry) → grants (window_with (log ++ e ∷ [])) ≡ grants (window_with log) ++ listed (grant_after base log e)
+  grants-push log e = grants_after-push [] log e
 
--- what is kept with a grant more
-pub kept_grant : (list : List Entry) (granted : List Grant) (moment most ticket server joined : ℕ) (queue : Queue) (class due : ℤ) → IsKept list granted moment most → length list < most
-    → HasArrived list ticket class due → joining_of ticket queue list ≡ joined → 0 < joined
-    → IsKept (list ++ Granted ticket queue server ∷ []) (granted ++ granted_by queue class moment ticket joined (length list + 1) due ∷ []) moment most
-kept_grant list granted moment most ticket server joined queue class due kept short arrived is_joined waits = record {
-  within = omega (arith, length-append list (Granted ticket queue server ∷ []));
-  readable = readable_push list (Granted ticket queue server) kept.readable (grant_may_follow list ticket server joined queue class due arrived is_joined waits);
-  granted_are =
-      ap (λ l. l ++ granted_by queue class moment ticket joined (length list + 1) due ∷ []) kept.granted_are
-      ∙ ap (λ m. grants list ++ granted_by queue class m ticket joined (length list + 1) due ∷ []) kept.moment_is
-      ∙ sym (grants-push list (Granted ticket queue server) ∙ ap (λ o. grants list ++ listed o) (grant_is list ticket server joined queue class due arrived is_joined));
-  moment_is = kept.moment_is ∙ sym (moment_of_none list (Granted ticket queue server) refl);
-}
+  all_follow_push : (past es : List Entry) (e : Entry) → AllFollow base past es → MayFollow base (past ++ es) e → AllFollow base past (es ++ e ∷ [])
+  all_follow_push past [] e all may = (subst (λ l. MayFollow base l e) (append-nil past) may, tt)
+  all_follow_push past (x ∷ es) e all may = (all.0, all_follow_push (past ++ x ∷ []) es e all.1 (subst (λ l. MayFollow base l e) (sym (append_assoc past (x ∷ []) es)) may))
+
+  pub readable_push : (log : List Entry) (e : Entry) → IsReadable (window_with log) → MayFollow base log e → IsReadable (window_with (log ++ e ∷ []))
+  readable_push log e readable may = all_follow_push [] log e readable may
+
+  -- grants are no more than entries
+  grants_after-length : (past es : List Entry) → length (grants_after base past es) ≤ length es
+  grants_after-length past [] = omega arith
+  grants_after-length past (e ∷ es) = go (grant_after base past e) (grants_after-length (past ++ e ∷ []) es)
+    where
+      go : (o : Option Grant) → length (grants_after base (past ++ e ∷ []) es) ≤ length es → length (listed o ++ grants_after base (past ++ e ∷ []) es) ≤ length (e ∷ es)
+      go None h = omega arith
+      go (Some g) h = omega arith
+
+  pub grants-length : (log : List Entry) → length (grants (window_with log)) ≤ length log
+  grants-length log = grants_after-length [] log
+
+  -- what is kept with an entry more that is no grant
+  pub kept_push : (list : List Entry) (granted : List Grant) (moment most : ℕ) (e : Entry) → IsKept base list granted moment most → length list < most → MayFollow base list e → grant_in e ≡ None
+      → IsKept base (list ++ e ∷ []) granted (unwrap_or (moment_in e) moment) most
+  kept_push list granted moment most e kept short may none = record {
+    within = omega (arith, length-append list (e ∷ []));
+    readable = readable_push list e kept.readable may;
+    granted_are = kept.granted_are ∙ sym (grants-push list e ∙ ungranted ∙ append-nil (grants (window_with list)));
+    moment_is = ap (λ m. unwrap_or (moment_in e) m) kept.moment_is ∙ sym (moment_of-push list e);
+  }
+    where
+      ungranted : grants (window_with list) ++ listed (grant_after base list e) ≡ grants (window_with list) ++ []
+      ungranted = ap (λ (o : Option Wait). grants (window_with list) ++ listed (option_map_or (λ w. option_map_or (λ (k : Key). Some (grant_of list w k)) (key_known base w.ticket list) None) o None)) none
+
+  -- the key whose class and due date are known
+  record Known (past : List Entry) (ticket : ℕ) (class due : ℤ) : Type 0 where
+    pub key : Key
+    pub is : key_known base ticket past ≡ Some key
+    pub class_is : key.class ≡ class
+    pub due_is : key.due ≡ due
+
+  known : (past : List Entry) (ticket : ℕ) (class due : ℤ) → HasArrived base past ticket class due → Known past ticket class due
+  known past ticket class due h = go (key_known base ticket past) refl h
+    where
+      go : (o : Option Key) → key_known base ticket past ≡ o → IsSomeAnd o (λ (it : Key). (it.class ≡ class) × (it.due ≡ due)) → Known past ticket class due
+      go None e h = absurd h
+      go (Some k) e h = record { key = k; is = e; class_is = h.0; due_is = h.1 }
+
+  -- a grant may follow inside an event where its ticket has arrived and joined the queue
+  pub grant_may_follow : (list : List Entry) (ticket server : ℕ) (queue : Queue) (class due : ℤ) → 0 < length list → HasArrived base list ticket class due → IsTrue (has_joined base ticket queue list) → MayFollow base list (Granted ticket queue server)
+  grant_may_follow list ticket server queue class due begun arrived waits =
+      let has = known list ticket class due arrived in
+      record {
+        begins = λ h. absurd (omega (arith, h, begun));
+        later = tt;
+        arrived = ap is_some has.is;
+        joined = waits;
+      }
+
+  -- the grant that it is
+  pub grant_is : (list : List Entry) (ticket server joined : ℕ) (queue : Queue) (class due : ℤ) → HasArrived base list ticket class due → joining_of ticket queue list ≡ joined
+      → grant_after base list (Granted ticket queue server) ≡ Some (granted_by queue class (moment_of list) ticket joined (length list + 1) due)
+  grant_is list ticket server joined queue class due arrived is_joined =
+      let has = known list ticket class due arrived in
+      ap (λ (o : Option Key). option_map_or (λ (k : Key). Some (granted_by queue k.class (moment_of list) ticket (joining_of ticket queue list) (length list + 1) k.due)) o None) has.is
+      ∙ ap (λ c. Some (granted_by queue c (moment_of list) ticket (joining_of ticket queue list) (length list + 1) has.key.due)) has.class_is
+      ∙ ap (λ d. Some (granted_by queue class (moment_of list) ticket (joining_of ticket queue list) (length list + 1) d)) has.due_is
+      ∙ ap (λ j. Some (granted_by queue class (moment_of list) ticket j (length list + 1) due)) is_joined
+
+  -- what is kept with a grant more
+  pub kept_grant : (list : List Entry) (granted : List Grant) (moment most ticket server joined : ℕ) (queue : Queue) (class due : ℤ) → IsKept base list granted moment most → length list < most → 0 < length list
+      → HasArrived base list ticket class due → joining_of ticket queue list ≡ joined → IsTrue (has_joined base ticket queue list)
+      → IsKept base (list ++ Granted ticket queue server ∷ []) (granted ++ granted_by queue class moment ticket joined (length list + 1) due ∷ []) moment most
+  kept_grant list granted moment most ticket server joined queue class due kept short begun arrived is_joined waits = record {
+    within = omega (arith, length-append list (Granted ticket queue server ∷ []));
+    readable = readable_push list (Granted ticket queue server) kept.readable (grant_may_follow list ticket server queue class due begun arrived waits);
+    granted_are =
+        ap (λ l. l ++ granted_by queue class moment ticket joined (length list + 1) due ∷ []) kept.granted_are
+        ∙ ap (λ m. grants (window_with list) ++ granted_by queue class m ticket joined (length list + 1) due ∷ []) kept.moment_is
+        ∙ sym (grants-push list (Granted ticket queue server) ∙ ap (λ o. grants (window_with list) ++ listed o) (grant_is list ticket server joined queue class due arrived is_joined));
+    moment_is = kept.moment_is ∙ sym (moment_of_none list (Granted ticket queue server) refl);
+  }

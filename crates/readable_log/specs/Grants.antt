@@ -1,14 +1,18 @@
--- What a log says of the requests that leave a queue for a slot. Positions count its entries from 1, events included.
-use Rattle.std.specs.Prelude.{ℕ, ◌+◌, ◌==◌, ◌&&◌, Bool, false, ℤ, List, [], ◌∷◌, ◌++◌, Option, None, Some, map, take, length, if◌then◌else◌}
+-- What a window says of the requests that leave a queue for a slot. Positions count its entries from 1, events included.
+use Rattle.std.specs.Prelude.{ℕ, ◌+◌, ◌==◌, nat_lt, ◌&&◌, ◌||◌, Bool, false, ℤ, List, [], ◌∷◌, ◌++◌, Option, None, Some, map, take, length, if◌then◌else◌}
 use Rattle.std.specs.List.{fold, filter}
 use Rattle.std.specs.Option.{unwrap_or, option_map_or}
 use Rattle.std.specs.Ordering.{int_eq}
+use Rattle.due_key.specs.declared.key.Key.{Key}
 use Rattle.dispatch_log.specs.declared.entry.Arrival.{Arrival}
 use Rattle.dispatch_log.specs.declared.entry.Entry.{Entry}
-use Rattle.dispatch_log.specs.declared.entry.Entry.TheVariants.{Arrive, Done, Fail, Abort, Tick, Check, Joined, Granted, Moved}
+use Rattle.dispatch_log.specs.declared.entry.Entry.TheVariants.{Arrive, Done, Fail, Abort, Tick, Check, Limit, Joined, Granted, Moved}
 use Rattle.dispatch_log.specs.declared.queue.Queue.{Queue}
 use Rattle.dispatch_log.specs.declared.queue.Queue.TheVariants.{Backend, Server}
 use Rattle.dispatch_log.specs.Rows.{same_queue}
+use Rattle.dispatch_log.specs.States.{key_of}
+use Rattle.readable_log.specs.Windows.{Window, base_key, waited}
+use Rattle.readable_log.specs.declared.base.BaseRow.{BaseRow}
 use Rattle.readable_log.specs.declared.grant.Grant.{Grant}
 use Rattle.readable_log.specs.declared.grant.Stay.{Stay}
 
@@ -25,6 +29,7 @@ moment_in (Fail moment ticket) = Some moment
 moment_in (Abort moment ticket) = Some moment
 moment_in (Tick moment) = Some moment
 moment_in (Check moment server ok) = Some moment
+moment_in (Limit moment server limit) = Some moment
 moment_in entry = None
 
 -- the arrival that an entry is
@@ -51,14 +56,14 @@ moment_of log = fold (λ moment entry. unwrap_or (moment_in entry) moment) 0 log
 abbrev pub moment_at : List Entry → ℕ → ℕ
 moment_at log position = moment_of (take position log)
 
--- the last arrival of a ticket, where an entry brings one or else as before
-abbrev pub newer_arrival : ℕ → Option Arrival → Entry → Option Arrival
-newer_arrival ticket before entry =
-    option_map_or (λ it. if it.ticket == ticket then Some it else before) (arrival_in entry) before
+-- the key of a ticket, by an entry that is its arrival, or else as before
+abbrev pub newer_key : ℕ → Option Key → Entry → Option Key
+newer_key ticket before entry =
+    option_map_or (λ it. if it.ticket == ticket then Some (key_of it) else before) (arrival_in entry) before
 
--- the last arrival of a ticket
-abbrev pub arrival_of : ℕ → List Entry → Option Arrival
-arrival_of ticket log = fold (newer_arrival ticket) None log
+-- the key of a ticket: that of its last arrival, or else the one that it has in the base
+abbrev pub key_known : List BaseRow → ℕ → List Entry → Option Key
+key_known base ticket log = fold (newer_key ticket) (base_key ticket base) log
 
 -- the last position whose entry passes a test, of a list's entries that follow so many; else a given one
 abbrev pub last_from : (Entry → Bool) → ℕ → ℕ → List Entry → ℕ
@@ -73,36 +78,40 @@ joins ticket queue entry = option_map_or (λ it. (it.ticket == ticket) && same_q
 abbrev pub joining_of : ℕ → Queue → List Entry → ℕ
 joining_of ticket queue log = last_from (joins ticket queue) 0 0 log
 
--- the grant of an arrival's ticket, which follows the entries of a log
-abbrev pub grant_of : List Entry → Wait → Arrival → Grant
-grant_of past wait arrival = record {
+-- whether a ticket has joined a queue, by an entry or in the base
+abbrev pub has_joined : List BaseRow → ℕ → Queue → List Entry → Bool
+has_joined base ticket queue log = waited ticket queue base || nat_lt 0 (joining_of ticket queue log)
+
+-- the grant of a ticket that has this key, which follows the entries of a log; one that waited since the base joined at 0
+abbrev pub grant_of : List Entry → Wait → Key → Grant
+grant_of past wait key = record {
   queue = wait.queue;
-  class = arrival.class;
+  class = key.class;
   moment = moment_of past;
-  stay = record { ticket = wait.ticket; joined = joining_of wait.ticket wait.queue past; slot = length past + 1; due = arrival.due };
+  stay = record { ticket = wait.ticket; joined = joining_of wait.ticket wait.queue past; slot = length past + 1; due = key.due };
 }
 
--- the grant that an entry is, where it follows the entries of a log; none where the ticket never arrived
-abbrev pub grant_after : List Entry → Entry → Option Grant
-grant_after past entry =
-    option_map_or (λ wait. option_map_or (λ arrival. Some (grant_of past wait arrival)) (arrival_of wait.ticket past) None) (grant_in entry) None
+-- the grant that an entry is, where it follows the entries of a log; none where the ticket isn't known
+abbrev pub grant_after : List BaseRow → List Entry → Entry → Option Grant
+grant_after base past entry =
+    option_map_or (λ wait. option_map_or (λ key. Some (grant_of past wait key)) (key_known base wait.ticket past) None) (grant_in entry) None
 
 -- the grants of entries that follow the entries of a log
-abbrev pub grants_after : List Entry → List Entry → List Grant
-grants_after past [] = []
-grants_after past (entry ∷ entries) = option_map_or (λ grant. grant ∷ []) (grant_after past entry) [] ++ grants_after (past ++ entry ∷ []) entries
+abbrev pub grants_after : List BaseRow → List Entry → List Entry → List Grant
+grants_after base past [] = []
+grants_after base past (entry ∷ entries) = option_map_or (λ grant. grant ∷ []) (grant_after base past entry) [] ++ grants_after base (past ++ entry ∷ []) entries
 
--- the grants of a log, in order
-abbrev pub grants : List Entry → List Grant
-grants log = grants_after [] log
+-- the grants of a window, in order
+abbrev pub grants : Window → List Grant
+grants window = grants_after window.base [] window.entries
 
 -- whether a grant is from a queue and of a class
 abbrev pub is_of : Queue → ℤ → Grant → Bool
 is_of queue class grant = same_queue queue grant.queue && int_eq class grant.class
 
 -- the stays of a queue and class that ended with the grant of a slot, in order
-abbrev pub stays : List Entry → Queue → ℤ → List Stay
-stays log queue class = map (λ grant. grant.stay) (filter (is_of queue class) (grants log))
+abbrev pub stays : Window → Queue → ℤ → List Stay
+stays window queue class = map (λ grant. grant.stay) (filter (is_of queue class) (grants window))
 
 -- the server whose queue it is; None for the backend's
 abbrev pub server_of : Queue → Option ℕ

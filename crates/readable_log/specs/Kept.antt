@@ -3,11 +3,19 @@ use Rattle.std.specs.Prelude.{◌≡◌, ℕ, ◌≤◌, List, length}
 use Rattle.dispatch_log.specs.declared.entry.Entry.{Entry}
 use Rattle.readable_log.specs.declared.grant.Grant.{Grant}
 use Rattle.readable_log.specs.Grants.{moment_of, grants}
+use Rattle.readable_log.specs.declared.base.BaseRow.{BaseRow}
 use Rattle.readable_log.specs.Readable.{IsReadable}
+use Rattle.dispatch_log.specs.States.{State}
+use Rattle.readable_log.specs.Windows.{Window, base_rows}
+
+-- a base with its live requests, for which there is room in any base of so many places
+pub record IsLog (base : State) (listed : List BaseRow) (capacity : ℕ) : Type 0 where
+  pub listed_are : listed ≡ base_rows base.rows
+  pub room : length base.rows ≤ capacity
 
 -- readable entries, no more than there is room for, with their grants and the moment of their last event
-pub record IsKept (list : List Entry) (granted : List Grant) (moment most : ℕ) : Type 0 where
+pub record IsKept (base : List BaseRow) (list : List Entry) (granted : List Grant) (moment most : ℕ) : Type 0 where
   pub within : length list ≤ most
-  pub readable : IsReadable list
-  pub granted_are : granted ≡ grants list
+  pub readable : IsReadable (record { base = base; entries = list })
+  pub granted_are : granted ≡ grants (record { base = base; entries = list })
   pub moment_is : moment ≡ moment_of list

@@ -1,3 +1,5 @@
+pub mod Windows
+pub mod Bases
 pub mod Grants
 pub mod Readable
 pub mod Timely

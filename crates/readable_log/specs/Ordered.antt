@@ -1,5 +1,5 @@
--- Logs that keep the order of their queues, and what they leave.
-use Rattle.std.specs.Prelude.{◌≡◌, ◌≢◌, ℕ, ◌<◌, List, [], ◌∷◌, IsTrue}
+-- Windows that keep the order of their queues, and what they leave.
+use Rattle.std.specs.Prelude.{◌≡◌, ◌≢◌, ℕ, List, [], ◌∷◌, IsTrue}
 use Rattle.std.specs.Option.{IfSome}
 use Rattle.dispatch_log.specs.declared.entry.Entry.{Entry}
 use Rattle.dispatch_log.specs.declared.row.Row.{Row}
@@ -7,7 +7,8 @@ use Rattle.dispatch_log.specs.declared.setup.Setup.{Setup}
 use Rattle.dispatch_log.specs.Grants.{IsLeastOf}
 use Rattle.dispatch_log.specs.Rows.{Rows, IsRow, phase_waits_in}
 use Rattle.dispatch_log.specs.States.{State, after}
-use Rattle.readable_log.specs.Grants.{Wait, arrival_in, grant_in, joining_of}
+use Rattle.readable_log.specs.declared.base.BaseRow.{BaseRow}
+use Rattle.readable_log.specs.Grants.{Wait, arrival_in, grant_in, has_joined}
 use Rattle.readable_log.specs.Readable.{HasArrived}
 use Rattle.dispatch_log.specs.declared.queue.Queue.{Queue}
 
@@ -33,14 +34,10 @@ abbrev pub AllKeepOrder : Setup → State → List Entry → Type 0
 AllKeepOrder setup state [] = Unit {0}
 AllKeepOrder setup state (entry ∷ entries) = KeepsOrder state.rows entry × AllKeepOrder setup (after setup state entry) entries
 
--- there is no row
-abbrev pub HaveNone : Rows → Type 0
-HaveNone rows = (row : Row) → IsRow rows row → ⊥
-
 -- each row has the class and the due date of its ticket's last arrival
-abbrev pub HaveArrived : List Entry → Rows → Type 0
-HaveArrived log rows = (row : Row) → IsRow rows row → HasArrived log row.key.ticket row.key.class row.key.due
+abbrev pub HaveArrived : List BaseRow → List Entry → Rows → Type 0
+HaveArrived base log rows = (row : Row) → IsRow rows row → HasArrived base log row.key.ticket row.key.class row.key.due
 
--- each row that waits was put into its queue by an entry
-abbrev pub HaveJoined : List Entry → Rows → Type 0
-HaveJoined log rows = (row : Row) (queue : Queue) → IsRow rows row → IsTrue (phase_waits_in queue row.phase) → 0 < joining_of row.key.ticket queue log
+-- each row that waits was put into its queue by an entry, or waited there in the base
+abbrev pub HaveJoined : List BaseRow → List Entry → Rows → Type 0
+HaveJoined base log rows = (row : Row) (queue : Queue) → IsRow rows row → IsTrue (phase_waits_in queue row.phase) → IsTrue (has_joined base row.key.ticket queue log)

@@ -1,11 +1,10 @@
--- What the grants of a readable log have.
-use Rattle.std.specs.Prelude.{◌≡◌, ◌<◌, List}
-use Rattle.dispatch_log.specs.declared.entry.Entry.{Entry}
+-- What the grants of a readable window have.
+use Rattle.std.specs.Prelude.{◌≡◌, ◌<◌}
 use Rattle.readable_log.specs.Grants.{moment_at}
+use Rattle.readable_log.specs.Windows.{Window}
 use Rattle.readable_log.specs.declared.grant.Grant.{Grant}
 
--- a grant has the moment of its position, and its ticket joined the queue before
-pub record IsTimely (log : List Entry) (grant : Grant) : Type 0 where
-  pub moment : grant.moment ≡ moment_at log grant.stay.slot
-  pub placed : 0 < grant.stay.joined
+-- a grant has the moment of its position, and its ticket joined the queue before, or waited there in the base
+pub record IsTimely (window : Window) (grant : Grant) : Type 0 where
+  pub moment : grant.moment ≡ moment_at window.entries grant.stay.slot
   pub joined : grant.stay.joined < grant.stay.slot

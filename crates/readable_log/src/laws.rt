@@ -5,48 +5,53 @@ ghost use Rattle.dispatch_log.specs.declared.queue.Queue.{Queue};
 ghost use Rattle.dispatch_log.specs.declared.setup.Setup.{Setup};
 ghost use Rattle.dispatch_log.specs.Judgement.{AllMayCome, granting};
 ghost use Rattle.dispatch_log.specs.States.{State, after_all};
-ghost use Rattle.readable_log.specs.Grants.{moment_at, grants, arrival_of, newer_arrival, joins, joining_of};
-ghost use Rattle.readable_log.specs.Ordered.{AllKeepOrder, HaveNone, HaveArrived, HaveJoined};
+ghost use Rattle.dispatch_log.specs.Legal.{IsBase};
+ghost use Rattle.readable_log.specs.Grants.{moment_at, grants, key_known, newer_key, joins, joining_of};
+ghost use Rattle.readable_log.specs.Ordered.{AllKeepOrder, HaveArrived, HaveJoined};
+ghost use Rattle.readable_log.specs.Windows.{Window, base_rows};
+ghost use Rattle.readable_log.specs.declared.base.BaseRow.{BaseRow};
 ghost use Rattle.readable_log.specs.Readable.{IsReadable};
 ghost use Rattle.readable_log.specs.Timely.{IsTimely};
-ghost use Rattle.readable_log.specs.Worked.{granted_once, its_grant, begins_inside_an_event, moment_falls, joined_another_queue, never_arrived};
+ghost use Rattle.readable_log.specs.Worked.{granted_once, its_grant, granted_from_the_base, grant_from_the_base, waited_elsewhere, begins_inside_an_event, moment_falls, joined_another_queue, never_arrived};
 
-/// The law of readable logs: moments never fall from one position to a later one, and each grant
+/// The law of readable windows: moments never fall from one position to a later one, and each grant
 /// has the moment of its slot, which lies after the position where the wait began.
 pub fn readable_logs_are_timely()
-    ensures moments { (log : List Entry) (p q : ℕ) → IsReadable log → p ≤ q → moment_at log p ≤ moment_at log q }
-    ensures grants { (log : List Entry) → IsReadable log → AllByRecursion (IsTimely log) (grants log) }
+    ensures moments { (window : Window) (p q : ℕ) → IsReadable window → p ≤ q → moment_at window.entries p ≤ moment_at window.entries q }
+    ensures grants { (window : Window) → IsReadable window → AllByRecursion (IsTimely window) (grants window) }
 {}
 
-/// The law of one entry more: what it makes of a ticket's last arrival, and of where it last
-/// joined a queue.
+/// The law of one entry more: what it makes of a ticket's key, and of where it last joined a queue.
 pub fn entries_add_up()
-    ensures arrival { (ticket : ℕ) (log : List Entry) (entry : Entry) → arrival_of ticket (log ++ entry ∷ []) ≡ newer_arrival ticket (arrival_of ticket log) entry }
+    ensures key { (base : List BaseRow) (ticket : ℕ) (log : List Entry) (entry : Entry) → key_known base ticket (log ++ entry ∷ []) ≡ newer_key ticket (key_known base ticket log) entry }
     ensures joining { (ticket : ℕ) (queue : Queue) (log : List Entry) (entry : Entry) → joining_of ticket queue (log ++ entry ∷ []) ≡ (if joins ticket queue entry then length log + 1 else joining_of ticket queue log) }
 {}
 
-/// The law of rows: where a log begins without a request and keeps the order of its queues, each
-/// row that it leaves has the class and the due date of its ticket's last arrival, and each that
-/// waits was put into its queue by an entry.
+/// The law of rows: where a window begins at a proper base and keeps the order of its queues, each row
+/// that it leaves has the class and the due date of its ticket's last arrival, and each that waits was
+/// put into its queue by an entry or waited there in the base.
 pub fn rows_have_arrived()
-    ensures arrived { (setup : Setup) (start : State) (log : List Entry) → HaveNone start.rows → AllKeepOrder setup start log → HaveArrived log (after_all setup start log).rows }
-    ensures joined { (setup : Setup) (start : State) (log : List Entry) → HaveNone start.rows → HaveJoined log (after_all setup start log).rows }
+    ensures arrived { (setup : Setup) (base : State) (log : List Entry) → IsBase setup base → AllKeepOrder setup base log → HaveArrived (base_rows base.rows) log (after_all setup base log).rows }
+    ensures joined { (setup : Setup) (base : State) (log : List Entry) → IsBase setup base → HaveJoined (base_rows base.rows) log (after_all setup base log).rows }
 {}
 
-/// The law of judged logs: where a log begins without a request and each of its entries may come
+/// The law of judged logs: where a window begins at a proper base and each of its entries may come
 /// where it stands, it keeps the order of its queues and is readable.
 pub fn judged_logs_are_readable()
-    ensures order { (setup : Setup) (start : State) (log : List Entry) → HaveNone start.rows → AllMayCome setup start 0 granting log → AllKeepOrder setup start log }
-    ensures readable { (setup : Setup) (start : State) (log : List Entry) → HaveNone start.rows → AllMayCome setup start 0 granting log → IsReadable log }
+    ensures order { (setup : Setup) (base : State) (log : List Entry) → IsBase setup base → AllMayCome setup base 0 granting log → AllKeepOrder setup base log }
+    ensures readable { (setup : Setup) (base : State) (log : List Entry) → IsBase setup base → AllMayCome setup base 0 granting log → IsReadable (record { base = base_rows base.rows; entries = log }) }
 {}
 
-/// The law of worked logs: one that is readable, with its grant, and others, each wrong in one way,
-/// that are not.
+/// The law of worked windows: two that are readable, with their grants, and others, each wrong in one
+/// way, that are not.
 pub fn worked_logs()
     ensures readable { IsReadable granted_once }
     ensures grants { grants granted_once ≡ its_grant ∷ [] }
+    ensures readable_from_the_base { IsReadable granted_from_the_base }
+    ensures grants_from_the_base { grants granted_from_the_base ≡ grant_from_the_base ∷ [] }
     ensures begins_inside_an_event { IsReadable begins_inside_an_event → ⊥ }
     ensures moment_falls { IsReadable moment_falls → ⊥ }
     ensures joined_another_queue { IsReadable joined_another_queue → ⊥ }
     ensures never_arrived { IsReadable never_arrived → ⊥ }
+    ensures waited_elsewhere { IsReadable waited_elsewhere → ⊥ }
 {}

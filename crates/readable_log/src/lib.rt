@@ -1,12 +1,14 @@
-//! A log that can be read back: beside its entries it keeps the grants of slots that they tell of,
-//! each with its class, its due date and where its wait began.
+//! A window of a log that can be read back: beside its base and its entries it keeps the grants of
+//! slots that they tell of, each with its class, its due date and where its wait began.
 #![tactic(auto)]
 
+mod base;
 mod grant;
 mod laws;
 mod log;
 mod read;
 
+pub use base::{Base, BaseRow};
 pub use grant::{Grant, Stay};
 pub use laws::{
     entries_add_up, judged_logs_are_readable, readable_logs_are_timely, rows_have_arrived,

@@ -1,19 +1,26 @@
-ghost use Rattle.std.specs.Prelude.{◌≡◌, ◌<◌, [], ◌∷◌, ◌++◌, None, IfOk, length, IsTrue, ◌↔◌, vec_len, vec_capacity};
+ghost use Rattle.std.specs.Prelude.{◌≡◌, ◌<◌, ◌≤◌, [], ◌∷◌, ◌++◌, None, IfOk, length, IsTrue, ◌↔◌, vec_len, vec_capacity};
 ghost use Rattle.dispatch_log.specs.declared.entry.Entry.TheVariants.{Granted};
-ghost use Rattle.readable_log.specs.Grants.{moment_in, grant_in, joining_of, grants};
+ghost use Rattle.readable_log.specs.Grants.{moment_in, grant_in, joining_of, has_joined, grants};
 ghost use Rattle.readable_log.specs.Readable.{MayFollow, HasArrived, IsReadable};
+ghost use Rattle.readable_log.specs.Windows.{base_rows, window_of};
 
+use crate::base::{Base, BaseRow};
 use crate::grant::{Grant, Stay};
-use dispatch_log::{Entry, Queue};
-use due_key::{Class, Due, Moment};
+use dispatch_log::{Entry, Queue, Row};
+use due_key::{Key, Moment};
 use std::alloc::{AllocError, Global};
 use std::marker::Model;
+use std::mem;
 
-/// The entries of a dispatcher's events, in order, and the grants that they tell of. It always is
-/// readable: it begins with an event, moments never fall, and a ticket that is granted a slot has
-/// arrived and joined the queue that it leaves. Its room is taken once.
+/// A window of a dispatcher's log: the state at its base, the entries since, in order, and the grants
+/// that they tell of. It always is readable: it begins with an event, moments never fall, and a ticket
+/// that is granted a slot has arrived and joined the queue that it leaves, in the window or before its
+/// base. Its room is taken once.
 #[derive(Debug, Drop)]
 pub struct Log {
+    base: Base,
+    // The live requests of the base.
+    listed: Vec<BaseRow>,
     list: Vec<Entry>,
     granted: Vec<Grant>,
     moment: Moment,
@@ -23,40 +30,67 @@ pub struct Log {
 impl Model for Log {
     ghost use Rattle.std.specs.Prelude.{◌≤◌, vec_capacity};
     ghost use Rattle.dispatch_log.specs.Logs.{Recorded};
-    ghost use Rattle.readable_log.specs.Kept.{IsKept};
+    ghost use Rattle.readable_log.specs.Kept.{IsKept, IsLog};
+    ghost use Rattle.readable_log.specs.Windows.{base_rows};
 
     ghost Value = { Recorded };
 
-    ghost view = { λ log. record { entries = log.list.items; room = log.most } };
+    ghost view = { λ log. record { base = log.base; entries = log.list.items; room = log.most } };
 
-    ghost invariant = { λ log. IsKept log.list.items log.granted.items log.moment log.most × (log.most ≤ vec_capacity log.list) × (log.most ≤ vec_capacity log.granted) };
+    ghost invariant = { λ log. IsLog log.base log.listed.items (vec_capacity log.listed) × IsKept (base_rows log.base.rows) log.list.items log.granted.items log.moment log.most × (log.most ≤ vec_capacity log.list) × (log.most ≤ vec_capacity log.granted) };
 }
 
 impl Log {
-    /// An empty log with room for so many entries, and as many grants.
-    pub fn with_room(alloc: Global, room: usize) -> Result<Log, AllocError>
-        ensures { IfOk result (λ log. log ≡ record { entries = []; room = room }) }
+    /// A window without an entry, which begins with this base; room for so many entries, and as many
+    /// grants.
+    pub fn with_room(alloc: Global, base: Base, room: usize) -> Result<Log, AllocError>
+        ensures { IfOk result (λ log. log ≡ record { base = base; entries = []; room = room }) }
     {
+        let mut listed = Vec::with_capacity(alloc, base.rows().len())?;
+        list_rows(&mut listed, base.rows());
         Ok(Log {
+            listed,
             list: Vec::with_capacity(alloc, room)?,
             granted: Vec::with_capacity(alloc, room)?,
             moment: Moment::zero(),
             most: room,
+            base,
         })
+    }
+
+    /// The next window begins, with this base, and the entries are gone; the base that it had is handed
+    /// back. `O(places)`, no memory.
+    pub fn begin(&mut self, base: &mut Base)
+        requires { length base.old.rows ≡ length self.old.base.rows }
+        ensures window { self.new ≡ record { base = base.old; entries = []; room = self.old.room } }
+        ensures back { base.new ≡ self.old.base }
+    {
+        mem::swap(&mut self.base, base);
+        self.list.clear();
+        self.granted.clear();
+        self.moment = Moment::zero();
+        list_rows(&mut self.listed, self.base.rows());
+    }
+
+    /// The live requests at the base of the window, by rising place.
+    pub fn base(&self) -> &[BaseRow]
+        ensures { result.now ≡ base_rows self.now.base.rows }
+    {
+        self.listed.as_slice()
     }
 
     /// The entries; the position of the first is 1.
     pub fn entries(&self) -> &[Entry]
         ensures entries { result.now ≡ self.now.entries }
-        ensures readable { IsReadable self.now.entries }
+        ensures readable { IsReadable (window_of self.now) }
     {
         self.list.as_slice()
     }
 
     /// The grants that the entries tell of, in order.
     pub fn grants(&self) -> &[Grant]
-        ensures grants { result.now ≡ grants self.now.entries }
-        ensures readable { IsReadable self.now.entries }
+        ensures grants { result.now ≡ grants (window_of self.now) }
+        ensures readable { IsReadable (window_of self.now) }
     {
         self.granted.as_slice()
     }
@@ -83,9 +117,9 @@ impl Log {
     /// Adds an entry other than a grant at the end. `O(1)`, no memory.
     pub fn note(&mut self, entry: Entry)
         requires room { length self.old.entries < self.old.room }
-        requires follows { MayFollow self.old.entries entry }
+        requires follows { MayFollow (base_rows self.old.base.rows) self.old.entries entry }
         requires ungranted { grant_in entry ≡ None }
-        ensures { self.new ≡ record { entries = self.old.entries ++ entry ∷ []; room = self.old.room } }
+        ensures { self.new ≡ record self.old { entries = self.old.entries ++ entry ∷ [] } }
     {
         self.moment = moment_in(&entry).unwrap_or(self.moment);
         put(&mut self.list, entry);
@@ -94,7 +128,7 @@ impl Log {
     /// Whether an entry other than a grant may come next.
     pub(crate) fn may_note(&self, entry: &Entry) -> bool
         requires { grant_in entry.now ≡ None }
-        ensures { IsTrue result ↔ MayFollow self.now.entries entry.now }
+        ensures { IsTrue result ↔ MayFollow (base_rows self.now.base.rows) self.now.entries entry.now }
     {
         match moment_in(entry) {
             Some(moment) => self.moment <= moment,
@@ -103,38 +137,31 @@ impl Log {
     }
 
     /// Adds the grant of a server's slot to a ticket that waits in the queue. What its entry doesn't
-    /// hold, the caller hands over: the class and due date of the ticket's last arrival, and the
-    /// position of the entry that last put it into the queue. `O(1)`, no memory.
-    pub fn note_grant(
-        &mut self,
-        ticket: u64,
-        queue: Queue,
-        server: usize,
-        class: Class,
-        due: Due,
-        joined: usize,
-    )
+    /// hold, the caller hands over: the key of the ticket's last arrival, and the position of the entry
+    /// that last put it into the queue; 0 where it waited there in the base. `O(1)`, no memory.
+    pub fn note_grant(&mut self, key: Key, queue: Queue, server: usize, joined: usize)
         requires room { length self.old.entries < self.old.room }
-        requires arrived { HasArrived self.old.entries ticket class due }
-        requires joined { joining_of ticket queue self.old.entries ≡ joined }
-        requires waits { 0 < joined }
-        ensures { self.new ≡ record { entries = self.old.entries ++ Granted ticket queue server ∷ []; room = self.old.room } }
+        requires begun { 0 < length self.old.entries }
+        requires arrived { HasArrived (base_rows self.old.base.rows) self.old.entries key.ticket key.class key.due }
+        requires joined { joining_of key.ticket queue self.old.entries ≡ joined }
+        requires waits { IsTrue (has_joined (base_rows self.old.base.rows) key.ticket queue self.old.entries) }
+        ensures { self.new ≡ record self.old { entries = self.old.entries ++ Granted key.ticket queue server ∷ [] } }
     {
         let slot = self.list.len() + 1;
         let stay = Stay {
-            ticket,
+            ticket: key.ticket,
             joined,
             slot,
-            due,
+            due: key.due,
         };
         let grant = Grant {
             queue,
-            class,
+            class: key.class,
             moment: self.moment,
             stay,
         };
         put(&mut self.granted, grant);
-        put(&mut self.list, Entry::Granted(ticket, queue, server));
+        put(&mut self.list, Entry::Granted(key.ticket, queue, server));
     }
 }
 
@@ -148,7 +175,8 @@ fn moment_in(entry: &Entry) -> Option<Moment>
         | Entry::Fail(moment, _)
         | Entry::Abort(moment, _)
         | Entry::Tick(moment)
-        | Entry::Check(moment, _, _) => Some(*moment),
+        | Entry::Check(moment, _, _)
+        | Entry::Limit(moment, _, _) => Some(*moment),
         _ => None,
     }
 }
@@ -160,4 +188,23 @@ fn put<T>(list: &mut Vec<T>, item: T)
     ensures room { vec_capacity list.new ≡ vec_capacity list.old }
 {
     list.push_reserved(item);
+}
+
+/// The live requests at their places, one after the other.
+fn list_rows(list: &mut Vec<BaseRow>, rows: &[Option<Row>])
+    requires { length rows.now ≤ vec_capacity list.old }
+    ensures rows { list.new.items ≡ base_rows rows.now }
+    ensures room { vec_capacity list.new ≡ vec_capacity list.old }
+{
+    list.clear();
+    for row in rows {
+        if let Some(row) = row {
+            list.push_reserved(BaseRow {
+                ticket: row.key.ticket,
+                class: row.key.class,
+                due: row.key.due,
+                queue: row.phase.queue(),
+            });
+        }
+    }
 }

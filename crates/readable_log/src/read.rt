@@ -1,13 +1,17 @@
-ghost use Rattle.std.specs.Prelude.{◌≡◌, ◌<◌, ◌+◌, [], ◌∷◌, ◌++◌, IfOk, IfErr, OnOk, None, Some, length, IsTrue, ◌↔◌, List};
+ghost use Rattle.std.specs.Prelude.{◌≡◌, ◌<◌, ◌+◌, [], ◌∷◌, ◌++◌, IfOk, IfErr, OnOk, None, Some, length, IsTrue, ◌↔◌, List, take};
 ghost use Rattle.dispatch_log.specs.declared.entry.Entry.{Entry};
 ghost use Rattle.dispatch_log.specs.declared.entry.Entry.TheVariants.{Granted};
 ghost use Rattle.readable_log.specs.Grants.{arrival_in, joining_in, grant_in, server_of};
+ghost use Rattle.readable_log.specs.Windows.{base_rows};
+ghost use Rattle.readable_log.specs.declared.base.BaseRow.{BaseRow};
 ghost use Rattle.readable_log.specs.Index.{IsIndexOf};
 ghost use Rattle.readable_log.specs.Readable.{MayFollow, IsReadable};
 ghost use Rattle.readable_log.specs.declared.read.ReadError.TheVariants.{NotReadable};
 
+use crate::base::{Base, BaseRow};
 use crate::log::Log;
-use dispatch_log::{Arrival, Entry, Queue};
+use dispatch_log::{Entry, Queue};
+use due_key::Key;
 use std::alloc::{AllocError, Global};
 use std::collections::BTreeMap;
 use thiserror::Error;
@@ -23,28 +27,27 @@ pub enum ReadError {
     NotReadable,
 }
 
-/// What is known of each ticket in the entries so far: its last arrival, and where it last joined
-/// each queue.
+/// What is known of each ticket in the base and the entries so far: its key, and where it last joined
+/// each queue, 0 being the base.
 #[derive(Drop)]
 struct Index {
-    arrivals: BTreeMap<u64, Arrival>,
+    keys: BTreeMap<u64, Key>,
     joinings: BTreeMap<(u64, Option<usize>), usize>,
 }
 
 impl Log {
-    /// The log of these entries, whoever made them, with no more room. `O(n log n)`. Refused where
-    /// memory is, or else exactly where they aren't readable.
-    pub fn read(alloc: Global, entries: &[Entry]) -> Result<Log, ReadError>
-        ensures ok { IfOk result (λ log. log ≡ record { entries = entries.now; room = length entries.now }) }
-        ensures readable { OnOk result (IsReadable entries.now) }
-        ensures unreadable { IfErr result (λ error. error ≡ NotReadable → IsReadable entries.now → ⊥) }
+    /// The window of these entries after this base, whoever made them, with no more room. `O(n log n)`.
+    /// Refused where memory is, or else exactly where they aren't readable.
+    pub fn read(alloc: Global, base: Base, entries: &[Entry]) -> Result<Log, ReadError>
+        ensures ok { IfOk result (λ log. log ≡ record { base = base; entries = entries.now; room = length entries.now }) }
+        ensures readable { OnOk result (IsReadable (record { base = base_rows base.rows; entries = entries.now })) }
+        ensures unreadable { IfErr result (λ error. error ≡ NotReadable → IsReadable (record { base = base_rows base.rows; entries = entries.now }) → ⊥) }
     {
-        let Ok(mut log) = Log::with_room(alloc, entries.len()) else {
+        let Ok(mut log) = Log::with_room(alloc, base, entries.len()) else {
             return Err(ReadError::NoMemory);
         };
-        let mut index = Index {
-            arrivals: BTreeMap::new(alloc),
-            joinings: BTreeMap::new(alloc),
+        let Ok(mut index) = index_of(alloc, log.base()) else {
+            return Err(ReadError::NoMemory);
         };
         for entry in entries {
             follow(&mut log, &mut index, *entry)?;
@@ -53,14 +56,44 @@ impl Log {
     }
 }
 
+/// What is known at the base of a window.
+fn index_of(alloc: Global, base: &[BaseRow]) -> Result<Index, AllocError>
+    ensures { IfOk result (λ index. IsIndexOf base.now [] index) }
+{
+    let mut index = Index {
+        keys: BTreeMap::new(alloc),
+        joinings: BTreeMap::new(alloc),
+    };
+    for row in base {
+        note_row(&mut index, *row)?;
+    }
+    Ok(index)
+}
+
+/// Takes a live request of the base into the index.
+fn note_row(index: &mut Index, row: BaseRow) -> Result<(), AllocError>
+    ensures { OnOk result ((base : List BaseRow) → IsIndexOf base [] index.old → IsIndexOf (base ++ row ∷ []) [] index.new) }
+{
+    let key = Key {
+        class: row.class,
+        due: row.due,
+        ticket: row.ticket,
+    };
+    index.keys.insert(row.ticket, key)?;
+    if let Some(queue) = row.queue {
+        index.joinings.insert((row.ticket, server_of(queue)), 0)?;
+    }
+    Ok(())
+}
+
 /// Adds an entry if it may follow.
 fn follow(log: &mut Log, index: &mut Index, entry: Entry) -> Result<(), ReadError>
     requires room { length log.old.entries < log.old.room }
-    requires indexed { IsIndexOf log.old.entries index.old }
-    ensures follows { OnOk result (MayFollow log.old.entries entry) }
-    ensures log { OnOk result (log.new ≡ record { entries = log.old.entries ++ entry ∷ []; room = log.old.room }) }
-    ensures indexed { OnOk result (IsIndexOf (log.old.entries ++ entry ∷ []) index.new) }
-    ensures unreadable { IfErr result (λ error. error ≡ NotReadable → MayFollow log.old.entries entry → ⊥) }
+    requires indexed { IsIndexOf (base_rows log.old.base.rows) log.old.entries index.old }
+    ensures follows { OnOk result (MayFollow (base_rows log.old.base.rows) log.old.entries entry) }
+    ensures log { OnOk result (log.new ≡ record log.old { entries = log.old.entries ++ entry ∷ [] }) }
+    ensures indexed { OnOk result (IsIndexOf (base_rows log.old.base.rows) (log.old.entries ++ entry ∷ []) index.new) }
+    ensures unreadable { IfErr result (λ error. error ≡ NotReadable → MayFollow (base_rows log.old.base.rows) log.old.entries entry → ⊥) }
 {
     if let Entry::Granted(ticket, queue, server) = entry {
         return follow_grant(log, index, ticket, queue, server);
@@ -75,7 +108,7 @@ fn follow(log: &mut Log, index: &mut Index, entry: Entry) -> Result<(), ReadErro
     Ok(())
 }
 
-/// Adds a grant if its ticket has arrived and joined the queue.
+/// Adds a grant if it is inside an event, and its ticket has arrived and joined the queue.
 fn follow_grant(
     log: &mut Log,
     index: &Index,
@@ -84,30 +117,33 @@ fn follow_grant(
     server: usize,
 ) -> Result<(), ReadError>
     requires room { length log.old.entries < log.old.room }
-    requires indexed { IsIndexOf log.old.entries index.now }
-    ensures follows { OnOk result (MayFollow log.old.entries (Granted ticket queue server)) }
-    ensures log { OnOk result (log.new ≡ record { entries = log.old.entries ++ Granted ticket queue server ∷ []; room = log.old.room }) }
-    ensures unreadable { IfErr result (λ error. MayFollow log.old.entries (Granted ticket queue server) → ⊥) }
+    requires indexed { IsIndexOf (base_rows log.old.base.rows) log.old.entries index.now }
+    ensures follows { OnOk result (MayFollow (base_rows log.old.base.rows) log.old.entries (Granted ticket queue server)) }
+    ensures log { OnOk result (log.new ≡ record log.old { entries = log.old.entries ++ Granted ticket queue server ∷ [] }) }
+    ensures unreadable { IfErr result (λ error. MayFollow (base_rows log.old.base.rows) log.old.entries (Granted ticket queue server) → ⊥) }
 {
-    let Some(arrival) = index.arrivals.get(&ticket) else {
+    if log.is_empty() {
+        return Err(ReadError::NotReadable);
+    }
+    let Some(known) = index.keys.get(&ticket) else {
         return Err(ReadError::NotReadable);
     };
     let wait = (ticket, server_of(queue));
-    let joined = index.joinings.get(&wait).copied().unwrap_or(0);
-    if joined == 0 {
+    let Some(joined) = index.joinings.get(&wait).copied() else {
         return Err(ReadError::NotReadable);
-    }
-    log.note_grant(ticket, queue, server, arrival.class, arrival.due, joined);
+    };
+    let key = Key { ticket, ..*known };
+    log.note_grant(key, queue, server, joined);
     Ok(())
 }
 
 /// Takes an entry at a position into the index.
 fn note(index: &mut Index, entry: &Entry, position: usize) -> Result<(), AllocError>
-    ensures { OnOk result ((log : List Entry) → position ≡ length log + 1 → IsIndexOf log index.old → IsIndexOf (log ++ entry.now ∷ []) index.new) }
+    ensures { OnOk result ((base : List BaseRow) (log : List Entry) → position ≡ length log + 1 → IsIndexOf base log index.old → IsIndexOf base (log ++ entry.now ∷ []) index.new) }
 {
     match entry {
         Entry::Arrive(_, arrival) => {
-            index.arrivals.insert(arrival.ticket, *arrival)?;
+            index.keys.insert(arrival.ticket, arrival.key())?;
             Ok(())
         }
         Entry::Joined(ticket, queue) => note_joining(index, *ticket, *queue, position),
@@ -123,7 +159,7 @@ fn note_joining(
     queue: Queue,
     position: usize,
 ) -> Result<(), AllocError>
-    ensures { OnOk result ((log : List Entry) (entry : Entry) → position ≡ length log + 1 → arrival_in entry ≡ None → joining_in entry ≡ Some (record { ticket = ticket; queue = queue }) → IsIndexOf log index.old → IsIndexOf (log ++ entry ∷ []) index.new) }
+    ensures { OnOk result ((base : List BaseRow) (log : List Entry) (entry : Entry) → position ≡ length log + 1 → arrival_in entry ≡ None → joining_in entry ≡ Some (record { ticket = ticket; queue = queue }) → IsIndexOf base log index.old → IsIndexOf base (log ++ entry ∷ []) index.new) }
 {
     index.joinings.insert((ticket, server_of(queue)), position)?;
     Ok(())

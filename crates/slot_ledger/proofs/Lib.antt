@@ -6,4 +6,3 @@ pub mod Keeping
 pub mod Finding
 pub mod Indexing
 pub mod Counting
-pub mod Limiting

@@ -11,7 +11,7 @@ ghost use Rattle.slot_ledger.specs.Counts.{IsQueueOf, IsPhaseOf};
 
 use crate::counts::Counts;
 use crate::places::Places;
-use dispatch_log::{Allowance, Phase, Queue, Row, ServerSet, Setup};
+use dispatch_log::{Allowance, Phase, Queue, Row, Setup};
 use due_key::Moment;
 use std::alloc::{AllocError, Global};
 use std::marker::Model;
@@ -58,7 +58,7 @@ impl<H: Drop> Ledger<H> {
         let places = Places::new(alloc, setup.places)?;
         let counts = Counts::new(alloc, setup.servers.len())?;
         let ups = vec![in alloc; true; setup.servers.len()]?;
-        let limits = limits_of(alloc, setup.servers.as_slice())?;
+        let limits = setup.opening_limits(alloc)?;
         Ok(Ledger {
             setup,
             ups,
@@ -271,18 +271,4 @@ impl<H: Drop> Ledger<H> {
         self.counts.pass(from, Phase::Loose);
         self.places.end(place);
     }
-}
-
-/// What servers may serve at first.
-fn limits_of(alloc: Global, servers: &[ServerSet]) -> Result<Vec<Allowance>, AllocError>
-    ensures { IfOk result (λ limits. limits.items ≡ opening_limits servers.now) }
-{
-    let mut limits = Vec::with_capacity(alloc, servers.len())?;
-    for server in servers {
-        limits.push_reserved(Allowance {
-            limit: server.limit,
-            served: 0,
-        });
-    }
-    Ok(limits)
 }

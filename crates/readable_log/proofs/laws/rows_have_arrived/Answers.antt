@@ -1,8 +1,10 @@
+use Rattle.readable_log.specs.Windows.{base_rows}
+use Rattle.readable_log.proofs.Based.{base_arrived, base_joined}
 use Rattle.readable_log.proofs.Rows.{rows_arrived, rows_joined}
 use Rattle.readable_log.proofs.laws.rows_have_arrived.Goals as goal
 
 pub returns-clause-arrived : goal.returns-clause-arrived
-returns-clause-arrived c = rows_arrived
+returns-clause-arrived c setup base log is keep = rows_arrived (base_rows base.rows) setup base log (base_arrived setup base is) keep
 
 pub returns-clause-joined : goal.returns-clause-joined
-returns-clause-joined c = rows_joined
+returns-clause-joined c setup base log is = rows_joined (base_rows base.rows) setup base log (base_joined setup base is)

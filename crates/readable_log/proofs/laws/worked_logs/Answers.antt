@@ -9,7 +9,7 @@ returns-clause-readable c = (
     record { begins = λ h. absurd (omega arith); later = tt; arrived = tt; joined = tt },
     (
       record { begins = λ h. refl; later = omega arith; arrived = tt; joined = tt },
-      (record { begins = λ h. absurd (omega arith); later = tt; arrived = refl; joined = omega arith }, tt),
+      (record { begins = λ h. absurd (omega arith); later = tt; arrived = refl; joined = refl }, tt),
     ),
   ),
 )
@@ -24,7 +24,19 @@ pub returns-clause-moment_falls : goal.returns-clause-moment_falls
 returns-clause-moment_falls c = λ readable. let later = readable.1.0.later in absurd (omega arith)
 
 pub returns-clause-joined_another_queue : goal.returns-clause-joined_another_queue
-returns-clause-joined_another_queue c = λ readable. let joined = readable.1.1.0.joined in absurd (omega arith)
+returns-clause-joined_another_queue c = λ readable. false≢true readable.1.1.0.joined
 
 pub returns-clause-never_arrived : goal.returns-clause-never_arrived
 returns-clause-never_arrived c = λ readable. false≢true readable.1.1.0.arrived
+
+pub returns-clause-readable_from_the_base : goal.returns-clause-readable_from_the_base
+returns-clause-readable_from_the_base c = (
+  record { begins = λ h. refl; later = omega arith; arrived = tt; joined = tt },
+  (record { begins = λ h. absurd (omega arith); later = tt; arrived = refl; joined = refl }, tt),
+)
+
+pub returns-clause-grants_from_the_base : goal.returns-clause-grants_from_the_base
+returns-clause-grants_from_the_base c = refl
+
+pub returns-clause-waited_elsewhere : goal.returns-clause-waited_elsewhere
+returns-clause-waited_elsewhere c = λ readable. false≢true readable.1.0.joined

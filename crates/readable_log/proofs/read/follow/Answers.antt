@@ -2,6 +2,7 @@ use Rattle.std.proofs.Common.{◌++◌, ◌∷◌, [], refl, sym, subst, OnOk, R
 use Rattle.dispatch_log.specs.declared.entry.Entry.{Entry}
 use Rattle.dispatch_log.specs.declared.entry.Entry.TheVariants.{Granted}
 use Rattle.readable_log.specs.Index.{IsIndexOf}
+use Rattle.readable_log.specs.Windows.{base_rows}
 use Rattle.readable_log.proofs.Indexed.{index_same}
 use Rattle.readable_log.proofs.read.follow.Goals as goal
 
@@ -12,6 +13,7 @@ on_ok (Err e) P p = tt
 pub returns-in-Granted-clause-indexed : goal.returns-in-Granted-clause-indexed
 returns-in-Granted-clause-indexed c =
     let log = c.args.log.now.entries in
-    on_ok c.follow_grant.result (IsIndexOf (log ++ c.args.entry ∷ []) c.args.index.now)
-    (subst (λ (e : Entry). IsIndexOf (log ++ e ∷ []) c.args.index.now) (sym c.in-Granted.is)
-    (index_same log (Granted c.in-Granted.ticket c.in-Granted.queue c.in-Granted.server) c.args.index.now refl refl c.requires.indexed))
+    let base = base_rows c.args.log.now.base.rows in
+    on_ok c.follow_grant.result (IsIndexOf base (log ++ c.args.entry ∷ []) c.args.index.now)
+    (subst (λ (e : Entry). IsIndexOf base (log ++ e ∷ []) c.args.index.now) (sym c.in-Granted.is)
+    (index_same base log (Granted c.in-Granted.ticket c.in-Granted.queue c.in-Granted.server) c.args.index.now refl refl c.requires.indexed))

@@ -2,6 +2,7 @@ use Rattle.std.proofs.Common.{[], take, sym, subst, arith}
 use Rattle.std.proofs.lemmas.Result.{err_from_is_err_and}
 use Rattle.dispatch_log.specs.Logs.{Recorded}
 use Rattle.readable_log.specs.Readable.{MayFollow}
+use Rattle.readable_log.specs.Windows.{base_rows}
 use Rattle.readable_log.proofs.Indexed.{follows_at}
 use Rattle.readable_log.proofs.log.Log.read.Goals as goal
 
@@ -11,5 +12,6 @@ returns-in_err-follow-clause-unreadable c =
     rw (p.1, p.2) (λ is readable.
     let l = c.loop-entry in
     let es = c.args.entries.now in
-    let may : MayFollow (take l.entry-index es) c.entry-item.result = subst (MayFollow (take l.entry-index es)) (sym c.entry-item.is) (follows_at [] es readable l.entry-index c.entry-item.result (omega arith)) in
-    c.in_err-follow.ensures.unreadable is (subst (λ (r : Recorded). MayFollow r.entries c.entry-item.result) (sym l.invariant.log) may))
+    let base = base_rows c.args.base.rows in
+    let may : MayFollow base (take l.entry-index es) c.entry-item.result = subst (MayFollow base (take l.entry-index es)) (sym c.entry-item.is) (follows_at base [] es readable l.entry-index c.entry-item.result (omega arith)) in
+    c.in_err-follow.ensures.unreadable is (subst (λ (r : Recorded). MayFollow (base_rows r.base.rows) r.entries c.entry-item.result) (sym l.invariant.log) may))

@@ -1,13 +1,16 @@
 -- What servers may serve at first.
-use Rattle.std.proofs.Common.{◌≡◌, ℕ, suc, ◌+◌, ◌<◌, ◌≤◌, List, [], ◌∷◌, ◌++◌, length, take, map, get_or, refl, ap, sym, ◌∙◌, subst, arith}
+use Rattle.std.proofs.Common.{◌≡◌, ℕ, suc, ◌+◌, ◌<◌, List, [], ◌∷◌, ◌++◌, length, take, get_or, ap, sym, ◌∙◌, arith}
 use Rattle.std.proofs.Math.Seq.{take-length, take-suc}
-use Rattle.std.proofs.lemmas.List.{map-append}
+use Rattle.std.proofs.lemmas.List.{map-append, length-map}
 use Rattle.dispatch_log.specs.declared.allowance.Allowance.{Allowance}
 use Rattle.dispatch_log.specs.declared.setup.ServerSet.{ServerSet}
 use Rattle.dispatch_log.specs.States.{opening_limits}
 
-abbrev pub opening_limit : ServerSet → Allowance
+abbrev opening_limit : ServerSet → Allowance
 opening_limit server = record { limit = server.limit; served = 0 }
+
+pub opening_limits-length : (servers : List ServerSet) → length (opening_limits servers) ≡ length servers
+opening_limits-length servers = length-map servers opening_limit
 
 pub one_limit_more : (servers : List ServerSet) (old new : List Allowance) (i : ℕ) (d : ServerSet) → i < length servers → old ≡ opening_limits (take i servers) → new ≡ old ++ opening_limit (get_or servers i d) ∷ []
     → new ≡ opening_limits (take (i + 1) servers)

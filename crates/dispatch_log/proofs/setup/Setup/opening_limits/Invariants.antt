@@ -1,6 +1,6 @@
 use Rattle.std.proofs.Common.{◌≡◌, length, take, vec_capacity}
 use Rattle.dispatch_log.specs.States.{opening_limits}
-use Rattle.slot_ledger.proofs.ledger.limits_of.Given as goal
+use Rattle.dispatch_log.proofs.setup.Setup.opening_limits.Given as goal
 
 -- those of the servers so far
 abbrev pub invariant-loop-server : goal.invariant-loop-server

@@ -1,0 +1,26 @@
+use Rattle.std.proofs.Common.{◌≡◌, ℕ, Option, Some, cond, is_eq, refl, sym, ◌∙◌, subst}
+use Rattle.std.specs.BTreeMap.{get}
+use Rattle.dispatch_log.specs.declared.queue.Queue.{Queue}
+use Rattle.readable_log.specs.Grants.{server_of}
+use Rattle.readable_log.specs.Index.{wait_cmp}
+use Rattle.readable_log.specs.declared.read.Index.{Index}
+use Rattle.readable_log.proofs.Indexed.{index_row}
+use Rattle.list_facts.proofs.Never.{none_some}
+use Rattle.std.proofs.lemmas.Option.{same_Some}
+use Rattle.readable_log.proofs.read.note_row.Goals as goal
+
+pub returns-in_ok-insert-2 : goal.returns-in_ok-insert-2
+returns-in_ok-insert-2 c = λ base is.
+    let old = c.args.index.now in
+    let row = c.args.row in
+    let new : Index = record { keys = c.insert.new.self; joinings = c.insert-in-Some.new.self } in
+    index_row base row old new is (λ t. c.in_ok-insert.ensures.updates.0 t) (λ none. none_some (sym none ∙ c.in-Some.is))
+    (λ p at w.
+        let same : c.server_of.result ≡ server_of p = subst (λ (q : Queue). c.server_of.result ≡ server_of q) (same_Some c.in-Some.queue p (sym c.in-Some.is ∙ at)) c.server_of.ensures in
+        subst (λ (s : Option ℕ). get wait_cmp new.joinings w ≡ cond (is_eq (wait_cmp (row.ticket, s) w)) (Some 0) (get wait_cmp old.joinings w)) same (c.in_ok-insert-2.ensures.updates.0 w))
+
+pub returns-in_default : goal.returns-in_default
+returns-in_default c = λ base is.
+    let old = c.args.index.now in
+    let new : Index = record { keys = c.insert.new.self; joinings = old.joinings } in
+    index_row base c.args.row old new is (λ t. c.in_ok-insert.ensures.updates.0 t) (λ none. refl) (λ p at. none_some (sym c.in_default.is ∙ at))

@@ -1,0 +1,110 @@
+ghost use Rattle.std.specs.Prelude.{◌≡◌, ◌<◌, IfOk, None, length, replicate, slice_set};
+ghost use Rattle.dispatch_log.specs.States.{opening_state};
+ghost use Rattle.readable_log.specs.Bases.{results_by};
+
+use check_state::Health;
+use dispatch_log::{Allowance, Queue, Row, Setup};
+use due_key::{Class, Due, Moment};
+use std::alloc::{AllocError, Global};
+use std::marker::Model;
+
+/// A live request at the base of a window.
+#[derive(Clone, Copy, Debug, PartialEq, Eq)]
+pub struct BaseRow {
+    pub ticket: u64,
+    pub class: Class,
+    pub due: Due,
+    /// The queue that it waits in; None where it doesn't wait.
+    pub queue: Option<Queue>,
+}
+
+/// The state that a window of a log begins with. Of each server's checks it keeps the health alone,
+/// which stands for the shortest results that leave it.
+#[derive(Debug, Drop)]
+pub struct Base {
+    rows: Vec<Option<Row>>,
+    healths: Vec<Option<Health>>,
+    limits: Vec<Allowance>,
+    moment: Moment,
+    ticket: u64,
+    cursor: usize,
+}
+
+impl Model for Base {
+    ghost use Rattle.std.specs.Prelude.{map};
+    ghost use Rattle.dispatch_log.specs.States.{State};
+    ghost use Rattle.readable_log.specs.Bases.{results_by};
+
+    ghost Value = { State };
+
+    ghost view = { λ base. record { rows = base.rows.items; results = map results_by base.healths.items; limits = base.limits.items; moment = base.moment; ticket = base.ticket; cursor = base.cursor } };
+}
+
+impl Base {
+    /// The base of a dispatcher's first window: no request, all servers up and with the limits of their
+    /// setup. All its memory is taken here.
+    pub fn opening(alloc: Global, setup: &Setup) -> Result<Base, AllocError>
+        ensures { IfOk result (λ base. base ≡ opening_state setup.now) }
+    {
+        let servers = setup.servers.len();
+        Ok(Base {
+            rows: nothing(alloc, setup.places)?,
+            healths: nothing(alloc, servers)?,
+            limits: setup.opening_limits(alloc)?,
+            moment: Moment::zero(),
+            ticket: 0,
+            cursor: servers.saturating_sub(1),
+        })
+    }
+
+    /// The places with their requests.
+    pub fn rows(&self) -> &[Option<Row>]
+        ensures { result.now ≡ self.now.rows }
+    {
+        self.rows.as_slice()
+    }
+
+    /// A place has this request, or none.
+    pub fn set_row(&mut self, place: usize, row: Option<Row>)
+        requires { place < length self.old.rows }
+        ensures { self.new ≡ record self.old { rows = slice_set self.old.rows place row } }
+    {
+        self.rows[place] = row;
+    }
+
+    /// A server that is checked has this health; one that isn't has none.
+    pub fn set_health(&mut self, server: usize, health: Option<Health>)
+        requires { server < length self.old.results }
+        ensures { self.new ≡ record self.old { results = slice_set self.old.results server (results_by health) } }
+    {
+        self.healths[server] = health;
+    }
+
+    /// A server may serve so much.
+    pub fn set_limit(&mut self, server: usize, limit: Allowance)
+        requires { server < length self.old.limits }
+        ensures { self.new ≡ record self.old { limits = slice_set self.old.limits server limit } }
+    {
+        self.limits[server] = limit;
+    }
+
+    /// The moment of the last event, the last ticket, and the server that balancing picked last.
+    pub fn set_position(&mut self, moment: Moment, ticket: u64, cursor: usize)
+        ensures { self.new ≡ record self.old { moment = moment; ticket = ticket; cursor = cursor } }
+    {
+        self.moment = moment;
+        self.ticket = ticket;
+        self.cursor = cursor;
+    }
+}
+
+/// So many places without anything.
+fn nothing<T: Drop>(alloc: Global, count: usize) -> Result<Vec<Option<T>>, AllocError>
+    ensures { IfOk result (λ list. list.items ≡ replicate count None) }
+{
+    let mut list = Vec::with_capacity(alloc, count)?;
+    for _ in 0..count {
+        list.push_reserved(None);
+    }
+    Ok(list)
+}

@@ -15,11 +15,13 @@ use Rattle.readable_log.specs.declared.grant.Grant.{Grant}
 use Rattle.readable_log.specs.declared.grant.Stay.{Stay}
 use Rattle.readable_log.proofs.Timely.{timely}
 use Rattle.late_cert.specs.Lateness.{own_lateness}
-use Rattle.readable_log.specs.Ordered.{AllKeepOrder, HaveNone}
+use Rattle.readable_log.specs.Ordered.{AllKeepOrder, HaveArrived}
 use Rattle.late_cert.specs.Reports.{is_within, last_cut, IsCritical, IsSound, IsChosen}
 use Rattle.late_cert.specs.declared.report.Report.{Report}
 use Rattle.late_cert.proofs.Fair.{AreFair, RisesFrom, rises_lower, fair_after, rises_after}
 use Rattle.list_facts.proofs.Members.{all_weaker, all_map, all_append, all_filter}
+use Rattle.readable_log.specs.Windows.{Window}
+use Rattle.readable_log.specs.declared.base.BaseRow.{BaseRow}
 
 -- the cut, from a first one on
 abbrev cut_from : ℤ → ℕ → List Stay → ℕ
@@ -50,7 +52,7 @@ cut_below due acc (s ∷ ss) stay later rises = go (int_lt due s.due) (λ k r. c
 -- a stay is due no later, and joined after a cut
 record IsUrgent (due : ℤ) (after : ℕ) (s : Stay) : Type 0 where
   due_by : s.due ≤ℤ due
-  joined : after < s.joined
+  joined : 0 < after → after < s.joined
 
 -- stays with slots past the end aren't critical
 none_past : (due : ℤ) (after to n : ℕ) (ss : List Stay) → to ≤ n → RisesFrom n ss → AllByRecursion (IsUrgent due after) (filter (is_within after to) ss)
@@ -66,7 +68,7 @@ none_past due after to n (s ∷ ss) le rises = go (is_within after to s) refl (n
 
 -- the critical ones from a first cut on, after which each stay joined that is due in time
 tight : (due : ℤ) (acc : ℕ) (earlier : List Stay) (stay : Stay) (later : List Stay) → stay.due ≡ due → RisesFrom acc (earlier ++ stay ∷ later) → AreFair (earlier ++ stay ∷ later)
-    → AllByRecursion (λ s. s.due ≤ℤ due → acc < s.joined) (earlier ++ stay ∷ later)
+    → AllByRecursion (λ s. s.due ≤ℤ due → 0 < acc → acc < s.joined) (earlier ++ stay ∷ later)
     → AllByRecursion (IsUrgent due (cut_from due acc earlier)) (filter (is_within (cut_from due acc earlier) stay.slot) (earlier ++ stay ∷ later))
 tight due acc [] stay later is_due rises fair joined = go (is_within acc stay.slot stay)
   where
@@ -104,41 +106,42 @@ tight due acc (s ∷ ss) stay later is_due rises fair joined =
     over_time e = grind (arith, ints)
 
     by_due : (b : Bool) → int_lt due s.due ≡ b
-        → ((k : ℕ) → RisesFrom k (ss ++ stay ∷ later) → AllByRecursion (λ u. u.due ≤ℤ due → k < u.joined) (ss ++ stay ∷ later) → AllByRecursion (IsUrgent due (cut_from due k ss)) (filter (is_within (cut_from due k ss) stay.slot) (ss ++ stay ∷ later)))
+        → ((k : ℕ) → RisesFrom k (ss ++ stay ∷ later) → AllByRecursion (λ u. u.due ≤ℤ due → 0 < k → k < u.joined) (ss ++ stay ∷ later) → AllByRecursion (IsUrgent due (cut_from due k ss)) (filter (is_within (cut_from due k ss) stay.slot) (ss ++ stay ∷ later)))
         → AllByRecursion (IsUrgent due (cut_from due (cond b s.slot acc) ss)) (filter (is_within (cut_from due (cond b s.slot acc) ss) stay.slot) (s ∷ (ss ++ stay ∷ later)))
     by_due true e rest =
         let late : s.slot ≤ cut_from due s.slot ss = elim (cut_cases due s.slot s.slot ss rises_ss) [ inl same ↦ omega arith | inr more ↦ omega arith ] in
         with_first (cut_from due s.slot ss) (λ within. let h = after_cut (cut_from due s.slot ss) within in absurd (omega arith)) (is_within (cut_from due s.slot ss) stay.slot s) refl
-        (rest s.slot rises.1 (all_weaker (λ u. u.joined ≤ s.slot → s.due ≤ℤ u.due) (λ u. u.due ≤ℤ due → s.slot < u.joined) (later_joined (over_time e)) (ss ++ stay ∷ later) fair.0))
+        (rest s.slot rises.1 (all_weaker (λ u. u.joined ≤ s.slot → s.due ≤ℤ u.due) (λ u. u.due ≤ℤ due → 0 < s.slot → s.slot < u.joined) (λ u fair_one in_time some. later_joined (over_time e) u fair_one in_time) (ss ++ stay ∷ later) fair.0))
     by_due false e rest =
         with_first (cut_from due acc ss)
         (λ within.
         let h = after_cut (cut_from due acc ss) within in
         record {
           due_by = in_time e;
-          joined = elim (cut_cases due acc s.slot ss rises_ss) [ inl same ↦ (let j = joined.0 (in_time e) in omega arith) | inr more ↦ absurd (omega arith) ];
+          joined = λ some. elim (cut_cases due acc s.slot ss rises_ss) [ inl same ↦ (let j = joined.0 (in_time e) (omega arith) in omega arith) | inr more ↦ absurd (omega arith) ];
         })
         (is_within (cut_from due acc ss) stay.slot s) refl
         (rest acc (rises_lower s.slot acc (ss ++ stay ∷ later) (let h = rises.0 in omega arith) rises.1) joined.1)
 
-placed : (log : List Entry) (q : Queue) (c : ℤ) → IsReadable log → AllByRecursion (λ s. 0 < s.joined) (stays log q c)
-placed log q c readable = all_map (λ (g : Grant). g.stay) (IsTimely log) (λ s. 0 < s.joined) (λ g t. t.placed) (filter (is_of q c) (grants log)) (all_filter (IsTimely log) (is_of q c) (grants log) (timely log readable))
+-- the cut at 0 asks nothing
+after_none : (due : ℤ) (ss : List Stay) → AllByRecursion (λ s. s.due ≤ℤ due → 0 < 0 → 0 < s.joined) ss
+after_none due [] = tt
+after_none due (s ∷ ss) = ((λ in_time some. absurd (omega arith)), after_none due ss)
 
 -- the stay between two lists is one of all
 contains_middle : (earlier : List Stay) (stay : Stay) (later : List Stay) → Contains (earlier ++ stay ∷ later) stay
 contains_middle earlier stay later = Contains-append_right earlier (stay ∷ later) stay (zero, omega arith, refl)
 
 -- the theorem of chosen reports
-pub chosen_sound : (setup : Setup) (start : State) (log : List Entry) (r : Report) → HaveNone start.rows → IsReadable log → AllKeepOrder setup start log → IsChosen log r → IsSound log r
-chosen_sound setup start log r none readable keep chosen =
+pub chosen_sound : (setup : Setup) (start : State) (log : Window) (r : Report) → HaveArrived log.base [] start.rows → AllKeepOrder setup start log.entries → IsChosen log r → IsSound log r
+chosen_sound setup start log r arrived keep chosen =
     let ss = stays log r.queue r.class in
     let w = chosen.worst in
-    let fair : AreFair ss = fair_after setup r.queue r.class [] log start (λ row live. absurd (none row live)) keep in
-    let rises : RisesFrom 0 ss = rises_after r.queue r.class [] log in
+    let fair : AreFair ss = fair_after log.base setup r.queue r.class [] log.entries start arrived keep in
+    let rises : RisesFrom 0 ss = rises_after log.base r.queue r.class [] log.entries in
     let fair_parts : AreFair (w.earlier ++ w.stay ∷ w.later) = subst AreFair w.parts fair in
     let rises_parts : RisesFrom 0 (w.earlier ++ w.stay ∷ w.later) = subst (RisesFrom 0) w.parts rises in
-    let joined : AllByRecursion (λ s. s.due ≤ℤ r.due → 0 < s.joined) (w.earlier ++ w.stay ∷ w.later) = subst (AllByRecursion (λ s. s.due ≤ℤ r.due → 0 < s.joined)) w.parts (all_weaker (λ s. 0 < s.joined) (λ s. s.due ≤ℤ r.due → 0 < s.joined) (λ s h d. h) ss (placed log r.queue r.class readable)) in
-    let urgent : AllByRecursion (IsUrgent r.due (last_cut r.due w.earlier)) (filter (is_within (last_cut r.due w.earlier) w.stay.slot) (w.earlier ++ w.stay ∷ w.later)) = tight r.due 0 w.earlier w.stay w.later (sym w.due) rises_parts fair_parts joined in
+    let urgent : AllByRecursion (IsUrgent r.due (last_cut r.due w.earlier)) (filter (is_within (last_cut r.due w.earlier) w.stay.slot) (w.earlier ++ w.stay ∷ w.later)) = tight r.due 0 w.earlier w.stay w.later (sym w.due) rises_parts fair_parts (after_none r.due (w.earlier ++ w.stay ∷ w.later)) in
     let low : last_cut r.due w.earlier < w.stay.slot = cut_below r.due 0 w.earlier w.stay w.later rises_parts in
     let more : 0 < length (w.earlier ++ w.stay ∷ w.later) = omega (arith, length-append w.earlier (w.stay ∷ w.later)) in
     record {
@@ -154,7 +157,7 @@ chosen_sound setup start log r none readable keep chosen =
           (subst (λ l. AllByRecursion (IsCritical r) (filter (is_within r.after r.to) l)) (sym w.parts)
           (subst (λ n. AllByRecursion (IsCritical r) (filter (is_within r.after n) (w.earlier ++ w.stay ∷ w.later))) (sym w.slot)
           (subst (λ n. AllByRecursion (IsCritical r) (filter (is_within n w.stay.slot) (w.earlier ++ w.stay ∷ w.later))) (sym w.after)
-          (all_weaker (IsUrgent r.due (last_cut r.due w.earlier)) (IsCritical r) (λ s u. record { due = u.due_by; joined = subst (λ n. n < s.joined) (sym w.after) u.joined }) (filter (is_within (last_cut r.due w.earlier) w.stay.slot) (w.earlier ++ w.stay ∷ w.later)) urgent))));
+          (all_weaker (IsUrgent r.due (last_cut r.due w.earlier)) (IsCritical r) (λ s u. record { due = u.due_by; joined = subst (λ n. 0 < n → n < s.joined) (sym w.after) u.joined }) (filter (is_within (last_cut r.due w.earlier) w.stay.slot) (w.earlier ++ w.stay ∷ w.later)) urgent))));
     }
   where
     at_most : (a b : ℤ) → a ≡ b → a ≤ℤ b

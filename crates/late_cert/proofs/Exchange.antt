@@ -12,6 +12,7 @@ use Rattle.readable_log.specs.declared.grant.Stay.{Stay}
 use Rattle.late_cert.specs.Lateness.{lateness, own_slots, AreAfterJoining, latenesses, IsAssignment}
 use Rattle.late_cert.specs.Reports.{is_within, IsCritical}
 use Rattle.late_cert.specs.declared.report.Report.{Report}
+use Rattle.readable_log.specs.Windows.{Window}
 
 -- a slot after the cut and before the end
 abbrev pub is_between : ℕ → ℕ → ℕ → Bool
@@ -55,20 +56,24 @@ Reaches worst [] = ⊥
 Reaches worst (number ∷ numbers) = (worst ≤ℤ number) ⊎ Reaches worst numbers
 
 -- a stay that is due no later is at least as late with a slot that comes no earlier
-late_enough : (log : List Entry) (worst due : ℤ) (to slot : ℕ) (s : Stay) → worst ≡ (pos (moment_at log to) -ℤ due) → moment_at log to ≤ moment_at log slot → s.due ≤ℤ due → worst ≤ℤ lateness log slot s
+late_enough : (log : Window) (worst due : ℤ) (to slot : ℕ) (s : Stay) → worst ≡ (pos (moment_at log.entries to) -ℤ due) → moment_at log.entries to ≤ moment_at log.entries slot → s.due ≤ℤ due → worst ≤ℤ lateness log slot s
 late_enough log worst due to slot s late later urgent = omega (arith, ints)
 
 -- a critical stay with a slot after its joining: after the cut and before the end, or at least as late
-critical_slot : (log : List Entry) (r : Report) (slot : ℕ) (s : Stay) → ((p q : ℕ) → p ≤ q → moment_at log p ≤ moment_at log q) → r.worst ≡ (pos (moment_at log r.to) -ℤ r.due) → IsCritical r s → s.joined < slot → (r.worst ≤ℤ lateness log slot s) ⊎ (is_between r.after r.to slot ≡ true)
+critical_slot : (log : Window) (r : Report) (slot : ℕ) (s : Stay) → ((p q : ℕ) → p ≤ q → moment_at log.entries p ≤ moment_at log.entries q) → r.worst ≡ (pos (moment_at log.entries r.to) -ℤ r.due) → IsCritical r s → s.joined < slot → (r.worst ≤ℤ lateness log slot s) ⊎ (is_between r.after r.to slot ≡ true)
 critical_slot log r slot s rises late critical after = by_test (nat_lt slot r.to) refl
   where
+    past_cut : (b : Bool) → nat_lt 0 r.after ≡ b → r.after < slot
+    past_cut true e = let cut = critical.joined (grind (arith, nat_tests)) in omega (arith, cut, after)
+    past_cut false e = grind (arith, nat_tests)
+
     by_test : (b : Bool) → nat_lt slot r.to ≡ b → (r.worst ≤ℤ lateness log slot s) ⊎ (is_between r.after r.to slot ≡ true)
-    by_test true e = let cut = critical.joined in inr (grind (arith, nat_tests))
+    by_test true e = let past : r.after < slot = past_cut (nat_lt 0 r.after) refl in inr (grind (arith, nat_tests))
     by_test false e = inl (late_enough log r.worst r.due r.to slot s late (rises r.to slot (grind (arith, nat_tests))) critical.due)
 
 -- with slots after their joinings, one of the stays is at least so late, or enough of the slots lie after the cut and
 -- before the end
-reached_or_few : (log : List Entry) (r : Report) → ((p q : ℕ) → p ≤ q → moment_at log p ≤ moment_at log q) → r.worst ≡ (pos (moment_at log r.to) -ℤ r.due)
+reached_or_few : (log : Window) (r : Report) → ((p q : ℕ) → p ≤ q → moment_at log.entries p ≤ moment_at log.entries q) → r.worst ≡ (pos (moment_at log.entries r.to) -ℤ r.due)
     → (ss : List Stay) (slots : List ℕ) → AllByRecursion (IsCritical r) (filter (is_within r.after r.to) ss) → AreAfterJoining ss slots
     → Reaches r.worst (latenesses log ss slots) ⊎ (count_by (is_within r.after r.to) ss ≤ count_by (is_between r.after r.to) slots)
 reached_or_few log r rises late [] [] critical after = inr (omega arith)
@@ -94,7 +99,7 @@ reached_or_few log r rises late (s ∷ ss) (n ∷ slots) critical after =
         ]
 
 -- so every assignment has one that is at least so late
-pub reached_by_all : (log : List Entry) (r : Report) (ss : List Stay) (w : Stay) → ((p q : ℕ) → p ≤ q → moment_at log p ≤ moment_at log q) → r.worst ≡ (pos (moment_at log r.to) -ℤ r.due)
+pub reached_by_all : (log : Window) (r : Report) (ss : List Stay) (w : Stay) → ((p q : ℕ) → p ≤ q → moment_at log.entries p ≤ moment_at log.entries q) → r.worst ≡ (pos (moment_at log.entries r.to) -ℤ r.due)
     → AllByRecursion (IsCritical r) (filter (is_within r.after r.to) ss) → Contains ss w → w.slot ≡ r.to → r.after < r.to
     → (slots : List ℕ) → IsAssignment ss slots → Reaches r.worst (latenesses log ss slots)
 reached_by_all log r ss w rises late critical has end before slots is =

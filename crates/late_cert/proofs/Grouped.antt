@@ -26,6 +26,7 @@ use Rattle.list_facts.proofs.Places.{cut_at}
 use Rattle.late_cert.proofs.Order.{before_other, same_ties}
 use Rattle.late_cert.proofs.Sorted.{AreSorted, are_sorted, sorted_drop, is_of_true, is_of_own, NoneBefore, IsSplit, split_sorted, none_before_first, stable_filter}
 use Rattle.late_cert.proofs.Sound.{lateness_of}
+use Rattle.readable_log.specs.Windows.{Window}
 
 -- ---- a group's report
 
@@ -136,7 +137,7 @@ among_groups (r ∷ rs) gs sorted groups = go (among_groups rs (drop (prefix_len
 
 -- ---- a report by places, and as it is chosen
 
-chosen_group : (log : List Entry) (gs : List Grant) (r : Report) → AllByRecursion (IsTimely log) gs → IsReportOf gs r → IsChosenFor log (map (λ g. g.stay) gs) r
+chosen_group : (log : Window) (gs : List Grant) (r : Report) → AllByRecursion (IsTimely log) gs → IsReportOf gs r → IsChosenFor log (map (λ g. g.stay) gs) r
 chosen_group log gs r timely it = record {
   granted = it.granted ∙ sym (length-map gs (λ g. g.stay));
   worst = record {
@@ -200,7 +201,7 @@ chosen_group log gs r timely it = record {
 abbrev grant_like : Report → Grant
 grant_like r = record { queue = r.queue; class = r.class; moment = 0; stay = record { ticket = 0; joined = 0; slot = 0; due = pos 0 } }
 
-pub certified : (log : List Entry) (sorted : List Grant) (rs : List Report) → IsReadable log → IsPermutation (grants log) sorted → IsSortedBy is_before sorted → IsStableBy is_before (grants log) sorted → AreGroups sorted rs → AreReports log rs
+pub certified : (log : Window) (sorted : List Grant) (rs : List Report) → IsReadable log → IsPermutation (grants log) sorted → IsSortedBy is_before sorted → IsStableBy is_before (grants log) sorted → AreGroups sorted rs → AreReports log rs
 certified log sorted rs readable permuted rising stable groups =
     let among = among_groups rs sorted (are_sorted sorted rising) groups in
     record {

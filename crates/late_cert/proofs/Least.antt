@@ -17,6 +17,7 @@ use Rattle.late_cert.specs.Lateness.{own_lateness, own_slots, AreAfterJoining, l
 use Rattle.late_cert.specs.Reports.{IsSound, IsLeast, is_within, IsCritical}
 use Rattle.late_cert.specs.declared.report.Report.{Report}
 use Rattle.late_cert.proofs.Exchange.{Reaches, reached_by_all}
+use Rattle.readable_log.specs.Windows.{Window}
 
 greatest_reaches : (worst : ℤ) (numbers : List ℤ) → Reaches worst numbers → worst ≤ℤ greatest numbers
 greatest_reaches worst [] reached = absurd reached
@@ -39,22 +40,22 @@ same_order : (a b : ℤ) → a ≤ℤ b → b ≤ℤ a → a ≡ b
 same_order a b h k = omega (arith, ints)
 
 -- the log's own latenesses
-bounded_own : (log : List Entry) (worst : ℤ) (ss : List Stay) → AllByRecursion (λ s. own_lateness log s ≤ℤ worst) ss → AllByRecursion (λ it. it ≤ℤ worst) (latenesses log ss (own_slots ss))
+bounded_own : (log : Window) (worst : ℤ) (ss : List Stay) → AllByRecursion (λ s. own_lateness log s ≤ℤ worst) ss → AllByRecursion (λ it. it ≤ℤ worst) (latenesses log ss (own_slots ss))
 bounded_own log worst [] all = tt
 bounded_own log worst (s ∷ ss) all = (all.0, bounded_own log worst ss all.1)
 
-own_length : (log : List Entry) (ss : List Stay) → length (latenesses log ss (own_slots ss)) ≡ length ss
+own_length : (log : Window) (ss : List Stay) → length (latenesses log ss (own_slots ss)) ≡ length ss
 own_length log [] = refl
 own_length log (s ∷ ss) = ap suc (own_length log ss)
 
-own_reaches : (log : List Entry) (worst : ℤ) (ss : List Stay) (w : Stay) (k : ℕ) → k < length ss → slice_index_or ss k w ≡ w → own_lateness log w ≡ worst → Reaches worst (latenesses log ss (own_slots ss))
+own_reaches : (log : Window) (worst : ℤ) (ss : List Stay) (w : Stay) (k : ℕ) → k < length ss → slice_index_or ss k w ≡ w → own_lateness log w ≡ worst → Reaches worst (latenesses log ss (own_slots ss))
 own_reaches log worst [] w k below at late = absurd (omega arith)
 own_reaches log worst (s ∷ ss) w zero below at late =
     inl (let h : own_lateness log s ≡ worst = ap (own_lateness log) at ∙ late in subst (λ z. worst ≤ℤ z) (sym h) (omega (arith, ints)))
 own_reaches log worst (s ∷ ss) w (suc k) below at late = inr (own_reaches log worst ss w k (omega arith) at late)
 
 -- the log's own slots are an assignment
-own_after : (log : List Entry) (q : Queue) (c : ℤ) (gs : List Grant) → AllByRecursion (IsTimely log) gs → AreAfterJoining (map (λ g. g.stay) (filter (is_of q c) gs)) (own_slots (map (λ g. g.stay) (filter (is_of q c) gs)))
+own_after : (log : Window) (q : Queue) (c : ℤ) (gs : List Grant) → AllByRecursion (IsTimely log) gs → AreAfterJoining (map (λ g. g.stay) (filter (is_of q c) gs)) (own_slots (map (λ g. g.stay) (filter (is_of q c) gs)))
 own_after log q c [] all = tt
 own_after log q c (g ∷ gs) all = go (is_of q c g) (own_after log q c gs all.1)
   where
@@ -64,12 +65,12 @@ own_after log q c (g ∷ gs) all = go (is_of q c g) (own_after log q c gs all.1)
     go false rest = rest
 
 -- the theorem of least lateness
-pub sound_least : (log : List Entry) (r : Report) → IsReadable log → IsSound log r → IsLeast log r
+pub sound_least : (log : Window) (r : Report) → IsReadable log → IsSound log r → IsLeast log r
 sound_least log r readable sound =
     let ss = stays log r.queue r.class in
     let w = sound.worst in
     let k = w.member in
-    let late : r.worst ≡ (pos (moment_at log r.to) -ℤ r.due) = sym w.late ∙ ap (λ n. pos (moment_at log n) -ℤ w.stay.due) w.slot ∙ ap (λ d. pos (moment_at log r.to) -ℤ d) w.due in
+    let late : r.worst ≡ (pos (moment_at log.entries r.to) -ℤ r.due) = sym w.late ∙ ap (λ n. pos (moment_at log.entries n) -ℤ w.stay.due) w.slot ∙ ap (λ d. pos (moment_at log.entries r.to) -ℤ d) w.due in
     let critical : AllByRecursion (IsCritical r) (filter (is_within r.after r.to) ss) = subst (AllByRecursion (IsCritical r)) sound.listed sound.critical in
     let some : 0 < length ss = subst (λ n. 0 < n) sound.granted sound.some in
     record {

@@ -1,5 +1,5 @@
 -- A report passes the tests exactly where it is sound.
-use Rattle.std.proofs.Common.{◌≡◌, ℕ, zero, suc, ◌-◌, ◌<◌, ◌≤◌, ◌==◌, ◌&&◌, ◌||◌, not, Bool, true, false, cond, ℤ, pos, ◌-ℤ◌, ◌≤ℤ◌, int_lt, List, [], ◌∷◌, map, length, drop, count_by, slice_index_or, ◌↔◌, IsTrue, Decides, refl, ap, sym, ◌∙◌, subst, arith, length-drop}
+use Rattle.std.proofs.Common.{◌≡◌, ℕ, zero, suc, ◌-◌, ◌<◌, ◌≤◌, ◌==◌, ◌&&◌, ◌||◌, not, Bool, true, false, cond, ℤ, pos, ◌-ℤ◌, ◌≤ℤ◌, int_lt, List, [], ◌∷◌, map, length, drop, count_by, slice_index_or, ◌↔◌, IsTrue, Decides, refl, ap, sym, ◌∙◌, subst, arith, length-drop, nat_lt}
 use Rattle.std.specs.List.{AllByRecursion, filter, list_all, list_any}
 use Rattle.std.specs.Ordering.{int_eq}
 use Rattle.std.proofs.lemmas.Bool.{false≢true}
@@ -18,13 +18,14 @@ use Rattle.late_cert.specs.Lateness.{own_lateness}
 use Rattle.late_cert.specs.Reports.{is_within, HasWorst, IsCritical, IsSound}
 use Rattle.late_cert.specs.Tests.{is_about, late_by, keeps_worst, is_worst, is_listed, listed_of, is_urgent, Passes}
 use Rattle.late_cert.specs.declared.report.Report.{Report}
+use Rattle.readable_log.specs.Windows.{Window}
 
 -- the stays that a report is about, among some grants
 abbrev pub about : Report → List Grant → List Stay
 about r gs = map (λ g. g.stay) (filter (is_about r) gs)
 
 -- a grant's lateness is that of its stay with its own slot
-pub lateness_of : (log : List Entry) (g : Grant) → IsTimely log g → own_lateness log g.stay ≡ late_by g
+pub lateness_of : (log : Window) (g : Grant) → IsTimely log g → own_lateness log g.stay ≡ late_by g
 lateness_of log g timely = ap (λ (m : ℕ). pos m -ℤ g.stay.due) (sym timely.moment)
 
 all_decides : {X : Type 0} (p : X → Bool) (P : X → Type 0) → ((x : X) → Decides (p x) (P x)) → (xs : List X) → Decides (list_all p xs) (AllByRecursion P xs)
@@ -39,7 +40,7 @@ keeps_decides r g = go (is_about r g) (late_by g)
     go true z = (λ e. λ t. grind (arith, ints), λ h. let k = h refl in grind (arith, ints))
     go false z = (λ e. λ t. cc, λ h. refl)
 
-bounded_to : (log : List Entry) (r : Report) (gs : List Grant) → AllByRecursion (IsTimely log) gs → AllByRecursion (λ g. is_about r g ≡ true → late_by g ≤ℤ r.worst) gs → AllByRecursion (λ s. own_lateness log s ≤ℤ r.worst) (about r gs)
+bounded_to : (log : Window) (r : Report) (gs : List Grant) → AllByRecursion (IsTimely log) gs → AllByRecursion (λ g. is_about r g ≡ true → late_by g ≤ℤ r.worst) gs → AllByRecursion (λ s. own_lateness log s ≤ℤ r.worst) (about r gs)
 bounded_to log r [] timely all = tt
 bounded_to log r (g ∷ gs) timely all = go (is_about r g) refl (bounded_to log r gs timely.1 all.1)
   where
@@ -47,7 +48,7 @@ bounded_to log r (g ∷ gs) timely all = go (is_about r g) refl (bounded_to log 
     go true e rest = (subst (λ z. z ≤ℤ r.worst) (sym (lateness_of log g timely.0)) (all.0 e), rest)
     go false e rest = rest
 
-bounded_from : (log : List Entry) (r : Report) (gs : List Grant) → AllByRecursion (IsTimely log) gs → AllByRecursion (λ s. own_lateness log s ≤ℤ r.worst) (about r gs) → AllByRecursion (λ g. is_about r g ≡ true → late_by g ≤ℤ r.worst) gs
+bounded_from : (log : Window) (r : Report) (gs : List Grant) → AllByRecursion (IsTimely log) gs → AllByRecursion (λ s. own_lateness log s ≤ℤ r.worst) (about r gs) → AllByRecursion (λ g. is_about r g ≡ true → late_by g ≤ℤ r.worst) gs
 bounded_from log r [] timely all = tt
 bounded_from log r (g ∷ gs) timely all = go (is_about r g) refl all (bounded_from log r gs timely.1)
   where
@@ -72,16 +73,16 @@ worst_decides r g =
     (Decides-and (is_about r g) (g.stay.slot == r.to) (λ e. e, λ e. e) (Decides-eqb g.stay.slot r.to)) (Decides-int_eq g.stay.due r.due)) (Decides-int_eq (late_by g) r.worst))
 
 -- one more grant in front
-worst_more : (log : List Entry) (r : Report) (g : Grant) (gs : List Grant) → HasWorst log (about r gs) r → (b : Bool) → HasWorst log (map (λ x. x.stay) (cond b (g ∷ filter (is_about r) gs) (filter (is_about r) gs))) r
+worst_more : (log : Window) (r : Report) (g : Grant) (gs : List Grant) → HasWorst log (about r gs) r → (b : Bool) → HasWorst log (map (λ x. x.stay) (cond b (g ∷ filter (is_about r) gs) (filter (is_about r) gs))) r
 worst_more log r g gs w false = w
 worst_more log r g gs w true = record { stay = w.stay; member = (suc w.member.0, omega (arith, w.member.1), w.member.2); slot = w.slot; due = w.due; late = w.late }
 
-worst_here : (log : List Entry) (r : Report) (g : Grant) (gs : List Grant) → IsTimely log g → IsWorstGrant r g → HasWorst log (about r (g ∷ gs)) r
+worst_here : (log : Window) (r : Report) (g : Grant) (gs : List Grant) → IsTimely log g → IsWorstGrant r g → HasWorst log (about r (g ∷ gs)) r
 worst_here log r g gs timely w =
     subst (λ (b : Bool). HasWorst log (map (λ x. x.stay) (cond b (g ∷ filter (is_about r) gs) (filter (is_about r) gs))) r) (sym w.is_about)
     (record { stay = g.stay; member = (zero, omega arith, refl); slot = w.slot; due = w.due; late = lateness_of log g timely ∙ w.late })
 
-worst_to : (log : List Entry) (r : Report) (gs : List Grant) → AllByRecursion (IsTimely log) gs → list_any (is_worst r) gs ≡ true → HasWorst log (about r gs) r
+worst_to : (log : Window) (r : Report) (gs : List Grant) → AllByRecursion (IsTimely log) gs → list_any (is_worst r) gs ≡ true → HasWorst log (about r gs) r
 worst_to log r [] timely e = cc
 worst_to log r (g ∷ gs) timely e = go (is_worst r g) refl e (λ h. worst_more log r g gs (worst_to log r gs timely.1 h) (is_about r g))
   where
@@ -89,7 +90,7 @@ worst_to log r (g ∷ gs) timely e = go (is_worst r g) refl e (λ h. worst_more 
     go true is e rest = worst_here log r g gs timely.0 ((worst_decides r g).0 is)
     go false is e rest = rest e
 
-worst_from : (log : List Entry) (r : Report) (gs : List Grant) → AllByRecursion (IsTimely log) gs → HasWorst log (about r gs) r → list_any (is_worst r) gs ≡ true
+worst_from : (log : Window) (r : Report) (gs : List Grant) → AllByRecursion (IsTimely log) gs → HasWorst log (about r gs) r → list_any (is_worst r) gs ≡ true
 worst_from log r [] timely w = absurd (omega (arith, w.member.1))
 worst_from log r (g ∷ gs) timely w = by_about (is_about r g) refl w (λ v. later (is_worst r g) (worst_from log r gs timely.1 v))
   where
@@ -122,13 +123,17 @@ listed_is r (g ∷ gs) = go (is_about r g) (is_within r.after r.to g.stay) refl 
     go true false e rest = rw e rest
 
 urgent_decides : (r : Report) (s : Stay) → Decides (is_urgent r s) (IsCritical r s)
-urgent_decides r s = (λ e. record { due = grind (arith, ints, nat_tests); joined = grind (arith, ints, nat_tests) }, λ h. let d = h.due in let j = h.joined in grind (arith, ints, nat_tests))
+urgent_decides r s = (λ e. record { due = grind (arith, ints, nat_tests); joined = λ some. grind (arith, ints, nat_tests) }, λ h. by_cut (nat_lt 0 r.after) refl h)
+  where
+    by_cut : (b : Bool) → nat_lt 0 r.after ≡ b → IsCritical r s → is_urgent r s ≡ true
+    by_cut true e h = let d = h.due in let j = h.joined (grind (arith, nat_tests)) in grind (arith, ints, nat_tests)
+    by_cut false e h = let d = h.due in grind (arith, ints, nat_tests)
 
 about_length : (r : Report) (gs : List Grant) → length (about r gs) ≡ count_by (is_about r) gs
 about_length r gs = length-map (filter (is_about r) gs) (λ g. g.stay) ∙ length-filter (is_about r) gs
 
 -- the tests are those of a sound report
-pub sound_exactly : (log : List Entry) (r : Report) → IsReadable log → Passes r (grants log) ↔ IsSound log r
+pub sound_exactly : (log : Window) (r : Report) → IsReadable log → Passes r (grants log) ↔ IsSound log r
 sound_exactly log r readable = (
   λ p. record {
     granted = p.granted ∙ sym (about_length r (grants log));

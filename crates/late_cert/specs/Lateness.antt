@@ -2,17 +2,17 @@
 use Rattle.std.specs.Prelude.{ℕ, ◌<◌, ℤ, pos, ◌-ℤ◌, List, [], ◌∷◌, map}
 use Rattle.std.specs.Int.{int_max}
 use Rattle.std.specs.List.Sorted.{IsPermutation}
-use Rattle.dispatch_log.specs.declared.entry.Entry.{Entry}
+use Rattle.readable_log.specs.Windows.{Window}
 use Rattle.readable_log.specs.Grants.{moment_at}
 use Rattle.readable_log.specs.declared.grant.Stay.{Stay}
 
 -- how late a stay is whose slot is the one at a position: the moment there minus its due date
-abbrev pub lateness : List Entry → ℕ → Stay → ℤ
-lateness log slot stay = pos (moment_at log slot) -ℤ stay.due
+abbrev pub lateness : Window → ℕ → Stay → ℤ
+lateness window slot stay = pos (moment_at window.entries slot) -ℤ stay.due
 
 -- how late a stay is with the slot that it got
-abbrev pub own_lateness : List Entry → Stay → ℤ
-own_lateness log stay = lateness log stay.slot stay
+abbrev pub own_lateness : Window → Stay → ℤ
+own_lateness window stay = lateness window stay.slot stay
 
 -- the slots that stays got, in order
 abbrev pub own_slots : List Stay → List ℕ
@@ -30,9 +30,9 @@ pub record IsAssignment (stays : List Stay) (slots : List ℕ) : Type 0 where
   pub after_joining : AreAfterJoining stays slots
 
 -- how late each stay is with the slot that it is assigned
-abbrev pub latenesses : List Entry → List Stay → List ℕ → List ℤ
-latenesses log (stay ∷ stays) (slot ∷ slots) = lateness log slot stay ∷ latenesses log stays slots
-latenesses log stays slots = []
+abbrev pub latenesses : Window → List Stay → List ℕ → List ℤ
+latenesses window (stay ∷ stays) (slot ∷ slots) = lateness window slot stay ∷ latenesses window stays slots
+latenesses window stays slots = []
 
 -- the greatest of some numbers; 0 of none
 abbrev pub greatest : List ℤ → ℤ

@@ -1,7 +1,7 @@
--- What a report claims of a log, and when it is right.
+-- What a report claims of a window, and when it is right.
 use Rattle.std.specs.Prelude.{◌≡◌, ℕ, ◌<◌, nat_lt, nat_le, ◌&&◌, ◌||◌, ℤ, ◌≤ℤ◌, ◌<ℤ◌, int_lt, Bool, true, false, IsTrue, List, [], ◌∷◌, ◌++◌, length, if◌then◌else◌}
 use Rattle.std.specs.List.{AllByRecursion, Contains, fold, filter, list_any}
-use Rattle.dispatch_log.specs.declared.entry.Entry.{Entry}
+use Rattle.readable_log.specs.Windows.{Window}
 use Rattle.dispatch_log.specs.declared.queue.Queue.{Queue}
 use Rattle.dispatch_log.specs.declared.queue.Queue.TheVariants.{Backend, Server}
 use Rattle.dispatch_log.specs.Rows.{same_queue}
@@ -12,74 +12,75 @@ use Rattle.late_cert.specs.Lateness.{own_lateness, own_slots, latenesses, greate
 use Rattle.late_cert.specs.declared.report.Report.{Report}
 
 -- the stays that a report is about
-abbrev pub stays_of : List Entry → Report → List Stay
-stays_of log report = stays log report.queue report.class
+abbrev pub stays_of : Window → Report → List Stay
+stays_of window report = stays window report.queue report.class
 
 -- whether a stay's slot lies after a cut and no later than an end
 abbrev pub is_within : ℕ → ℕ → Stay → Bool
 is_within after to stay = nat_lt after stay.slot && nat_le stay.slot to
 
 -- one of the stays is the worst: it has the report's slot, due date and lateness
-pub record HasWorst (log : List Entry) (stays : List Stay) (report : Report) : Type 0 where
+pub record HasWorst (window : Window) (stays : List Stay) (report : Report) : Type 0 where
   pub stay : Stay
   pub member : Contains stays stay
   pub slot : stay.slot ≡ report.to
   pub due : stay.due ≡ report.due
-  pub late : own_lateness log stay ≡ report.worst
+  pub late : own_lateness window stay ≡ report.worst
 
--- a critical stay is due no later than the worst one, and needs a slot after the cut
+-- a critical stay is due no later than the worst one, and needs a slot after the cut: it joined after it, and any slot
+-- lies after the cut at 0
 pub record IsCritical (report : Report) (stay : Stay) : Type 0 where
   pub due : stay.due ≤ℤ report.due
-  pub joined : report.after < stay.joined
+  pub joined : 0 < report.after → report.after < stay.joined
 
 -- a sound report: so many stays, none later than the worst, which is one of them; and the critical ones are all those
 -- with slots after the cut up to the worst one's
-pub record IsSoundFor (log : List Entry) (stays : List Stay) (report : Report) : Type 0 where
+pub record IsSoundFor (window : Window) (stays : List Stay) (report : Report) : Type 0 where
   pub granted : report.granted ≡ length stays
   pub some : 0 < report.granted
-  pub bounded : AllByRecursion (λ stay. own_lateness log stay ≤ℤ report.worst) stays
-  pub worst : HasWorst log stays report
+  pub bounded : AllByRecursion (λ stay. own_lateness window stay ≤ℤ report.worst) stays
+  pub worst : HasWorst window stays report
   pub before : report.after < report.to
   pub listed : report.critical ≡ filter (is_within report.after report.to) stays
   pub critical : AllByRecursion (IsCritical report) report.critical
 
-abbrev pub IsSound : List Entry → Report → Type 0
-IsSound log report = IsSoundFor log (stays_of log report) report
+abbrev pub IsSound : Window → Report → Type 0
+IsSound window report = IsSoundFor window (stays_of window report) report
 
 -- no assignment of the slots has a smaller greatest lateness than the worst, and the log's own has exactly that
-pub record IsLeastFor (log : List Entry) (stays : List Stay) (report : Report) : Type 0 where
+pub record IsLeastFor (window : Window) (stays : List Stay) (report : Report) : Type 0 where
   pub own : IsAssignment stays (own_slots stays)
-  pub reached : greatest (latenesses log stays (own_slots stays)) ≡ report.worst
-  pub least : (slots : List ℕ) → IsAssignment stays slots → report.worst ≤ℤ greatest (latenesses log stays slots)
+  pub reached : greatest (latenesses window stays (own_slots stays)) ≡ report.worst
+  pub least : (slots : List ℕ) → IsAssignment stays slots → report.worst ≤ℤ greatest (latenesses window stays slots)
 
-abbrev pub IsLeast : List Entry → Report → Type 0
-IsLeast log report = IsLeastFor log (stays_of log report) report
+abbrev pub IsLeast : Window → Report → Type 0
+IsLeast window report = IsLeastFor window (stays_of window report) report
 
 -- the slot of the last of some stays that is due later than a date; 0 where none is
 abbrev pub last_cut : ℤ → List Stay → ℕ
 last_cut due stays = fold (λ cut stay. if int_lt due stay.due then stay.slot else cut) 0 stays
 
 -- the worst stay is the first of the latest ones, and the cut is the last slot before it of a stay that is due later
-pub record IsFirstWorst (log : List Entry) (stays : List Stay) (report : Report) : Type 0 where
+pub record IsFirstWorst (window : Window) (stays : List Stay) (report : Report) : Type 0 where
   pub earlier : List Stay
   pub stay : Stay
   pub later : List Stay
   pub parts : stays ≡ earlier ++ stay ∷ later
-  pub less : AllByRecursion (λ it. own_lateness log it <ℤ report.worst) earlier
-  pub late : own_lateness log stay ≡ report.worst
-  pub not_more : AllByRecursion (λ it. own_lateness log it ≤ℤ report.worst) later
+  pub less : AllByRecursion (λ it. own_lateness window it <ℤ report.worst) earlier
+  pub late : own_lateness window stay ≡ report.worst
+  pub not_more : AllByRecursion (λ it. own_lateness window it ≤ℤ report.worst) later
   pub slot : report.to ≡ stay.slot
   pub due : report.due ≡ stay.due
   pub after : report.after ≡ last_cut report.due earlier
 
 -- the chosen report: of the worst stays the first, of the cuts the last
-pub record IsChosenFor (log : List Entry) (stays : List Stay) (report : Report) : Type 0 where
+pub record IsChosenFor (window : Window) (stays : List Stay) (report : Report) : Type 0 where
   pub granted : report.granted ≡ length stays
-  pub worst : IsFirstWorst log stays report
+  pub worst : IsFirstWorst window stays report
   pub critical : report.critical ≡ filter (is_within report.after report.to) stays
 
-abbrev pub IsChosen : List Entry → Report → Type 0
-IsChosen log report = IsChosenFor log (stays_of log report) report
+abbrev pub IsChosen : Window → Report → Type 0
+IsChosen window report = IsChosenFor window (stays_of window report) report
 
 -- whether a queue comes before another: the backend's first, then the servers' in order
 abbrev pub queue_before : Queue → Queue → Bool
@@ -102,7 +103,7 @@ abbrev pub is_covered : List Report → Grant → Bool
 is_covered reports grant = list_any (λ report. is_of report.queue report.class grant) reports
 
 -- the reports of a log: the chosen one for each queue and class that has a grant, and no other, in order
-pub record AreReports (log : List Entry) (reports : List Report) : Type 0 where
-  pub chosen : AllByRecursion (IsChosen log) reports
+pub record AreReports (window : Window) (reports : List Report) : Type 0 where
+  pub chosen : AllByRecursion (IsChosen window) reports
   pub ascending : AreAscending reports
-  pub complete : AllByRecursion (λ grant. IsTrue (is_covered reports grant)) (grants log)
+  pub complete : AllByRecursion (λ grant. IsTrue (is_covered reports grant)) (grants window)

@@ -1,5 +1,5 @@
 -- A sound report, by tests of one grant after the other.
-use Rattle.std.specs.Prelude.{◌≡◌, ◌<◌, ◌==◌, nat_lt, ◌&&◌, not, Bool, true, ℤ, pos, ◌-ℤ◌, int_lt, List, count_by, map}
+use Rattle.std.specs.Prelude.{◌≡◌, ◌<◌, ◌==◌, nat_lt, ◌&&◌, not, Bool, true, ℤ, pos, ◌-ℤ◌, int_lt, List, count_by, map, ◌||◌}
 use Rattle.std.specs.List.{filter, list_all, list_any}
 use Rattle.std.specs.Ordering.{int_eq}
 use Rattle.readable_log.specs.Grants.{is_of}
@@ -32,9 +32,9 @@ is_listed report grant = is_about report grant && is_within report.after report.
 abbrev pub listed_of : Report → List Grant → List Stay
 listed_of report grants = map (λ grant. grant.stay) (filter (is_listed report) grants)
 
--- whether a stay is due no later than the worst one and joined after the cut
+-- whether a stay is due no later than the worst one and needs a slot after the cut
 abbrev pub is_urgent : Report → Stay → Bool
-is_urgent report stay = not (int_lt report.due stay.due) && nat_lt report.after stay.joined
+is_urgent report stay = not (int_lt report.due stay.due) && ((report.after == 0) || nat_lt report.after stay.joined)
 
 -- each test of a sound report
 pub record Passes (report : Report) (grants : List Grant) : Type 0 where

@@ -1,9 +1,10 @@
 -- A worked log and reports on it.
-use Rattle.std.specs.Prelude.{ℕ, ℤ, pos, negsuc, List, [], ◌∷◌, None}
+use Rattle.std.specs.Prelude.{ℕ, ℤ, pos, negsuc, List, [], ◌∷◌, None, Some}
 use Rattle.dispatch_log.specs.declared.entry.Arrival.{Arrival}
 use Rattle.dispatch_log.specs.declared.entry.Entry.{Entry}
 use Rattle.dispatch_log.specs.declared.entry.Entry.TheVariants.{Arrive, Done, Direct, Joined, Granted, Freed, Ended}
 use Rattle.dispatch_log.specs.declared.queue.Queue.TheVariants.{Backend}
+use Rattle.readable_log.specs.Windows.{Window}
 use Rattle.readable_log.specs.declared.grant.Stay.{Stay}
 use Rattle.late_cert.specs.declared.report.Report.{Report}
 
@@ -11,13 +12,16 @@ abbrev pub arrival : ℕ → ℤ → ℕ → Arrival
 arrival ticket due place = record { ticket = ticket; class = pos 0; due = due; pin = None; place = place }
 
 -- ticket 3 overtakes ticket 2, which is due later
-abbrev pub overtaking : List Entry
-overtaking =
+abbrev pub overtaking_entries : List Entry
+overtaking_entries =
     Arrive 0 (arrival 1 (pos 0) 0) ∷ Direct 1 0
     ∷ Arrive 1 (arrival 2 (pos 1) 1) ∷ Joined 2 Backend
     ∷ Arrive 2 (arrival 3 (negsuc 2) 2) ∷ Joined 3 Backend
     ∷ Done 10 1 ∷ Freed 1 0 ∷ Ended 1 ∷ Granted 3 Backend 0
     ∷ Done 20 3 ∷ Freed 3 0 ∷ Ended 3 ∷ Granted 2 Backend 0 ∷ []
+
+abbrev pub overtaking : Window
+overtaking = record { base = []; entries = overtaking_entries }
 
 abbrev pub stay_2 : Stay
 stay_2 = record { ticket = 2; joined = 4; slot = 14; due = pos 1 }
@@ -43,3 +47,21 @@ joined_before_the_cut = report (pos 19) 10 14 (stay_2 ∷ [])
 -- one stay is later
 abbrev pub worst_is_too_small : Report
 worst_is_too_small = report (pos 18) 0 14 (stay_3 ∷ stay_2 ∷ [])
+
+-- the same where tickets 2 and 3 wait since the window before: both stays joined at 0
+abbrev pub waited_before : Window
+waited_before = record {
+  base = record { ticket = 1; class = pos 0; due = pos 0; queue = None }
+      ∷ record { ticket = 2; class = pos 0; due = pos 1; queue = Some Backend }
+      ∷ record { ticket = 3; class = pos 0; due = negsuc 2; queue = Some Backend } ∷ [];
+  entries =
+      Done 10 1 ∷ Freed 1 0 ∷ Ended 1 ∷ Granted 3 Backend 0
+      ∷ Done 20 3 ∷ Freed 3 0 ∷ Ended 3 ∷ Granted 2 Backend 0 ∷ [];
+}
+
+abbrev pub chosen_before : Report
+chosen_before = report (pos 19) 0 8 (record { ticket = 3; joined = 0; slot = 4; due = negsuc 2 } ∷ record { ticket = 2; joined = 0; slot = 8; due = pos 1 } ∷ [])
+
+-- a report that says that they joined in the window before, where they stood in its entries
+abbrev pub joined_in_the_window_before : Report
+joined_in_the_window_before = report (pos 19) 0 8 (record { ticket = 3; joined = 6; slot = 4; due = negsuc 2 } ∷ record { ticket = 2; joined = 4; slot = 8; due = pos 1 } ∷ [])

@@ -1,5 +1,6 @@
 ghost use Rattle.std.specs.Prelude.{◌≡◌, ◌↔◌, IsTrue, pos, ◌-ℤ◌, count_by};
 ghost use Rattle.std.specs.List.{list_all, list_any};
+ghost use Rattle.readable_log.specs.Windows.{window_of};
 ghost use Rattle.late_cert.specs.Reports.{IsSound, IsLeast};
 ghost use Rattle.late_cert.specs.Tests.{is_about, late_by, keeps_worst, is_worst, is_listed, listed_of, is_urgent, Passes};
 
@@ -9,11 +10,11 @@ use readable_log::{Grant, Log, Stay};
 /// Whether a report is sound, whoever made it: it counts the stays of its queue and class, none of
 /// them is later than its worst, one of them is just so late with its slot and due date, and its
 /// critical stays are those with slots after its cut up to there, each due no later and joined
-/// after the cut. Then no assignment of the slots has a smaller greatest lateness. Linear in the
+/// after the cut, where it isn't 0. Then no assignment of the slots has a smaller greatest lateness. Linear in the
 /// log's grants, and takes no memory.
 pub fn audit(log: &Log, report: &Report) -> bool
-    ensures exact { IsTrue result ↔ IsSound log.now.entries report.now }
-    ensures least { IsTrue result → IsLeast log.now.entries report.now }
+    ensures exact { IsTrue result ↔ IsSound (window_of log.now) report.now }
+    ensures least { IsTrue result → IsLeast (window_of log.now) report.now }
 {
     passes(log.grants(), report)
 }
@@ -75,7 +76,9 @@ fn lists(grants: &[Grant], stays: &[Stay], report: &Report) -> bool
 fn are_urgent(stays: &[Stay], report: &Report) -> bool
     ensures { result ≡ list_all (is_urgent report.now) stays.now }
 {
-    stays.iter().all(|stay| stay.due <= report.due && report.after < stay.joined)
+    stays.iter().all(|stay| {
+        stay.due <= report.due && (report.after == 0 || report.after < stay.joined)
+    })
 }
 
 fn is_about(grant: &Grant, report: &Report) -> bool

@@ -2,40 +2,42 @@ ghost use Rattle.std.specs.Prelude.{◌≡◌, pos, List, [], ◌∷◌};
 ghost use Rattle.readable_log.specs.Grants.{stays};
 ghost use Rattle.dispatch_log.specs.declared.queue.Queue.TheVariants.{Backend};
 ghost use Rattle.late_cert.specs.Lateness.{latenesses, IsAssignment};
-ghost use Rattle.late_cert.specs.Worked.{overtaking, stay_2, stay_3, chosen, one_is_missing, joined_before_the_cut, worst_is_too_small};
-ghost use Rattle.dispatch_log.specs.declared.entry.Entry.{Entry};
+ghost use Rattle.late_cert.specs.Worked.{overtaking, stay_2, stay_3, chosen, one_is_missing, joined_before_the_cut, worst_is_too_small, waited_before, chosen_before, joined_in_the_window_before};
 ghost use Rattle.readable_log.specs.Readable.{IsReadable};
 ghost use Rattle.late_cert.specs.declared.report.Report.{Report};
 ghost use Rattle.late_cert.specs.Reports.{IsChosen, IsSound, IsLeast, AreReports};
 ghost use Rattle.std.specs.List.{AllByRecursion};
-ghost use Rattle.dispatch_log.specs.Histories.{History, IsLegal};
+ghost use Rattle.dispatch_log.specs.Histories.{History};
+ghost use Rattle.dispatch_log.specs.Legal.{IsLegal};
+ghost use Rattle.readable_log.specs.Windows.{Window, window_in};
 ghost use Rattle.dispatch_log.specs.declared.setup.Setup.{Setup};
 ghost use Rattle.dispatch_log.specs.States.{State};
-ghost use Rattle.readable_log.specs.Ordered.{AllKeepOrder, HaveNone};
+ghost use Rattle.readable_log.specs.Ordered.{AllKeepOrder, HaveArrived};
 
 /// The law of least lateness: for every readable log and sound report, each assignment of the
 /// queue's and class's slots to their stays, each slot after its stay's joining, has a greatest
 /// lateness of at least the report's worst, and the log's own assignment has exactly that.
 pub fn sound_is_least()
-    ensures { (log : List Entry) (report : Report) → IsReadable log → IsSound log report → IsLeast log report }
+    ensures { (window : Window) (report : Report) → IsReadable window → IsSound window report → IsLeast window report }
 {}
 
-/// The law of chosen reports: where a log begins without a request, the tickets of its arrivals
-/// are fresh and each of its grants takes the least key of its queue, the chosen report of each
-/// queue and class is sound.
+/// The law of chosen reports: where a window's base knows the requests that it begins with, the tickets
+/// of its arrivals are fresh and each of its grants takes the least key of its queue, the chosen report
+/// of each queue and class is sound.
 pub fn chosen_is_sound()
-    ensures { (setup : Setup) (start : State) (log : List Entry) (report : Report) → HaveNone start.rows → IsReadable log → AllKeepOrder setup start log → IsChosen log report → IsSound log report }
+    ensures { (setup : Setup) (start : State) (window : Window) (report : Report) → HaveArrived window.base [] start.rows → AllKeepOrder setup start window.entries → IsChosen window report → IsSound window report }
 {}
 
 /// The law of legal logs' reports: each of them is sound, so that it shows that no assignment has a
 /// smaller greatest lateness than the log's own.
 pub fn reports_of_legal_logs_are_sound()
-    ensures sound { (history : History) (reports : List Report) → IsLegal history → AreReports history.log reports → AllByRecursion (IsSound history.log) reports }
-    ensures least { (history : History) (reports : List Report) → IsLegal history → AreReports history.log reports → AllByRecursion (IsLeast history.log) reports }
+    ensures sound { (history : History) (reports : List Report) → IsLegal history → AreReports (window_in history) reports → AllByRecursion (IsSound (window_in history)) reports }
+    ensures least { (history : History) (reports : List Report) → IsLegal history → AreReports (window_in history) reports → AllByRecursion (IsLeast (window_in history)) reports }
 {}
 
-/// The law of a worked log: its stays, the other assignment of their slots, one list that is none,
-/// the chosen report, and reports that are not sound, each for one reason.
+/// The law of worked windows: the stays of one, the other assignment of their slots, one list that is
+/// none, the chosen report, and reports that are not sound, each for one reason; and the same of one
+/// whose requests waited before.
 pub fn worked_reports()
     ensures stays { stays overtaking Backend (pos 0) ≡ stay_3 ∷ stay_2 ∷ [] }
     ensures swapped { IsAssignment (stay_3 ∷ stay_2 ∷ []) (14 ∷ 10 ∷ []) }
@@ -46,4 +48,7 @@ pub fn worked_reports()
     ensures one_is_missing { IsSound overtaking one_is_missing → ⊥ }
     ensures joined_before_the_cut { IsSound overtaking joined_before_the_cut → ⊥ }
     ensures worst_is_too_small { IsSound overtaking worst_is_too_small → ⊥ }
+    ensures chosen_before { IsChosen waited_before chosen_before }
+    ensures sound_before { IsSound waited_before chosen_before }
+    ensures joined_in_the_window_before { IsSound waited_before joined_in_the_window_before → ⊥ }
 {}

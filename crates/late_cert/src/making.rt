@@ -2,6 +2,7 @@ ghost use Rattle.std.specs.Prelude.{◌≡◌, ◌<◌, IfOk, length, map, ℤ, 
 ghost use Rattle.std.specs.List.{filter, prefix_len, IsFirstBest};
 ghost use Rattle.std.specs.List.Sorted.{IsPermutation, IsSortedBy, IsStableBy};
 ghost use Rattle.readable_log.specs.Grants.{is_of};
+ghost use Rattle.readable_log.specs.Windows.{window_of};
 ghost use Rattle.late_cert.specs.Reports.{AreReports, is_within, last_cut};
 ghost use Rattle.late_cert.specs.Groups.{is_before, is_later, IsReportOf, AreGroups};
 
@@ -17,7 +18,7 @@ use std::alloc::{AllocError, Global};
 /// first, and of the cuts the last one. `O(n log n)` in the log's grants; fails only where memory
 /// is refused.
 pub fn certify(alloc: Global, log: &Log) -> Result<Reports, AllocError>
-    ensures { IfOk result (AreReports log.now.entries) }
+    ensures { IfOk result (AreReports (window_of log.now)) }
 {
     let sorted = sorted_grants(alloc, log.grants())?;
     Ok(Reports::from_vec(reports_of(alloc, sorted.as_slice())?))

@@ -6,6 +6,7 @@ use Rattle.due_key.specs.declared.key.Key.{Key}
 use Rattle.dispatch_log.specs.declared.entry.Entry.{Entry}
 use Rattle.dispatch_log.specs.declared.queue.Queue.{Queue}
 use Rattle.dispatch_log.specs.declared.row.Row.{Row}
+use Rattle.dispatch_log.specs.Histories.{History}
 use Rattle.dispatch_log.specs.Logs.{Recorded}
 use Rattle.dispatch_log.specs.Rows.{Rows, same_queue, queue_in}
 use Rattle.readable_log.specs.declared.base.BaseRow.{BaseRow}
@@ -26,6 +27,10 @@ base_rows (Some row ∷ rows) = base_row row ∷ base_rows rows
 -- the window that is recorded
 abbrev pub window_of : Recorded → Window
 window_of log = record { base = base_rows log.base.rows; entries = log.entries }
+
+-- and the window of a history
+abbrev pub window_in : History → Window
+window_in history = record { base = base_rows history.base.rows; entries = history.log }
 
 -- the key of a ticket in a base
 abbrev pub newer_base_key : ℕ → Option Key → BaseRow → Option Key

@@ -1,6 +1,7 @@
 use Rattle.std.proofs.Common.{List, subst, sym}
 use Rattle.std.specs.List.Sorted.{IsPermutation, IsStableBy}
 use Rattle.readable_log.specs.declared.grant.Grant.{Grant}
+use Rattle.readable_log.specs.Windows.{window_of}
 use Rattle.late_cert.specs.Groups.{is_before, AreGroups}
 use Rattle.late_cert.specs.Reports.{AreReports}
 use Rattle.late_cert.proofs.Grouped.{certified}
@@ -9,7 +10,7 @@ use Rattle.late_cert.proofs.making.certify.Goals as goal
 pub returns : goal.returns
 returns c =
     let sorted = c.in_ok-sorted.sorted.items in
-    let log = c.args.log.now.entries in
+    let log = window_of c.args.log.now in
     subst (AreReports log) (sym c.from_vec.ensures)
     (certified log sorted c.in_ok-reports_of.field-0.items c.grants.ensures.readable
     (subst (λ (l : List Grant). IsPermutation l sorted) c.grants.ensures.grants c.in_ok-sorted.ensures.permutation)

@@ -145,12 +145,7 @@ fn tells_the_places_of_live_requests(rt: HostRuntime) -> Result<(), Fail> {
 #[test]
 fn tells_which_servers_are_up(rt: HostRuntime) -> Result<(), Fail> {
     let alloc = rt.alloc();
-    let core = after(
-        &rt,
-        alloc,
-        checked(alloc)?,
-        &[(0, Call::Check(0, false))],
-    )?;
+    let core = after(&rt, alloc, checked(alloc)?, &[(0, Call::Check(0, false))])?;
     assert_eq!(rt; core.servers(), 2);
     assert_eq!(rt; core.up(0), false);
     assert!(rt; core.up(1));

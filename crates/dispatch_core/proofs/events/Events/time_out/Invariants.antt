@@ -1,10 +1,10 @@
 use Rattle.std.proofs.Common.{◌≡◌, length}
 use Rattle.dispatch_core.proofs.Timing.{TellsSince}
-use Rattle.dispatch_core.proofs.dispatcher.time_out.Given as goal
+use Rattle.dispatch_core.proofs.events.Events.time_out.Given as goal
 
 abbrev pub invariant-telling : goal.invariant-telling
 invariant-telling g l = record {
-  since : TellsSince l.initial.trace l.trace l.tickets.pairs;
+  since : TellsSince l.initial.self.trace l.self.trace l.tickets.pairs;
   kept : l.tickets.room ≡ l.fn.tickets.room;
 }
 

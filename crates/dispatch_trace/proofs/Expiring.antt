@@ -21,8 +21,10 @@ use Rattle.pend_queue.proofs.Inserted.{Contains-inserted, Contains-inserted_new,
 use Rattle.list_facts.proofs.Members.{Contains-nil, Contains-head, Contains-cases, each_at_member}
 use Rattle.slot_ledger.specs.declared.places.Slot.{Slot}
 use Rattle.slot_ledger.specs.Slots.{StandsIn, HasRow}
-use Rattle.wait_queues.specs.Order.{ComeOnce, next_after}
-use Rattle.wait_queues.proofs.Members.{Contains-middle, not_before, once_within}
+use Rattle.list_facts.specs.Once.{ComeOnce}
+use Rattle.wait_queues.specs.Order.{next_after}
+use Rattle.list_facts.proofs.Members.{Contains-middle}
+use Rattle.list_facts.proofs.Once.{not_before, once_within}
 use Rattle.wait_queues.proofs.Rings.{next_after_parts}
 use Rattle.std.proofs.lemmas.Option.{slice_get_within}
 use Rattle.dispatch_trace.specs.declared.position.Position.{Position}

@@ -4,3 +4,8 @@ pub mod Orders
 pub mod Never
 pub mod Both
 pub mod Found
+pub mod Once
+pub mod Sums
+pub mod Totals
+pub mod Ones
+pub mod Each

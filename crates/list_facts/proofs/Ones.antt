@@ -1,7 +1,7 @@
 -- What weights tell of the items of a list, where a test tells equal items.
 use Rattle.std.proofs.Common.{◌≡◌, ℕ, ◌<◌, Bool, true, false, cond, List, Contains, subst, ap, refl, arith}
-use Rattle.grant_board.specs.Weights.{total, AreIn}
-use Rattle.grant_board.proofs.Totals.{has_le, found}
+use Rattle.list_facts.specs.Weights.{total, AreIn}
+use Rattle.list_facts.proofs.Totals.{has_le, found}
 
 -- 1 at this item alone
 abbrev pub one : {A : Type 0} → (A → A → Bool) → A → A → ℕ

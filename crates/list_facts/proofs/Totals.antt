@@ -4,7 +4,7 @@ use mathlib.Core.Logic.{dite}
 use native.Mathlib.Decide.{ℕ_discrete}
 use mathlib.Core.Option.{some, some-injective, some-ne-none}
 use lib.ListN.{get_elem?}
-use Rattle.grant_board.specs.Weights.{total}
+use Rattle.list_facts.specs.Weights.{total}
 
 module _ {A : Type 0} where
   module _ (f : A → ℕ) where

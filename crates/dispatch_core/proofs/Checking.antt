@@ -1,31 +1,32 @@
 -- Checks on a trace, and what they change.
-use Rattle.std.proofs.Common.{◌≡◌, ℕ, ◌+◌, ◌-◌, ◌*◌, ◌<◌, ◌≤◌, max, nat_le, not, Bool, false, List, [], ◌∷◌, ◌++◌, Option, None, Some, is_some, slice_get, slice_index_or, All, length, replicate, refl, ap, sym, ◌∙◌, subst, arith}
-use Rattle.std.proofs.Math.ListN.{set, length-replicate}
+use Rattle.std.proofs.Common.{◌≡◌, ℕ, ◌<◌, nat_le, not, Bool, false, List, [], ◌∷◌, ◌++◌, Option, None, Some, is_some, slice_get}
+use Rattle.std.proofs.Common.{slice_index_or, All, length, replicate, refl, ap, sym, ◌∙◌, subst, arith}
 use Rattle.std.specs.Option.{option_map_or}
-use Rattle.std.proofs.lemmas.Bool.Decides.{nat_tests}
 use Rattle.std.proofs.lemmas.List.Elements.{All-head, All-tail}
 use Rattle.std.proofs.lemmas.Option.{slice_get_within, slice_get-get_or}
 use Rattle.check_state.specs.declared.health.Change.{Change}
 use Rattle.check_state.specs.Standing.{Standing, change_between}
-use Rattle.due_key.specs.declared.key.Key.{Key}
 use Rattle.dispatch_log.specs.declared.entry.Entry.{Entry}
-use Rattle.dispatch_log.specs.declared.entry.Entry.TheVariants.{Arrive, Done, Fail, Abort, Tick, Check, Direct, Joined, Granted, Moved, Freed, Retried, Left, Health, Ended}
+use Rattle.dispatch_log.specs.declared.entry.Entry.TheVariants.{Arrive, Done, Fail, Abort, Tick, Check, Direct, Joined, Granted, Moved, Freed, Retried, Left}
+use Rattle.dispatch_log.specs.declared.entry.Entry.TheVariants.{Health, Ended}
 use Rattle.dispatch_log.specs.declared.refusal.Refusal.TheVariants.{LogFull, NoSuchServer, WrongPhase}
 use Rattle.dispatch_log.specs.declared.setup.ServerSet.{ServerSet}
 use Rattle.dispatch_log.specs.declared.setup.Setup.{Setup}
-use Rattle.dispatch_log.specs.Health.{is_up_by, ups_of, results_of, with_result, without_last}
-use Rattle.dispatch_log.specs.Histories.{History, state_of, effective, begins_event, refuses_check, AddsEvent}
+use Rattle.dispatch_log.specs.Health.{is_up_by, results_of, with_result, without_last}
+use Rattle.dispatch_log.specs.Histories.{History, state_of, begins_event, refuses_check, AddsEvent}
 use Rattle.dispatch_log.specs.Judgement.{checking, granting, was_up}
 use Rattle.dispatch_log.specs.Refusals.{lacks_room, is_checked}
 use Rattle.dispatch_log.specs.States.{State, after, after_all, opening_state}
 use Rattle.dispatch_log.specs.Words.{is_up}
 use Rattle.dispatch_log.proofs.Accepted.{none_refuses}
-use Rattle.dispatch_log.proofs.Judged.{after_all-push, stage_after-push, results_after}
+use Rattle.dispatch_log.proofs.Judged.{after_all-push, stage_after-push}
 use Rattle.pend_queue.specs.Held.{Held}
 use Rattle.dispatch_core.specs.Checks.{AreHealths, IsHealthBy, IsCore}
+use Rattle.dispatch_core.specs.Steps.{HasEventRoom}
 use Rattle.dispatch_trace.specs.Traces.{is_up_at}
-use Rattle.dispatch_trace.specs.Histories.{with_entry, stage_of, scene_of, MayComeNext, MayBeginNext}
-use Rattle.dispatch_core.proofs.Calls.{longer, same_setup, new_legal}
+use Rattle.dispatch_trace.specs.Histories.{with_entry, stage_of, scene_of}
+use Rattle.dispatch_core.proofs.Calls.{new_legal}
+use Rattle.dispatch_core.proofs.Going.{same_setup, has_room, begun_room}
 use Rattle.dispatch_core.proofs.Healthy.{up_at, results_set}
 use Rattle.dispatch_trace.proofs.Healthy.{many_results}
 
@@ -66,8 +67,10 @@ results_added h now event added =
     ∙ no_results h.setup (after h.setup (state_of h) event) added.brought added.one_event
 
 -- a core after an event
-pub core_goes : (h now : History) (event : Entry) (healths next : List (Option Standing)) (expiring ready : Held ℕ ℕ) → IsCore h healths expiring → AddsEvent h now event
-    → AreHealths h.setup.servers (after h.setup (state_of h) event).results next → ready.pairs ≡ [] → ready.room ≡ expiring.room → IsCore now next ready
+pub core_goes : (h now : History) (event : Entry) (healths next : List (Option Standing)) (expiring ready : Held ℕ ℕ) → IsCore h healths expiring
+    → AddsEvent h now event
+    → AreHealths h.setup.servers (after h.setup (state_of h) event).results next → ready.pairs ≡ [] → ready.room ≡ expiring.room
+    → IsCore now next ready
 core_goes h now event healths next expiring ready is added healthy none kept = record {
   legal = added.legal;
   healthy =
@@ -81,7 +84,8 @@ core_goes h now event healths next expiring ready is added healthy none kept = r
 }
 
 -- where the event is no check, the healths stay
-pub core_kept : (h now : History) (event : Entry) (healths : List (Option Standing)) (expiring ready : Held ℕ ℕ) → IsCore h healths expiring → AddsEvent h now event
+pub core_kept : (h now : History) (event : Entry) (healths : List (Option Standing)) (expiring ready : Held ℕ ℕ) → IsCore h healths expiring
+    → AddsEvent h now event
     → (after h.setup (state_of h) event).results ≡ (state_of h).results → ready.pairs ≡ [] → ready.room ≡ expiring.room → IsCore now healths ready
 core_kept h now event healths expiring ready is added same none kept =
     core_goes h now event healths healths expiring ready is added
@@ -89,7 +93,8 @@ core_kept h now event healths expiring ready is added same none kept =
 
 -- a core without an entry
 pub core_new : (h : History) (setup : Setup) (healths : List (Option Standing)) (expiring : Held ℕ ℕ) → h ≡ record { setup = setup; log = [] }
-    → AreHealths setup.servers (replicate (length setup.servers) []) healths → expiring.pairs ≡ [] → expiring.room ≡ setup.places → IsCore h healths expiring
+    → AreHealths setup.servers (replicate (length setup.servers) []) healths → expiring.pairs ≡ [] → expiring.room ≡ setup.places
+    → IsCore h healths expiring
 core_new h setup healths expiring new are none places = record {
   legal = new_legal h setup new;
   healthy = subst (λ (x : History). AreHealths x.setup.servers (state_of x).results healths) (sym new) are;
@@ -109,16 +114,19 @@ pub record Checked (h : History) (server : ℕ) : Type 0 where
 
 pub check_accepted : (h : History) (server : ℕ) → refuses_check h server ≡ None → Checked h server
 check_accepted h server e =
-    let first = none_refuses (lacks_room h.setup (length h.log)) LogFull ((nat_le (length h.setup.servers) server, NoSuchServer) ∷ (not (is_checked h.setup server), WrongPhase) ∷ []) e in
+    let first = none_refuses (lacks_room h.setup (length h.log)) LogFull
+    ((nat_le (length h.setup.servers) server, NoSuchServer) ∷ (not (is_checked h.setup server), WrongPhase) ∷ []) e in
     let second = none_refuses (nat_le (length h.setup.servers) server) NoSuchServer ((not (is_checked h.setup server), WrongPhase) ∷ []) first.1 in
     let third = none_refuses (not (is_checked h.setup server)) WrongPhase [] second.1 in
     by_server first.0 (slice_get h.setup.servers server) refl third.0
   where
-    by_rise : lacks_room h.setup (length h.log) ≡ false → (it : ServerSet) → slice_get h.setup.servers server ≡ Some it → (r : Option (ℕ × ℕ)) → it.rise_fall ≡ r → not (is_some r) ≡ false → Checked h server
+    by_rise : lacks_room h.setup (length h.log) ≡ false → (it : ServerSet) → slice_get h.setup.servers server ≡ Some it → (r : Option (ℕ × ℕ))
+        → it.rise_fall ≡ r → not (is_some r) ≡ false → Checked h server
     by_rise room it stands None is none = cc
     by_rise room it stands (Some both) is some = record { room = room; it = it; stands = stands; rise_fall = both; checked = is }
 
-    by_server : lacks_room h.setup (length h.log) ≡ false → (it : Option ServerSet) → slice_get h.setup.servers server ≡ it → not (option_map_or (λ (x : ServerSet). is_some x.rise_fall) it false) ≡ false → Checked h server
+    by_server : lacks_room h.setup (length h.log) ≡ false → (it : Option ServerSet) → slice_get h.setup.servers server ≡ it
+        → not (option_map_or (λ (x : ServerSet). is_some x.rise_fall) it false) ≡ false → Checked h server
     by_server room None stands none = cc
     by_server room (Some it) stands some = by_rise room it stands it.rise_fall refl some
 
@@ -126,10 +134,12 @@ pub checked_within : (h : History) (server : ℕ) → refuses_check h server ≡
 checked_within h server accepted = let it = check_accepted h server accepted in slice_get_within h.setup.servers server it.it it.stands
 
 -- a server that is checked has a health
-pub has_health : (h : History) (server : ℕ) (results : List (List Bool)) (healths : List (Option Standing)) → refuses_check h server ≡ None → AreHealths h.setup.servers results healths → (standing : Standing) × (slice_get healths server ≡ Some (Some standing))
+pub has_health : (h : History) (server : ℕ) (results : List (List Bool)) (healths : List (Option Standing)) → refuses_check h server ≡ None
+    → AreHealths h.setup.servers results healths → (standing : Standing) × (slice_get healths server ≡ Some (Some standing))
 has_health h server results healths accepted are =
     let it = check_accepted h server accepted in
-    let is = subst (λ (r : Option (ℕ × ℕ)). IsHealthBy r (results_of results server) (slice_index_or healths server None)) it.checked (are.each server it.it it.stands) in
+    let is = subst (λ (r : Option (ℕ × ℕ)). IsHealthBy r (results_of results server) (slice_index_or healths server None)) it.checked
+    (are.each server it.it it.stands) in
     let within : server < length healths = (let a = checked_within h server accepted in let b = are.each_one in omega arith) in
     (is.0, slice_get-get_or healths server None within ∙ ap Some is.1)
 
@@ -144,7 +154,9 @@ module _ (h one : History) (m server : ℕ) (ok : Bool) (accepted : refuses_chec
   checked_setup = same_setup h one (Check m server ok) begun
 
   checked_results : (state_of one).results ≡ with_result server ok (state_of h).results
-  checked_results = ap (λ (x : History). (state_of x).results) begun ∙ ap (λ (s : State). s.results) (after_all-push h.setup (opening_state h.setup) h.log (Check m server ok))
+  checked_results =
+      ap (λ (x : History). (state_of x).results) begun
+      ∙ ap (λ (s : State). s.results) (after_all-push h.setup (opening_state h.setup) h.log (Check m server ok))
 
   pub check_stage : stage_of one ≡ checking server
   check_stage = ap stage_of begun ∙ stage_after-push granting h.log (Check m server ok)
@@ -154,26 +166,28 @@ module _ (h one : History) (m server : ℕ) (ok : Bool) (accepted : refuses_chec
       let it = check_accepted h server accepted in
       let long : server < length (state_of h).results = (let a = checked_within h server accepted in let b = many_results h in omega arith) in
       ap (λ (s : Setup). was_up s (state_of one) server) checked_setup
-      ∙ ap (λ (x : Option ServerSet). option_map_or (λ (y : ServerSet). is_up_by y.rise_fall (without_last (results_of (state_of one).results server))) x false) it.stands
+      ∙ ap (λ (x : Option ServerSet). option_map_or (λ (y : ServerSet). is_up_by y.rise_fall (without_last (results_of (state_of one).results server))) x
+      false) it.stands
       ∙ ap (λ (l : List (List Bool)). is_up_by it.it.rise_fall (without_last (results_of l server))) checked_results
       ∙ ap (λ (l : List Bool). is_up_by it.it.rise_fall (without_last l)) (results_set (state_of h).results server ok long)
       ∙ ap (λ (l : List Bool). is_up_by it.it.rise_fall l) (without_push (results_of (state_of h).results server) ok)
       ∙ sym (up_at h.setup.servers (state_of h).results server it.it it.stands)
 
   pub is_up_is : is_up (scene_of one) server ≡ is_up_at h.setup.servers (with_result server ok (state_of h).results) server
-  is_up_is = ap (λ (s : Setup). is_up_at s.servers (state_of one).results server) checked_setup ∙ ap (λ (l : List (List Bool)). is_up_at h.setup.servers l server) checked_results
+  is_up_is =
+      ap (λ (s : Setup). is_up_at s.servers (state_of one).results server) checked_setup
+      ∙ ap (λ (l : List (List Bool)). is_up_at h.setup.servers l server) checked_results
 
-  pub check_change : (change : Change) → change ≡ change_between (is_up_at h.setup.servers (state_of h).results server) (is_up_at h.setup.servers (with_result server ok (state_of h).results) server) → change ≡ change_between (was_up one.setup (state_of one) server) (is_up (scene_of one) server)
-  check_change change is = is ∙ ap (λ b. change_between b (is_up_at h.setup.servers (with_result server ok (state_of h).results) server)) (sym was_up_is) ∙ ap (change_between (was_up one.setup (state_of one) server)) (sym is_up_is)
+  pub check_change : (change : Change)
+      → change ≡ change_between (is_up_at h.setup.servers (state_of h).results server)
+      (is_up_at h.setup.servers (with_result server ok (state_of h).results) server)
+      → change ≡ change_between (was_up one.setup (state_of one) server) (is_up (scene_of one) server)
+  check_change change is =
+      is ∙ ap (λ b. change_between b (is_up_at h.setup.servers (with_result server ok (state_of h).results) server)) (sym was_up_is)
+      ∙ ap (change_between (was_up one.setup (state_of one) server)) (sym is_up_is)
 
   pub check_within : server < length one.setup.servers
   check_within = subst (λ (s : Setup). server < length s.servers) (sym checked_setup) (checked_within h server accepted)
 
-  pub check_room : length one.log + 2 * one.setup.places + 3 ≤ one.setup.log
-  check_room =
-      let room : lacks_room h.setup (length h.log) ≡ false = (check_accepted h server accepted).room in
-      let fits : 2 * h.setup.places + 8 ≤ h.setup.log - length h.log = grind (arith, nat_tests) in
-      let a = longer h one (Check m server ok) begun in
-      let places : one.setup.places ≡ h.setup.places = ap (λ (s : Setup). s.places) checked_setup in
-      let most : one.setup.log ≡ h.setup.log = ap (λ (s : Setup). s.log) checked_setup in
-      omega arith
+  pub check_room : HasEventRoom one
+  check_room = begun_room h one (Check m server ok) (has_room h (check_accepted h server accepted).room) begun

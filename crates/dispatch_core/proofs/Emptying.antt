@@ -1,7 +1,6 @@
 -- Moves until a server's queue is empty.
-use Rattle.std.proofs.Common.{◌≡◌, ℕ, ◌+◌, ◌<◌, ◌≤◌, false, List, [], ◌∷◌, ◌++◌, IsTrue, All, length, count_by, refl, ap, sym, ◌∙◌, subst, arith, append_assoc, length-append, Bool, true, Option, None, Some}
-use Rattle.std.proofs.lemmas.List.{append-nil}
-use Rattle.std.proofs.lemmas.List.Elements.{All-nil, All-push}
+use Rattle.std.proofs.Common.{◌≡◌, ℕ, ◌+◌, ◌<◌, ◌≤◌, false, [], ◌∷◌, ◌++◌, IsTrue, length, count_by, refl, ap, sym, ◌∙◌}
+use Rattle.std.proofs.Common.{subst, arith, length-append, Bool, true, Option, None, Some}
 use Rattle.std.proofs.lemmas.List.Sums.{sum_by-cons}
 use Rattle.dispatch_log.specs.declared.entry.Entry.{Entry}
 use Rattle.dispatch_log.specs.declared.entry.Entry.TheVariants.{Moved}
@@ -11,14 +10,15 @@ use Rattle.dispatch_log.specs.declared.row.Phase.{Phase}
 use Rattle.dispatch_log.specs.declared.row.Phase.TheVariants.{Loose, Waiting, Serving, Told}
 use Rattle.dispatch_log.specs.declared.row.Row.{Row}
 use Rattle.dispatch_log.specs.declared.setup.Setup.{Setup}
-use Rattle.dispatch_log.specs.Histories.{History, state_of, begins_event}
+use Rattle.dispatch_log.specs.Histories.{History, state_of}
 use Rattle.dispatch_log.specs.Judgement.{Stage, falling, granting, next_stage}
 use Rattle.dispatch_log.specs.Refusals.{is_waiting}
 use Rattle.dispatch_log.specs.Rows.{Rows, queued, waits_in, phase_waits_in}
 use Rattle.dispatch_log.proofs.Judged.{stage_after-push}
 use Rattle.list_facts.proofs.Places.{tally}
 use Rattle.dispatch_core.specs.Steps.{GoesOn, MovesAll}
-use Rattle.dispatch_trace.specs.Histories.{with_entry, stage_of, waits, waiting_of, IsMove, IsEmptied}
+use Rattle.dispatch_core.proofs.Going.{goes_none, goes_more, longer, same_setup}
+use Rattle.dispatch_trace.specs.Histories.{stage_of, waits, waiting_of, IsMove, IsEmptied}
 
 one_of : (a b : Bool) → (a ≡ true → b ≡ true) → tally a ≤ tally b
 one_of true b h = let e : tally b ≡ 1 = ap tally (h refl) in omega arith
@@ -53,9 +53,10 @@ pub record MovesSince (server : ℕ) (old now : History) : Type 0 where
   pub counted : length goes.entries + queued (Server server) (state_of now).rows ≡ queued (Server server) (state_of old).rows
   pub room : length now.log + queued (Server server) (state_of now).rows ≤ now.setup.log
 
-pub moves_none : (server : ℕ) (h : History) → stage_of h ≡ falling server → IsTrue h.setup.redispatch → server < length h.setup.servers → length h.log + waiting_of h ≤ h.setup.log → MovesSince server h h
+pub moves_none : (server : ℕ) (h : History) → stage_of h ≡ falling server → IsTrue h.setup.redispatch → server < length h.setup.servers
+    → length h.log + waiting_of h ≤ h.setup.log → MovesSince server h h
 moves_none server h stage redispatch within room = record {
-  goes = record { entries = []; log = sym (append-nil h.log); setup = refl; one_event = All-nil (λ (entry : Entry). begins_event entry ≡ false) };
+  goes = goes_none h;
   stage = stage;
   redispatch = redispatch;
   within = within;
@@ -66,14 +67,9 @@ moves_none server h stage redispatch within room = record {
 pub moves_more : (server : ℕ) (old now next : History) → MovesSince server old now → IsMove server now next → MovesSince server old next
 moves_more server old now next since move =
     let e : Entry = Moved move.ticket server in
-    let setup : next.setup ≡ now.setup = ap (λ (h : History). h.setup) move.moves in
+    let setup : next.setup ≡ now.setup = same_setup now next e move.moves in
     record {
-      goes = record {
-        entries = since.goes.entries ++ e ∷ [];
-        log = ap (λ (h : History). h.log) move.moves ∙ ap (λ (l : List Entry). l ++ e ∷ []) since.goes.log ∙ append_assoc old.log since.goes.entries (e ∷ []);
-        setup = setup ∙ since.goes.setup;
-        one_event = All-push (λ (entry : Entry). begins_event entry ≡ false) since.goes.entries e since.goes.one_event refl;
-      };
+      goes = goes_more old now next e since.goes move.moves refl;
       stage = ap stage_of move.moves ∙ stage_after-push granting now.log e ∙ ap (λ (t : Stage). next_stage t e) since.stage;
       redispatch = subst (λ (s : Setup). IsTrue s.redispatch) (sym setup) since.redispatch;
       within = subst (λ (s : Setup). server < length s.servers) (sym setup) since.within;
@@ -83,7 +79,7 @@ moves_more server old now next since move =
           let counted = since.counted in
           omega arith;
       room =
-          let longer : length next.log ≡ length now.log + 1 = ap (λ (h : History). length h.log) move.moves ∙ length-append now.log (e ∷ []) in
+          let longer : length next.log ≡ length now.log + 1 = longer now next e move.moves in
           let limit : next.setup.log ≡ now.setup.log = ap (λ (s : Setup). s.log) setup in
           let fewer = move.fewer in
           let room = since.room in

@@ -1,5 +1,6 @@
 pub mod Phases
 pub mod Standing
+pub mod Going
 pub mod Settling
 pub mod Calls
 pub mod Retrying

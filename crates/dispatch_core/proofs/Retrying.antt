@@ -1,76 +1,53 @@
 -- The calls of a failure as compositions of entries.
-use Rattle.std.proofs.Common.{◌≡◌, ℕ, ◌+◌, ◌-◌, ◌*◌, ◌<◌, ◌≤◌, ◌||◌, not, cond, Bool, true, false, List, [], ◌∷◌, ◌++◌, Option, None, Some, option_map, IsTrue, length, refl, ap, sym, ◌∙◌, subst, arith, append_assoc, length-append, inl, inr}
+use Rattle.std.proofs.Common.{◌≡◌, ℕ, ◌+◌, ◌<◌, ◌≤◌, ◌||◌, not, cond, Bool, true, false, [], ◌∷◌, ◌++◌, Option, None, Some}
+use Rattle.std.proofs.Common.{option_map, IsTrue, length, refl, ap, sym, ◌∙◌, subst, arith, length-append, inl, inr}
 use Rattle.std.specs.Option.{option_map_or, option_and_then}
 use Rattle.std.proofs.Math.ListN.{set}
-use Rattle.std.proofs.lemmas.Bool.Decides.{nat_tests, Decides-eqb}
-use Rattle.std.proofs.lemmas.List.Elements.{All-cons, All-nil, All-append}
+use Rattle.std.proofs.lemmas.Bool.Decides.{Decides-eqb}
 use Rattle.verdict.specs.declared.cause.Cause.TheVariants.{Retries, NoServer}
-use Rattle.dispatch_log.specs.declared.entry.Entry.{Entry}
 use Rattle.dispatch_log.specs.declared.entry.Entry.TheVariants.{Fail, Direct, Joined, Freed, Retried, Left}
 use Rattle.dispatch_log.specs.declared.row.Phase.{Phase}
 use Rattle.dispatch_log.specs.declared.row.Phase.TheVariants.{Loose, Waiting, Serving, Told}
 use Rattle.dispatch_log.specs.declared.row.Row.{Row}
 use Rattle.dispatch_log.specs.declared.setup.Setup.{Setup}
-use Rattle.dispatch_log.specs.Histories.{History, IsLegal, state_of, begins_event, refuses_failure, AddsEvent}
+use Rattle.dispatch_log.specs.Histories.{History, IsLegal, state_of, refuses_failure}
 use Rattle.dispatch_log.specs.Judgement.{Stage, failing, leaving, granting, MayGrant, MayCome, next_stage, HasSlot}
-use Rattle.dispatch_log.specs.Refusals.{lacks_room, ticket_refusal, has_a_slot}
+use Rattle.dispatch_log.specs.Refusals.{has_a_slot}
 use Rattle.dispatch_log.specs.Retries.{are_spent, are_redispatched, are_retried, failed_row, failed}
 use Rattle.dispatch_log.specs.Rows.{Rows, StandsAt, changed, in_phase, row_of, server_in, phase_is_served_by, pin_of, failures_of}
 use Rattle.dispatch_log.specs.States.{State, opening_state}
 use Rattle.std.proofs.lemmas.Option.{same_Some}
-use Rattle.dispatch_log.proofs.Accepted.{Accepted, accepted_room, row_of_accepted}
+use Rattle.dispatch_log.proofs.Accepted.{Accepted, row_of_accepted}
 use Rattle.dispatch_log.proofs.Judged.{after_all-push, stage_after-push}
 use Rattle.list_facts.proofs.Places.{get-set_same, get-set_cases}
 use Rattle.dispatch_log.proofs.RowLemmas.{HaveOwnTickets, changed_at, row_of_at}
-use Rattle.dispatch_core.specs.Steps.{GoesOn, CarriesOn, Places, Settles}
-use Rattle.dispatch_trace.specs.Histories.{with_entry, stage_of, waiting_of, MayComeNext, MayGrantNext, MayPut}
-use Rattle.dispatch_core.proofs.Calls.{legal_consistent, over_granting, may_granting, few_wait, longer, same_setup, adds}
+use Rattle.dispatch_core.specs.Steps.{GoesOn, CarriesOn, Places, Settles, HasEventRoom}
+use Rattle.dispatch_trace.specs.Histories.{with_entry, stage_of, waiting_of, MayComeNext, MayGrantNext, MayPut, IsFound}
+use Rattle.dispatch_core.proofs.Calls.{legal_consistent}
+use Rattle.dispatch_core.proofs.Dismissals.{ticket_room}
+use Rattle.dispatch_core.proofs.Going.{goes_entry, goes_then, goes_more, goes_places, goes_long, same_setup, few_wait, room_left, begun_room, carries}
+use Rattle.dispatch_trace.specs.declared.position.Ticketed.{Ticketed}
 use Rattle.dispatch_core.proofs.Phases.{failures_stay, pins_stay}
 
--- ways of going on inside an event
-abbrev pub goes_entry : (h next : History) (e : Entry) → next ≡ with_entry h e → begins_event e ≡ false → GoesOn h next
-goes_entry h next e goes inside = record {
-  entries = e ∷ [];
-  log = ap (λ (x : History). x.log) goes;
-  setup = same_setup h next e goes;
-  one_event = All-cons (λ (entry : Entry). begins_event entry ≡ false) e [] inside (All-nil (λ (entry : Entry). begins_event entry ≡ false));
-}
-
-abbrev pub goes_then : (a b c : History) → GoesOn a b → GoesOn b c → GoesOn a c
-goes_then a b c first second = record {
-  entries = first.entries ++ second.entries;
-  log = second.log ∙ ap (λ (l : List Entry). l ++ second.entries) first.log ∙ append_assoc a.log first.entries second.entries;
-  setup = second.setup ∙ first.setup;
-  one_event = All-append (λ (entry : Entry). begins_event entry ≡ false) first.entries second.entries first.one_event second.one_event;
-}
-
-pub goes_settles : (a b : History) → Settles a b → GoesOn a b
-goes_settles a b is = record { entries = is.grants; log = is.log; setup = is.setup; one_event = is.one_event }
-
-pub goes_places : (a b : History) → Places a b → GoesOn a b
-goes_places a b is = goes_entry a b is.placement is.placed is.one_event
-
--- nothing is owed where the event's own entries have come
-carries : (a b : History) → GoesOn a b → stage_of b ≡ granting → length b.log + waiting_of b ≤ b.setup.log → CarriesOn a b
-carries a b goes stage room = record { goes = goes; over = over_granting b stage; may_grant = may_granting b stage; room = room }
-
 -- a request is retried
-pub may_retry : (h : History) (t server k : ℕ) → stage_of h ≡ failing t → HasSlot (state_of h).rows t server → failures_of t (state_of h).rows ≡ k → are_retried h.setup k ≡ true → MayComeNext h (Retried t server k)
-may_retry h t server k stage slot failures retried = subst (λ (x : Stage). MayCome h.setup (state_of h) (length h.log) x (Retried t server k)) (sym stage) (refl, slot, failures, retried)
+pub may_retry : (h : History) (t server k : ℕ) → stage_of h ≡ failing t → HasSlot (state_of h).rows t server → failures_of t (state_of h).rows ≡ k
+    → are_retried h.setup k ≡ true → MayComeNext h (Retried t server k)
+may_retry h t server k stage slot failures retried =
+    subst (λ (x : Stage). MayCome h.setup (state_of h) (length h.log) x (Retried t server k)) (sym stage) (refl, slot, failures, retried)
 
-pub carries_retry : (h one : History) (t server k : ℕ) → stage_of h ≡ failing t → one ≡ with_entry h (Retried t server k) → length h.log + 2 * h.setup.places + 3 ≤ h.setup.log → CarriesOn h one
+pub carries_retry : (h one : History) (t server k : ℕ) → stage_of h ≡ failing t → one ≡ with_entry h (Retried t server k) → HasEventRoom h
+    → CarriesOn h one
 carries_retry h one t server k stage goes room =
-    carries h one (goes_entry h one (Retried t server k) goes refl) (ap stage_of goes ∙ stage_after-push granting h.log (Retried t server k) ∙ ap (λ (x : Stage). next_stage x (Retried t server k)) stage)
-    (let a = longer h one (Retried t server k) goes in
-    let few = few_wait one in
-    let places : one.setup.places ≡ h.setup.places = ap (λ (s : Setup). s.places) (same_setup h one (Retried t server k) goes) in
-    let most : one.setup.log ≡ h.setup.log = ap (λ (s : Setup). s.log) (same_setup h one (Retried t server k) goes) in
-    omega arith)
+    carries h one (goes_entry h one (Retried t server k) goes refl) 1
+    (ap stage_of goes ∙ stage_after-push granting h.log (Retried t server k) ∙ ap (λ (x : Stage). next_stage x (Retried t server k)) stage)
+    (omega arith) (omega arith)
 
 -- its slot is given back
-pub may_free_failed : (h : History) (t server : ℕ) → stage_of h ≡ failing t → HasSlot (state_of h).rows t server → are_retried h.setup (failures_of t (state_of h).rows) ≡ false → MayComeNext h (Freed t server)
+pub may_free_failed : (h : History) (t server : ℕ) → stage_of h ≡ failing t → HasSlot (state_of h).rows t server
+    → are_retried h.setup (failures_of t (state_of h).rows) ≡ false → MayComeNext h (Freed t server)
 may_free_failed h t server stage slot other =
-    subst (λ (x : Stage). MayCome h.setup (state_of h) (length h.log) x (Freed t server)) (sym stage) (refl, slot, λ retried. let no : false ≡ true = sym other ∙ retried in cc)
+    subst (λ (x : Stage). MayCome h.setup (state_of h) (length h.log) x (Freed t server)) (sym stage)
+    (refl, slot, λ retried. let no : false ≡ true = sym other ∙ retried in cc)
 
 pub spent_not_retried : (setup : Setup) (k : ℕ) → are_spent setup k ≡ true → are_retried setup k ≡ false
 spent_not_retried setup k spent = ap (λ b. not (b || are_redispatched setup k)) spent
@@ -87,7 +64,9 @@ module _ (one two : History) (t server : ℕ) (stage : stage_of one ≡ failing 
   freed_stage = ap stage_of freed ∙ stage_after-push granting one.log (Freed t server) ∙ ap (λ (x : Stage). next_stage x (Freed t server)) stage
 
   freed_rows : (state_of two).rows ≡ changed t (in_phase Loose) (state_of one).rows
-  freed_rows = ap (λ (x : History). (state_of x).rows) freed ∙ ap (λ (s : State). s.rows) (after_all-push one.setup (opening_state one.setup) one.log (Freed t server))
+  freed_rows =
+      ap (λ (x : History). (state_of x).rows) freed
+      ∙ ap (λ (s : State). s.rows) (after_all-push one.setup (opening_state one.setup) one.log (Freed t server))
 
   pub freed_failures : failures_of t (state_of two).rows ≡ failures_of t (state_of one).rows
   freed_failures = ap (failures_of t) freed_rows ∙ failures_stay t t Loose (state_of one).rows
@@ -101,33 +80,27 @@ module _ (one two : History) (t server : ℕ) (stage : stage_of one ≡ failing 
   -- its retries are spent
   pub may_tell_spent : are_spent one.setup (failures_of t (state_of one).rows) ≡ true → MayComeNext two (Left t Retries)
   may_tell_spent spent =
-      subst (λ (x : Stage). MayCome two.setup (state_of two) (length two.log) x (Left t Retries)) (sym freed_stage)
-      (refl, subst (λ (s : Setup). are_spent s (failures_of t (state_of two).rows) ≡ true) (sym freed_setup) (subst (λ n. are_spent one.setup n ≡ true) (sym freed_failures) spent))
+      subst (λ (x : Stage). MayCome two.setup (state_of two) (length two.log) x (Left t Retries)) (sym freed_stage) (
+        refl,
+        subst (λ (s : Setup). are_spent s (failures_of t (state_of two).rows) ≡ true) (sym freed_setup)
+            (subst (λ n. are_spent one.setup n ≡ true) (sym freed_failures) spent),
+      )
 
-  pub carries_spent : (three : History) → three ≡ with_entry two (Left t Retries) → length one.log + 2 * one.setup.places + 3 ≤ one.setup.log → CarriesOn one three
+  pub carries_spent : (three : History) → three ≡ with_entry two (Left t Retries) → HasEventRoom one → CarriesOn one three
   carries_spent three told room =
-      carries one three (goes_then one two three (goes_entry one two (Freed t server) freed refl) (goes_entry two three (Left t Retries) told refl))
+      carries one three (goes_more one two three (Left t Retries) (goes_entry one two (Freed t server) freed refl) told refl) 2
       (ap stage_of told ∙ stage_after-push granting two.log (Left t Retries) ∙ ap (λ (x : Stage). next_stage x (Left t Retries)) freed_stage)
-      (let a = longer one two (Freed t server) freed in
-      let b = longer two three (Left t Retries) told in
-      let few = few_wait three in
-      let places : three.setup.places ≡ one.setup.places = ap (λ (s : Setup). s.places) (same_setup two three (Left t Retries) told ∙ freed_setup) in
-      let most : three.setup.log ≡ one.setup.log = ap (λ (s : Setup). s.log) (same_setup two three (Left t Retries) told ∙ freed_setup) in
-      omega arith)
+      (omega arith) (omega arith)
 
   -- it is redispatched: others may take its slot first
   pub may_grant_redispatched : are_redispatched one.setup (failures_of t (state_of one).rows) ≡ true → MayGrantNext two
   may_grant_redispatched goes =
       subst (λ (x : Stage). MayGrant two.setup (state_of two) x) (sym freed_stage)
-      (subst (λ (s : Setup). are_redispatched s (failures_of t (state_of two).rows) ≡ true) (sym freed_setup) (subst (λ n. are_redispatched one.setup n ≡ true) (sym freed_failures) goes))
+      (subst (λ (s : Setup). are_redispatched s (failures_of t (state_of two).rows) ≡ true) (sym freed_setup)
+      (subst (λ n. are_redispatched one.setup n ≡ true) (sym freed_failures) goes))
 
-  pub redispatch_room : length one.log + 2 * one.setup.places + 3 ≤ one.setup.log → length two.log + waiting_of two ≤ two.setup.log
-  redispatch_room room =
-      let a = longer one two (Freed t server) freed in
-      let few = few_wait two in
-      let places : two.setup.places ≡ one.setup.places = ap (λ (s : Setup). s.places) freed_setup in
-      let most : two.setup.log ≡ one.setup.log = ap (λ (s : Setup). s.log) freed_setup in
-      omega arith
+  pub redispatch_room : HasEventRoom one → length two.log + waiting_of two ≤ two.setup.log
+  redispatch_room room = room_left one two (goes_entry one two (Freed t server) freed refl) 1 (omega arith) (omega arith)
 
   module _ (three : History) (settled : Settles two three) where
     settled_stage : stage_of three ≡ leaving t server
@@ -138,59 +111,56 @@ module _ (one two : History) (t server : ℕ) (stage : stage_of one ≡ failing 
 
     -- and once all is settled it may be put anew
     pub redispatch_put : MayPut three None (Some server) t
-    redispatch_put (Direct u v) put = (subst (λ (x : Stage). MayCome three.setup (state_of three) (length three.log) x (Direct u v)) (sym settled_stage) (record { redispatched = again; settled = settled.settled; put = put }), ap (λ (x : Stage). next_stage x (Direct u v)) settled_stage)
-    redispatch_put (Joined u q) put = (subst (λ (x : Stage). MayCome three.setup (state_of three) (length three.log) x (Joined u q)) (sym settled_stage) (record { redispatched = again; settled = settled.settled; put = put }), ap (λ (x : Stage). next_stage x (Joined u q)) settled_stage)
-    redispatch_put (Left u NoServer) put = (subst (λ (x : Stage). MayCome three.setup (state_of three) (length three.log) x (Left u NoServer)) (sym settled_stage) (record { redispatched = again; settled = settled.settled; put = put }), ap (λ (x : Stage). next_stage x (Left u NoServer)) settled_stage)
+    redispatch_put (Direct u v) put = (
+      subst (λ (x : Stage). MayCome three.setup (state_of three) (length three.log) x (Direct u v)) (sym settled_stage)
+          (record { redispatched = again; settled = settled.settled; put = put }),
+      ap (λ (x : Stage). next_stage x (Direct u v)) settled_stage,
+    )
+    redispatch_put (Joined u q) put = (
+      subst (λ (x : Stage). MayCome three.setup (state_of three) (length three.log) x (Joined u q)) (sym settled_stage)
+          (record { redispatched = again; settled = settled.settled; put = put }),
+      ap (λ (x : Stage). next_stage x (Joined u q)) settled_stage,
+    )
+    redispatch_put (Left u NoServer) put = (
+      subst (λ (x : Stage). MayCome three.setup (state_of three) (length three.log) x (Left u NoServer)) (sym settled_stage)
+          (record { redispatched = again; settled = settled.settled; put = put }),
+      ap (λ (x : Stage). next_stage x (Left u NoServer)) settled_stage,
+    )
     redispatch_put e put = absurd put
 
     pub redispatch_pin : pin_of t (state_of one).rows ≡ None → pin_of t (state_of three).rows ≡ None
     redispatch_pin none = settled.pins t ∙ freed_pin ∙ none
 
-    settled_setup : three.setup ≡ one.setup
-    settled_setup = settled.setup ∙ freed_setup
+    abbrev settled_goes : GoesOn one three
+    settled_goes = goes_then one two three (goes_entry one two (Freed t server) freed refl) settled.goes
 
-    settled_long : length one.log + 2 * one.setup.places + 3 ≤ one.setup.log → length three.log + one.setup.places + 2 ≤ one.setup.log
-    settled_long room =
-        let a = longer one two (Freed t server) freed in
-        let b : length three.log ≡ length two.log + length settled.grants = ap length settled.log ∙ length-append two.log settled.grants in
-        let c = settled.few in
-        let few = few_wait two in
+    settled_few : length settled_goes.entries ≤ one.setup.places + 1
+    settled_few =
+        let long : length (Freed t server ∷ [] ++ settled.goes.entries) ≡ length settled.goes.entries + 1 = omega arith in
+        let few = settled.few in
+        let waiting = few_wait two in
         let places : two.setup.places ≡ one.setup.places = ap (λ (s : Setup). s.places) freed_setup in
         omega arith
 
-    pub place_room : length one.log + 2 * one.setup.places + 3 ≤ one.setup.log → length three.log < three.setup.log
+    pub place_room : HasEventRoom one → length three.log < three.setup.log
     place_room room =
-        let long = settled_long room in
-        let most : three.setup.log ≡ one.setup.log = ap (λ (s : Setup). s.log) settled_setup in
+        let long = goes_long one three settled_goes in
+        let few = settled_few in
+        let most : three.setup.log ≡ one.setup.log = ap (λ (s : Setup). s.log) settled_goes.setup in
         omega arith
 
-    pub carries_redispatch : (four : History) → Places three four → length one.log + 2 * one.setup.places + 3 ≤ one.setup.log → CarriesOn one four
+    pub carries_redispatch : (four : History) → Places three four → HasEventRoom one → CarriesOn one four
     carries_redispatch four placed room =
-        carries one four (goes_then one three four (goes_then one two three (goes_entry one two (Freed t server) freed refl) (goes_settles two three settled)) (goes_places three four placed)) placed.over
-        (let long = settled_long room in
-        let b = longer three four placed.placement placed.placed in
-        let few = few_wait four in
-        let places : four.setup.places ≡ one.setup.places = ap (λ (s : Setup). s.places) (same_setup three four placed.placement placed.placed ∙ settled_setup) in
-        let most : four.setup.log ≡ one.setup.log = ap (λ (s : Setup). s.log) (same_setup three four placed.placement placed.placed ∙ settled_setup) in
-        omega arith)
-
--- an event whole: what it opens with, and its grants
-pub carried_adds : (h one two now : History) (event : Entry) → one ≡ with_entry h event → CarriesOn one two → Settles two now → AddsEvent h now event
-carried_adds h one two now event begun is settled =
-    adds h two now event is.goes.entries
-    (is.goes.log ∙ ap (λ (x : History). x.log ++ is.goes.entries) begun ∙ append_assoc h.log (event ∷ []) is.goes.entries)
-    (is.goes.setup ∙ same_setup h one event begun)
-    is.goes.one_event
-    is.over
-    settled
-
--- an event of a ticket that nothing refuses has room
-pub accepted_has_room : (wrong : Phase → Bool) (h : History) (t : ℕ) → ticket_refusal wrong h.setup (state_of h) (length h.log) t ≡ None → 2 * h.setup.places + 8 ≤ h.setup.log - length h.log
-accepted_has_room wrong h t accepted = let a : lacks_room h.setup (length h.log) ≡ false = accepted_room wrong h.setup (state_of h) (length h.log) t accepted in grind (arith, nat_tests)
+        let few = settled_few in
+        let long : length (settled_goes.entries ++ placed.placement ∷ []) ≡ length settled_goes.entries + 1 =
+        length-append settled_goes.entries (placed.placement ∷ []) in
+        carries one four (goes_then one three four settled_goes (goes_places three four placed)) (one.setup.places + 2) placed.over (omega arith) (omega arith)
 
 -- a row under the same ticket
-pub own_kept : (rows : Rows) (p : ℕ) (r s : Row) → HaveOwnTickets rows → StandsAt rows p r → s.key.ticket ≡ r.key.ticket → HaveOwnTickets (set rows p (Some s))
-own_kept rows p r s own stands same = record { own = λ k l u v a b e. let x = before k u a in let y = before l v b in own.own k l x.0 y.0 x.1 y.1 (x.2 ∙ e ∙ sym y.2) }
+pub own_kept : (rows : Rows) (p : ℕ) (r s : Row) → HaveOwnTickets rows → StandsAt rows p r → s.key.ticket ≡ r.key.ticket
+    → HaveOwnTickets (set rows p (Some s))
+own_kept rows p r s own stands same =
+    record { own = λ k l u v a b e. let x = before k u a in let y = before l v b in own.own k l x.0 y.0 x.1 y.1 (x.2 ∙ e ∙ sym y.2) }
   where
     before : (k : ℕ) (u : Row) → StandsAt (set rows p (Some s)) k u → (w : Row) × StandsAt rows k w × (w.key.ticket ≡ u.key.ticket)
     before k u there =
@@ -207,7 +177,14 @@ served_server Loose server e = cc
 served_server (Waiting q m) server e = cc
 served_server (Told c) server e = cc
 
-module _ (h one : History) (m t : ℕ) (legal : IsLegal h) (accepted : refuses_failure h t ≡ None) (begun : one ≡ with_entry h (Fail m t)) where
+module _ (h one : History) (m ticket : ℕ) (it : Ticketed) (legal : IsLegal h) (found : IsFound (state_of h).rows ticket it)
+    (given : refuses_failure h ticket ≡ None) (begun : one ≡ with_entry h (Fail m it.ticket)) where
+  abbrev t : ℕ
+  t = it.ticket
+
+  accepted : refuses_failure h t ≡ None
+  accepted = subst (λ n. refuses_failure h n ≡ None) (sym found.named) given
+
   its : Accepted (λ phase. not (has_a_slot phase)) (state_of h).rows t
   its = row_of_accepted (λ phase. not (has_a_slot phase)) h.setup (state_of h) (length h.log) t accepted
 
@@ -220,7 +197,9 @@ module _ (h one : History) (m t : ℕ) (legal : IsLegal h) (accepted : refuses_f
       ∙ changed_at (state_of h).rows t its.place its.row (failed h.setup) own its.stands its.named
 
   begun_stands : StandsAt (state_of one).rows its.place (failed_row h.setup its.row)
-  begun_stands = subst (λ (r : Rows). StandsAt r its.place (failed_row h.setup its.row)) (sym begun_rows) (get-set_same (state_of h).rows its.place (Some its.row) (Some (failed_row h.setup its.row)) its.stands)
+  begun_stands =
+      subst (λ (r : Rows). StandsAt r its.place (failed_row h.setup its.row)) (sym begun_rows)
+      (get-set_same (state_of h).rows its.place (Some its.row) (Some (failed_row h.setup its.row)) its.stands)
 
   begun_own : HaveOwnTickets (state_of one).rows
   begun_own = subst HaveOwnTickets (sym begun_rows) (own_kept (state_of h).rows its.place its.row (failed_row h.setup its.row) own its.stands refl)
@@ -235,26 +214,28 @@ module _ (h one : History) (m t : ℕ) (legal : IsLegal h) (accepted : refuses_f
   begun_setup = same_setup h one (Fail m t) begun
 
   -- it has its slot
-  pub failure_slot : (server : ℕ) → option_and_then server_in (option_map (λ row. row.phase) (row_of t (state_of h).rows)) ≡ Some server → HasSlot (state_of one).rows t server
+  pub failure_slot : (server : ℕ) → option_and_then server_in (option_map (λ row. row.phase) (row_of t (state_of h).rows)) ≡ Some server
+      → HasSlot (state_of one).rows t server
   failure_slot server at =
-      let phase : its.row.phase ≡ Serving server = served_server its.row.phase server (sym (ap (λ (o : Option Row). option_and_then server_in (option_map (λ (r : Row). r.phase) o)) its.found) ∙ at) in
-      record { row = failed_row h.setup its.row; live = (its.place, begun_stands); named = its.named; phase = ap (phase_is_served_by server) phase ∙ (Decides-eqb server server).1 refl }
+      let phase : its.row.phase ≡ Serving server =
+      served_server its.row.phase server (sym (ap (λ (o : Option Row). option_and_then server_in (option_map (λ (r : Row). r.phase) o)) its.found)
+      ∙ at) in
+      record {
+        row =
+            failed_row h.setup its.row;
+        live = (its.place, begun_stands);
+        named = its.named;
+        phase = ap (phase_is_served_by server) phase
+            ∙ (Decides-eqb server server).1 refl;
+      }
 
   -- no server is its own any more where it is redispatched
   pub failure_pin : (k : ℕ) → failures_of t (state_of one).rows ≡ k → are_redispatched one.setup k ≡ true → pin_of t (state_of one).rows ≡ None
   failure_pin k count goes =
       let counted : its.row.failures + 1 ≡ k = sym (ap (λ (o : Option Row). option_map_or (λ (r : Row). r.failures) o 0) begun_row) ∙ count in
-      let again : are_redispatched h.setup (its.row.failures + 1) ≡ true = subst (λ n. are_redispatched h.setup n ≡ true) (sym counted) (subst (λ (s : Setup). are_redispatched s k ≡ true) begun_setup goes) in
+      let again : are_redispatched h.setup (its.row.failures + 1) ≡ true = subst (λ n. are_redispatched h.setup n ≡ true) (sym counted)
+      (subst (λ (s : Setup). are_redispatched s k ≡ true) begun_setup goes) in
       ap (option_and_then (λ (r : Row). r.pin)) begun_row ∙ ap (λ (b : Bool). cond {A = Option ℕ} b None its.row.pin) again
 
-  pub failure_room : length one.log + 2 * one.setup.places + 3 ≤ one.setup.log
-  failure_room =
-      let room = accepted_has_room (λ phase. not (has_a_slot phase)) h t accepted in
-      let a = longer h one (Fail m t) begun in
-      let places : one.setup.places ≡ h.setup.places = ap (λ (s : Setup). s.places) begun_setup in
-      let most : one.setup.log ≡ h.setup.log = ap (λ (s : Setup). s.log) begun_setup in
-      omega arith
-
-  -- the event whole
-  pub failure_adds : (two now : History) → CarriesOn one two → Settles two now → AddsEvent h now (Fail m t)
-  failure_adds two now is settled = carried_adds h one two now (Fail m t) begun is settled
+  pub failure_room : HasEventRoom one
+  failure_room = begun_room h one (Fail m t) (ticket_room (λ phase. not (has_a_slot phase)) h t accepted) begun

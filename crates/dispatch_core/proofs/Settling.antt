@@ -1,14 +1,13 @@
 -- Grants until all is settled.
-use Rattle.std.proofs.Common.{◌≡◌, ◌+◌, ℕ, ◌≤◌, false, List, [], ◌∷◌, ◌++◌, IsTrue, All, length, refl, ap, sym, ◌∙◌, subst, arith, append_assoc, length-append}
-use Rattle.std.proofs.lemmas.List.{append-nil}
-use Rattle.std.proofs.lemmas.List.Elements.{All-nil, All-push}
+use Rattle.std.proofs.Common.{◌≡◌, ◌+◌, ℕ, ◌≤◌, [], ◌∷◌, ◌++◌, IsTrue, length, refl, ap, sym, ◌∙◌, subst, arith}
+use Rattle.std.proofs.Common.{length-append}
 use Rattle.dispatch_log.specs.declared.entry.Entry.{Entry}
 use Rattle.dispatch_log.specs.declared.entry.Entry.TheVariants.{Granted}
 use Rattle.dispatch_log.specs.Grants.{IsSettled}
 use Rattle.dispatch_log.specs.declared.queue.Queue.{Queue}
 use Rattle.dispatch_log.specs.declared.row.Phase.TheVariants.{Serving}
 use Rattle.dispatch_log.specs.declared.setup.Setup.{Setup}
-use Rattle.dispatch_log.specs.Histories.{History, state_of, begins_event}
+use Rattle.dispatch_log.specs.Histories.{History, state_of}
 use Rattle.dispatch_log.specs.Judgement.{Stage, leaving, telling, checking, falling, granting, IsOver, MayGrant, next_stage}
 use Rattle.dispatch_log.specs.Retries.{are_redispatched}
 use Rattle.dispatch_log.specs.Rows.{pin_of, in_phase}
@@ -17,11 +16,13 @@ use Rattle.dispatch_log.proofs.Judged.{stage_after-push, after_all-push}
 use Rattle.dispatch_core.proofs.Phases.{failures_stay, pins_stay}
 use Rattle.dispatch_core.proofs.Standing.{at_changed, at_after}
 use Rattle.dispatch_trace.specs.declared.position.Ticketed.{Ticketed}
-use Rattle.dispatch_core.specs.Steps.{Settles}
+use Rattle.dispatch_core.specs.Steps.{GoesOn, Settles}
+use Rattle.dispatch_core.proofs.Going.{goes_none, goes_more, longer}
 use Rattle.dispatch_trace.specs.Histories.{with_entry, stage_of, scene_of, waiting_of, IsOverNext, MayGrantNext, IsGrant, IsJudged, IsAt}
 
 -- a grant owes nothing after it
-grant_over : (setup : Setup) (s : State) (t : Stage) (u v : ℕ) (q : Queue) → IsOver setup s t → IsOver setup (after setup s (Granted u q v)) (next_stage t (Granted u q v))
+grant_over : (setup : Setup) (s : State) (t : Stage) (u v : ℕ) (q : Queue) → IsOver setup s t
+    → IsOver setup (after setup s (Granted u q v)) (next_stage t (Granted u q v))
 grant_over setup s granting u v q over = tt
 grant_over setup s telling u v q over = tt
 grant_over setup s (checking w) u v q over = tt
@@ -29,7 +30,8 @@ grant_over setup s (falling w) u v q over = tt
 grant_over setup s t u v q over = absurd over
 
 -- and more may come
-grant_more : (setup : Setup) (s : State) (t : Stage) (u v : ℕ) (q : Queue) → MayGrant setup s t → MayGrant setup (after setup s (Granted u q v)) (next_stage t (Granted u q v))
+grant_more : (setup : Setup) (s : State) (t : Stage) (u v : ℕ) (q : Queue) → MayGrant setup s t
+    → MayGrant setup (after setup s (Granted u q v)) (next_stage t (Granted u q v))
 grant_more setup s (leaving l w) u v q may = subst (λ n. IsTrue (are_redispatched setup n)) (sym (failures_stay l u (Serving v) s.rows)) may
 grant_more setup s granting u v q may = tt
 grant_more setup s telling u v q may = tt
@@ -39,24 +41,18 @@ grant_more setup s t u v q may = absurd may
 
 -- grants so far, and room for as many more as requests wait
 pub record GrantsSince (old now : History) : Type 0 where
-  pub grants : List Entry
-  pub log : now.log ≡ old.log ++ grants
-  pub setup : now.setup ≡ old.setup
-  pub one_event : All (λ entry. begins_event entry ≡ false) grants
+  pub goes : GoesOn old now
   pub over : IsOverNext old → IsOverNext now
   pub leaving : (ticket server : ℕ) → stage_of old ≡ leaving ticket server → stage_of now ≡ leaving ticket server
   pub may_grant : MayGrantNext now
   pub room : length now.log + waiting_of now ≤ now.setup.log
-  pub counted : length grants + waiting_of now ≡ waiting_of old
+  pub counted : length goes.entries + waiting_of now ≡ waiting_of old
   pub pins : (ticket : ℕ) → pin_of ticket (state_of now).rows ≡ pin_of ticket (state_of old).rows
   pub places : (it : Ticketed) → IsAt (state_of old).rows it → IsAt (state_of now).rows it
 
 pub since_none : (h : History) → MayGrantNext h → length h.log + waiting_of h ≤ h.setup.log → GrantsSince h h
 since_none h may_grant room = record {
-  grants = [];
-  log = sym (append-nil h.log);
-  setup = refl;
-  one_event = All-nil (λ (entry : Entry). begins_event entry ≡ false);
+  goes = goes_none h;
   over = λ over. over;
   leaving = λ ticket server stage. stage;
   may_grant = may_grant;
@@ -70,26 +66,32 @@ pub since_more : (old now next : History) → GrantsSince old now → IsGrant no
 since_more old now next since grant =
     let e : Entry = Granted grant.ticket grant.queue grant.server in
     record {
-      grants = since.grants ++ e ∷ [];
-      log = ap (λ (h : History). h.log) grant.grants ∙ ap (λ (l : List Entry). l ++ e ∷ []) since.log ∙ append_assoc old.log since.grants (e ∷ []);
-      setup = ap (λ (h : History). h.setup) grant.grants ∙ since.setup;
-      one_event = All-push (λ (entry : Entry). begins_event entry ≡ false) since.grants e since.one_event refl;
+      goes = goes_more old now next e since.goes grant.grants refl;
       over = λ over. goes_on IsOver (grant_over now.setup (state_of now) (stage_of now) grant.ticket grant.server grant.queue (since.over over));
-      leaving = λ ticket server stage. ap stage_of grant.grants ∙ stage_after-push granting now.log e ∙ ap (λ (t : Stage). next_stage t e) (since.leaving ticket server stage);
+      leaving =
+          λ ticket server stage. ap stage_of grant.grants ∙ stage_after-push granting now.log e
+          ∙ ap (λ (t : Stage). next_stage t e) (since.leaving ticket server stage);
       may_grant = goes_on MayGrant (grant_more now.setup (state_of now) (stage_of now) grant.ticket grant.server grant.queue grant.lawful.0);
       room =
-          let longer : length next.log ≡ length now.log + 1 = ap (λ (h : History). length h.log) grant.grants ∙ length-append now.log (e ∷ []) in
+          let longer : length next.log ≡ length now.log + 1 = longer now next e grant.grants in
           let limit : next.setup.log ≡ now.setup.log = ap (λ (h : History). h.setup.log) grant.grants in
           let fewer = grant.fewer in
           let room = since.room in
           omega arith;
       counted =
-          let longer : length (since.grants ++ e ∷ []) ≡ length since.grants + 1 = length-append since.grants (e ∷ []) in
+          let longer : length (since.goes.entries ++ e ∷ []) ≡ length since.goes.entries + 1 = length-append since.goes.entries (e ∷ []) in
           let fewer = grant.fewer in
           let counted = since.counted in
           omega arith;
       pins = λ ticket. same_pins ticket ∙ since.pins ticket;
-      places = λ it at. at_after now next e it grant.grants (at_changed (state_of now).rows grant.ticket (in_phase (Serving grant.server)) it (λ r. (record r { phase = Serving grant.server }, refl, refl))) (since.places it at);
+      places = λ it at. at_after now next e it grant.grants (at_changed (state_of now).rows grant.ticket (in_phase (Serving grant.server)) it (λ r. (
+        record r {
+          phase =
+              Serving grant.server;
+        },
+        refl,
+        refl,
+      ))) (since.places it at);
     }
   where
     same_pins : (ticket : ℕ) → pin_of ticket (state_of next).rows ≡ pin_of ticket (state_of now).rows
@@ -99,7 +101,8 @@ since_more old now next since grant =
         ∙ ap (λ (s : State). pin_of ticket s.rows) (after_all-push now.setup (opening_state now.setup) now.log entry)
         ∙ pins_stay ticket grant.ticket (Serving grant.server) (state_of now).rows
 
-    goes_on : (P : Setup → State → Stage → Type 0) → P now.setup (after now.setup (state_of now) (Granted grant.ticket grant.queue grant.server)) (next_stage (stage_of now) (Granted grant.ticket grant.queue grant.server)) → P next.setup (state_of next) (stage_of next)
+    goes_on : (P : Setup → State → Stage → Type 0) → P now.setup (after now.setup (state_of now) (Granted grant.ticket grant.queue grant.server))
+        (next_stage (stage_of now) (Granted grant.ticket grant.queue grant.server)) → P next.setup (state_of next) (stage_of next)
     goes_on P h =
         let entry : Entry = Granted grant.ticket grant.queue grant.server in
         subst (λ (x : History). P x.setup (state_of x) (stage_of x)) (sym grant.grants)
@@ -108,10 +111,7 @@ since_more old now next since grant =
 
 pub settles : (old now last : History) → GrantsSince old now → last ≡ now → IsJudged last → IsSettled (scene_of now) → Settles old last
 settles old now last since same judged settled = subst (λ (h : History). Settles old h) (sym same) (record {
-  grants = since.grants;
-  log = since.log;
-  setup = since.setup;
-  one_event = since.one_event;
+  goes = since.goes;
   over = since.over;
   leaving = since.leaving;
   may_grant = since.may_grant;

@@ -1,18 +1,18 @@
 -- A live request stays at its place.
-use Rattle.std.proofs.Common.{◌≡◌, ℕ, ◌==◌, Bool, true, false, cond, List, [], ◌∷◌, ◌++◌, Option, Some, option_map, slice_get, refl, ap, sym, ◌∙◌, subst}
+use Rattle.std.proofs.Common.{◌≡◌, ℕ, ◌==◌, Bool, true, false, cond, Option, Some, option_map, refl, ap, sym, ◌∙◌, subst}
 use Rattle.std.proofs.lemmas.Option.{slice_get-map}
 use Rattle.due_key.specs.declared.key.Key.{Key}
 use Rattle.dispatch_log.specs.declared.entry.Entry.{Entry}
-use Rattle.dispatch_log.specs.declared.entry.Entry.TheVariants.{Done, Fail, Abort, Granted, Freed}
+use Rattle.dispatch_log.specs.declared.entry.Entry.TheVariants.{Done, Fail, Abort, Freed}
 use Rattle.dispatch_log.specs.declared.row.Phase.TheVariants.{Loose}
 use Rattle.dispatch_log.specs.declared.row.Row.{Row}
 use Rattle.dispatch_log.specs.Histories.{History, state_of}
 use Rattle.dispatch_log.specs.Retries.{failed, failed_row}
-use Rattle.dispatch_log.specs.Rows.{Rows, StandsAt, with_change, changed, in_phase}
+use Rattle.dispatch_log.specs.Rows.{Rows, with_change, changed, in_phase}
 use Rattle.dispatch_log.specs.States.{State, after, opening_state}
 use Rattle.dispatch_log.proofs.Judged.{after_all-push}
 use Rattle.dispatch_trace.specs.declared.position.Ticketed.{Ticketed}
-use Rattle.dispatch_trace.specs.Histories.{with_entry, IsAt}
+use Rattle.dispatch_trace.specs.Histories.{with_entry, IsAt, IsFound}
 
 -- a change that keeps keys
 abbrev pub KeepsKeys : (Row → Option Row) → Type 0
@@ -23,14 +23,30 @@ at_changed rows u f it keeps at = by_own (at.0.key.ticket == u) refl
   where
     by_own : (own : Bool) → (at.0.key.ticket == u) ≡ own → IsAt (changed u f rows) it
     by_own true e =
-        let new = keeps at.0 in
-        (new.0, slice_get-map (with_change u f) rows it.place ∙ ap (option_map (with_change u f)) at.1 ∙ ap (λ (b : Bool). Some (cond {A = Option Row} b (f at.0) (Some at.0))) e ∙ ap Some new.1, ap (λ (k : Key). k.ticket) new.2 ∙ at.2)
-    by_own false e = (at.0, slice_get-map (with_change u f) rows it.place ∙ ap (option_map (with_change u f)) at.1 ∙ ap (λ (b : Bool). Some (cond {A = Option Row} b (f at.0) (Some at.0))) e, at.2)
+        let new = keeps at.0 in (
+          new.0,
+          slice_get-map (with_change u f) rows it.place ∙ ap (option_map (with_change u f)) at.1
+              ∙ ap (λ (b : Bool). Some (cond {A = Option Row} b (f at.0) (Some at.0))) e ∙ ap Some new.1,
+          ap (λ (k : Key). k.ticket) new.2 ∙ at.2,
+        )
+    by_own false e = (
+      at.0,
+      slice_get-map (with_change u f) rows it.place ∙ ap (option_map (with_change u f)) at.1
+          ∙ ap (λ (b : Bool). Some (cond {A = Option Row} b (f at.0) (Some at.0))) e,
+      at.2,
+    )
+
+-- an entry of the request that was found is one of its ticket
+pub of_ticket : (h one : History) (e : ℕ → Entry) (t : ℕ) (it : Ticketed) → IsFound (state_of h).rows t it → one ≡ with_entry h (e it.ticket)
+    → one ≡ with_entry h (e t)
+of_ticket h one e t it found goes = goes ∙ ap (λ n. with_entry h (e n)) found.named
 
 -- after an entry that leaves the keys of all rows
-pub at_after : (h one : History) (e : Entry) (it : Ticketed) → one ≡ with_entry h e → (IsAt (state_of h).rows it → IsAt (after h.setup (state_of h) e).rows it) → IsAt (state_of h).rows it → IsAt (state_of one).rows it
+pub at_after : (h one : History) (e : Entry) (it : Ticketed) → one ≡ with_entry h e
+    → (IsAt (state_of h).rows it → IsAt (after h.setup (state_of h) e).rows it) → IsAt (state_of h).rows it → IsAt (state_of one).rows it
 at_after h one e it goes keeps at =
-    subst (λ (x : History). IsAt (state_of x).rows it) (sym goes) (subst (λ (s : State). IsAt s.rows it) (sym (after_all-push h.setup (opening_state h.setup) h.log e)) (keeps at))
+    subst (λ (x : History). IsAt (state_of x).rows it) (sym goes)
+    (subst (λ (s : State). IsAt s.rows it) (sym (after_all-push h.setup (opening_state h.setup) h.log e)) (keeps at))
 
 pub at_done : (h one : History) (m u : ℕ) (it : Ticketed) → one ≡ with_entry h (Done m u) → IsAt (state_of h).rows it → IsAt (state_of one).rows it
 at_done h one m u it goes at = at_after h one (Done m u) it goes (λ a. a) at
@@ -39,7 +55,9 @@ pub at_abort : (h one : History) (m u : ℕ) (it : Ticketed) → one ≡ with_en
 at_abort h one m u it goes at = at_after h one (Abort m u) it goes (λ a. a) at
 
 pub at_fail : (h one : History) (m u : ℕ) (it : Ticketed) → one ≡ with_entry h (Fail m u) → IsAt (state_of h).rows it → IsAt (state_of one).rows it
-at_fail h one m u it goes at = at_after h one (Fail m u) it goes (at_changed (state_of h).rows u (failed h.setup) it (λ r. (failed_row h.setup r, refl, refl))) at
+at_fail h one m u it goes at =
+    at_after h one (Fail m u) it goes (at_changed (state_of h).rows u (failed h.setup) it (λ r. (failed_row h.setup r, refl, refl))) at
 
 pub at_freed : (h one : History) (u v : ℕ) (it : Ticketed) → one ≡ with_entry h (Freed u v) → IsAt (state_of h).rows it → IsAt (state_of one).rows it
-at_freed h one u v it goes at = at_after h one (Freed u v) it goes (at_changed (state_of h).rows u (in_phase Loose) it (λ r. (record r { phase = Loose }, refl, refl))) at
+at_freed h one u v it goes at =
+    at_after h one (Freed u v) it goes (at_changed (state_of h).rows u (in_phase Loose) it (λ r. (record r { phase = Loose }, refl, refl))) at

@@ -1,12 +1,11 @@
 -- Ticks, from one timeout to the next.
-use Rattle.std.proofs.Common.{IsTrue, if◌then◌else◌, max, ◌≡◌, ◌≢◌, ℕ, ◌+◌, ◌<◌, ◌≤◌, ◌==◌, Bool, true, false, List, [], ◌∷◌, ◌++◌, Option, None, Some, option_map, slice_get, drop, count_by, Contains, All, length, refl, ap, sym, ◌∙◌, subst, arith, append_assoc, nat_cmp, Equal, Greater, inl, inr}
+use Rattle.std.proofs.Common.{IsTrue, if◌then◌else◌, max, ◌≡◌, ◌≢◌, ℕ, ◌+◌, ◌<◌, ◌≤◌, ◌==◌, Bool, true, false, List, []}
+use Rattle.std.proofs.Common.{◌∷◌, Option, None, Some, option_map, slice_get, drop, count_by, Contains, length, refl, ap, sym, ◌∙◌, subst, arith}
+use Rattle.std.proofs.Common.{nat_cmp, Equal, Greater, inl, inr}
 use Rattle.std.proofs.Math.ListN.{set}
 use Rattle.std.proofs.lemmas.Bool.Decides.{nat_tests, Decides-eqb}
 use Rattle.std.proofs.lemmas.Cmp.{nat_cmp_total}
-use Rattle.std.proofs.lemmas.List.{append-nil}
-use Rattle.std.proofs.lemmas.List.Elements.{All-nil, All-push}
 use Rattle.std.proofs.lemmas.Option.{same_Some, slice_get-map}
-use Rattle.dispatch_log.specs.declared.entry.Entry.{Entry}
 use Rattle.dispatch_log.specs.declared.entry.Entry.TheVariants.{Tick, Left}
 use Rattle.verdict.specs.declared.cause.Cause.TheVariants.{Timeout}
 use Rattle.dispatch_log.specs.declared.row.Phase.{Phase}
@@ -14,7 +13,7 @@ use Rattle.dispatch_log.specs.declared.row.Phase.TheVariants.{Told}
 use Rattle.dispatch_log.specs.declared.row.Row.{Row}
 use Rattle.dispatch_log.specs.declared.refusal.Refusal.TheVariants.{LogFull}
 use Rattle.dispatch_log.specs.declared.setup.Setup.{Setup}
-use Rattle.dispatch_log.specs.Histories.{History, IsLegal, SomeExpires, state_of, effective, begins_event, AddsEvent}
+use Rattle.dispatch_log.specs.Histories.{History, IsLegal, SomeExpires, state_of, effective, AddsEvent}
 use Rattle.dispatch_log.specs.Judgement.{Stage, telling, granting, has_expired, IsExpired, IsFirstExpired, IsInPhase, IsOver, MayGrant, MayCome, next_stage}
 use Rattle.dispatch_log.specs.Refusals.{is_waiting, lacks_room, tick_refusal}
 use Rattle.dispatch_log.specs.Rows.{Rows, StandsAt, with_change, changed, in_phase}
@@ -27,14 +26,14 @@ use Rattle.dispatch_log.proofs.RowLemmas.{with_change_own, with_change_other}
 use Rattle.pend_queue.specs.Pairs.{IsAscending}
 use Rattle.pend_queue.proofs.Ascending.{least_first, absent_from_rest, absent_at_member}
 use Rattle.list_facts.proofs.Members.{Contains-nil, Contains-head, Contains-tail, Contains-cases}
-use Rattle.dispatch_core.specs.Steps.{Settles}
+use Rattle.dispatch_core.specs.Steps.{GoesOn, CarriesOn}
 use Rattle.dispatch_trace.specs.Histories.{with_entry, stage_of, scene_of, waits, waiting_of, IsJudged, MayComeNext, HasEntryRoom, IsAt}
-use Rattle.dispatch_core.specs.Steps.{TimesOut}
 use Rattle.dispatch_trace.specs.Timeouts.{AreExpired}
-use Rattle.dispatch_core.proofs.Calls.{longer, same_setup, few_wait, adds}
+use Rattle.dispatch_core.proofs.Going.{goes_none, goes_more, longer, same_setup, room_left, begun_room}
 use Rattle.dispatch_trace.proofs.Expiring.{expired_since}
 
-told_not_expired : (setup : Setup) (now : ℕ) (r : Row) (phase : Phase) → has_expired setup now r.phase → r.phase ≡ phase → is_waiting phase ≡ false → ⊥
+told_not_expired : (setup : Setup) (now : ℕ) (r : Row) (phase : Phase) → has_expired setup now r.phase → r.phase ≡ phase → is_waiting phase ≡ false
+    → ⊥
 told_not_expired setup now r phase expired same idle =
     let it = expired_since setup now r.phase expired in
     true_false (sym (ap is_waiting (sym same ∙ it.waits)) ∙ idle)
@@ -44,10 +43,12 @@ told_not_expired setup now r phase expired same idle =
 
 -- once a ticket is told, the rows that have expired are the other ones that had
 module _ (setup : Setup) (rows : Rows) (now t : ℕ) (phase : Phase) (idle : is_waiting phase ≡ false) where
-  still_expired : (p : ℕ) (r : Row) → StandsAt (changed t (in_phase phase) rows) p r → has_expired setup now r.phase → StandsAt rows p r × (r.key.ticket ≢ t)
+  still_expired : (p : ℕ) (r : Row) → StandsAt (changed t (in_phase phase) rows) p r → has_expired setup now r.phase
+      → StandsAt rows p r × (r.key.ticket ≢ t)
   still_expired p r stands expired = by_cell (slice_get rows p) refl (sym (slice_get-map (with_change t (in_phase phase)) rows p) ∙ stands)
     where
-      by_row : (old : Row) (b : Bool) → (old.key.ticket == t) ≡ b → slice_get rows p ≡ Some (Some old) → with_change t (in_phase phase) (Some old) ≡ Some r → StandsAt rows p r × (r.key.ticket ≢ t)
+      by_row : (old : Row) (b : Bool) → (old.key.ticket == t) ≡ b → slice_get rows p ≡ Some (Some old)
+          → with_change t (in_phase phase) (Some old) ≡ Some r → StandsAt rows p r × (r.key.ticket ≢ t)
       by_row old true test at is =
           let own = with_change_own t (in_phase phase) old ((Decides-eqb old.key.ticket t).0 test) in
           let told : record old { phase = phase } ≡ r = same_Some (record old { phase = phase }) r (sym own ∙ is) in
@@ -60,38 +61,37 @@ module _ (setup : Setup) (rows : Rows) (now t : ℕ) (phase : Phase) (idle : is_
           false_true : false ≡ true → ⊥
           false_true e = cc
 
-      by_cell : (cell : Option (Option Row)) → slice_get rows p ≡ cell → option_map (with_change t (in_phase phase)) cell ≡ Some (Some r) → StandsAt rows p r × (r.key.ticket ≢ t)
+      by_cell : (cell : Option (Option Row)) → slice_get rows p ≡ cell → option_map (with_change t (in_phase phase)) cell ≡ Some (Some r)
+          → StandsAt rows p r × (r.key.ticket ≢ t)
       by_cell None at is = cc
       by_cell (Some None) at is = cc
       by_cell (Some (Some old)) at is = by_row old (old.key.ticket == t) refl at (same_Some (with_change t (in_phase phase) (Some old)) (Some r) is)
 
   other_stands : (p : ℕ) (r : Row) → StandsAt rows p r → r.key.ticket ≢ t → StandsAt (changed t (in_phase phase) rows) p r
-  other_stands p r stands other = slice_get-map (with_change t (in_phase phase)) rows p ∙ ap (option_map (with_change t (in_phase phase))) stands ∙ ap Some (with_change_other t (in_phase phase) r other)
+  other_stands p r stands other =
+      slice_get-map (with_change t (in_phase phase)) rows p ∙ ap (option_map (with_change t (in_phase phase))) stands
+      ∙ ap Some (with_change_other t (in_phase phase) r other)
 
 -- a request that waits is counted
 some_waits : (rows : Rows) (t : ℕ) → IsInPhase is_waiting rows t → 0 < count_by waits rows
 some_waits rows t it =
-    let count : count_by waits (set rows it.live.0 None) + tally (waits (Some it.row)) ≡ count_by waits rows + tally (waits None) = count-set waits rows it.live.0 (Some it.row) None it.live.1 in
+    let count : count_by waits (set rows it.live.0 None) + tally (waits (Some it.row)) ≡ count_by waits rows + tally (waits None) =
+    count-set waits rows it.live.0 (Some it.row) None it.live.1 in
     let one : tally (waits (Some it.row)) ≡ 1 = ap tally it.phase in
     omega arith
 
 -- timeouts so far, and the tickets of those that are left
 pub record TellsSince (old now : History) (tickets : List (ℕ × ℕ)) : Type 0 where
-  pub told : List Entry
-  pub log : now.log ≡ old.log ++ told
-  pub setup : now.setup ≡ old.setup
-  pub one_event : All (λ entry. begins_event entry ≡ false) told
+  pub goes : GoesOn old now
   pub stage : stage_of now ≡ telling
   pub room : length now.log + waiting_of now ≤ now.setup.log
   pub expired : AreExpired now tickets
   pub ascending : IsAscending nat_cmp tickets
 
-pub tells_none : (h : History) (tickets : List (ℕ × ℕ)) → stage_of h ≡ telling → length h.log + waiting_of h ≤ h.setup.log → AreExpired h tickets → IsAscending nat_cmp tickets → TellsSince h h tickets
+pub tells_none : (h : History) (tickets : List (ℕ × ℕ)) → stage_of h ≡ telling → length h.log + waiting_of h ≤ h.setup.log → AreExpired h tickets
+    → IsAscending nat_cmp tickets → TellsSince h h tickets
 tells_none h tickets stage room expired up = record {
-  told = [];
-  log = sym (append-nil h.log);
-  setup = refl;
-  one_event = All-nil (λ (entry : Entry). begins_event entry ≡ false);
+  goes = goes_none h;
   stage = stage;
   room = room;
   expired = expired;
@@ -102,7 +102,8 @@ first_of : (tickets : List (ℕ × ℕ)) (t u : ℕ) → Some (t, u) ≡ slice_g
 first_of [] t u e = cc
 first_of (x ∷ later) t u e = ap (λ z. z ∷ later) (sym (same_Some (t, u) x e))
 
-pub fewer_tickets : (tickets rest : List (ℕ × ℕ)) (t u : ℕ) → Some (t, u) ≡ slice_get tickets 0 → rest ≡ drop 1 tickets → length rest < length tickets
+pub fewer_tickets : (tickets rest : List (ℕ × ℕ)) (t u : ℕ) → Some (t, u) ≡ slice_get tickets 0 → rest ≡ drop 1 tickets
+    → length rest < length tickets
 fewer_tickets tickets rest t u first left =
     let a : length tickets ≡ length ((t, u) ∷ drop 1 tickets) = ap length (first_of tickets t u first) in
     let b : length ((t, u) ∷ drop 1 tickets) ≡ length (drop 1 tickets) + 1 = omega arith in
@@ -129,8 +130,10 @@ module _ (old now : History) (tickets : List (ℕ × ℕ)) (t u : ℕ) (since : 
     expired = ((u, its_row.1), its_row.2);
     named = its_row.3;
     first = λ other expired.
-        let among = subst (λ (l : List (ℕ × ℕ)). Contains l (other.key.ticket, expired.0.0)) tickets_are ((since.expired other.key.ticket expired.0.0).1 (other, expired.0.1, expired.1, refl)) in
-        let least : nat_cmp t other.key.ticket ≢ Greater = least_first nat_cmp_total (t, u) (drop 1 tickets) (other.key.ticket, expired.0.0) ascending_are among in
+        let among = subst (λ (l : List (ℕ × ℕ)). Contains l (other.key.ticket, expired.0.0)) tickets_are
+        ((since.expired other.key.ticket expired.0.0).1 (other, expired.0.1, expired.1, refl)) in
+        let least : nat_cmp t other.key.ticket ≢ Greater =
+        least_first nat_cmp_total (t, u) (drop 1 tickets) (other.key.ticket, expired.0.0) ascending_are among in
         grind (arith, nat_tests);
   }
 
@@ -152,7 +155,15 @@ module _ (old now : History) (tickets : List (ℕ × ℕ)) (t u : ℕ) (since : 
       omega arith
 
   module _ (next : History) (goes : next ≡ with_entry now (Left t Timeout)) where
-    state_next : (P : State → Type 0) → P (record { rows = changed t (in_phase (Told Timeout)) (state_of now).rows; results = (state_of now).results; moment = (state_of now).moment; ticket = (state_of now).ticket; cursor = (state_of now).cursor }) → P (state_of next)
+    state_next : (P : State → Type 0)
+        → P (record {
+          rows = changed t (in_phase (Told Timeout)) (state_of now).rows;
+          results = (state_of now).results;
+          moment =
+              (state_of now).moment;
+          ticket = (state_of now).ticket;
+          cursor = (state_of now).cursor;
+        }) → P (state_of next)
     state_next P h =
         subst (λ (x : History). P (state_of x)) (sym goes)
         (subst P (sym (after_all-push now.setup (opening_state now.setup) now.log (Left t Timeout))) h)
@@ -162,15 +173,26 @@ module _ (old now : History) (tickets : List (ℕ × ℕ)) (t u : ℕ) (since : 
 
     left_expired : AreExpired next (drop 1 tickets)
     left_expired ticket place =
-        subst (λ (x : Setup). (Contains (drop 1 tickets) (ticket, place) → (row : Row) × StandsAt (state_of next).rows place row × has_expired x (state_of next).moment row.phase × (row.key.ticket ≡ ticket)) × ((row : Row) × StandsAt (state_of next).rows place row × has_expired x (state_of next).moment row.phase × (row.key.ticket ≡ ticket) → Contains (drop 1 tickets) (ticket, place))) (sym setup_next)
-        (state_next (λ (s : State). (Contains (drop 1 tickets) (ticket, place) → (row : Row) × StandsAt s.rows place row × has_expired now.setup s.moment row.phase × (row.key.ticket ≡ ticket)) × ((row : Row) × StandsAt s.rows place row × has_expired now.setup s.moment row.phase × (row.key.ticket ≡ ticket) → Contains (drop 1 tickets) (ticket, place))) (
+        subst (λ (x : Setup). (Contains (drop 1 tickets) (ticket, place) → (row : Row) × StandsAt (state_of next).rows place row
+        × has_expired x (state_of next).moment row.phase × (row.key.ticket ≡ ticket))
+        × ((row : Row) × StandsAt (state_of next).rows place row × has_expired x (state_of next).moment row.phase × (row.key.ticket ≡ ticket)
+        → Contains (drop 1 tickets) (ticket, place))) (sym setup_next)
+        (state_next
+        (λ (s : State). (Contains (drop 1 tickets) (ticket, place) → (row : Row) × StandsAt s.rows place row × has_expired now.setup s.moment row.phase
+        × (row.key.ticket ≡ ticket))
+        × ((row : Row) × StandsAt s.rows place row × has_expired now.setup s.moment row.phase × (row.key.ticket ≡ ticket)
+        → Contains (drop 1 tickets) (ticket, place))) (
           λ among.
-              let it = (since.expired ticket place).0 (subst (λ (l : List (ℕ × ℕ)). Contains l (ticket, place)) (sym tickets_are) (Contains-tail (t, u) (drop 1 tickets) (ticket, place) among)) in
+              let it =
+              (since.expired ticket place).0
+              (subst (λ (l : List (ℕ × ℕ)). Contains l (ticket, place)) (sym tickets_are)
+              (Contains-tail (t, u) (drop 1 tickets) (ticket, place) among)) in
               let other : it.0.key.ticket ≢ t = λ same. others among (sym it.3 ∙ same) in
               (it.0, other_stands now.setup (state_of now).rows (state_of now).moment t (Told Timeout) refl place it.0 it.1 other, it.2, it.3),
           λ its.
               let was = still_expired now.setup (state_of now).rows (state_of now).moment t (Told Timeout) refl place its.0 its.1 its.2 in
-              let among = subst (λ (l : List (ℕ × ℕ)). Contains l (ticket, place)) tickets_are ((since.expired ticket place).1 (its.0, was.0, its.2, its.3)) in
+              let among = subst (λ (l : List (ℕ × ℕ)). Contains l (ticket, place)) tickets_are
+              ((since.expired ticket place).1 (its.0, was.0, its.2, its.3)) in
               elim (Contains-cases (t, u) (drop 1 tickets) (ticket, place) among) [
                 | inl e ↦ absurd (was.1 (its.3 ∙ ap (λ (x : ℕ × ℕ). x.0) (sym e)))
                 | inr e ↦ e
@@ -184,10 +206,7 @@ module _ (old now : History) (tickets : List (ℕ × ℕ)) (t u : ℕ) (since : 
 
     pub tells_more : (rest : List (ℕ × ℕ)) → rest ≡ drop 1 tickets → waiting_of next + 1 ≡ waiting_of now → TellsSince old next rest
     tells_more rest left fewer = subst (TellsSince old next) (sym left) (record {
-      told = since.told ++ Left t Timeout ∷ [];
-      log = ap (λ (x : History). x.log) goes ∙ ap (λ (l : List Entry). l ++ Left t Timeout ∷ []) since.log ∙ append_assoc old.log since.told (Left t Timeout ∷ []);
-      setup = setup_next ∙ since.setup;
-      one_event = All-push (λ (entry : Entry). begins_event entry ≡ false) since.told (Left t Timeout) since.one_event refl;
+      goes = goes_more old now next (Left t Timeout) since.goes goes refl;
       stage = ap stage_of goes ∙ stage_after-push granting now.log (Left t Timeout) ∙ ap (λ (x : Stage). next_stage x (Left t Timeout)) since.stage;
       room =
           let longer = longer now next (Left t Timeout) goes in
@@ -203,19 +222,19 @@ none_left : (tickets : List (ℕ × ℕ)) → None ≡ slice_get tickets 0 → t
 none_left [] e = refl
 none_left (x ∷ later) e = cc
 
-pub times_out : (old now : History) (tickets : List (ℕ × ℕ)) → TellsSince old now tickets → None ≡ slice_get tickets 0 → TimesOut old now
+pub times_out : (old now : History) (tickets : List (ℕ × ℕ)) → TellsSince old now tickets → None ≡ slice_get tickets 0 → CarriesOn old now
 times_out old now tickets since none = record {
-  told = since.told;
-  log = since.log;
-  setup = since.setup;
-  one_event = since.one_event;
+  goes = since.goes;
   over = subst (λ (x : Stage). IsOver now.setup (state_of now) x) (sym since.stage) over;
   may_grant = subst (λ (x : Stage). MayGrant now.setup (state_of now) x) (sym since.stage) over;
   room = since.room;
 }
   where
     over : (row : Row) → IsExpired now.setup (state_of now) row → ⊥
-    over row expired = Contains-nil (row.key.ticket, expired.0.0) (subst (λ (l : List (ℕ × ℕ)). Contains l (row.key.ticket, expired.0.0)) (none_left tickets none) ((since.expired row.key.ticket expired.0.0).1 (row, expired.0.1, expired.1, refl)))
+    over row expired =
+        Contains-nil (row.key.ticket, expired.0.0)
+        (subst (λ (l : List (ℕ × ℕ)). Contains l (row.key.ticket, expired.0.0)) (none_left tickets none)
+        ((since.expired row.key.ticket expired.0.0).1 (row, expired.0.1, expired.1, refl)))
 
 -- the calls of a tick
 module _ (h one : History) (m : ℕ) (begun : one ≡ with_entry h (Tick m)) where
@@ -224,29 +243,28 @@ module _ (h one : History) (m : ℕ) (begun : one ≡ with_entry h (Tick m)) whe
 
   pub tick_room : HasEntryRoom h → length one.log + waiting_of one ≤ one.setup.log
   tick_room room =
-      let longer = longer h one (Tick m) begun in
-      let few = few_wait one in
-      let places : one.setup.places ≡ h.setup.places = ap (λ (x : Setup). x.places) (same_setup h one (Tick m) begun) in
-      let most : one.setup.log ≡ h.setup.log = ap (λ (x : Setup). x.log) (same_setup h one (Tick m) begun) in
-      omega arith
-
-  pub tick_adds : (two now : History) → TimesOut one two → Settles two now → AddsEvent h now (Tick m)
-  tick_adds two now told settled =
-      adds h two now (Tick m) told.told
-      (told.log ∙ ap (λ (x : History). x.log ++ told.told) begun ∙ append_assoc h.log (Tick m ∷ []) told.told)
-      (told.setup ∙ same_setup h one (Tick m) begun)
-      told.one_event told.over settled
+      let room = begun_room h one (Tick m) room begun in
+      room_left one one (goes_none one) 0 (omega arith) (omega arith)
 
   -- where no request has expired the event is over, and all is settled as it was
-  pub quiet_adds : (moment : ℕ) → m ≡ effective h moment → IsLegal h → HasEntryRoom h → (expired : Bool) → expired ≡ false → (SomeExpires one moment → IsTrue expired) → AddsEvent h one (Tick m)
+  pub quiet_adds : (moment : ℕ) → m ≡ effective h moment → IsLegal h → HasEntryRoom h → (expired : Bool) → expired ≡ false
+      → (SomeExpires one moment → IsTrue expired) → AddsEvent h one (Tick m)
   quiet_adds moment later legal room expired is tells = record {
     brought = [];
     log = ap (λ (x : History). x.log) begun;
-    one_event = All-nil (λ (entry : Entry). begins_event entry ≡ false);
+    one_event = (goes_none h).one_event;
     setup = same_setup h one (Tick m) begun;
     legal = record {
-      judged = subst IsJudged (sym begun) (judged_push h.setup (opening_state h.setup) 0 granting h.log (Tick m) legal.judged (record { over = legal.whole; settled = legal.settled; accepted = accepted; later = later_than }));
-      whole = subst (λ (x : Stage). IsOver one.setup (state_of one) x) (sym tick_tells) (λ row expired. none (row, expired.0, subst (λ n. has_expired one.setup n row.phase) (sym same_moment) expired.1));
+      judged = subst IsJudged (sym begun) (judged_push h.setup (opening_state h.setup) 0 granting h.log (Tick m) legal.judged (record {
+        over =
+            legal.whole;
+        settled = legal.settled;
+        accepted = accepted;
+        later = later_than;
+      }));
+      whole =
+          subst (λ (x : Stage). IsOver one.setup (state_of one) x) (sym tick_tells)
+          (λ row expired. none (row, expired.0, subst (λ n. has_expired one.setup n row.phase) (sym same_moment) expired.1));
       settled = subst (λ (x : Scene). IsSettled x) (sym same_scene) legal.settled;
     };
   }
@@ -267,7 +285,9 @@ module _ (h one : History) (m : ℕ) (begun : one ≡ with_entry h (Tick m)) whe
       left = ap state_of begun ∙ after_all-push h.setup (opening_state h.setup) h.log (Tick m)
 
       same_moment : effective one moment ≡ (state_of one).moment
-      same_moment = let is : (state_of one).moment ≡ m = ap (λ (s : State). s.moment) left in let at : m ≡ max (state_of h).moment moment = later in let both : effective one moment ≡ max (state_of one).moment moment = refl in omega arith
+      same_moment =
+          let is : (state_of one).moment ≡ m = ap (λ (s : State). s.moment) left in let at : m ≡ max (state_of h).moment moment = later in
+          let both : effective one moment ≡ max (state_of one).moment moment = refl in omega arith
 
       same_scene : scene_of one ≡ scene_of h
       same_scene = ap (λ (x : Setup). scene x (state_of one)) (same_setup h one (Tick m) begun) ∙ ap (scene h.setup) left

@@ -15,7 +15,8 @@ IsHealthBy rise_fall results health =
 pub record AreHealths (servers : List ServerSet) (results : List (List Bool)) (healths : List (Option Standing)) : Type 0 where
   pub many : length results ≡ length servers
   pub each_one : length healths ≡ length servers
-  pub each : (server : ℕ) (it : ServerSet) → slice_get servers server ≡ Some it → IsHealthBy it.rise_fall (results_of results server) (slice_index_or healths server None)
+  pub each : (server : ℕ) (it : ServerSet) → slice_get servers server ≡ Some it
+      → IsHealthBy it.rise_fall (results_of results server) (slice_index_or healths server None)
 
 -- a core's log is legal, it keeps the servers' healths, and its queue of expired requests is empty and has room for all
 pub record IsCore (history : History) (healths : List (Option Standing)) (expiring : Held ℕ ℕ) : Type 0 where

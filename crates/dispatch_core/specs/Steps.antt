@@ -1,8 +1,9 @@
 -- What the parts of an event leave.
-use Rattle.std.specs.Prelude.{◌≡◌, ℕ, ◌+◌, ◌≤◌, List, ◌++◌, Option, None, Some, IsTrue, length, All, false}
+use Rattle.std.specs.Prelude.{◌≡◌, ℕ, ◌+◌, ◌*◌, ◌≤◌, List, ◌++◌, Option, None, Some, IsTrue, length, All, false}
 use Rattle.dispatch_log.specs.declared.entry.Entry.{Entry}
 use Rattle.dispatch_log.specs.declared.queue.Queue.TheVariants.{Server}
 use Rattle.dispatch_log.specs.declared.row.Row.{Row}
+use Rattle.dispatch_log.specs.declared.setup.Setup.{Setup}
 use Rattle.dispatch_log.specs.Grants.{IsSettled}
 use Rattle.dispatch_log.specs.Histories.{History, state_of, begins_event}
 use Rattle.dispatch_log.specs.Judgement.{HasSlot, IsTold, granting, leaving, falling}
@@ -10,16 +11,28 @@ use Rattle.dispatch_log.specs.Rows.{Rows, IsRow, pin_of, phase_waits_in}
 use Rattle.dispatch_trace.specs.declared.position.Ticketed.{Ticketed}
 use Rattle.dispatch_trace.specs.Histories.{with_entry, stage_of, scene_of, waiting_of, IsAt, IsJudged, IsOverNext, MayGrantNext}
 
+-- room enough for all that follows the first entry of an event: each place's request moves or is granted once and is granted
+-- once more, and three entries for the request or server that the event is about
+abbrev pub event_room : Setup → ℕ
+event_room setup = 2 * setup.places + 3
+
+abbrev pub HasEventRoom : History → Type 0
+HasEventRoom history = length history.log + event_room history.setup ≤ history.setup.log
+
+-- a history goes on inside an event
+pub record GoesOn (old new : History) : Type 0 where
+  pub entries : List Entry
+  pub log : new.log ≡ old.log ++ entries
+  pub setup : new.setup ≡ old.setup
+  pub one_event : All (λ entry. begins_event entry ≡ false) entries
+
 -- a history goes on by grants until all is settled; what the event owed beside them is what it owes then
 pub record Settles (old new : History) : Type 0 where
-  pub grants : List Entry
-  pub log : new.log ≡ old.log ++ grants
-  pub setup : new.setup ≡ old.setup
-  pub one_event : All (λ entry. begins_event entry ≡ false) grants
+  pub goes : GoesOn old new
   pub over : IsOverNext old → IsOverNext new
   pub leaving : (ticket server : ℕ) → stage_of old ≡ leaving ticket server → stage_of new ≡ leaving ticket server
   pub may_grant : MayGrantNext new
-  pub few : length grants ≤ waiting_of old
+  pub few : length goes.entries ≤ waiting_of old
   pub pins : (ticket : ℕ) → pin_of ticket (state_of new).rows ≡ pin_of ticket (state_of old).rows
   pub places : (it : Ticketed) → IsAt (state_of old).rows it → IsAt (state_of new).rows it
   pub judged : IsJudged new
@@ -27,11 +40,8 @@ pub record Settles (old new : History) : Type 0 where
 
 -- a history goes on by what ends the return of a ticket's slot
 pub record Leaves (old new : History) : Type 0 where
-  pub closing : List Entry
-  pub log : new.log ≡ old.log ++ closing
-  pub setup : new.setup ≡ old.setup
-  pub few : length closing ≤ 2
-  pub one_event : All (λ entry. begins_event entry ≡ false) closing
+  pub goes : GoesOn old new
+  pub few : length goes.entries ≤ 2
   pub over : stage_of new ≡ granting
 
 -- a history goes on by the entry that ends a request's placement
@@ -41,15 +51,8 @@ pub record Places (old new : History) : Type 0 where
   pub over : stage_of new ≡ granting
   pub one_event : begins_event placement ≡ false
 
--- a history goes on inside an event
-pub record GoesOn (old new : History) : Type 0 where
-  pub entries : List Entry
-  pub log : new.log ≡ old.log ++ entries
-  pub setup : new.setup ≡ old.setup
-  pub one_event : All (λ entry. begins_event entry ≡ false) entries
-
--- a history goes on by what becomes of a request whose connection failed: its event owes nothing but grants then, for
--- which the log has room
+-- a history goes on by what becomes of a request whose connection failed, of a server that was checked, or of the requests that a
+-- tick times out: its event owes nothing but grants then, for which the log has room
 pub record CarriesOn (old new : History) : Type 0 where
   pub goes : GoesOn old new
   pub over : IsOverNext new
@@ -67,13 +70,3 @@ pub record MovesAll (server : ℕ) (old new : History) : Type 0 where
   pub stage : stage_of new ≡ falling server
   pub few : length goes.entries ≤ waiting_of old
   pub none : (row : Row) → IsRow (state_of new).rows row → IsTrue (phase_waits_in (Server server) row.phase) → ⊥
-
--- a history goes on by the timeouts that a tick tells, and then owes nothing but grants, for which there is room
-pub record TimesOut (old new : History) : Type 0 where
-  pub told : List Entry
-  pub log : new.log ≡ old.log ++ told
-  pub setup : new.setup ≡ old.setup
-  pub one_event : All (λ entry. begins_event entry ≡ false) told
-  pub over : IsOverNext new
-  pub may_grant : MayGrantNext new
-  pub room : length new.log + waiting_of new ≤ new.setup.log

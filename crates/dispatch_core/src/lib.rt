@@ -4,6 +4,7 @@
 #![tactic(auto)]
 
 mod dispatcher;
+mod events;
 mod healths;
 
 pub use crate::dispatcher::Core;

@@ -127,6 +127,33 @@ fn tells_where_requests_stand(rt: HostRuntime) -> Result<(), Fail> {
 }
 
 #[test]
+fn tells_the_places_of_live_requests(rt: HostRuntime) -> Result<(), Fail> {
+    let alloc = rt.alloc();
+    let calls = [(0, arrive(0, 0)), (0, arrive(0, 0)), (0, arrive(0, 0))];
+    let mut core = after(&rt, alloc, alone(alloc)?, &calls)?;
+    assert_eq!(rt; core.places(), 8);
+    assert_eq!(rt; core.place(1), Some(0));
+    assert_eq!(rt; core.place(2), Some(1));
+    assert_eq!(rt; core.place(3), Some(2));
+    assert_eq!(rt; core.place(4), None);
+    go_on(&rt, alloc, &mut core, &[(1, Call::Done(1))]);
+    assert_eq!(rt; core.place(1), None);
+    assert_eq!(rt; core.place(2), Some(1));
+    Ok(())
+}
+
+#[test]
+fn tells_which_servers_are_up(rt: HostRuntime) -> Result<(), Fail> {
+    let alloc = rt.alloc();
+    let core = after(&rt, alloc, checked(alloc)?, &[(0, Call::Check(0, false))])?;
+    assert_eq!(rt; core.servers(), 2);
+    assert_eq!(rt; core.up(0), false);
+    assert!(rt; core.up(1));
+    assert_eq!(rt; core.up(2), false);
+    Ok(())
+}
+
+#[test]
 fn refusals_come_in_order(rt: HostRuntime) -> Result<(), Fail> {
     let alloc = rt.alloc();
     let mut setup = alone(alloc)?;

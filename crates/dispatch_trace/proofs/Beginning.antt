@@ -1,7 +1,9 @@
 -- How events begin on a trace, and the entries that change nothing that it holds.
-use Rattle.std.proofs.Common.{◌≡◌, ℕ, zero, suc, ◌+◌, ◌-◌, ◌^◌, ◌≤◌, ◌==◌, ◌<◌, nat_lt, max, Bool, true, false, List, [], ◌∷◌, ◌++◌, Option, None, Some, is_some, option_map, slice_get, count_by, length, replicate, map, ℤ, pos, ◌+ℤ◌, refl, ap, sym, ◌∙◌, subst, arith, inl, inr}
+use Rattle.std.proofs.Common.{◌≡◌, ℕ, zero, suc, ◌+◌, ◌-◌, ◌^◌, ◌≤◌, ◌<◌, max, Bool, true, false, List, [], ◌∷◌, ◌++◌}
+use Rattle.std.proofs.Common.{Option, None, Some, is_some, option_map, slice_get, count_by, length, replicate, ℤ, pos, ◌+ℤ◌, refl, ap, sym, ◌∙◌}
+use Rattle.std.proofs.Common.{subst, arith}
 use Rattle.std.specs.Option.{option_and_then}
-use Rattle.std.proofs.Math.ListN.{set, length-replicate}
+use Rattle.std.proofs.Math.ListN.{set}
 use Rattle.std.proofs.lemmas.Bool.Decides.{nat_tests}
 use Rattle.std.proofs.lemmas.List.{length-map, map-set}
 use Rattle.std.proofs.lemmas.List.Sums.{sum_by-cons}
@@ -12,7 +14,6 @@ use Rattle.due_key.specs.Range.{IsBetween}
 use Rattle.dispatch_log.specs.declared.entry.Arrival.{Arrival}
 use Rattle.dispatch_log.specs.declared.entry.Entry.{Entry}
 use Rattle.dispatch_log.specs.declared.entry.Entry.TheVariants.{Arrive}
-use Rattle.dispatch_log.specs.declared.refusal.Refusal.{Refusal}
 use Rattle.dispatch_log.specs.declared.refusal.Refusal.TheVariants.{PlacesFull, LogFull, NoSuchServer, TicketsSpent}
 use Rattle.dispatch_log.specs.declared.row.Row.{Row}
 use Rattle.dispatch_log.specs.declared.setup.Setup.{Setup}
@@ -22,7 +23,7 @@ use Rattle.dispatch_log.specs.Judgement.{IsNewcomer}
 use Rattle.dispatch_log.specs.Refusals.{first_of, is_full, pins_to_none}
 use Rattle.dispatch_log.specs.Rows.{Rows, row_of, pin_of}
 use Rattle.dispatch_log.specs.Setups.{IsSound}
-use Rattle.dispatch_log.specs.States.{State, after, arrived, opening_state}
+use Rattle.dispatch_log.specs.States.{State, after, arrived}
 use Rattle.dispatch_log.specs.Words.{Scene}
 use Rattle.dispatch_log.proofs.Dispatched.{none_stands}
 use Rattle.list_facts.proofs.Places.{tally, get-set_same}
@@ -50,21 +51,38 @@ use Rattle.dispatch_trace.proofs.Waits.{set_same, waiter_at, waiters_same, none_
 
 module _ {N : Type 0} (pair_of : N → Key × ℕ) where
   -- an event that changes no row begins
-  pub begun_kept : (t : Traced N) (e : Entry) (moment now : ℕ) → IsTrace pair_of t → joining_in e ≡ None → now ≡ max t.position.last moment
-      → (now ≡ effective (history_of t) moment → MayComeNext (history_of t) e)
-      → after t.kept.setup (state_of (history_of t)) e ≡ record (state_of (history_of t)) { moment = now }
-      → IsTrace pair_of (record { kept = t.kept; log = noted t.log e; waits = t.waits; position = record { cursor = t.position.cursor; last = now; ticket = t.position.ticket } })
-  begun_kept t e moment now is none later may leaves =
+  pub begun_kept : (t : Traced N) (event : ℕ → Entry) (moment now : ℕ) → IsTrace pair_of t → joining_in (event now) ≡ None
+      → now ≡ max t.position.last moment
+      → MayComeNext (history_of t) (event (effective (history_of t) moment))
+      → after t.kept.setup (state_of (history_of t)) (event now) ≡ record (state_of (history_of t)) { moment = now }
+      → IsTrace pair_of
+      (record {
+        kept = t.kept;
+        log = noted t.log (event now);
+        waits = t.waits;
+        position =
+            record { cursor = t.position.cursor; last = now; ticket = t.position.ticket };
+      })
+  begun_kept t event moment now is none later may leaves =
       let s = state_of (history_of t) in
+      let e = event now in
       let when : now ≡ effective (history_of t) moment = later ∙ ap (λ (p : Position). max p.last moment) is.holds.position in
       let far = moment_moved t.position s now is.holds.position in
-      row_less pair_of t e t.kept.ups (record { cursor = t.position.cursor; last = now; ticket = t.position.ticket }) is (may when) none (ap (λ (x : State). x.rows) leaves)
-      (let grows : s.moment ≤ now = (let m : s.moment ≤ max s.moment moment = grind (arith, nat_tests) in omega arith) in let is_now : (after t.kept.setup s e).moment ≡ now = ap (λ (x : State). x.moment) leaves in omega arith)
+      row_less pair_of t e t.kept.ups (record {
+        cursor =
+            t.position.cursor;
+        last = now;
+        ticket = t.position.ticket;
+      }) is (subst (λ n. MayComeNext (history_of t) (event n)) (sym when) may) none
+      (ap (λ (x : State). x.rows) leaves)
+      (let grows : s.moment ≤ now = (let m : s.moment ≤ max s.moment moment = grind (arith, nat_tests) in omega arith) in
+      let is_now : (after t.kept.setup s e).moment ≡ now = ap (λ (x : State). x.moment) leaves in omega arith)
       (is.holds.ups ∙ ap (λ (x : State). ups_of t.kept.setup.servers x.results) (sym leaves))
       (far ∙ ap position_of (sym leaves))
 
   -- an entry that changes nothing that a trace holds
-  pub still_kept : (t : Traced N) (e : Entry) → IsTrace pair_of t → joining_in e ≡ None → MayComeNext (history_of t) e → after t.kept.setup (state_of (history_of t)) e ≡ state_of (history_of t)
+  pub still_kept : (t : Traced N) (e : Entry) → IsTrace pair_of t → joining_in e ≡ None → MayComeNext (history_of t) e
+      → after t.kept.setup (state_of (history_of t)) e ≡ state_of (history_of t)
       → IsTrace pair_of (record { kept = t.kept; log = noted t.log e; waits = t.waits; position = t.position })
   still_kept t e is none may leaves =
       let s = state_of (history_of t) in
@@ -74,25 +92,34 @@ module _ {N : Type 0} (pair_of : N → Key × ℕ) where
       (is.holds.position ∙ ap position_of (sym leaves))
 
   -- what a look-up of a ticket tells
-  pub found_is : (t : Traced N) (ticket place : ℕ) → IsTrace pair_of t → HasTicketAt ticket t.kept.slots place → IsFound (state_of (history_of t)).rows ticket (record { place = place; ticket = ticket })
-  found_is t ticket place is has = record { named = refl; at = (has.0.row, stands_row t.kept.slots (state_of (history_of t)).rows place has.0 is.holds.rows has.1, has.2) }
+  pub found_is : (t : Traced N) (ticket place : ℕ) → IsTrace pair_of t → HasTicketAt ticket t.kept.slots place
+      → IsFound (state_of (history_of t)).rows ticket (record { place = place; ticket = ticket })
+  found_is t ticket place is has =
+      record { named = refl; at = (has.0.row, stands_row t.kept.slots (state_of (history_of t)).rows place has.0 is.holds.rows has.1, has.2) }
 
-  pub missed_is : (t : Traced N) (ticket : ℕ) → IsTrace pair_of t → HasNoTicket ticket t.kept.slots → row_of ticket (state_of (history_of t)).rows ≡ None
+  pub missed_is : (t : Traced N) (ticket : ℕ) → IsTrace pair_of t → HasNoTicket ticket t.kept.slots
+      → row_of ticket (state_of (history_of t)).rows ≡ None
   missed_is t ticket is missed =
       row_of_none (state_of (history_of t)).rows ticket (λ p r stands named.
       let s = stands_slot t.kept.slots (state_of (history_of t)).rows p r is.holds.rows stands in
       missed p s.0 s.1 (ap (λ (x : Row). x.key.ticket) s.2 ∙ named))
 
-  pub phase_is : (t : Traced N) (it : Ticketed) (row : Row) → IsTrace pair_of t → (at : IsAt (state_of (history_of t)).rows it) → (s : Slot N) × StandsIn t.kept.slots it.place s × (s.row ≡ row) → option_map (λ (r : Row). r.phase) (row_of it.ticket (state_of (history_of t)).rows) ≡ Some row.phase
+  pub phase_is : (t : Traced N) (it : Ticketed) (row : Row) → IsTrace pair_of t → (at : IsAt (state_of (history_of t)).rows it)
+      → (s : Slot N) × StandsIn t.kept.slots it.place s × (s.row ≡ row)
+      → option_map (λ (r : Row). r.phase) (row_of it.ticket (state_of (history_of t)).rows) ≡ Some row.phase
   phase_is t it row is at read =
       let rows = (state_of (history_of t)).rows in
       let there = stands_row t.kept.slots rows it.place read.0 is.holds.rows read.1 in
       let same : at.0 ≡ read.0.row = same_Some at.0 read.0.row (same_Some (Some at.0) (Some read.0.row) (sym at.1 ∙ there)) in
-      ap (option_map (λ (r : Row). r.phase)) (row_of_at rows it.ticket it.place at.0 (trace_consistent pair_of t is).tickets at.1 at.2) ∙ ap (λ (r : Row). Some r.phase) (same ∙ read.2)
+      ap (option_map (λ (r : Row). r.phase)) (row_of_at rows it.ticket it.place at.0 (trace_consistent pair_of t is).tickets at.1 at.2)
+      ∙ ap (λ (r : Row). Some r.phase) (same ∙ read.2)
 
   -- a trace's scene is its history's
-  pub scene_is : (t : Traced N) → IsTrace pair_of t → record { servers = t.kept.setup.servers; ups = t.kept.ups; rows = rows_in t.kept.slots } ≡ scene_of (history_of t)
-  scene_is t is = ap (λ (r : Rows). record { servers = t.kept.setup.servers; ups = t.kept.ups; rows = r }) is.holds.rows ∙ ap (λ (u : List Bool). record { servers = t.kept.setup.servers; ups = u; rows = (state_of (history_of t)).rows }) is.holds.ups
+  pub scene_is : (t : Traced N) → IsTrace pair_of t → record { servers = t.kept.setup.servers; ups = t.kept.ups; rows = rows_in t.kept.slots } ≡ scene_of
+      (history_of t)
+  scene_is t is =
+      ap (λ (r : Rows). record { servers = t.kept.setup.servers; ups = t.kept.ups; rows = r }) is.holds.rows
+      ∙ ap (λ (u : List Bool). record { servers = t.kept.setup.servers; ups = u; rows = (state_of (history_of t)).rows }) is.holds.ups
 
   pub cursor_is : (t : Traced N) → IsTrace pair_of t → t.position.cursor ≡ (state_of (history_of t)).cursor
   cursor_is t is = ap (λ (p : Position). p.cursor) is.holds.position
@@ -125,7 +152,8 @@ not_full false false true d e = cc
 not_full false false false true e = cc
 not_full false false false false e = refl
 
-first_none : (a b c d : Bool) → a ≡ false → b ≡ false → c ≡ false → d ≡ false → first_of ((a, LogFull) ∷ (b, NoSuchServer) ∷ (c, TicketsSpent) ∷ (d, PlacesFull) ∷ []) ≡ None
+first_none : (a b c d : Bool) → a ≡ false → b ≡ false → c ≡ false → d ≡ false
+    → first_of ((a, LogFull) ∷ (b, NoSuchServer) ∷ (c, TicketsSpent) ∷ (d, PlacesFull) ∷ []) ≡ None
 first_none a b c d e f g h = rw (e, f, g, h) refl
 
 none_rows : (N : Type 0) (n : ℕ) → rows_in {H = N} (replicate n None) ≡ replicate n None
@@ -138,7 +166,8 @@ none_waits (suc n) = ap (λ (l : Waiters). None ∷ l) (none_waits n)
 
 module _ {N : Type 0} (pair_of : N → Key × ℕ) where
   -- an accepted arrival finds a free place
-  pub arrival_fits : (t : Traced N) (pin : Option ℕ) → IsTrace pair_of t → refuses_arrival (history_of t) pin ≡ None → count_by is_some t.kept.slots < length t.kept.slots
+  pub arrival_fits : (t : Traced N) (pin : Option ℕ) → IsTrace pair_of t → refuses_arrival (history_of t) pin ≡ None
+      → count_by is_some t.kept.slots < length t.kept.slots
   arrival_fits t pin is accepted =
       let h = history_of t in
       let full : is_full h.setup (state_of h).rows ≡ false = not_full _ _ _ _ accepted in
@@ -151,22 +180,32 @@ module _ {N : Type 0} (pair_of : N → Key × ℕ) where
       omega arith
 
   -- the next ticket is above all others
-  pub next_is_highest : (t : Traced N) → IsTrace pair_of t → (p : ℕ) (s : Slot N) → StandsIn t.kept.slots p s → s.row.key.ticket < t.position.ticket + 1
+  pub next_is_highest : (t : Traced N) → IsTrace pair_of t → (p : ℕ) (s : Slot N) → StandsIn t.kept.slots p s
+      → s.row.key.ticket < t.position.ticket + 1
   next_is_highest t is p s stands =
       let below = (trace_consistent pair_of t is).below p s.row (stands_row t.kept.slots (state_of (history_of t)).rows p s is.holds.rows stands) in
       let now = ticket_is pair_of t is in
       omega arith
 
   -- an arrival
-  pub arrive_kept : (t : Traced N) (moment now place : ℕ) (offset : ℤ) (a : Arrival) (node : N) → IsTrace pair_of t → MayBeginNext (history_of t) moment (refuses_arrival (history_of t) a.pin)
-      → now ≡ max t.position.last moment → a.ticket ≡ t.position.ticket + 1 → a.place ≡ place → a.due ≡ (pos now +ℤ offset) → IsBetween LOWEST_OFFSET HIGHEST_OFFSET offset
+  pub arrive_kept : (t : Traced N) (moment now place : ℕ) (offset : ℤ) (a : Arrival) (node : N) → IsTrace pair_of t
+      → MayBeginNext (history_of t) moment (refuses_arrival (history_of t) a.pin)
+      → now ≡ max t.position.last moment → a.ticket ≡ t.position.ticket + 1 → a.place ≡ place → a.due ≡ (pos now +ℤ offset)
+      → IsBetween LOWEST_OFFSET HIGHEST_OFFSET offset
       → slice_get t.kept.slots place ≡ Some None → pair_of node ≡ ((arrived a).key, place)
-      → IsTrace pair_of (record { kept = with_slots t.kept (set t.kept.slots place (Some (record { row = arrived a; node = Some node }))); log = noted t.log (Arrive now a); waits = t.waits; position = record { cursor = t.position.cursor; last = now; ticket = a.ticket } })
+      → IsTrace pair_of
+      (record {
+        kept = with_slots t.kept (set t.kept.slots place (Some (record { row = arrived a; node = Some node })));
+        log = noted t.log (Arrive now a);
+        waits = t.waits;
+        position = record { cursor = t.position.cursor; last = now; ticket = a.ticket };
+      })
   arrive_kept t moment now place offset a node is begins later next at due within vacant its =
       let h = history_of t in
       let s = state_of h in
       let when : now ≡ effective h moment = later ∙ ap (λ (p : Position). max p.last moment) is.holds.position in
-      let free : slice_get s.rows place ≡ Some None = ap (λ (l : Rows). slice_get l place) (sym is.holds.rows) ∙ slice_get-map row_in t.kept.slots place ∙ ap (option_map row_in) vacant in
+      let free : slice_get s.rows place ≡ Some None = ap (λ (l : Rows). slice_get l place) (sym is.holds.rows) ∙ slice_get-map row_in t.kept.slots place
+      ∙ ap (option_map row_in) vacant in
       let cell : Slot N = record { row = arrived a; node = Some node } in
       let newcomer : IsNewcomer s now a = record {
         numbered = next ∙ ap (λ n. n + 1) (ticket_is pair_of t is);
@@ -174,9 +213,18 @@ module _ {N : Type 0} (pair_of : N → Key × ℕ) where
         due = (offset, within, due);
       } in
       let may : MayComeNext h (Arrive now a) = subst (λ n. MayComeNext h (Arrive n a)) (sym when) (begins, subst (λ n. IsNewcomer s n a) when newcomer) in
-      stepped pair_of t (Arrive now a) t.kept.ups (set t.kept.slots place (Some cell)) t.waits (record { cursor = t.position.cursor; last = now; ticket = a.ticket }) is may refl (record {
-        rows = map-set row_in t.kept.slots place (Some cell) ∙ ap (λ (l : Rows). set l place (Some (arrived a))) is.holds.rows ∙ ap (λ n. set s.rows n (Some (arrived a))) (sym at);
-        nodes = nodes_set pair_of t.kept.slots place None (Some cell) is.holds.nodes vacant (λ x same. subst (λ (y : Slot N). HasItsNode pair_of place y.row.phase y) (same_Some cell x same) (node, refl, its));
+      stepped pair_of t (Arrive now a) t.kept.ups (set t.kept.slots place (Some cell)) t.waits (record {
+        cursor =
+            t.position.cursor;
+        last = now;
+        ticket = a.ticket;
+      }) is may refl (record {
+        rows =
+            map-set row_in t.kept.slots place (Some cell) ∙ ap (λ (l : Rows). set l place (Some (arrived a))) is.holds.rows
+            ∙ ap (λ n. set s.rows n (Some (arrived a))) (sym at);
+        nodes =
+            nodes_set pair_of t.kept.slots place None (Some cell) is.holds.nodes vacant
+            (λ x same. subst (λ (y : Slot N). HasItsNode pair_of place y.row.phase y) (same_Some cell x same) (node, refl, its));
         ups = is.holds.ups;
         waiters = is.holds.waiters
             ∙ sym (set_same (waiters_of t.log.entries s.rows) place None (waiter_at t.log.entries s.rows place None free))
@@ -184,24 +232,49 @@ module _ {N : Type 0} (pair_of : N → Key × ℕ) where
             ∙ sym (waiters_same t.log.entries (Arrive now a) (set s.rows place (Some (arrived a))) (none_join (Arrive now a) refl))
             ∙ ap (λ n. waiters_of (t.log.entries ++ Arrive now a ∷ []) (set s.rows n (Some (arrived a)))) (sym at);
         in_turn = subst (λ n. AreInTurn (WaitsSince (set s.rows n (Some (arrived a)))) now t.waits.order) (sym at)
-            (rows_rest s.rows place s.moment now None (Some (arrived a)) t.waits.order is.holds.in_turn free (λ queue. none_rests queue) (λ queue. rests queue (arrived a) refl) (let grows : s.moment ≤ max s.moment moment = grind (arith, nat_tests) in let e = when in omega arith));
+            (rows_rest s.rows place s.moment now None (Some (arrived a)) t.waits.order is.holds.in_turn free (λ queue. none_rests queue)
+            (λ queue. rests queue (arrived a) refl) (let grows : s.moment ≤ max s.moment moment = grind (arith, nat_tests) in let e = when in
+            omega arith));
         position = ap (λ (p : Position). record { cursor = p.cursor; last = now; ticket = a.ticket }) is.holds.position;
       })
 
   -- the row that arrived is the ticket's
-  pub newcomer_at : (t next : Traced N) (place : ℕ) (s : Slot N) → IsTrace pair_of next → next.kept ≡ with_slots t.kept (set t.kept.slots place (Some s)) → slice_get t.kept.slots place ≡ Some None → IsAt (state_of (history_of next)).rows (record { place = place; ticket = s.row.key.ticket }) × (pin_of s.row.key.ticket (state_of (history_of next)).rows ≡ s.row.pin)
-  newcomer_at t next place s is written vacant =
+  pub newcomer_at : (kept : Kept N) (next : Traced N) (place : ℕ) (s : Slot N) → IsTrace pair_of next
+      → next.kept ≡ with_slots kept (set kept.slots place (Some s)) → slice_get kept.slots place ≡ Some None
+      → IsAt (state_of (history_of next)).rows (record { place = place; ticket = s.row.key.ticket })
+      × (pin_of s.row.key.ticket (state_of (history_of next)).rows ≡ s.row.pin)
+  newcomer_at kept next place s is written vacant =
       let rows = (state_of (history_of next)).rows in
-      let stands : StandsIn next.kept.slots place s = ap (λ (k : Kept N). slice_get k.slots place) written ∙ get-set_same t.kept.slots place None (Some s) vacant in
-      let there = stands_row next.kept.slots rows place s is.holds.rows stands in
-      ((s.row, there, refl), ap (option_and_then (λ (r : Row). r.pin)) (row_of_at rows s.row.key.ticket place s.row (trace_consistent pair_of next is).tickets there refl))
+      let stands : StandsIn next.kept.slots place s = ap (λ (k : Kept N). slice_get k.slots place) written
+      ∙ get-set_same kept.slots place None (Some s) vacant in
+      let there = stands_row next.kept.slots rows place s is.holds.rows stands in (
+        (s.row, there, refl),
+        ap (option_and_then (λ (r : Row). r.pin))
+            (row_of_at rows s.row.key.ticket place s.row (trace_consistent pair_of next is).tickets there refl),
+      )
 
   -- a new trace
-  pub new_is : (setup : Setup) (t : Traced N) (servers : ℕ) → IsSound setup → servers ≡ length setup.servers → t.kept ≡ record { setup = setup; ups = replicate (length setup.servers) true; slots = replicate setup.places None }
-      → t.log ≡ record { entries = []; room = setup.log } → t.waits ≡ record { waiters = replicate setup.places None; order = []; servers = servers } → t.position ≡ record { cursor = servers - 1; last = 0; ticket = 0 } → IsTrace pair_of t
+  pub new_is : (setup : Setup) (t : Traced N) (servers : ℕ) → IsSound setup → servers ≡ length setup.servers
+      → t.kept ≡ record { setup = setup; ups = replicate (length setup.servers) true; slots = replicate setup.places None }
+      → t.log ≡ record { entries = []; room = setup.log } → t.waits ≡ record { waiters = replicate setup.places None; order = []; servers = servers }
+      → t.position ≡ record { cursor = servers - 1; last = 0; ticket = 0 } → IsTrace pair_of t
   new_is setup t servers sound many kept log waits far =
-      subst (IsTrace pair_of) (ap (λ (k : Kept N). record { kept = k; log = record { entries = []; room = setup.log }; waits = record { waiters = replicate setup.places None; order = []; servers = servers }; position = record { cursor = servers - 1; last = 0; ticket = 0 } }) (sym kept)
-      ∙ ap (λ l. record { kept = t.kept; log = l; waits = record { waiters = replicate setup.places None; order = []; servers = servers }; position = record { cursor = servers - 1; last = 0; ticket = 0 } }) (sym log)
+      subst (IsTrace pair_of)
+      (ap (λ (k : Kept N). record {
+        kept = k;
+        log = record { entries = []; room = setup.log };
+        waits =
+            record { waiters = replicate setup.places None; order = []; servers = servers };
+        position = record { cursor = servers - 1; last = 0; ticket = 0 };
+      })
+      (sym kept)
+      ∙ ap (λ l. record {
+        kept = t.kept;
+        log = l;
+        waits = record { waiters = replicate setup.places None; order = []; servers = servers };
+        position =
+            record { cursor = servers - 1; last = 0; ticket = 0 };
+      }) (sym log)
       ∙ ap (λ w. record { kept = t.kept; log = t.log; waits = w; position = record { cursor = servers - 1; last = 0; ticket = 0 } }) (sym waits)
       ∙ ap (λ (p : Position). record { kept = t.kept; log = t.log; waits = t.waits; position = p }) (sym far))
       (record {
@@ -209,7 +282,9 @@ module _ {N : Type 0} (pair_of : N → Key × ℕ) where
         judged = tt;
         holds = record {
           rows = none_rows N setup.places;
-          nodes = λ p s there. absurd (none_stands setup.places p s.row (stands_row (replicate setup.places None) (replicate setup.places None) p s (none_rows N setup.places) there));
+          nodes =
+              λ p s there. absurd
+              (none_stands setup.places p s.row (stands_row (replicate setup.places None) (replicate setup.places None) p s (none_rows N setup.places) there));
           ups = opening_ups setup;
           waiters = sym (none_waits setup.places);
           in_turn = record {
@@ -225,7 +300,8 @@ module _ {N : Type 0} (pair_of : N → Key × ℕ) where
       })
 
   -- nothing refuses an arrival
-  pub none_refuses : (t : Traced N) (pin : Option ℕ) → IsTrace pair_of t → HasEntryRoom (history_of t) → pins_to_none t.kept.setup pin ≡ false → t.position.ticket + 1 < 2 ^ 40 → count_by is_some t.kept.slots < t.kept.setup.places → None ≡ refuses_arrival (history_of t) pin
+  pub none_refuses : (t : Traced N) (pin : Option ℕ) → IsTrace pair_of t → HasEntryRoom (history_of t) → pins_to_none t.kept.setup pin ≡ false
+      → t.position.ticket + 1 < 2 ^ 40 → count_by is_some t.kept.slots < t.kept.setup.places → None ≡ refuses_arrival (history_of t) pin
   none_refuses t pin is fits known few some =
       let now = ticket_is pair_of t is in
       let counted = count_rows t.kept.slots in
@@ -234,7 +310,8 @@ module _ {N : Type 0} (pair_of : N → Key × ℕ) where
 
   -- where a request goes
   pub placed_here : (t : Traced N) (pin avoid : Option ℕ) (placement : Placement) (now : History) → IsTrace pair_of t → history_of t ≡ now
-      → IsPlacement (record { servers = t.kept.setup.servers; ups = t.kept.ups; rows = rows_in t.kept.slots }) t.position.cursor pin avoid placement → IsPlacement (scene_of now) (state_of now).cursor pin avoid placement
+      → IsPlacement (record { servers = t.kept.setup.servers; ups = t.kept.ups; rows = rows_in t.kept.slots }) t.position.cursor pin avoid placement
+      → IsPlacement (scene_of now) (state_of now).cursor pin avoid placement
   placed_here t pin avoid placement now is same placed =
       subst (λ (h : History). IsPlacement (scene_of h) (state_of h).cursor pin avoid placement) same
       (subst (λ n. IsPlacement (scene_of (history_of t)) n pin avoid placement) (cursor_is pair_of t is)
@@ -243,4 +320,5 @@ module _ {N : Type 0} (pair_of : N → Key × ℕ) where
   pub cursor_here : (t : Traced N) (next : ℕ) (pin : Option ℕ) (placement : Placement) (now : History) → IsTrace pair_of t → history_of t ≡ now
       → next ≡ cursor_placed pin placement t.position.cursor → next ≡ cursor_placed pin placement (state_of now).cursor
   cursor_here t next pin placement now is same moved =
-      subst (λ (h : History). next ≡ cursor_placed pin placement (state_of h).cursor) same (subst (λ n. next ≡ cursor_placed pin placement n) (cursor_is pair_of t is) moved)
+      subst (λ (h : History). next ≡ cursor_placed pin placement (state_of h).cursor) same
+      (subst (λ n. next ≡ cursor_placed pin placement n) (cursor_is pair_of t is) moved)

@@ -15,15 +15,28 @@ use Rattle.dispatch_trace.proofs.Healthy.{ups_set, many_results}
 use Rattle.dispatch_trace.proofs.Stepping.{row_less}
 
 module _ {N : Type 0} (pair_of : N → Key × ℕ) where
-  pub check_kept : (t : Traced N) (server moment now : ℕ) (ok up : Bool) → IsTrace pair_of t → MayBeginNext (history_of t) moment (refuses_check (history_of t) server) → now ≡ max t.position.last moment
+  pub check_kept : (t : Traced N) (server moment now : ℕ) (ok up : Bool) → IsTrace pair_of t
+      → MayBeginNext (history_of t) moment (refuses_check (history_of t) server) → now ≡ max t.position.last moment
       → up ≡ is_up_at t.kept.setup.servers (with_result server ok (state_of (history_of t)).results) server
-      → IsTrace pair_of (record { kept = with_up t.kept server up; log = noted t.log (Check now server ok); waits = t.waits; position = record { cursor = t.position.cursor; last = now; ticket = t.position.ticket } })
+      → IsTrace pair_of
+      (record {
+        kept = with_up t.kept server up;
+        log = noted t.log (Check now server ok);
+        waits = t.waits;
+        position =
+            record { cursor = t.position.cursor; last = now; ticket = t.position.ticket };
+      })
   check_kept t server moment now ok up is begins later told =
       let h = history_of t in
       let s = state_of h in
       let when : now ≡ effective h moment = later ∙ ap (λ (p : Position). max p.last moment) is.holds.position in
       let may : MayComeNext h (Check now server ok) = subst (λ n. MayComeNext h (Check n server ok)) (sym when) begins in
-      row_less pair_of t (Check now server ok) (set t.kept.ups server up) (record { cursor = t.position.cursor; last = now; ticket = t.position.ticket }) is may refl refl
+      row_less pair_of t (Check now server ok) (set t.kept.ups server up) (record {
+        cursor =
+            t.position.cursor;
+        last = now;
+        ticket = t.position.ticket;
+      }) is may refl refl
       (let grows : s.moment ≤ max s.moment moment = grind (arith, nat_tests) in let e = when in omega arith)
       (ap (λ (l : List Bool). set l server up) is.holds.ups
       ∙ ap (λ b. set (ups_of t.kept.setup.servers s.results) server b) told

@@ -1,27 +1,26 @@
 -- The entries of a trace with which nobody begins or stops to wait, one by one.
-use Rattle.std.proofs.Common.{◌≢◌, ◌≡◌, ℕ, ◌+◌, ◌<◌, ◌≤◌, max, not, true, false, Bool, List, [], ◌∷◌, ◌++◌, Option, None, Some, slice_get, length, refl, ap, sym, ◌∙◌, subst, arith, ◌⊎◌, inl, inr, pos, ℤ, ◌+ℤ◌}
+use Rattle.std.proofs.Common.{◌≢◌, ◌≡◌, ℕ, ◌<◌, false, List, [], ◌∷◌, ◌++◌, Option, None, Some, length, refl, ap, sym, ◌∙◌}
+use Rattle.std.proofs.Common.{subst, arith, ◌⊎◌, inl, inr}
 use Rattle.std.proofs.Math.ListN.{set}
-use Rattle.std.proofs.lemmas.List.{map-set, set-set}
-use Rattle.std.proofs.lemmas.Option.{same_Some, slice_get-map}
+use Rattle.std.proofs.lemmas.Option.{same_Some}
 use Rattle.due_key.specs.declared.key.Key.{Key}
 use Rattle.dispatch_log.specs.declared.entry.Entry.{Entry}
 use Rattle.dispatch_log.specs.declared.entry.Entry.TheVariants.{Direct, Freed, Left, Ended}
 use Rattle.dispatch_log.specs.declared.row.Phase.{Phase}
-use Rattle.dispatch_log.specs.declared.row.Phase.TheVariants.{Loose, Waiting, Serving, Told}
+use Rattle.dispatch_log.specs.declared.row.Phase.TheVariants.{Loose, Serving, Told}
 use Rattle.dispatch_log.specs.declared.row.Row.{Row}
 use Rattle.dispatch_log.specs.Histories.{History, state_of}
 use Rattle.dispatch_log.specs.Judgement.{IsTold, MayCome, Stage, leaving, placing}
 use Rattle.dispatch_log.specs.Refusals.{is_waiting}
-use Rattle.dispatch_log.specs.Rows.{Rows, StandsAt, changed, in_phase, gone}
+use Rattle.dispatch_log.specs.Rows.{changed, in_phase, gone}
 use Rattle.dispatch_log.specs.States.{State, after, scene}
 use Rattle.dispatch_log.proofs.Consistency.{IsLoose}
 use Rattle.dispatch_log.proofs.Judged.{direct_row, loose_left, ended_row, freed_slot}
 use Rattle.dispatch_log.proofs.RowLemmas.{changed_at}
 use Rattle.readable_log.specs.Grants.{joining_in}
 use Rattle.slot_ledger.specs.declared.places.Slot.{Slot}
-use Rattle.slot_ledger.specs.Ledgers.{Kept, with_slots}
-use Rattle.slot_ledger.specs.Slots.{StandsIn, with_phase}
-use Rattle.slot_ledger.proofs.Counting.{row_in}
+use Rattle.slot_ledger.specs.Ledgers.{with_slots}
+use Rattle.slot_ledger.specs.Slots.{with_phase}
 use Rattle.slot_ledger.proofs.Standing.{with_slot_at}
 use Rattle.server_pick.proofs.Filled.{free_within}
 use Rattle.verdict.specs.declared.cause.Cause.{Cause}
@@ -31,7 +30,7 @@ use Rattle.dispatch_trace.specs.declared.position.Ticketed.{Ticketed}
 use Rattle.dispatch_trace.specs.Histories.{stage_of, cursor_after, IsAt, MayComeNext}
 use Rattle.dispatch_trace.specs.Traces.{Traced, history_of, noted, HasItsNode, IsTrace, position_of}
 use Rattle.dispatch_trace.proofs.Resting.{rests, none_rests, served_phase, told_rests}
-use Rattle.dispatch_trace.proofs.Stepping.{stands_row, stands_slot, at_row, node_of, its_node, trace_consistent, Changes, idle_changed}
+use Rattle.dispatch_trace.proofs.Stepping.{stands_row, stands_slot, at_row, node_of, its_node, trace_consistent, idle_changed}
 use Rattle.dispatch_trace.proofs.Waits.{idle_waiter}
 
 -- the server of an entry is one of them
@@ -44,20 +43,25 @@ direct_within h u v may = by_stage (stage_of h) may
     by_stage t m = absurd m
 
 -- the position of a trace after an entry
-pub cursor_moved : (position : Position) (s : State) (now : ℕ) → position ≡ position_of s → record { cursor = now; last = position.last; ticket = position.ticket } ≡ position_of (record s { cursor = now })
+pub cursor_moved : (position : Position) (s : State) (now : ℕ) → position ≡ position_of s
+    → record { cursor = now; last = position.last; ticket = position.ticket } ≡ position_of (record s { cursor = now })
 cursor_moved position s now far = ap (λ (p : Position). record { cursor = now; last = p.last; ticket = p.ticket }) far
 
-pub moment_moved : (position : Position) (s : State) (now : ℕ) → position ≡ position_of s → record { cursor = position.cursor; last = now; ticket = position.ticket } ≡ position_of (record s { moment = now })
+pub moment_moved : (position : Position) (s : State) (now : ℕ) → position ≡ position_of s
+    → record { cursor = position.cursor; last = now; ticket = position.ticket } ≡ position_of (record s { moment = now })
 moment_moved position s now far = ap (λ (p : Position). record { cursor = p.cursor; last = now; ticket = p.ticket }) far
 
 module _ {N : Type 0} (pair_of : N → Key × ℕ) where
   -- a row goes from one phase in which it doesn't wait into another
-  pub phase_changed : (t : Traced N) (e : Entry) (it : Ticketed) (phase : Phase) (position : Position) → IsTrace pair_of t → MayComeNext (history_of t) e → (at : IsAt (state_of (history_of t)).rows it) → joining_in e ≡ None
+  pub phase_changed : (t : Traced N) (e : Entry) (it : Ticketed) (phase : Phase) (position : Position) → IsTrace pair_of t → MayComeNext (history_of t) e
+      → (at : IsAt (state_of (history_of t)).rows it) → joining_in e ≡ None
       → is_waiting at.0.phase ≡ false → is_waiting phase ≡ false
       → (after t.kept.setup (state_of (history_of t)) e).rows ≡ changed it.ticket (in_phase phase) (state_of (history_of t)).rows
-      → (after t.kept.setup (state_of (history_of t)) e).results ≡ (state_of (history_of t)).results → (after t.kept.setup (state_of (history_of t)) e).moment ≡ (state_of (history_of t)).moment
+      → (after t.kept.setup (state_of (history_of t)) e).results ≡ (state_of (history_of t)).results
+      → (after t.kept.setup (state_of (history_of t)) e).moment ≡ (state_of (history_of t)).moment
       → position ≡ position_of (after t.kept.setup (state_of (history_of t)) e)
-      → IsTrace pair_of (record { kept = with_slots t.kept (with_phase phase t.kept.slots it.place); log = noted t.log e; waits = t.waits; position = position })
+      → IsTrace pair_of
+      (record { kept = with_slots t.kept (with_phase phase t.kept.slots it.place); log = noted t.log e; waits = t.waits; position = position })
   phase_changed t e it phase position is may at none idle stays rows results still far =
       let s = state_of (history_of t) in
       let slot = stands_slot t.kept.slots s.rows it.place at.0 is.holds.rows at.1 in
@@ -66,56 +70,97 @@ module _ {N : Type 0} (pair_of : N → Key × ℕ) where
       let written = with_slot_at (λ (x : Slot N). record { row = record x.row { phase = phase }; node = x.node }) t.kept.slots it.place slot.0 slot.1 in
       let there = stands_row t.kept.slots s.rows it.place slot.0 is.holds.rows slot.1 in
       let node = node_of pair_of it.place slot.0 idle_slot (is.holds.nodes it.place slot.0 slot.1) in
-      subst (λ (l : List (Option (Slot N))). IsTrace pair_of (record { kept = with_slots t.kept l; log = noted t.log e; waits = t.waits; position = position })) (sym written)
+      subst (λ (l : List (Option (Slot N))). IsTrace pair_of
+      (record { kept = with_slots t.kept l; log = noted t.log e; waits = t.waits; position = position })) (sym written)
       (idle_changed pair_of t e it.place slot.0 (Some next) position is may (record {
         stands = slot.1;
-        rows = rows ∙ changed_at s.rows it.ticket it.place slot.0.row (in_phase phase) (trace_consistent pair_of t is).tickets there (ap (λ (r : Row). r.key.ticket) slot.2 ∙ at.2);
+        rows =
+            rows ∙ changed_at s.rows it.ticket it.place slot.0.row (in_phase phase) (trace_consistent pair_of t is).tickets there
+            (ap (λ (r : Row). r.key.ticket) slot.2 ∙ at.2);
         results = results;
-        node = λ x same. subst (λ (y : Slot N). HasItsNode pair_of it.place y.row.phase y) (same_Some next x same) (its_node pair_of it.place next phase (node.0, node.1, node.2));
+        node =
+            λ x same. subst (λ (y : Slot N). HasItsNode pair_of it.place y.row.phase y) (same_Some next x same)
+            (its_node pair_of it.place next phase (node.0, node.1, node.2));
       }) none idle_slot (idle_waiter (t.log.entries ++ e ∷ []) next.row stays) (λ queue. rests queue next.row stays) (let e2 = still in omega arith) far)
 
   -- a request in no place stands loose at its place
-  loose_at : (t : Traced N) (it : Ticketed) → IsTrace pair_of t → (at : IsAt (state_of (history_of t)).rows it) → IsLoose (state_of (history_of t)).rows it.ticket → at.0.phase ≡ Loose
+  loose_at : (t : Traced N) (it : Ticketed) → IsTrace pair_of t → (at : IsAt (state_of (history_of t)).rows it)
+      → IsLoose (state_of (history_of t)).rows it.ticket → at.0.phase ≡ Loose
   loose_at t it is at loose =
       let there = at_row (state_of (history_of t)).rows it loose.place loose.row (trace_consistent pair_of t is).tickets at loose.stands loose.named in
       ap (λ (r : Row). r.phase) (same_Some at.0 loose.row (same_Some (Some at.0) (Some loose.row) (sym at.1 ∙ there))) ∙ loose.loose
 
   -- the newcomer is served at once
-  pub direct_kept : (t : Traced N) (it : Ticketed) (v now : ℕ) → IsTrace pair_of t → MayComeNext (history_of t) (Direct it.ticket v) → IsAt (state_of (history_of t)).rows it → now ≡ cursor_after (history_of t) (Direct it.ticket v)
-      → IsTrace pair_of (record { kept = with_slots t.kept (with_phase (Serving v) t.kept.slots it.place); log = noted t.log (Direct it.ticket v); waits = t.waits; position = record { cursor = now; last = t.position.last; ticket = t.position.ticket } })
+  pub direct_kept : (t : Traced N) (it : Ticketed) (v now : ℕ) → IsTrace pair_of t → MayComeNext (history_of t) (Direct it.ticket v)
+      → IsAt (state_of (history_of t)).rows it → now ≡ cursor_after (history_of t) (Direct it.ticket v)
+      → IsTrace pair_of
+      (record {
+        kept = with_slots t.kept (with_phase (Serving v) t.kept.slots it.place);
+        log = noted t.log (Direct it.ticket v);
+        waits = t.waits;
+        position =
+            record { cursor = now; last = t.position.last; ticket = t.position.ticket };
+      })
   direct_kept t it v now is may at moved =
       let h = history_of t in
       let loose = loose_at t it is at (direct_row h.setup (state_of h) (length h.log) (stage_of h) it.ticket v (trace_consistent pair_of t is) may) in
-      phase_changed t (Direct it.ticket v) it (Serving v) (record { cursor = now; last = t.position.last; ticket = t.position.ticket }) is may at refl (ap is_waiting loose) refl refl refl refl
+      phase_changed t (Direct it.ticket v) it (Serving v) (record {
+        cursor =
+            now;
+        last = t.position.last;
+        ticket = t.position.ticket;
+      }) is may at refl (ap is_waiting loose) refl refl refl refl
       (cursor_moved t.position (state_of h) now is.holds.position ∙ ap (λ n. position_of (record (state_of h) { cursor = n })) moved)
 
   -- a request in no place is told that it isn't served
-  pub left_kept : (t : Traced N) (it : Ticketed) (cause : Cause) → IsTrace pair_of t → cause ≢ Aborted → cause ≢ Timeout → MayComeNext (history_of t) (Left it.ticket cause) → IsAt (state_of (history_of t)).rows it
-      → IsTrace pair_of (record { kept = with_slots t.kept (with_phase (Told cause) t.kept.slots it.place); log = noted t.log (Left it.ticket cause); waits = t.waits; position = t.position })
+  pub left_kept : (t : Traced N) (it : Ticketed) (cause : Cause) → IsTrace pair_of t → cause ≢ Aborted → cause ≢ Timeout
+      → MayComeNext (history_of t) (Left it.ticket cause) → IsAt (state_of (history_of t)).rows it
+      → IsTrace pair_of
+      (record {
+        kept = with_slots t.kept (with_phase (Told cause) t.kept.slots it.place);
+        log = noted t.log (Left it.ticket cause);
+        waits =
+            t.waits;
+        position = t.position;
+      })
   left_kept t it cause is first second may at =
       let h = history_of t in
-      let loose = loose_at t it is at (loose_left h.setup (state_of h) (length h.log) (stage_of h) it.ticket cause (trace_consistent pair_of t is) first second may) in
+      let loose =
+      loose_at t it is at (loose_left h.setup (state_of h) (length h.log) (stage_of h) it.ticket cause (trace_consistent pair_of t is) first second may) in
       phase_changed t (Left it.ticket cause) it (Told cause) t.position is may at refl (ap is_waiting loose) refl refl refl refl is.holds.position
 
   -- a slot is given back
-  pub free_kept : (t : Traced N) (it : Ticketed) (v : ℕ) → IsTrace pair_of t → MayComeNext (history_of t) (Freed it.ticket v) → IsAt (state_of (history_of t)).rows it
-      → IsTrace pair_of (record { kept = with_slots t.kept (with_phase Loose t.kept.slots it.place); log = noted t.log (Freed it.ticket v); waits = t.waits; position = t.position })
+  pub free_kept : (t : Traced N) (it : Ticketed) (v : ℕ) → IsTrace pair_of t → MayComeNext (history_of t) (Freed it.ticket v)
+      → IsAt (state_of (history_of t)).rows it
+      → IsTrace pair_of
+      (record {
+        kept = with_slots t.kept (with_phase Loose t.kept.slots it.place);
+        log = noted t.log (Freed it.ticket v);
+        waits = t.waits;
+        position =
+            t.position;
+      })
   free_kept t it v is may at =
       let h = history_of t in
       let slot = freed_slot h.setup (state_of h) (length h.log) (stage_of h) it.ticket v may in
       let there = at_row (state_of h).rows it slot.live.0 slot.row (trace_consistent pair_of t is).tickets at slot.live.1 slot.named in
-      let serves : at.0.phase ≡ Serving v = ap (λ (r : Row). r.phase) (same_Some at.0 slot.row (same_Some (Some at.0) (Some slot.row) (sym at.1 ∙ there))) ∙ served_phase v slot.row.phase slot.phase in
+      let serves : at.0.phase ≡ Serving v = ap (λ (r : Row). r.phase) (same_Some at.0 slot.row (same_Some (Some at.0) (Some slot.row) (sym at.1 ∙ there)))
+      ∙ served_phase v slot.row.phase slot.phase in
       phase_changed t (Freed it.ticket v) it Loose t.position is may at refl (ap is_waiting serves) refl refl refl refl is.holds.position
 
   -- a row is gone
-  end_rests : (t : Traced N) (it : Ticketed) → IsTrace pair_of t → (at : IsAt (state_of (history_of t)).rows it) → IsLoose (state_of (history_of t)).rows it.ticket ⊎ IsTold (state_of (history_of t)).rows it.ticket → is_waiting at.0.phase ≡ false
+  end_rests : (t : Traced N) (it : Ticketed) → IsTrace pair_of t → (at : IsAt (state_of (history_of t)).rows it)
+      → IsLoose (state_of (history_of t)).rows it.ticket ⊎ IsTold (state_of (history_of t)).rows it.ticket → is_waiting at.0.phase ≡ false
   end_rests t it is at (inl loose) = ap is_waiting (loose_at t it is at loose)
   end_rests t it is at (inr told) =
       let there = at_row (state_of (history_of t)).rows it told.live.0 told.row (trace_consistent pair_of t is).tickets at told.live.1 told.named in
-      ap (λ (r : Row). is_waiting r.phase) (same_Some at.0 told.row (same_Some (Some at.0) (Some told.row) (sym at.1 ∙ there))) ∙ told_rests told.row.phase told.phase
+      ap (λ (r : Row). is_waiting r.phase) (same_Some at.0 told.row (same_Some (Some at.0) (Some told.row) (sym at.1 ∙ there)))
+      ∙ told_rests told.row.phase told.phase
 
-  pub end_kept : (t : Traced N) (it : Ticketed) → IsTrace pair_of t → MayComeNext (history_of t) (Ended it.ticket) → IsAt (state_of (history_of t)).rows it
-      → IsTrace pair_of (record { kept = with_slots t.kept (set t.kept.slots it.place None); log = noted t.log (Ended it.ticket); waits = t.waits; position = t.position })
+  pub end_kept : (t : Traced N) (it : Ticketed) → IsTrace pair_of t → MayComeNext (history_of t) (Ended it.ticket)
+      → IsAt (state_of (history_of t)).rows it
+      → IsTrace pair_of
+      (record { kept = with_slots t.kept (set t.kept.slots it.place None); log = noted t.log (Ended it.ticket); waits = t.waits; position = t.position })
   end_kept t it is may at =
       let h = history_of t in
       let s = state_of h in
@@ -124,7 +169,9 @@ module _ {N : Type 0} (pair_of : N → Key × ℕ) where
       let there = stands_row t.kept.slots s.rows it.place slot.0 is.holds.rows slot.1 in
       idle_changed pair_of t (Ended it.ticket) it.place slot.0 None t.position is may (record {
         stands = slot.1;
-        rows = changed_at s.rows it.ticket it.place slot.0.row gone (trace_consistent pair_of t is).tickets there (ap (λ (r : Row). r.key.ticket) slot.2 ∙ at.2);
+        rows =
+            changed_at s.rows it.ticket it.place slot.0.row gone (trace_consistent pair_of t is).tickets there
+            (ap (λ (r : Row). r.key.ticket) slot.2 ∙ at.2);
         results = refl;
         node = λ x same. cc;
       }) refl (ap (λ (r : Row). is_waiting r.phase) slot.2 ∙ idle) refl (λ queue. none_rests queue) (omega arith) is.holds.position

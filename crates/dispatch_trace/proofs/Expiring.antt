@@ -1,5 +1,6 @@
 -- Which requests have waited as long as they may, by the order in which they joined.
-use Rattle.std.proofs.Common.{◌≡◌, ℕ, ◌+◌, ◌<◌, ◌≤◌, true, false, List, [], ◌∷◌, ◌++◌, Option, None, Some, MatchOption, is_some, IsTrue, slice_get, Contains, length, length-append, append_assoc, refl, ap, sym, ◌∙◌, subst, arith, inl, inr, nat_cmp}
+use Rattle.std.proofs.Common.{◌≡◌, ℕ, ◌+◌, ◌<◌, ◌≤◌, true, false, List, [], ◌∷◌, ◌++◌, Option, None, Some, MatchOption, is_some}
+use Rattle.std.proofs.Common.{IsTrue, slice_get, Contains, length, length-append, append_assoc, refl, ap, sym, ◌∙◌, subst, arith, inl, inr, nat_cmp}
 use Rattle.std.specs.Option.{IfSome}
 use Rattle.std.proofs.lemmas.Bool.Decides.{nat_tests}
 use Rattle.std.proofs.lemmas.List.Elements.{Contains-append_cases, Contains-push_cases, Contains-append_left, Contains-append_right, Contains-push}
@@ -20,8 +21,10 @@ use Rattle.pend_queue.proofs.Inserted.{Contains-inserted, Contains-inserted_new,
 use Rattle.list_facts.proofs.Members.{Contains-nil, Contains-head, Contains-cases, each_at_member}
 use Rattle.slot_ledger.specs.declared.places.Slot.{Slot}
 use Rattle.slot_ledger.specs.Slots.{StandsIn, HasRow}
-use Rattle.wait_queues.specs.Order.{ComeOnce, next_after}
-use Rattle.wait_queues.proofs.Members.{Contains-middle, not_before, once_within}
+use Rattle.list_facts.specs.Once.{ComeOnce}
+use Rattle.wait_queues.specs.Order.{next_after}
+use Rattle.list_facts.proofs.Members.{Contains-middle}
+use Rattle.list_facts.proofs.Once.{not_before, once_within}
 use Rattle.wait_queues.proofs.Rings.{next_after_parts}
 use Rattle.std.proofs.lemmas.Option.{slice_get_within}
 use Rattle.dispatch_trace.specs.declared.position.Position.{Position}
@@ -74,22 +77,28 @@ module _ (h : History) (places : List ℕ) (are : AreInTurn (WaitsSince (state_o
   expired_stays now p row stands expired = let it = expired_since h.setup now row.phase expired in are.all p it.since (row, it.queue, stands, it.waits)
 
   -- and then the first of the rest of them has
-  earlier_expires : (now place p : ℕ) (before later : List ℕ) (row : Row) → places ≡ before ++ place ∷ later → Contains (place ∷ later) p → StandsAt (state_of h).rows p row → has_expired h.setup now row.phase → ExpiresAt h now place
+  earlier_expires : (now place p : ℕ) (before later : List ℕ) (row : Row) → places ≡ before ++ place ∷ later → Contains (place ∷ later) p
+      → StandsAt (state_of h).rows p row → has_expired h.setup now row.phase → ExpiresAt h now place
   earlier_expires now place p before later row parts among stands expired = elim (Contains-cases place later p among) [
     | inl same ↦ (row, subst (λ n. StandsAt (state_of h).rows n row) (sym same) stands, expired)
     | inr after ↦
         let it = expired_since h.setup now row.phase expired in
         let own = are.waiting place (subst (λ (l : List ℕ). Contains l place) (sym parts) (Contains-middle before place later)) in
-        let fall = never_fall_suffix (WaitsSince (state_of h).rows) before (place ∷ later) (subst (NeverFall (WaitsSince (state_of h).rows)) parts are.never_fall) in
-        let no_later : own.0 ≤ it.since = each_at_member (λ other. (since next : ℕ) → WaitsSince (state_of h).rows place since → WaitsSince (state_of h).rows other next → since ≤ next) later p fall.0 after own.0 it.since own.1 (row, it.queue, stands, it.waits) in
+        let fall = never_fall_suffix (WaitsSince (state_of h).rows) before (place ∷ later)
+        (subst (NeverFall (WaitsSince (state_of h).rows)) parts are.never_fall) in
+        let no_later : own.0 ≤ it.since =
+        each_at_member (λ other. (since next : ℕ) → WaitsSince (state_of h).rows place since → WaitsSince (state_of h).rows other next
+        → since ≤ next) later p fall.0 after own.0 it.since own.1 (row, it.queue, stands, it.waits) in
         let limited = it.limited in
         let long_ago = it.long_ago in
         (own.1.0, own.1.2, subst (λ (phase : Phase). has_expired h.setup now phase) (sym own.1.3) (limited, omega arith))
   ]
 
-  none_expires : (now p : ℕ) (before rest : List ℕ) (row : Row) → places ≡ before ++ rest → IfSome (slice_get rest 0) (λ at. ¬ (ExpiresAt h now at)) → Contains rest p → StandsAt (state_of h).rows p row → has_expired h.setup now row.phase → ⊥
+  none_expires : (now p : ℕ) (before rest : List ℕ) (row : Row) → places ≡ before ++ rest → IfSome (slice_get rest 0) (λ at. ¬ (ExpiresAt h now at))
+      → Contains rest p → StandsAt (state_of h).rows p row → has_expired h.setup now row.phase → ⊥
   none_expires now p before [] row parts none among stands expired = Contains-nil p among
-  none_expires now p before (place ∷ later) row parts none among stands expired = none (earlier_expires now place p before later row parts among stands expired)
+  none_expires now p before (place ∷ later) row parts none among stands expired =
+      none (earlier_expires now place p before later row parts among stands expired)
 
   -- some request has waited as long as it may where the first one has
   pub some_expires : (now moment : ℕ) (first oldest : Option ℕ) → first ≡ slice_get places 0 → now ≡ effective h moment
@@ -102,7 +111,8 @@ module _ (h : History) (places : List ℕ) (are : AreInTurn (WaitsSince (state_o
         some.1.1
         (subst (λ n. has_expired h.setup n some.0.phase) (sym when) some.2)),
   )
-  some_expires now moment first (Some at) is when its = (λ some. (its.1.0, (at, its.1.1), subst (λ n. has_expired h.setup n its.1.0.phase) when its.1.2), λ some. refl)
+  some_expires now moment first (Some at) is when its =
+      (λ some. (its.1.0, (at, its.1.1), subst (λ n. has_expired h.setup n its.1.0.phase) when its.1.2), λ some. refl)
 
 -- how far a walk along the stays has come: over those before, whose requests have waited as long as they may, and whose
 -- tickets are in the queue
@@ -110,19 +120,25 @@ pub record HasWalked (h : History) (places : List ℕ) (now : ℕ) (tickets : Li
   pub before : List ℕ
   pub rest : List ℕ
   pub parts : places ≡ before ++ rest
-  pub told : (p : ℕ) (row : Row) → Contains before p → StandsAt (state_of h).rows p row → Contains tickets (row.key.ticket, p) × has_expired h.setup now row.phase
-  pub named : (ticket p : ℕ) → Contains tickets (ticket, p) → (row : Row) × Contains before p × StandsAt (state_of h).rows p row × (row.key.ticket ≡ ticket)
+  pub told : (p : ℕ) (row : Row) → Contains before p → StandsAt (state_of h).rows p row
+      → Contains tickets (row.key.ticket, p) × has_expired h.setup now row.phase
+  pub named : (ticket p : ℕ) → Contains tickets (ticket, p) → (row : Row) × Contains before p × StandsAt (state_of h).rows p row
+      × (row.key.ticket ≡ ticket)
   pub ascending : IsAscending nat_cmp tickets
   pub counted : length tickets ≡ length before
   pub next : MatchOption oldest (IfSome (slice_get rest 0) (λ at. ¬ (ExpiresAt h now at))) (λ at. (slice_get rest 0 ≡ Some at) × ExpiresAt h now at)
 
 -- what was said of a place that is read elsewhere
-pub next_is : (h : History) (now : ℕ) (first read oldest : Option ℕ) → first ≡ read → MatchOption oldest (IfSome first (λ at. ¬ (ExpiresAt h now at))) (λ at. (first ≡ Some at) × ExpiresAt h now at)
+pub next_is : (h : History) (now : ℕ) (first read oldest : Option ℕ) → first ≡ read
+    → MatchOption oldest (IfSome first (λ at. ¬ (ExpiresAt h now at))) (λ at. (first ≡ Some at) × ExpiresAt h now at)
     → MatchOption oldest (IfSome read (λ at. ¬ (ExpiresAt h now at))) (λ at. (read ≡ Some at) × ExpiresAt h now at)
-next_is h now first read oldest same next = subst (λ (o : Option ℕ). MatchOption oldest (IfSome o (λ at. ¬ (ExpiresAt h now at))) (λ at. (o ≡ Some at) × ExpiresAt h now at)) same next
+next_is h now first read oldest same next =
+    subst (λ (o : Option ℕ). MatchOption oldest (IfSome o (λ at. ¬ (ExpiresAt h now at))) (λ at. (o ≡ Some at) × ExpiresAt h now at)) same next
 
-pub walk_begins : (h : History) (places : List ℕ) (now : ℕ) (tickets : List (ℕ × ℕ)) (first oldest : Option ℕ) → tickets ≡ [] → first ≡ slice_get places 0
-    → MatchOption oldest (IfSome first (λ at. ¬ (ExpiresAt h now at))) (λ at. (first ≡ Some at) × ExpiresAt h now at) → HasWalked h places now tickets oldest
+pub walk_begins : (h : History) (places : List ℕ) (now : ℕ) (tickets : List (ℕ × ℕ)) (first oldest : Option ℕ) → tickets ≡ []
+    → first ≡ slice_get places 0
+    → MatchOption oldest (IfSome first (λ at. ¬ (ExpiresAt h now at))) (λ at. (first ≡ Some at) × ExpiresAt h now at)
+    → HasWalked h places now tickets oldest
 walk_begins h places now tickets first oldest none is next = subst (λ (l : List (ℕ × ℕ)). HasWalked h places now l oldest) (sym none) (record {
   before = [];
   rest = places;
@@ -134,8 +150,23 @@ walk_begins h places now tickets first oldest none is next = subst (λ (l : List
   next = next_is h now first (slice_get places 0) oldest is next;
 })
 
+-- how far it has come, where the place is known
+pub walked_to : (h : History) (places : List ℕ) (now : ℕ) (tickets : List (ℕ × ℕ)) (oldest known : Option ℕ)
+    → HasWalked h places now tickets oldest → oldest ≡ known → HasWalked h places now tickets known
+walked_to h places now tickets oldest known walked is = subst (HasWalked h places now tickets) is walked
+
+-- what a walk may count on: the order of joining, in which no place comes twice, and that no two requests have one ticket
+pub record Stays (h : History) (places : List ℕ) : Type 0 where
+  pub are : AreInTurn (WaitsSince (state_of h).rows) (state_of h).moment places
+  pub once : ComeOnce places
+  pub long : length (state_of h).rows ≡ h.setup.places
+  pub own : HaveOwnTickets (state_of h).rows
+
 -- the next place on the walk, and its request
-module _ (h : History) (places : List ℕ) (are : AreInTurn (WaitsSince (state_of h).rows) (state_of h).moment places) (once : ComeOnce places) (long : length (state_of h).rows ≡ h.setup.places) (own : HaveOwnTickets (state_of h).rows) (now : ℕ) (tickets : List (ℕ × ℕ)) (place : ℕ) (walked : HasWalked h places now tickets (Some place)) where
+module _ (h : History) (places : List ℕ) (stays : Stays h places) (now : ℕ) (tickets : List (ℕ × ℕ)) (place : ℕ)
+    (walked : HasWalked h places now tickets (Some place)) where
+  open stays use {are, once, long, own}
+
   here : (later : List ℕ) × (walked.rest ≡ place ∷ later)
   here = rest_of walked.rest place walked.next.0
 
@@ -144,6 +175,9 @@ module _ (h : History) (places : List ℕ) (are : AreInTurn (WaitsSince (state_o
 
   once_here : ComeOnce (walked.before ++ place ∷ here.0)
   once_here = subst ComeOnce parts_here once
+
+  pub has_row_here : HasRowAt h place
+  has_row_here = stay_has_row h places are place (subst (λ (l : List ℕ). Contains l place) (sym parts_here) (Contains-middle walked.before place here.0))
 
   pub place_there : Contains places place
   place_there = subst (λ (l : List ℕ). Contains l place) (sym parts_here) (Contains-middle walked.before place here.0)
@@ -158,7 +192,9 @@ module _ (h : History) (places : List ℕ) (are : AreInTurn (WaitsSince (state_o
 
   pub fits_more : (room : ℕ) → h.setup.places ≤ room → length tickets < room
   fits_more room enough =
-      let within : length places ≤ length (state_of h).rows = once_within (length (state_of h).rows) places once (λ k among. slice_get_within (state_of h).rows k (Some (are.waiting k among).1.0) (are.waiting k among).1.2) in
+      let within : length places ≤ length (state_of h).rows =
+      once_within (length (state_of h).rows) places once
+      (λ k among. slice_get_within (state_of h).rows k (Some (are.waiting k among).1.0) (are.waiting k among).1.2) in
       let less = walks_less in
       let same = long in
       omega arith
@@ -169,7 +205,8 @@ module _ (h : History) (places : List ℕ) (are : AreInTurn (WaitsSince (state_o
   pub after_has_row : (after : Option ℕ) → after ≡ next_after place places → IfSome after (HasRowAt h)
   after_has_row None is = tt
   after_has_row (Some other) is =
-      stay_has_row h places are other (subst (λ (l : List ℕ). Contains l other) (sym (parts_here ∙ sym (append_assoc walked.before (place ∷ []) here.0))) (later_in (first_member here.0 other (sym after_here ∙ sym is))))
+      stay_has_row h places are other (subst (λ (l : List ℕ). Contains l other) (sym (parts_here ∙ sym (append_assoc walked.before (place ∷ []) here.0)))
+      (later_in (first_member here.0 other (sym after_here ∙ sym is))))
     where
       later_in : Contains here.0 other → Contains ((walked.before ++ place ∷ []) ++ here.0) other
       later_in among = Contains-append_right (walked.before ++ place ∷ []) here.0 other among
@@ -182,8 +219,10 @@ module _ (h : History) (places : List ℕ) (are : AreInTurn (WaitsSince (state_o
         let at : pair.1 ≡ place = own.own pair.1 place it.0 row it.2 stands (it.3 ∙ same) in
         not_before walked.before place here.0 once_here (subst (Contains walked.before) at it.1))
 
-    pub walks_on : (more : List (ℕ × ℕ)) (after oldest : Option ℕ) → more ≡ inserted nat_cmp (row.key.ticket, place) tickets → IsAscending nat_cmp more → after ≡ next_after place places
-        → MatchOption oldest (IfSome after (λ at. ¬ (ExpiresAt h now at))) (λ at. (after ≡ Some at) × ExpiresAt h now at) → HasWalked h places now more oldest
+    pub walks_on : (more : List (ℕ × ℕ)) (after oldest : Option ℕ) → more ≡ inserted nat_cmp (row.key.ticket, place) tickets
+        → IsAscending nat_cmp more → after ≡ next_after place places
+        → MatchOption oldest (IfSome after (λ at. ¬ (ExpiresAt h now at))) (λ at. (after ≡ Some at) × ExpiresAt h now at)
+        → HasWalked h places now more oldest
     walks_on more after oldest put up follows next = record {
       before = walked.before ++ place ∷ [];
       rest = here.0;
@@ -192,16 +231,26 @@ module _ (h : History) (places : List ℕ) (are : AreInTurn (WaitsSince (state_o
           elim (Contains-push_cases walked.before place p among) [
             | inl e ↦ let it = walked.told p other e at in (kept other.key.ticket p it.0, it.1)
             | inr e ↦
-                let one : other ≡ row = same_Some other row (same_Some (Some other) (Some row) (sym (subst (λ n. StandsAt (state_of h).rows n other) (sym e) at) ∙ stands)) in
+                let one : other ≡ row =
+                same_Some other row (same_Some (Some other) (Some row) (sym (subst (λ n. StandsAt (state_of h).rows n other) (sym e) at) ∙ stands)) in
                 let its = walked.next.1 in
-                let expires : its.0 ≡ row = same_Some its.0 row (same_Some (Some its.0) (Some row) (sym its.1 ∙ stands)) in
-                (subst (λ n. Contains more (other.key.ticket, n)) e (subst (λ (r : Row). Contains more (r.key.ticket, place)) (sym one) new), subst (λ (r : Row). has_expired h.setup now r.phase) (expires ∙ sym one) its.2)
+                let expires : its.0 ≡ row = same_Some its.0 row (same_Some (Some its.0) (Some row) (sym its.1 ∙ stands)) in (
+                  subst (λ n. Contains more (other.key.ticket, n)) e (subst (λ (r : Row). Contains more (r.key.ticket, place)) (sym one) new),
+                  subst
+                      (λ (r : Row). has_expired h.setup now r.phase) (expires ∙ sym one) its.2,
+                )
           ];
       named = λ ticket p among.
-          elim (Contains-inserted nat_cmp (row.key.ticket, place) tickets (ticket, p) ticket_absent (subst (λ (l : List (ℕ × ℕ)). Contains l (ticket, p)) put among)) [
+          elim (Contains-inserted nat_cmp (row.key.ticket, place) tickets (ticket, p) ticket_absent
+          (subst (λ (l : List (ℕ × ℕ)). Contains l (ticket, p)) put among)) [
             | inl e ↦
-                let at : place ≡ p = ap (λ (x : ℕ × ℕ). x.1) e in
-                (row, subst (Contains (walked.before ++ place ∷ [])) at (Contains-push walked.before place), subst (λ n. StandsAt (state_of h).rows n row) at stands, ap (λ (x : ℕ × ℕ). x.0) e)
+                let at : place ≡ p = ap (λ (x : ℕ × ℕ). x.1) e in (
+                  row,
+                  subst (Contains (walked.before ++ place ∷ [])) at (Contains-push walked.before place),
+                  subst
+                      (λ n. StandsAt (state_of h).rows n row) at stands,
+                  ap (λ (x : ℕ × ℕ). x.0) e,
+                )
             | inr e ↦ let it = walked.named ticket p e in (it.0, Contains-append_left walked.before (place ∷ []) p it.1, it.2, it.3)
           ];
       ascending = up;
@@ -215,13 +264,19 @@ module _ (h : History) (places : List ℕ) (are : AreInTurn (WaitsSince (state_o
     }
       where
         kept : (ticket p : ℕ) → Contains tickets (ticket, p) → Contains more (ticket, p)
-        kept ticket p among = subst (λ (l : List (ℕ × ℕ)). Contains l (ticket, p)) (sym put) (Contains-inserted_old nat_cmp (row.key.ticket, place) tickets (ticket, p) ticket_absent among)
+        kept ticket p among =
+            subst (λ (l : List (ℕ × ℕ)). Contains l (ticket, p)) (sym put)
+            (Contains-inserted_old nat_cmp (row.key.ticket, place) tickets (ticket, p) ticket_absent among)
 
         new : Contains more (row.key.ticket, place)
-        new = subst (λ (l : List (ℕ × ℕ)). Contains l (row.key.ticket, place)) (sym put) (Contains-inserted_new nat_cmp (row.key.ticket, place) tickets ticket_absent)
+        new =
+            subst (λ (l : List (ℕ × ℕ)). Contains l (row.key.ticket, place)) (sym put)
+            (Contains-inserted_new nat_cmp (row.key.ticket, place) tickets ticket_absent)
 
 -- at its end the tickets are those of all that have
-pub walk_ends : (h : History) (places : List ℕ) (now : ℕ) (tickets : List (ℕ × ℕ)) → AreInTurn (WaitsSince (state_of h).rows) (state_of h).moment places → now ≡ (state_of h).moment → HasWalked h places now tickets None → AreExpired h tickets
+pub walk_ends : (h : History) (places : List ℕ) (now : ℕ) (tickets : List (ℕ × ℕ))
+    → AreInTurn (WaitsSince (state_of h).rows) (state_of h).moment places → now ≡ (state_of h).moment → HasWalked h places now tickets None
+    → AreExpired h tickets
 walk_ends h places now tickets are when walked ticket place = (
   λ among.
       let it = walked.named ticket place among in
@@ -246,9 +301,11 @@ module _ {N : Type 0} (pair_of : N → Key × ℕ) (t : Traced N) (is : IsTrace 
   pub row_read : (at : ℕ) (row : Row) → (s : Slot N) × StandsIn t.kept.slots at s × (s.row ≡ row) → StandsAt (state_of h).rows at row
   row_read at row read =
       subst (λ (x : History). StandsAt (state_of x).rows at row) same
-      (subst (λ (r : Row). StandsAt (state_of (history_of t)).rows at r) read.2 (stands_row t.kept.slots (state_of (history_of t)).rows at read.0 is.holds.rows read.1))
+      (subst (λ (r : Row). StandsAt (state_of (history_of t)).rows at r) read.2
+      (stands_row t.kept.slots (state_of (history_of t)).rows at read.0 is.holds.rows read.1))
 
-  module _ (setup : Setup) (now at : ℕ) (row : Row) (made : setup ≡ t.kept.setup) (read : (s : Slot N) × StandsIn t.kept.slots at s × (s.row ≡ row)) where
+  module _ (setup : Setup) (now at : ℕ) (row : Row) (made : setup ≡ t.kept.setup)
+      (read : (s : Slot N) × StandsIn t.kept.slots at s × (s.row ≡ row)) where
     setup_is : setup ≡ h.setup
     setup_is = made ∙ ap (λ (x : History). x.setup) same
 
@@ -271,3 +328,6 @@ module _ {N : Type 0} (pair_of : N → Key × ℕ) (t : Traced N) (is : IsTrace 
 
   pub in_turn_there : AreInTurn (WaitsSince (state_of h).rows) (state_of h).moment t.waits.order
   in_turn_there = subst (λ (x : History). AreInTurn (WaitsSince (state_of x).rows) (state_of x).moment t.waits.order) same is.holds.in_turn
+
+  pub stays_there : ComeOnce t.waits.order → Stays h t.waits.order
+  stays_there once = record { are = in_turn_there; once = once; long = many_places; own = own_tickets }

@@ -1,19 +1,16 @@
 -- Grants and moves of a trace.
-use Rattle.std.proofs.Common.{◌≡◌, ◌≢◌, ℕ, ◌+◌, ◌<◌, ◌≤◌, Bool, true, false, List, [], ◌∷◌, ◌++◌, Option, None, Some, MatchOption, IsTrue, slice_get, length, refl, ap, sym, ◌∙◌, subst, arith, Ordering, Less, Equal, Greater}
-use Rattle.std.proofs.lemmas.Option.{same_Some}
+use Rattle.std.proofs.Common.{◌≡◌, ◌≢◌, ℕ, ◌+◌, ◌<◌, ◌≤◌, Option, None, Some, MatchOption, length, refl, ap, sym, ◌∙◌, subst}
+use Rattle.std.proofs.Common.{arith, Ordering, Less, Equal, Greater}
 use Rattle.due_key.specs.declared.key.Key.{Key}
 use Rattle.due_key.specs.Order.{key_cmp}
 use Rattle.due_key.proofs.KeyOrder.{key_cmp_total, key_cmp_exact}
-use Rattle.dispatch_log.specs.declared.entry.Entry.TheVariants.{Granted, Moved}
+use Rattle.dispatch_log.specs.declared.entry.Entry.TheVariants.{Granted}
 use Rattle.dispatch_log.specs.declared.queue.Queue.{Queue}
-use Rattle.dispatch_log.specs.declared.queue.Queue.TheVariants.{Backend, Server}
 use Rattle.dispatch_log.specs.declared.row.Phase.TheVariants.{Waiting, Serving}
-use Rattle.dispatch_log.specs.declared.row.Row.{Row}
 use Rattle.dispatch_log.specs.Grants.{IsLawfulGrant, IsSettled}
 use Rattle.dispatch_log.specs.Histories.{History, state_of}
-use Rattle.dispatch_log.specs.Judgement.{falling}
 use Rattle.dispatch_log.specs.Refusals.{is_waiting}
-use Rattle.dispatch_log.specs.Rows.{Rows, IsRow, phase_waits_in, in_phase}
+use Rattle.dispatch_log.specs.Rows.{Rows, in_phase}
 use Rattle.dispatch_log.specs.States.{granted_by}
 use Rattle.dispatch_log.specs.Words.{Scene}
 use Rattle.dispatch_log.proofs.RowLemmas.{changed_at}
@@ -25,9 +22,8 @@ use Rattle.slot_ledger.specs.Ledgers.{Kept, with_slots}
 use Rattle.slot_ledger.specs.Slots.{rows_in, HasRow, with_phase, loosened}
 use Rattle.server_pick.specs.Heads.{Held, head_at, AreHeads, IsLawfulTake, IsEmptyQueue, IsLeastIn}
 use Rattle.wait_queues.specs.declared.waiters.Waiter.{Waiter}
-use Rattle.wait_queues.specs.Waitlists.{Waiters, WaitsAt, NoneWaitsIn, IsFirstIn, IsFirstKey, AreFirst, without_waiter}
-use Rattle.dispatch_trace.specs.declared.position.Position.{Position}
-use Rattle.dispatch_trace.specs.Histories.{with_entry, stage_of, scene_of, waiting_of, MayComeNext, MayGrantNext, IsGrant, IsEmptied}
+use Rattle.wait_queues.specs.Waitlists.{Waitlist, Waiters, NoneWaitsIn, IsFirstIn, IsFirstKey, AreFirst, without_waiter}
+use Rattle.dispatch_trace.specs.Histories.{with_entry, scene_of, waiting_of, MayComeNext, MayGrantNext, IsGrant}
 use Rattle.dispatch_trace.specs.Traces.{Traced, history_of, noted, IsTrace, position_of}
 use Rattle.dispatch_trace.proofs.Beginning.{scene_is, cursor_is}
 use Rattle.dispatch_trace.proofs.Entries.{cursor_moved}
@@ -41,7 +37,8 @@ abbrev pub kept_scene : {N : Type 0} → Kept N → Scene
 kept_scene kept = record { servers = kept.setup.servers; ups = kept.ups; rows = rows_in kept.slots }
 
 -- two first requests of a queue have one key
-pub first_once : (queue : Queue) (waiters : Waiters) (p q : ℕ) (v w : Waiter) → IsFirstIn queue waiters p v → IsFirstIn queue waiters q w → v.key ≡ w.key
+pub first_once : (queue : Queue) (waiters : Waiters) (p q : ℕ) (v w : Waiter) → IsFirstIn queue waiters p v → IsFirstIn queue waiters q w
+    → v.key ≡ w.key
 first_once queue waiters p q v w one two = by_order (key_cmp v.key w.key) refl
   where
     by_order : (o : Ordering) → key_cmp v.key w.key ≡ o → v.key ≡ w.key
@@ -51,10 +48,13 @@ first_once queue waiters p q v w one two = by_order (key_cmp v.key w.key) refl
 
 module _ {N : Type 0} (pair_of : N → Key × ℕ) where
   -- nobody listed in a queue, no row waits in it
-  pub none_wait : (t : Traced N) (queue : Queue) → IsTrace pair_of t → NoneWaitsIn queue t.waits.waiters → IsEmptyQueue queue (state_of (history_of t)).rows
-  none_wait t queue is none row live waits_so = let w = waits_phase queue row.phase waits_so in none live.0 _ (listed pair_of t live.0 row queue w.0 is live.1 w.1) refl
+  pub none_wait : (t : Traced N) (queue : Queue) → IsTrace pair_of t → NoneWaitsIn queue t.waits.waiters
+      → IsEmptyQueue queue (state_of (history_of t)).rows
+  none_wait t queue is none row live waits_so =
+      let w = waits_phase queue row.phase waits_so in none live.0 _ (listed pair_of t live.0 row queue w.0 is live.1 w.1) refl
 
-  least_is : (t : Traced N) (queue : Queue) (key : Key) → IsTrace pair_of t → IsFirstKey queue t.waits.waiters key → IsLeastIn queue (state_of (history_of t)).rows key
+  least_is : (t : Traced N) (queue : Queue) (key : Key) → IsTrace pair_of t → IsFirstKey queue t.waits.waiters key
+      → IsLeastIn queue (state_of (history_of t)).rows key
   least_is t queue key is first =
       let its = waits_listed pair_of t first.0 first.1 is first.2.waits in
       record {
@@ -68,26 +68,32 @@ module _ {N : Type 0} (pair_of : N → Key × ℕ) where
       }
 
   -- the heads of the queues are those of the rows
-  pub heads_are : (t : Traced N) (heads : Held) → IsTrace pair_of t → AreFirst heads t.waits → AreHeads heads (length t.kept.setup.servers) (rows_in t.kept.slots)
+  pub heads_are : (t : Traced N) (heads : Held) → IsTrace pair_of t → AreFirst heads t.waits
+      → AreHeads heads (length t.kept.setup.servers) (rows_in t.kept.slots)
   heads_are t heads is first queue within =
       subst (λ (r : Rows). MatchOption (head_at heads queue) (IsEmptyQueue queue r) (IsLeastIn queue r)) (sym is.holds.rows)
       (by_head (head_at heads queue) (first queue (subst (λ n. IsQueueOf n queue) (sym is.servers) within)))
     where
-      by_head : (head : Option Key) → MatchOption head (NoneWaitsIn queue t.waits.waiters) (IsFirstKey queue t.waits.waiters) → MatchOption head (IsEmptyQueue queue (state_of (history_of t)).rows) (IsLeastIn queue (state_of (history_of t)).rows)
+      by_head : (head : Option Key) → MatchOption head (NoneWaitsIn queue t.waits.waiters) (IsFirstKey queue t.waits.waiters)
+          → MatchOption head (IsEmptyQueue queue (state_of (history_of t)).rows) (IsLeastIn queue (state_of (history_of t)).rows)
       by_head None none = none_wait t queue is none
       by_head (Some key) its = least_is t queue key is its
 
   -- all is settled where no server takes
-  pub settled_here : (t : Traced N) (now : History) → IsTrace pair_of t → history_of t ≡ now → IsSettled (kept_scene t.kept) → IsSettled (scene_of now)
+  pub settled_here : (t : Traced N) (now : History) → IsTrace pair_of t → history_of t ≡ now → IsSettled (kept_scene t.kept)
+      → IsSettled (scene_of now)
   settled_here t now is same settled = subst (λ (h : History). IsSettled (scene_of h)) same (subst IsSettled (scene_is pair_of t is) settled)
 
   -- the key of a lawful take is the first one's
-  first_key : (t : Traced N) (heads : Held) (server cursor : ℕ) (queue : Queue) → IsTrace pair_of t → AreFirst heads t.waits → (take : IsLawfulTake (kept_scene t.kept) cursor heads server queue) → IsFirstKey queue t.waits.waiters take.0
+  first_key : (t : Traced N) (heads : Held) (server cursor : ℕ) (queue : Queue) → IsTrace pair_of t → AreFirst heads t.waits
+      → (take : IsLawfulTake (kept_scene t.kept) cursor heads server queue) → IsFirstKey queue t.waits.waiters take.0
   first_key t heads server cursor queue is first take =
       let within = take_within (kept_scene t.kept) cursor heads server queue take in
-      subst (λ (o : Option Key). MatchOption o (NoneWaitsIn queue t.waits.waiters) (IsFirstKey queue t.waits.waiters)) take.1 (first queue (subst (λ n. IsQueueOf n queue) (sym is.servers) within.1))
+      subst (λ (o : Option Key). MatchOption o (NoneWaitsIn queue t.waits.waiters) (IsFirstKey queue t.waits.waiters)) take.1
+      (first queue (subst (λ n. IsQueueOf n queue) (sym is.servers) within.1))
 
-  pub not_empty : (t : Traced N) (heads : Held) (server cursor : ℕ) (queue : Queue) → IsTrace pair_of t → AreFirst heads t.waits → IsLawfulTake (kept_scene t.kept) cursor heads server queue → NoneWaitsIn queue t.waits.waiters → ⊥
+  pub not_empty : (t : Traced N) (heads : Held) (server cursor : ℕ) (queue : Queue) → IsTrace pair_of t → AreFirst heads t.waits
+      → IsLawfulTake (kept_scene t.kept) cursor heads server queue → NoneWaitsIn queue t.waits.waiters → ⊥
   not_empty t heads server cursor queue is first take none = let it = first_key t heads server cursor queue is first take in none it.0 it.1 it.2.waits it.2.its
 
   -- what a grant's calls found
@@ -98,7 +104,20 @@ module _ {N : Type 0} (pair_of : N → Key × ℕ) where
     pub take : IsLawfulTake (kept_scene t.kept) t.position.cursor heads server queue
     pub first : IsFirstIn queue t.waits.waiters place waiter
 
-  module _ (t : Traced N) (heads : Held) (server : ℕ) (queue : Queue) (place : ℕ) (waiter : Waiter) (calls : GrantCalls t heads server queue place waiter) where
+  pub grant_calls : (t : Traced N) (now : History) (left : Waitlist) (heads : Held) (server : ℕ) (queue : Queue) (place : ℕ) (waiter : Waiter)
+      → IsTrace pair_of t → history_of t ≡ now → MayGrantNext now → AreFirst heads left → left ≡ t.waits
+      → IsLawfulTake (kept_scene t.kept) t.position.cursor heads server queue → IsFirstIn queue left.waiters place waiter
+      → GrantCalls t heads server queue place waiter
+  grant_calls t now left heads server queue place waiter is same may_grant heads_first kept take first = record {
+    before = is;
+    may_grant = subst MayGrantNext (sym same) may_grant;
+    heads_first = subst (AreFirst heads) kept heads_first;
+    take = take;
+    first = subst (λ (l : Waitlist). IsFirstIn queue l.waiters place waiter) kept first;
+  }
+
+  module _ (t : Traced N) (heads : Held) (server : ℕ) (queue : Queue) (place : ℕ) (waiter : Waiter)
+      (calls : GrantCalls t heads server queue place waiter) where
     its : ItsRow t.log.entries (state_of (history_of t)).rows place waiter
     its = waits_listed pair_of t place waiter calls.before calls.first.waits
 
@@ -119,16 +138,31 @@ module _ {N : Type 0} (pair_of : N → Key × ℕ) where
     grant_row = let s = stands_slot t.kept.slots (state_of (history_of t)).rows place its.row calls.before.holds.rows its.stands in (s.0, s.1)
 
     pub grant_kept : (node : N) (now : ℕ) → pair_of node ≡ (waiter.key, place) → now ≡ granted_by t.kept.setup server t.position.cursor
-        → IsTrace pair_of (record { kept = with_slots t.kept (with_phase (Serving server) (loosened node t.kept.slots place) place); log = noted t.log (Granted waiter.key.ticket queue server); waits = without_waiter t.waits place; position = record { cursor = now; last = t.position.last; ticket = t.position.ticket } })
+        → IsTrace pair_of
+        (record {
+          kept = with_slots t.kept (with_phase (Serving server) (loosened node t.kept.slots place) place);
+          log =
+              noted t.log (Granted waiter.key.ticket queue server);
+          waits = without_waiter t.waits place;
+          position =
+              record { cursor = now; last = t.position.last; ticket = t.position.ticket };
+        })
     grant_kept node now pair moved =
         let s = state_of (history_of t) in
-        unqueued pair_of t (Granted waiter.key.ticket queue server) place waiter (Serving server) node (record { cursor = now; last = t.position.last; ticket = t.position.ticket }) calls.before grant_may refl calls.first.waits refl pair refl refl refl
-        (cursor_moved t.position s now calls.before.holds.position ∙ ap (λ n. position_of (record s { cursor = n })) (moved ∙ ap (granted_by t.kept.setup server) (cursor_is pair_of t calls.before)))
+        unqueued pair_of t (Granted waiter.key.ticket queue server) place waiter (Serving server) node (record {
+          cursor =
+              now;
+          last = t.position.last;
+          ticket = t.position.ticket;
+        }) calls.before grant_may refl calls.first.waits refl pair refl refl refl
+        (cursor_moved t.position s now calls.before.holds.position
+        ∙ ap (λ n. position_of (record s { cursor = n })) (moved ∙ ap (granted_by t.kept.setup server) (cursor_is pair_of t calls.before)))
 
     grant_fewer : waiting_of (with_entry (history_of t) (Granted waiter.key.ticket queue server)) + 1 ≡ waiting_of (history_of t)
     grant_fewer =
         one_fewer (history_of t) (Granted waiter.key.ticket queue server) place its.row (record its.row { phase = Serving server }) its.stands
-        (changed_at (state_of (history_of t)).rows waiter.key.ticket place its.row (in_phase (Serving server)) (trace_consistent pair_of t calls.before).tickets its.stands (ap (λ (k : Key). k.ticket) its.key))
+        (changed_at (state_of (history_of t)).rows waiter.key.ticket place its.row (in_phase (Serving server))
+        (trace_consistent pair_of t calls.before).tickets its.stands (ap (λ (k : Key). k.ticket) its.key))
         (ap is_waiting its.phase) refl
 
     pub is_grant : (now : History) → now ≡ with_entry (history_of t) (Granted waiter.key.ticket queue server) → IsGrant (history_of t) now
@@ -146,11 +180,14 @@ module _ {N : Type 0} (pair_of : N → Key × ℕ) where
     grant_room room = let fewer = grant_fewer in let most = calls.before.log_room in omega arith
 
     pub grant_arrived : HasArrived t.log.entries waiter.key.ticket waiter.key.class waiter.key.due
-    grant_arrived = subst (λ (k : Key). HasArrived t.log.entries k.ticket k.class k.due) its.key (row_arrived pair_of t its.row calls.before (place, its.stands))
+    grant_arrived =
+        subst (λ (k : Key). HasArrived t.log.entries k.ticket k.class k.due) its.key (row_arrived pair_of t its.row calls.before (place, its.stands))
 
     pub grant_joined : (joining_of waiter.key.ticket queue t.log.entries ≡ waiter.joined) × (0 < waiter.joined)
     grant_joined =
         let same : joining_of waiter.key.ticket queue t.log.entries ≡ waiter.joined =
-        ap (λ (k : Key). joining_of k.ticket queue t.log.entries) (sym its.key) ∙ ap (λ (q : Queue). joining_of its.row.key.ticket q t.log.entries) (sym calls.first.its) ∙ its.joined in
-        let waits_so : 0 < joining_of its.row.key.ticket waiter.queue t.log.entries = row_joined pair_of t its.row waiter.queue calls.before (place, its.stands) (phase_waits waiter.queue its.since its.row.phase its.phase) in
+        ap (λ (k : Key). joining_of k.ticket queue t.log.entries) (sym its.key) ∙ ap (λ (q : Queue). joining_of its.row.key.ticket q t.log.entries)
+        (sym calls.first.its) ∙ its.joined in
+        let waits_so : 0 < joining_of its.row.key.ticket waiter.queue t.log.entries = row_joined pair_of t its.row waiter.queue calls.before (place, its.stands)
+        (phase_waits waiter.queue its.since its.row.phase its.phase) in
         (same, subst (λ n. 0 < n) its.joined waits_so)

@@ -1,5 +1,6 @@
 -- Which servers are up by the results of their checks.
-use Rattle.std.proofs.Common.{◌≡◌, ℕ, zero, suc, ◌+◌, ◌-◌, ◌*◌, ◌≤◌, Bool, true, false, List, [], ◌∷◌, ◌++◌, Option, None, Some, slice_get, length, replicate, refl, ap, sym, ◌∙◌, arith}
+use Rattle.std.proofs.Common.{◌≡◌, ℕ, zero, suc, Bool, true, List, [], ◌∷◌, Option, None, Some, length, replicate, refl, ap, sym, ◌∙◌}
+use Rattle.std.proofs.Common.{arith}
 use Rattle.std.proofs.Math.ListN.{set, length-replicate}
 use Rattle.dispatch_log.specs.declared.entry.Entry.{Entry}
 use Rattle.dispatch_log.specs.declared.setup.ServerSet.{ServerSet}
@@ -17,18 +18,22 @@ up_at_first (Some it) = refl
 
 all_up : (servers : List ServerSet) → replicate (length servers) true ≡ ups_of servers (replicate (length servers) [])
 all_up [] = refl
-all_up (server ∷ servers) = ap (λ (l : List Bool). true ∷ l) (all_up servers) ∙ ap (λ (b : Bool). b ∷ ups_of servers (replicate (length servers) [])) (sym (up_at_first server.rise_fall))
+all_up (server ∷ servers) =
+    ap (λ (l : List Bool). true ∷ l) (all_up servers) ∙ ap (λ (b : Bool). b ∷ ups_of servers (replicate (length servers) []))
+    (sym (up_at_first server.rise_fall))
 
 pub opening_ups : (setup : Setup) → replicate (length setup.servers) true ≡ ups_of setup.servers (opening_state setup).results
 opening_ups setup = all_up setup.servers
 
 -- which servers are up after a result
-pub ups_set : (servers : List ServerSet) (results : List (List Bool)) (server : ℕ) (ok : Bool) → length results ≡ length servers → ups_of servers (with_result server ok results) ≡ set (ups_of servers results) server (is_up_at servers (with_result server ok results) server)
+pub ups_set : (servers : List ServerSet) (results : List (List Bool)) (server : ℕ) (ok : Bool) → length results ≡ length servers
+    → ups_of servers (with_result server ok results) ≡ set (ups_of servers results) server (is_up_at servers (with_result server ok results) server)
 ups_set [] [] server ok long = refl
 ups_set [] (own ∷ results) server ok long = absurd (omega arith)
 ups_set (first ∷ servers) [] server ok long = absurd (omega arith)
 ups_set (first ∷ servers) (own ∷ results) zero ok long = refl
-ups_set (first ∷ servers) (own ∷ results) (suc server) ok long = ap (λ (l : List Bool). is_up_by first.rise_fall own ∷ l) (ups_set servers results server ok (omega arith))
+ups_set (first ∷ servers) (own ∷ results) (suc server) ok long =
+    ap (λ (l : List Bool). is_up_by first.rise_fall own ∷ l) (ups_set servers results server ok (omega arith))
 
 -- there are as many lists of results as servers
 results_all : (setup : Setup) (s : State) (es : List Entry) → length (after_all setup s es).results ≡ length s.results

@@ -1,5 +1,5 @@
 -- A request that begins to wait, and one that is dismissed.
-use Rattle.std.proofs.Common.{◌≡◌, ℕ, ◌+◌, false, true, List, ◌++◌, ◌∷◌, [], Option, None, Some, slice_get, length, refl, ap, sym, ◌∙◌, subst}
+use Rattle.std.proofs.Common.{◌≡◌, ℕ, ◌+◌, false, true, None, Some, slice_get, length, refl, ap, sym, ◌∙◌, subst}
 use Rattle.std.proofs.lemmas.Option.{same_Some}
 use Rattle.due_key.specs.declared.key.Key.{Key}
 use Rattle.dispatch_log.specs.declared.entry.Entry.TheVariants.{Joined, Left}
@@ -9,21 +9,21 @@ use Rattle.dispatch_log.specs.declared.row.Row.{Row}
 use Rattle.dispatch_log.specs.Histories.{History, state_of}
 use Rattle.dispatch_log.specs.Judgement.{IsInPhase}
 use Rattle.dispatch_log.specs.Refusals.{is_waiting}
-use Rattle.dispatch_log.specs.Rows.{StandsAt, in_phase}
+use Rattle.dispatch_log.specs.Rows.{in_phase}
 use Rattle.dispatch_log.proofs.Judged.{joined_row}
 use Rattle.dispatch_log.proofs.RowLemmas.{changed_at}
 use Rattle.slot_ledger.specs.declared.places.Slot.{Slot}
-use Rattle.slot_ledger.specs.Ledgers.{Kept, with_slots}
+use Rattle.slot_ledger.specs.Ledgers.{with_slots}
 use Rattle.slot_ledger.specs.Slots.{StandsIn, HasNode, with_phase, loosened, waiting}
 use Rattle.verdict.specs.declared.cause.Cause.{Cause}
 use Rattle.wait_queues.specs.declared.waiters.Waiter.{Waiter}
 use Rattle.wait_queues.specs.Waitlists.{WaitsAt, HasNoKey, with_waiter, without_waiter}
 use Rattle.dispatch_trace.specs.declared.position.Ticketed.{Ticketed}
 use Rattle.dispatch_trace.specs.Histories.{with_entry, stage_of, cursor_after, waiting_of, IsAt, MayComeNext}
-use Rattle.dispatch_trace.specs.Traces.{Traced, history_of, noted, IsTrace, position_of}
+use Rattle.dispatch_trace.specs.Traces.{Traced, history_of, noted, IsTrace}
 use Rattle.dispatch_trace.proofs.Entries.{cursor_moved}
 use Rattle.dispatch_trace.proofs.Resting.{waits_somewhere}
-use Rattle.dispatch_trace.proofs.Stepping.{stands_row, stands_slot, at_row, node_of, trace_consistent}
+use Rattle.dispatch_trace.proofs.Stepping.{here_at, here_may, stands_slot, at_row, node_of, trace_consistent}
 use Rattle.dispatch_trace.proofs.Waiters.{waits_listed, listed, not_listed, own_key, queued_up, unqueued, one_fewer}
 
 module _ {N : Type 0} (pair_of : N → Key × ℕ) where
@@ -33,13 +33,22 @@ module _ {N : Type 0} (pair_of : N → Key × ℕ) where
     pub may : MayComeNext (history_of t) (Joined it.ticket queue)
     pub at : IsAt (state_of (history_of t)).rows it
 
+  pub join_calls : (t : Traced N) (now : History) (it : Ticketed) (queue : Queue) → IsTrace pair_of t → history_of t ≡ now
+      → MayComeNext now (Joined it.ticket queue) → IsAt (state_of now).rows it → JoinCalls t it queue
+  join_calls t now it queue is same may at = record {
+    before = is;
+    may = here_may (history_of t) now (Joined it.ticket queue) same may;
+    at = here_at (history_of t) now it same at;
+  }
+
   module _ (t : Traced N) (it : Ticketed) (queue : Queue) (calls : JoinCalls t it queue) where
     join_idle : is_waiting calls.at.0.phase ≡ false
     join_idle =
         let h = history_of t in
         let loose = joined_row h.setup (state_of h) (length h.log) (stage_of h) it.ticket queue (trace_consistent pair_of t calls.before) calls.may in
         let there = at_row (state_of h).rows it loose.place loose.row (trace_consistent pair_of t calls.before).tickets calls.at loose.stands loose.named in
-        ap (λ (r : Row). is_waiting r.phase) (same_Some calls.at.0 loose.row (same_Some (Some calls.at.0) (Some loose.row) (sym calls.at.1 ∙ there))) ∙ ap is_waiting loose.loose
+        ap (λ (r : Row). is_waiting r.phase) (same_Some calls.at.0 loose.row (same_Some (Some calls.at.0) (Some loose.row) (sym calls.at.1 ∙ there)))
+        ∙ ap is_waiting loose.loose
 
     slot_there : (s : Slot N) × StandsIn t.kept.slots it.place s × (s.row ≡ calls.at.0)
     slot_there = stands_slot t.kept.slots (state_of (history_of t)).rows it.place calls.at.0 calls.before.holds.rows calls.at.1
@@ -48,7 +57,9 @@ module _ {N : Type 0} (pair_of : N → Key × ℕ) where
     idle_slot = ap (λ (r : Row). is_waiting r.phase) slot_there.2 ∙ join_idle
 
     pub join_node : HasNode t.kept.slots it.place
-    join_node = let node = node_of pair_of it.place slot_there.0 idle_slot (calls.before.holds.nodes it.place slot_there.0 slot_there.1) in (slot_there.0, node.0, slot_there.1, node.1)
+    join_node = let node =
+        node_of pair_of it.place slot_there.0 idle_slot (calls.before.holds.nodes it.place slot_there.0 slot_there.1) in
+        (slot_there.0, node.0, slot_there.1, node.1)
 
     pub join_vacant : slice_get t.waits.waiters it.place ≡ Some None
     join_vacant = not_listed pair_of t it.place calls.at.0 calls.before calls.at.1 join_idle
@@ -70,10 +81,25 @@ module _ {N : Type 0} (pair_of : N → Key × ℕ) where
           ap pair_of same ∙ own.2 ∙ ap (λ (r : Row). (r.key, it.place)) (slot_there.2 ∙ row_is)
 
       pub join_kept : (joined now : ℕ) → joined ≡ length t.log.entries + 1 → now ≡ cursor_after (history_of t) (Joined it.ticket queue)
-          → IsTrace pair_of (record { kept = with_slots t.kept (waiting queue t.position.last t.kept.slots it.place); log = noted t.log (Joined it.ticket queue); waits = with_waiter t.waits it.place (record { key = row.key; queue = queue; joined = joined }); position = record { cursor = now; last = t.position.last; ticket = t.position.ticket } })
+          → IsTrace pair_of
+          (record {
+            kept = with_slots t.kept (waiting queue t.position.last t.kept.slots it.place);
+            log = noted t.log (Joined it.ticket queue);
+            waits =
+                with_waiter t.waits it.place (record { key = row.key; queue = queue; joined = joined });
+            position =
+                record { cursor = now; last = t.position.last; ticket = t.position.ticket };
+          })
       join_kept joined now later moved =
-          queued_up pair_of t it queue now joined (record { key = row.key; queue = queue; joined = joined }) calls.before calls.may calls.at join_idle (ap (λ (r : Row). record { key = r.key; queue = queue; joined = joined }) (sym row_is)) later
-          (cursor_moved t.position (state_of (history_of t)) now calls.before.holds.position ∙ ap (λ n. record { cursor = n; last = (state_of (history_of t)).moment; ticket = (state_of (history_of t)).ticket }) moved)
+          queued_up pair_of t it queue now joined (record {
+            key =
+                row.key;
+            queue = queue;
+            joined = joined;
+          }) calls.before calls.may calls.at join_idle
+          (ap (λ (r : Row). record { key = r.key; queue = queue; joined = joined }) (sym row_is)) later
+          (cursor_moved t.position (state_of (history_of t)) now calls.before.holds.position
+          ∙ ap (λ n. record { cursor = n; last = (state_of (history_of t)).moment; ticket = (state_of (history_of t)).ticket }) moved)
 
   -- a request that waits is to be dismissed
   pub record LeaveCalls (t : Traced N) (it : Ticketed) (cause : Cause) : Type 0 where
@@ -82,27 +108,55 @@ module _ {N : Type 0} (pair_of : N → Key × ℕ) where
     pub at : IsAt (state_of (history_of t)).rows it
     pub waits : IsInPhase is_waiting (state_of (history_of t)).rows it.ticket
 
+  pub leave_calls : (t : Traced N) (now : History) (it : Ticketed) (cause : Cause) → IsTrace pair_of t → history_of t ≡ now
+      → MayComeNext now (Left it.ticket cause) → IsAt (state_of now).rows it
+      → IsInPhase is_waiting (state_of now).rows it.ticket → LeaveCalls t it cause
+  leave_calls t now it cause is same may at waits = record {
+    before = is;
+    may = here_may (history_of t) now (Left it.ticket cause) same may;
+    at = here_at (history_of t) now it same at;
+    waits = subst (λ (h : History). IsInPhase is_waiting (state_of h).rows it.ticket) (sym same) waits;
+  }
+
   module _ (t : Traced N) (it : Ticketed) (cause : Cause) (calls : LeaveCalls t it cause) where
     waits_there : is_waiting calls.at.0.phase ≡ true
     waits_there =
         let h = history_of t in
-        let there = at_row (state_of h).rows it calls.waits.live.0 calls.waits.row (trace_consistent pair_of t calls.before).tickets calls.at calls.waits.live.1 calls.waits.named in
-        ap (λ (r : Row). is_waiting r.phase) (same_Some calls.at.0 calls.waits.row (same_Some (Some calls.at.0) (Some calls.waits.row) (sym calls.at.1 ∙ there))) ∙ calls.waits.phase
+        let there = at_row (state_of h).rows it calls.waits.live.0 calls.waits.row
+        (trace_consistent pair_of t calls.before).tickets calls.at calls.waits.live.1 calls.waits.named in
+        ap (λ (r : Row). is_waiting r.phase)
+        (same_Some calls.at.0 calls.waits.row (same_Some (Some calls.at.0) (Some calls.waits.row) (sym calls.at.1 ∙ there))) ∙ calls.waits.phase
 
     pub its_waiter : (waiter : Waiter) × WaitsAt t.waits.waiters it.place waiter
     its_waiter = let w = waits_somewhere calls.at.0.phase waits_there in (_, listed pair_of t it.place calls.at.0 w.queue w.since calls.before calls.at.1 w.is)
 
     pub leave_kept : (node : N) → (waiter : Waiter) × WaitsAt t.waits.waiters it.place waiter × (pair_of node ≡ (waiter.key, it.place))
-        → IsTrace pair_of (record { kept = with_slots t.kept (with_phase (Told cause) (loosened node t.kept.slots it.place) it.place); log = noted t.log (Left it.ticket cause); waits = without_waiter t.waits it.place; position = t.position })
+        → IsTrace pair_of
+        (record {
+          kept = with_slots t.kept (with_phase (Told cause) (loosened node t.kept.slots it.place) it.place);
+          log =
+              noted t.log (Left it.ticket cause);
+          waits = without_waiter t.waits it.place;
+          position = t.position;
+        })
     leave_kept node its =
         let s = state_of (history_of t) in
         let own = waits_listed pair_of t it.place its.0 calls.before its.1 in
         let same : own.row ≡ calls.at.0 = same_Some own.row calls.at.0 (same_Some (Some own.row) (Some calls.at.0) (sym own.stands ∙ calls.at.1)) in
         let named : its.0.key.ticket ≡ it.ticket = ap (λ (k : Key). k.ticket) (sym own.key) ∙ ap (λ (r : Row). r.key.ticket) same ∙ calls.at.2 in
-        subst (λ n. IsTrace pair_of (record { kept = with_slots t.kept (with_phase (Told cause) (loosened node t.kept.slots it.place) it.place); log = noted t.log (Left n cause); waits = without_waiter t.waits it.place; position = t.position })) named
-        (unqueued pair_of t (Left its.0.key.ticket cause) it.place its.0 (Told cause) node t.position calls.before (subst (λ n. MayComeNext (history_of t) (Left n cause)) (sym named) calls.may) refl its.1 refl its.2 refl refl refl calls.before.holds.position)
+        subst (λ n. IsTrace pair_of (record {
+          kept =
+              with_slots t.kept (with_phase (Told cause) (loosened node t.kept.slots it.place) it.place);
+          log = noted t.log (Left n cause);
+          waits =
+              without_waiter t.waits it.place;
+          position = t.position;
+        })) named
+        (unqueued pair_of t (Left its.0.key.ticket cause) it.place its.0 (Told cause) node t.position calls.before
+        (subst (λ n. MayComeNext (history_of t) (Left n cause)) (sym named) calls.may) refl its.1 refl its.2 refl refl refl calls.before.holds.position)
 
     pub leave_fewer : waiting_of (with_entry (history_of t) (Left it.ticket cause)) + 1 ≡ waiting_of (history_of t)
     leave_fewer =
         one_fewer (history_of t) (Left it.ticket cause) it.place calls.at.0 (record calls.at.0 { phase = Told cause }) calls.at.1
-        (changed_at (state_of (history_of t)).rows it.ticket it.place calls.at.0 (in_phase (Told cause)) (trace_consistent pair_of t calls.before).tickets calls.at.1 calls.at.2) waits_there refl
+        (changed_at (state_of (history_of t)).rows it.ticket it.place calls.at.0 (in_phase (Told cause))
+        (trace_consistent pair_of t calls.before).tickets calls.at.1 calls.at.2) waits_there refl

@@ -1,5 +1,5 @@
 -- The moves of a server's queue into the backend's.
-use Rattle.std.proofs.Common.{◌≡◌, ◌≢◌, ℕ, ◌+◌, ◌<◌, ◌≤◌, Bool, true, false, List, [], ◌∷◌, ◌++◌, Option, None, Some, IsTrue, slice_get, length, count_by, refl, ap, sym, ◌∙◌, subst, arith, Greater}
+use Rattle.std.proofs.Common.{◌≡◌, ℕ, ◌+◌, ◌<◌, ◌≤◌, None, Some, IsTrue, length, refl, ap, sym, ◌∙◌, subst, arith, Greater}
 use Rattle.std.proofs.Math.ListN.{set}
 use Rattle.std.proofs.lemmas.Option.{same_Some}
 use Rattle.due_key.specs.declared.key.Key.{Key}
@@ -7,13 +7,12 @@ use Rattle.due_key.specs.Order.{key_cmp}
 use Rattle.dispatch_log.specs.declared.entry.Entry.TheVariants.{Moved}
 use Rattle.dispatch_log.specs.declared.queue.Queue.{Queue}
 use Rattle.dispatch_log.specs.declared.queue.Queue.TheVariants.{Backend, Server}
-use Rattle.dispatch_log.specs.declared.row.Phase.{Phase}
 use Rattle.dispatch_log.specs.declared.row.Phase.TheVariants.{Waiting}
 use Rattle.dispatch_log.specs.declared.row.Row.{Row}
 use Rattle.dispatch_log.specs.Histories.{History, state_of}
 use Rattle.dispatch_log.specs.Judgement.{Stage, falling, MayCome, IsFirstIn}
-use Rattle.dispatch_log.specs.Rows.{IsRow, StandsAt, waits_in, queued, phase_waits_in, in_backend_since}
-use Rattle.dispatch_log.specs.States.{State, after, opening_state}
+use Rattle.dispatch_log.specs.Rows.{waits_in, queued, in_backend_since}
+use Rattle.dispatch_log.specs.States.{State, opening_state}
 use Rattle.dispatch_log.proofs.Judged.{after_all-push}
 use Rattle.list_facts.proofs.Places.{tally, count-set}
 use Rattle.dispatch_log.proofs.RowLemmas.{changed_at}
@@ -30,7 +29,8 @@ use Rattle.dispatch_trace.proofs.Stepping.{stands_row, stands_slot, trace_consis
 use Rattle.dispatch_trace.proofs.Waiters.{ItsRow, waits_listed, listed}
 
 module _ {N : Type 0} (pair_of : N → Key × ℕ) where
-  pub emptied : (t : Traced N) (server : ℕ) (now : History) → IsTrace pair_of t → history_of t ≡ now → NoneWaitsIn (Server server) t.waits.waiters → IsEmptied server now
+  pub emptied : (t : Traced N) (server : ℕ) (now : History) → IsTrace pair_of t → history_of t ≡ now → NoneWaitsIn (Server server) t.waits.waiters
+      → IsEmptied server now
   emptied t server now is same none = subst (IsEmptied server) same (none_wait pair_of t (Server server) is none)
 
   -- what a move's call found
@@ -39,6 +39,16 @@ module _ {N : Type 0} (pair_of : N → Key × ℕ) where
     pub stage : stage_of (history_of t) ≡ falling server
     pub redispatch : IsTrue t.kept.setup.redispatch
     pub first : IsFirstListed (Server server) t.waits.waiters place waiter
+
+  pub move_calls : (t : Traced N) (now : History) (server place : ℕ) (waiter : Waiter) → IsTrace pair_of t → history_of t ≡ now
+      → stage_of now ≡ falling server → IsTrue now.setup.redispatch → IsFirstListed (Server server) t.waits.waiters place waiter
+      → MoveCalls t server place waiter
+  move_calls t now server place waiter is same stage redispatch first = record {
+    before = is;
+    stage = ap stage_of same ∙ stage;
+    redispatch = subst (λ (h : History). IsTrue h.setup.redispatch) (sym same) redispatch;
+    first = first;
+  }
 
   module _ (t : Traced N) (server place : ℕ) (waiter : Waiter) (calls : MoveCalls t server place waiter) where
     its : ItsRow t.log.entries (state_of (history_of t)).rows place waiter
@@ -65,26 +75,34 @@ module _ {N : Type 0} (pair_of : N → Key × ℕ) where
           waits = phase_waits (Server server) its.since its.row.phase its_phase;
           least = λ other live waits_so greater.
               let w = waits_phase (Server server) other.phase waits_so in
-              calls.first.least live.0 _ (listed pair_of t live.0 other (Server server) w.0 calls.before live.1 w.1) refl (subst (λ (k : Key). key_cmp k other.key ≡ Greater) its.key greater);
+              calls.first.least live.0 _ (listed pair_of t live.0 other (Server server) w.0 calls.before live.1 w.1) refl
+              (subst (λ (k : Key). key_cmp k other.key ≡ Greater) its.key greater);
         } in
-        subst (λ (x : Stage). MayCome t.kept.setup (state_of (history_of t)) (length t.log.entries) x (Moved waiter.key.ticket server)) (sym calls.stage) (refl, calls.redispatch, first)
+        subst (λ (x : Stage). MayCome t.kept.setup (state_of (history_of t)) (length t.log.entries) x (Moved waiter.key.ticket server)) (sym calls.stage)
+        (refl, calls.redispatch, first)
 
     next_row : Row
     next_row = record its.row { pin = None; phase = Waiting Backend (state_of (history_of t)).moment }
 
-    rows_after : (state_of (with_entry (history_of t) (Moved waiter.key.ticket server))).rows ≡ set (state_of (history_of t)).rows place (Some (record its.row { pin = None; phase = Waiting Backend (state_of (history_of t)).moment }))
+    rows_after : (state_of (with_entry (history_of t) (Moved waiter.key.ticket server))).rows ≡ set (state_of (history_of t)).rows place
+        (Some (record its.row { pin = None; phase = Waiting Backend (state_of (history_of t)).moment }))
     rows_after =
         ap (λ (s : State). s.rows) (after_all-push t.kept.setup (opening_state t.kept.setup) t.log.entries (Moved waiter.key.ticket server))
-        ∙ changed_at (state_of (history_of t)).rows waiter.key.ticket place its.row (in_backend_since (state_of (history_of t)).moment) (trace_consistent pair_of t calls.before).tickets its.stands (ap (λ (k : Key). k.ticket) its.key)
+        ∙ changed_at (state_of (history_of t)).rows waiter.key.ticket place its.row (in_backend_since (state_of (history_of t)).moment)
+        (trace_consistent pair_of t calls.before).tickets its.stands (ap (λ (k : Key). k.ticket) its.key)
 
-    pub move_fewer : queued (Server server) (state_of (with_entry (history_of t) (Moved waiter.key.ticket server))).rows + 1 ≡ queued (Server server) (state_of (history_of t)).rows
+    pub move_fewer : queued (Server server) (state_of (with_entry (history_of t) (Moved waiter.key.ticket server))).rows + 1 ≡ queued (Server server)
+        (state_of (history_of t)).rows
     move_fewer =
         let rows = (state_of (history_of t)).rows in
         let next : Row = record its.row { pin = None; phase = Waiting Backend (state_of (history_of t)).moment } in
-        let count : queued (Server server) (set rows place (Some next)) + tally (waits_in (Server server) (Some its.row)) ≡ queued (Server server) rows + tally (waits_in (Server server) (Some next)) = count-set (waits_in (Server server)) rows place (Some its.row) (Some next) its.stands in
+        let count : queued (Server server) (set rows place (Some next)) + tally (waits_in (Server server) (Some its.row)) ≡ queued
+        (Server server) rows + tally (waits_in (Server server) (Some next)) = count-set (waits_in (Server server)) rows place (Some its.row)
+        (Some next) its.stands in
         let one : tally (waits_in (Server server) (Some its.row)) ≡ 1 = ap tally (phase_waits (Server server) its.since its.row.phase its_phase) in
         let none : tally (waits_in (Server server) (Some next)) ≡ 0 = refl in
-        let now : queued (Server server) (state_of (with_entry (history_of t) (Moved waiter.key.ticket server))).rows ≡ queued (Server server) (set rows place (Some next)) = ap (queued (Server server)) rows_after in
+        let now : queued (Server server) (state_of (with_entry (history_of t) (Moved waiter.key.ticket server))).rows ≡ queued (Server server)
+        (set rows place (Some next)) = ap (queued (Server server)) rows_after in
         omega arith
 
     pub move_room : length t.log.entries + queued (Server server) (state_of (history_of t)).rows ≤ t.kept.setup.log → length t.log.entries < t.log.room
@@ -95,5 +113,7 @@ module _ {N : Type 0} (pair_of : N → Key × ℕ) where
       ticket = waiter.key.ticket;
       moves = goes;
       lawful = move_may;
-      fewer = subst (λ (h : History). queued (Server server) (state_of h).rows + 1 ≡ queued (Server server) (state_of (history_of t)).rows) (sym goes) move_fewer;
+      fewer =
+          subst (λ (h : History). queued (Server server) (state_of h).rows + 1 ≡ queued (Server server) (state_of (history_of t)).rows)
+          (sym goes) move_fewer;
     }

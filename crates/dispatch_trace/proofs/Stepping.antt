@@ -1,58 +1,77 @@
 -- What a trace holds, while one entry changes it.
-use Rattle.std.proofs.Common.{◌≡◌, ◌≢◌, ℕ, ◌+◌, ◌≤◌, Bool, true, false, List, [], ◌∷◌, ◌++◌, Option, None, Some, option_map, slice_get, length, refl, ap, sym, ◌∙◌, subst, arith, inl, inr, ◌⊎◌}
+use Rattle.std.proofs.Common.{◌≡◌, ℕ, ◌+◌, ◌≤◌, Bool, false, List, [], ◌∷◌, ◌++◌, Option, None, Some, option_map, slice_get, length}
+use Rattle.std.proofs.Common.{refl, ap, sym, ◌∙◌, subst, arith, inl, inr}
 use Rattle.std.proofs.Math.ListN.{set, length-replicate}
-use Rattle.std.proofs.lemmas.List.{map-set, set-set}
+use Rattle.std.proofs.lemmas.List.{map-set}
 use Rattle.std.proofs.lemmas.Option.{same_Some, slice_get-map}
 use Rattle.due_key.specs.declared.key.Key.{Key}
 use Rattle.dispatch_log.specs.declared.entry.Entry.{Entry}
-use Rattle.dispatch_log.specs.declared.queue.Queue.{Queue}
 use Rattle.dispatch_log.specs.declared.row.Phase.{Phase}
 use Rattle.dispatch_log.specs.declared.row.Phase.TheVariants.{Loose, Waiting, Serving, Told}
 use Rattle.dispatch_log.specs.declared.row.Row.{Row}
 use Rattle.dispatch_log.specs.Health.{ups_of}
-use Rattle.dispatch_log.specs.Histories.{state_of}
+use Rattle.dispatch_log.specs.declared.refusal.Refusal.{Refusal}
+use Rattle.dispatch_log.specs.Histories.{History, state_of}
 use Rattle.dispatch_log.specs.Judgement.{granting, MayCome}
 use Rattle.dispatch_log.specs.Logs.{Recorded}
 use Rattle.dispatch_log.specs.Refusals.{is_waiting}
-use Rattle.dispatch_log.specs.Rows.{Rows, StandsAt, changed}
-use Rattle.dispatch_log.specs.States.{State, after, opening_state}
+use Rattle.dispatch_log.specs.Rows.{Rows, StandsAt}
+use Rattle.dispatch_log.specs.States.{after, opening_state}
 use Rattle.dispatch_log.proofs.Consistency.{IsConsistent}
 use Rattle.dispatch_log.proofs.Dispatched.{opening_consistent}
 use Rattle.dispatch_log.proofs.Judged.{after_all-push, judged_push, consistent_all, places_all}
-use Rattle.list_facts.proofs.Places.{get-set_same, get-set_cases}
-use Rattle.dispatch_log.proofs.RowLemmas.{HaveOwnTickets, changed_at}
+use Rattle.list_facts.proofs.Places.{get-set_cases}
+use Rattle.dispatch_log.proofs.RowLemmas.{HaveOwnTickets}
 use Rattle.readable_log.specs.Grants.{joining_in}
 use Rattle.slot_ledger.specs.declared.places.Slot.{Slot}
 use Rattle.slot_ledger.specs.Ledgers.{Kept, with_slots}
-use Rattle.slot_ledger.specs.Slots.{rows_in, StandsIn, HasRow, with_phase}
+use Rattle.slot_ledger.specs.Slots.{rows_in, StandsIn, HasRow}
 use Rattle.slot_ledger.proofs.Counting.{row_in}
-use Rattle.slot_ledger.proofs.Standing.{with_slot_at}
 use Rattle.wait_queues.specs.Waitlists.{Waitlist}
 use Rattle.dispatch_trace.specs.declared.position.Position.{Position}
 use Rattle.dispatch_trace.specs.declared.position.Ticketed.{Ticketed}
-use Rattle.dispatch_trace.specs.Histories.{stage_of, IsAt, MayComeNext}
+use Rattle.dispatch_trace.specs.Histories.{stage_of, IsAt, MayComeNext, MayBeginNext}
 use Rattle.dispatch_trace.specs.Traces.{Traced, history_of, noted, HasItsNode, HaveNodes, Holds, IsTrace, position_of, waiter_of, waiters_of}
 use Rattle.dispatch_trace.specs.Turns.{WaitsSince, AreInTurn}
 use Rattle.dispatch_trace.proofs.Resting.{rests}
 use Rattle.dispatch_trace.proofs.Turns.{Rests, rows_rest}
 use Rattle.dispatch_trace.proofs.Waits.{set_same, waiters_same, waiters_set, idle_waiter, waiter_at, none_join}
 
+-- what is required of a trace's history is required of what its fields hold
+pub here_at : (h now : History) (it : Ticketed) → h ≡ now → IsAt (state_of now).rows it → IsAt (state_of h).rows it
+here_at h now it same at = subst (λ (x : History). IsAt (state_of x).rows it) (sym same) at
+
+pub here_may : (h now : History) (e : Entry) → h ≡ now → MayComeNext now e → MayComeNext h e
+here_may h now e same may = subst (λ (x : History). MayComeNext x e) (sym same) may
+
+pub here_begins : (h now : History) (moment : ℕ) (refused : History → Option Refusal) → h ≡ now → MayBeginNext now moment (refused now)
+    → MayBeginNext h moment (refused h)
+here_begins h now moment refused same begins = subst (λ (x : History). MayBeginNext x moment (refused x)) (sym same) begins
+
 module _ {N : Type 0} where
-  pub stands_row : (slots : List (Option (Slot N))) (rows : Rows) (p : ℕ) (s : Slot N) → rows_in slots ≡ rows → StandsIn slots p s → StandsAt rows p s.row
+  pub stands_row : (slots : List (Option (Slot N))) (rows : Rows) (p : ℕ) (s : Slot N) → rows_in slots ≡ rows → StandsIn slots p s
+      → StandsAt rows p s.row
   stands_row slots rows p s same stands = ap (λ (l : Rows). slice_get l p) (sym same) ∙ slice_get-map row_in slots p ∙ ap (option_map row_in) stands
 
-  pub stands_slot : (slots : List (Option (Slot N))) (rows : Rows) (p : ℕ) (r : Row) → rows_in slots ≡ rows → StandsAt rows p r → (s : Slot N) × StandsIn slots p s × (s.row ≡ r)
+  pub stands_slot : (slots : List (Option (Slot N))) (rows : Rows) (p : ℕ) (r : Row) → rows_in slots ≡ rows → StandsAt rows p r
+      → (s : Slot N) × StandsIn slots p s × (s.row ≡ r)
   stands_slot slots rows p r same stands = by_cell (slice_get slots p) refl
     where
       by_cell : (cell : Option (Option (Slot N))) → slice_get slots p ≡ cell → (s : Slot N) × StandsIn slots p s × (s.row ≡ r)
-      by_cell None e = let h : None ≡ Some (Some r) = sym (slice_get-map row_in slots p ∙ ap (option_map row_in) e) ∙ ap (λ (l : Rows). slice_get l p) same ∙ stands in cc
-      by_cell (Some None) e = let h : Some None ≡ Some (Some r) = sym (slice_get-map row_in slots p ∙ ap (option_map row_in) e) ∙ ap (λ (l : Rows). slice_get l p) same ∙ stands in cc
+      by_cell None e =
+          let h : None ≡ Some (Some r) = sym (slice_get-map row_in slots p ∙ ap (option_map row_in) e) ∙ ap (λ (l : Rows). slice_get l p) same
+          ∙ stands in cc
+      by_cell (Some None) e =
+          let h : Some None ≡ Some (Some r) = sym (slice_get-map row_in slots p ∙ ap (option_map row_in) e) ∙ ap (λ (l : Rows). slice_get l p) same
+          ∙ stands in cc
       by_cell (Some (Some s)) e =
-          let h : Some (Some s.row) ≡ Some (Some r) = sym (slice_get-map row_in slots p ∙ ap (option_map row_in) e) ∙ ap (λ (l : Rows). slice_get l p) same ∙ stands in
+          let h : Some (Some s.row) ≡ Some (Some r) = sym (slice_get-map row_in slots p ∙ ap (option_map row_in) e)
+          ∙ ap (λ (l : Rows). slice_get l p) same ∙ stands in
           (s, e, same_Some s.row r (same_Some (Some s.row) (Some r) h))
 
 -- the row at a live request's place is the ticket's
-pub at_row : (rows : Rows) (it : Ticketed) (p : ℕ) (row : Row) → HaveOwnTickets rows → IsAt rows it → StandsAt rows p row → row.key.ticket ≡ it.ticket → StandsAt rows it.place row
+pub at_row : (rows : Rows) (it : Ticketed) (p : ℕ) (row : Row) → HaveOwnTickets rows → IsAt rows it → StandsAt rows p row
+    → row.key.ticket ≡ it.ticket → StandsAt rows it.place row
 at_row rows it p row own at stands named =
     let place : p ≡ it.place = own.own p it.place row at.0 stands at.1 (named ∙ sym at.2) in
     subst (λ n. StandsAt rows n row) place stands
@@ -79,7 +98,8 @@ module _ {N : Type 0} (pair_of : N → Key × ℕ) where
   its_node place s (Waiting q m) has = tt
 
   -- the nodes once one slot is written
-  pub nodes_set : (slots : List (Option (Slot N))) (p : ℕ) (old cell : Option (Slot N)) → HaveNodes pair_of slots → slice_get slots p ≡ Some old → ((x : Slot N) → cell ≡ Some x → HasItsNode pair_of p x.row.phase x) → HaveNodes pair_of (set slots p cell)
+  pub nodes_set : (slots : List (Option (Slot N))) (p : ℕ) (old cell : Option (Slot N)) → HaveNodes pair_of slots → slice_get slots p ≡ Some old
+      → ((x : Slot N) → cell ≡ Some x → HasItsNode pair_of p x.row.phase x) → HaveNodes pair_of (set slots p cell)
   nodes_set slots p old cell nodes stood node = λ k x there.
       elim (get-set_cases slots p k old cell (Some x) stood there) [
         | inl e ↦ subst (λ n. HasItsNode pair_of n x.row.phase x) (sym e.0) (node x e.1)
@@ -87,7 +107,8 @@ module _ {N : Type 0} (pair_of : N → Key × ℕ) where
       ]
 
   -- the states of a trace's log are consistent
-  pub trace_consistent : (t : Traced N) → IsTrace pair_of t → IsConsistent (state_of (history_of t)).rows (state_of (history_of t)).ticket (stage_of (history_of t))
+  pub trace_consistent : (t : Traced N) → IsTrace pair_of t
+      → IsConsistent (state_of (history_of t)).rows (state_of (history_of t)).ticket (stage_of (history_of t))
   trace_consistent t is = consistent_all t.kept.setup (opening_state t.kept.setup) 0 granting t.log.entries (opening_consistent t.kept.setup) is.judged
 
   -- there are as many places as the setup says
@@ -99,14 +120,23 @@ module _ {N : Type 0} (pair_of : N → Key × ℕ) where
   has_row t it is at = let s = stands_slot t.kept.slots (state_of (history_of t)).rows it.place at.0 is.holds.rows at.1 in (s.0, s.1)
 
   -- a trace with an entry more, which holds what that leaves
-  pub stepped : (t : Traced N) (e : Entry) (ups : List Bool) (slots : List (Option (Slot N))) (waits : Waitlist) (position : Position) → IsTrace pair_of t → MayComeNext (history_of t) e → waits.servers ≡ t.waits.servers
-      → Holds pair_of (record { kept = record { setup = t.kept.setup; ups = ups; slots = slots }; log = noted t.log e; waits = waits; position = position }) (t.log.entries ++ e ∷ []) (after t.kept.setup (state_of (history_of t)) e)
+  pub stepped : (t : Traced N) (e : Entry) (ups : List Bool) (slots : List (Option (Slot N))) (waits : Waitlist) (position : Position) → IsTrace pair_of t
+      → MayComeNext (history_of t) e → waits.servers ≡ t.waits.servers
+      → Holds pair_of (record { kept = record { setup = t.kept.setup; ups = ups; slots = slots }; log = noted t.log e; waits = waits; position = position })
+      (t.log.entries ++ e ∷ []) (after t.kept.setup (state_of (history_of t)) e)
       → IsTrace pair_of (record { kept = record { setup = t.kept.setup; ups = ups; slots = slots }; log = noted t.log e; waits = waits; position = position })
   stepped t e ups slots waits position is may many holds = record {
     sound = is.sound;
     judged = judged_push t.kept.setup (opening_state t.kept.setup) 0 granting t.log.entries e is.judged
-        (let count : 0 + length t.log.entries ≡ length t.log.entries = omega arith in subst (λ n. MayCome t.kept.setup (state_of (history_of t)) n (stage_of (history_of t)) e) (sym count) may);
-    holds = subst (Holds pair_of (record { kept = record { setup = t.kept.setup; ups = ups; slots = slots }; log = noted t.log e; waits = waits; position = position }) (t.log.entries ++ e ∷ []))
+        (let count : 0 + length t.log.entries ≡ length t.log.entries = omega arith in
+        subst (λ n. MayCome t.kept.setup (state_of (history_of t)) n (stage_of (history_of t)) e) (sym count) may);
+    holds = subst (Holds pair_of (record {
+      kept =
+          record { setup = t.kept.setup; ups = ups; slots = slots };
+      log = noted t.log e;
+      waits = waits;
+      position = position;
+    }) (t.log.entries ++ e ∷ []))
         (sym (after_all-push t.kept.setup (opening_state t.kept.setup) t.log.entries e)) holds;
     servers = many ∙ is.servers;
     log_room = is.log_room;
@@ -114,17 +144,22 @@ module _ {N : Type 0} (pair_of : N → Key × ℕ) where
 
   -- a trace whose parts are known by equations
   pub closed : (kept next : Kept N) (log now : Recorded) (waits left : Waitlist) (position : Position) → next ≡ kept → now ≡ log → left ≡ waits
-      → IsTrace pair_of (record { kept = kept; log = log; waits = waits; position = position }) → IsTrace pair_of (record { kept = next; log = now; waits = left; position = position })
+      → IsTrace pair_of (record { kept = kept; log = log; waits = waits; position = position })
+      → IsTrace pair_of (record { kept = next; log = now; waits = left; position = position })
   closed kept next log now waits left position same logged waiting is =
       subst (λ (k : Kept N). IsTrace pair_of (record { kept = k; log = now; waits = left; position = position })) (sym same)
       (subst (λ (r : Recorded). IsTrace pair_of (record { kept = kept; log = r; waits = left; position = position })) (sym logged)
       (subst (λ (w : Waitlist). IsTrace pair_of (record { kept = kept; log = log; waits = w; position = position })) (sym waiting) is))
 
   -- an entry that changes no row
-  pub row_less : (t : Traced N) (e : Entry) (ups : List Bool) (position : Position) → IsTrace pair_of t → MayComeNext (history_of t) e → joining_in e ≡ None
-      → (after t.kept.setup (state_of (history_of t)) e).rows ≡ (state_of (history_of t)).rows → (state_of (history_of t)).moment ≤ (after t.kept.setup (state_of (history_of t)) e).moment
-      → ups ≡ ups_of t.kept.setup.servers (after t.kept.setup (state_of (history_of t)) e).results → position ≡ position_of (after t.kept.setup (state_of (history_of t)) e)
-      → IsTrace pair_of (record { kept = record { setup = t.kept.setup; ups = ups; slots = t.kept.slots }; log = noted t.log e; waits = t.waits; position = position })
+  pub row_less : (t : Traced N) (e : Entry) (ups : List Bool) (position : Position) → IsTrace pair_of t → MayComeNext (history_of t) e
+      → joining_in e ≡ None
+      → (after t.kept.setup (state_of (history_of t)) e).rows ≡ (state_of (history_of t)).rows
+      → (state_of (history_of t)).moment ≤ (after t.kept.setup (state_of (history_of t)) e).moment
+      → ups ≡ ups_of t.kept.setup.servers (after t.kept.setup (state_of (history_of t)) e).results
+      → position ≡ position_of (after t.kept.setup (state_of (history_of t)) e)
+      → IsTrace pair_of
+      (record { kept = record { setup = t.kept.setup; ups = ups; slots = t.kept.slots }; log = noted t.log e; waits = t.waits; position = position })
   row_less t e ups position is may none rows later up far =
       let s = state_of (history_of t) in
       stepped t e ups t.kept.slots t.waits position is may refl (record {
@@ -132,12 +167,16 @@ module _ {N : Type 0} (pair_of : N → Key × ℕ) where
         nodes = is.holds.nodes;
         ups = up;
         waiters = is.holds.waiters ∙ sym (waiters_same t.log.entries e s.rows (none_join e none)) ∙ ap (waiters_of (t.log.entries ++ e ∷ [])) (sym rows);
-        in_turn = subst (λ (l : Rows). AreInTurn (WaitsSince l) (after t.kept.setup s e).moment t.waits.order) (sym rows) (turn_later s.rows s.moment (after t.kept.setup s e).moment t.waits.order is.holds.in_turn later);
+        in_turn =
+            subst (λ (l : Rows). AreInTurn (WaitsSince l) (after t.kept.setup s e).moment t.waits.order) (sym rows)
+            (turn_later s.rows s.moment (after t.kept.setup s e).moment t.waits.order is.holds.in_turn later);
         position = far;
       })
     where
-      turn_later : (rows : Rows) (before now : ℕ) (places : List ℕ) → AreInTurn (WaitsSince rows) before places → before ≤ now → AreInTurn (WaitsSince rows) now places
-      turn_later rows before now places are le = Rattle.dispatch_trace.proofs.Turns.turn_alike (WaitsSince rows) (WaitsSince rows) before now places are (λ k since w. w) (λ k since w. w) le
+      turn_later : (rows : Rows) (before now : ℕ) (places : List ℕ) → AreInTurn (WaitsSince rows) before places → before ≤ now
+          → AreInTurn (WaitsSince rows) now places
+      turn_later rows before now places are le =
+          Rattle.dispatch_trace.proofs.Turns.turn_alike (WaitsSince rows) (WaitsSince rows) before now places are (λ k since w. w) (λ k since w. w) le
 
   -- what is known of a ticket's row where an entry changes it
   pub record Changes (t : Traced N) (e : Entry) (p : ℕ) (s : Slot N) (cell : Option (Slot N)) : Type 0 where
@@ -147,7 +186,8 @@ module _ {N : Type 0} (pair_of : N → Key × ℕ) where
     pub node : (x : Slot N) → cell ≡ Some x → HasItsNode pair_of p x.row.phase x
 
   -- an entry that changes a ticket's row, and with it who waits
-  pub row_changed : (t : Traced N) (e : Entry) (p : ℕ) (s : Slot N) (cell : Option (Slot N)) (waits : Waitlist) (position : Position) → IsTrace pair_of t → MayComeNext (history_of t) e → Changes t e p s cell → waits.servers ≡ t.waits.servers
+  pub row_changed : (t : Traced N) (e : Entry) (p : ℕ) (s : Slot N) (cell : Option (Slot N)) (waits : Waitlist) (position : Position) → IsTrace pair_of t
+      → MayComeNext (history_of t) e → Changes t e p s cell → waits.servers ≡ t.waits.servers
       → waits.waiters ≡ waiters_of (t.log.entries ++ e ∷ []) (set (state_of (history_of t)).rows p (row_in cell))
       → AreInTurn (WaitsSince (set (state_of (history_of t)).rows p (row_in cell))) (after t.kept.setup (state_of (history_of t)) e).moment waits.order
       → position ≡ position_of (after t.kept.setup (state_of (history_of t)) e)
@@ -164,8 +204,10 @@ module _ {N : Type 0} (pair_of : N → Key × ℕ) where
       })
 
   -- a row that doesn't wait becomes one that doesn't, or none
-  pub idle_changed : (t : Traced N) (e : Entry) (p : ℕ) (s : Slot N) (cell : Option (Slot N)) (position : Position) → IsTrace pair_of t → MayComeNext (history_of t) e → Changes t e p s cell → joining_in e ≡ None
-      → is_waiting s.row.phase ≡ false → waiter_of (t.log.entries ++ e ∷ []) (row_in cell) ≡ None → Rests (row_in cell) → (state_of (history_of t)).moment ≤ (after t.kept.setup (state_of (history_of t)) e).moment
+  pub idle_changed : (t : Traced N) (e : Entry) (p : ℕ) (s : Slot N) (cell : Option (Slot N)) (position : Position) → IsTrace pair_of t
+      → MayComeNext (history_of t) e → Changes t e p s cell → joining_in e ≡ None
+      → is_waiting s.row.phase ≡ false → waiter_of (t.log.entries ++ e ∷ []) (row_in cell) ≡ None → Rests (row_in cell)
+      → (state_of (history_of t)).moment ≤ (after t.kept.setup (state_of (history_of t)) e).moment
       → position ≡ position_of (after t.kept.setup (state_of (history_of t)) e)
       → IsTrace pair_of (record { kept = with_slots t.kept (set t.kept.slots p cell); log = noted t.log e; waits = t.waits; position = position })
   idle_changed t e p s cell position is may change none idle nobody resting later far =
@@ -174,8 +216,10 @@ module _ {N : Type 0} (pair_of : N → Key × ℕ) where
       let own = (trace_consistent t is).tickets in
       row_changed t e p s cell t.waits position is may change refl
       (is.holds.waiters
-      ∙ sym (set_same (waiters_of t.log.entries state.rows) p None (waiter_at t.log.entries state.rows p (Some s.row) there ∙ ap Some (idle_waiter t.log.entries s.row idle)))
+      ∙ sym (set_same (waiters_of t.log.entries state.rows) p None
+      (waiter_at t.log.entries state.rows p (Some s.row) there ∙ ap Some (idle_waiter t.log.entries s.row idle)))
       ∙ ap (set (waiters_of t.log.entries state.rows) p) (sym nobody)
       ∙ sym (waiters_set t.log.entries e state.rows p s.row (row_in cell) own there (λ n q differs. none_join e none n q)))
-      (rows_rest state.rows p state.moment (after t.kept.setup state e).moment (Some s.row) (row_in cell) t.waits.order is.holds.in_turn there (λ queue. rests queue s.row idle) resting later)
+      (rows_rest state.rows p state.moment (after t.kept.setup state e).moment (Some s.row) (row_in cell) t.waits.order is.holds.in_turn there
+      (λ queue. rests queue s.row idle) resting later)
       far

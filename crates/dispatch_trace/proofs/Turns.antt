@@ -1,5 +1,6 @@
 -- Places in turn, while one begins or stops to wait.
-use Rattle.std.proofs.Common.{◌≡◌, ◌≢◌, ℕ, ◌≤◌, ◌⊎◌, ◌==◌, Bool, true, false, not, cond, List, [], ◌∷◌, ◌++◌, Option, Some, slice_get, filter, Contains, refl, ap, sym, ◌∙◌, subst, arith, inl, inr}
+use Rattle.std.proofs.Common.{◌≡◌, ◌≢◌, ℕ, ◌≤◌, ◌⊎◌, ◌==◌, Bool, true, false, not, cond, List, [], ◌∷◌, ◌++◌, Option}
+use Rattle.std.proofs.Common.{Some, slice_get, filter, Contains, refl, ap, sym, ◌∙◌, subst, arith, inl, inr}
 use Rattle.std.proofs.Math.ListN.{set}
 use Rattle.std.proofs.lemmas.Bool.{eq-eqb, ne_eqb}
 use Rattle.std.proofs.lemmas.List.Elements.{Contains-push, Contains-push_cases, Contains-append_left}
@@ -16,15 +17,18 @@ use Rattle.dispatch_trace.specs.Turns.{WaitsSince, NeverFall, AreInTurn}
 use Rattle.dispatch_trace.proofs.Resting.{NoneWaits}
 
 -- what waits by one relation does by another
-never_fall_weaker : (old new : ℕ → ℕ → Type 0) (places : List ℕ) → ((place since : ℕ) → Contains places place → new place since → old place since) → NeverFall old places → NeverFall new places
+never_fall_weaker : (old new : ℕ → ℕ → Type 0) (places : List ℕ)
+    → ((place since : ℕ) → Contains places place → new place since → old place since) → NeverFall old places → NeverFall new places
 never_fall_weaker old new [] weaker fall = tt
 never_fall_weaker old new (place ∷ later) weaker fall = (
   each_from_members (λ other. (since next : ℕ) → new place since → new other next → since ≤ next) later (λ other among since next first second.
-      each_at_member (λ other. (since next : ℕ) → old place since → old other next → since ≤ next) later other fall.0 among since next (weaker place since (Contains-head place later) first) (weaker other next (Contains-tail place later other among) second)),
+      each_at_member (λ other. (since next : ℕ) → old place since → old other next → since ≤ next) later other fall.0 among since next
+      (weaker place since (Contains-head place later) first) (weaker other next (Contains-tail place later other among) second)),
   never_fall_weaker old new later (λ other since among waits. weaker other since (Contains-tail place later other among) waits) fall.1,
 )
 
-never_fall_filter : (waits : ℕ → ℕ → Type 0) (test : ℕ → Bool) (places : List ℕ) → NeverFall waits places → NeverFall waits (filter test places)
+never_fall_filter : (waits : ℕ → ℕ → Type 0) (test : ℕ → Bool) (places : List ℕ) → NeverFall waits places
+    → NeverFall waits (filter test places)
 never_fall_filter waits test [] fall = tt
 never_fall_filter waits test (place ∷ later) fall = by_test (test place) (never_fall_filter waits test later fall.1)
   where
@@ -32,19 +36,26 @@ never_fall_filter waits test (place ∷ later) fall = by_test (test place) (neve
     by_test true rest = (all_filter (λ other. (since next : ℕ) → waits place since → waits other next → since ≤ next) test later fall.0, rest)
     by_test false rest = rest
 
-never_fall_push : (waits : ℕ → ℕ → Type 0) (places : List ℕ) (last : ℕ) → ((place since next : ℕ) → Contains places place → waits place since → waits last next → since ≤ next) → NeverFall waits places → NeverFall waits (places ++ last ∷ [])
+never_fall_push : (waits : ℕ → ℕ → Type 0) (places : List ℕ) (last : ℕ)
+    → ((place since next : ℕ) → Contains places place → waits place since → waits last next → since ≤ next) → NeverFall waits places
+    → NeverFall waits (places ++ last ∷ [])
 never_fall_push waits [] last before fall = (tt, tt)
 never_fall_push waits (place ∷ later) last before fall = (
-  each_from_members (λ other. (since next : ℕ) → waits place since → waits other next → since ≤ next) (later ++ last ∷ []) (λ other among since next first second.
+  each_from_members (λ other. (since next : ℕ) → waits place since → waits other next → since ≤ next) (later ++ last ∷ [])
+      (λ other among since next first second.
       elim (Contains-push_cases later last other among) [
-        | inl e ↦ each_at_member (λ other. (since next : ℕ) → waits place since → waits other next → since ≤ next) later other fall.0 e since next first second
+        | inl e ↦ each_at_member (λ other. (since next : ℕ) → waits place since → waits other next → since ≤ next) later other fall.0 e since next
+            first second
         | inr e ↦ before place since next (Contains-head place later) first (subst (λ n. waits n next) (sym e) second)
       ]),
-  never_fall_push waits later last (λ other since next among first second. before other since next (Contains-tail place later other among) first second) fall.1,
+  never_fall_push waits later last (λ other since next among first second. before other since next (Contains-tail place later other among) first second)
+      fall.1,
 )
 
 -- the same places in turn, later on
-pub turn_alike : (old new : ℕ → ℕ → Type 0) (before now : ℕ) (places : List ℕ) → AreInTurn old before places → ((place since : ℕ) → old place since → new place since) → ((place since : ℕ) → new place since → old place since) → before ≤ now → AreInTurn new now places
+pub turn_alike : (old new : ℕ → ℕ → Type 0) (before now : ℕ) (places : List ℕ) → AreInTurn old before places
+    → ((place since : ℕ) → old place since → new place since) → ((place since : ℕ) → new place since → old place since) → before ≤ now
+    → AreInTurn new now places
 turn_alike old new before now places are on back later = record {
   waiting = λ place among. let it = are.waiting place among in (it.0, on place it.0 it.1);
   all = λ place since waits. are.all place since (back place since waits);
@@ -53,14 +64,17 @@ turn_alike old new before now places are on back later = record {
 }
 
 -- one place less
-pub turn_without : (waits : ℕ → ℕ → Type 0) (now : ℕ) (places : List ℕ) (place : ℕ) → AreInTurn waits now places → AreInTurn (λ other since. (other ≢ place) × waits other since) now (without place places)
+pub turn_without : (waits : ℕ → ℕ → Type 0) (now : ℕ) (places : List ℕ) (place : ℕ) → AreInTurn waits now places
+    → AreInTurn (λ other since. (other ≢ place) × waits other since) now (without place places)
 turn_without waits now places place are = record {
   waiting = λ other among.
       let kept = Contains-filter (λ n. not (n == place)) places other among in
       let it = are.waiting other kept.0 in
       (it.0, (λ same. passed other same kept.1, it.1));
   all = λ other since its. Contains-filter_kept (λ n. not (n == place)) places other (are.all other since its.1) (ap not (ne_eqb other place its.0));
-  never_fall = never_fall_weaker waits (λ other since. (other ≢ place) × waits other since) (without place places) (λ other since among its. its.1) (never_fall_filter waits (λ n. not (n == place)) places are.never_fall);
+  never_fall =
+      never_fall_weaker waits (λ other since. (other ≢ place) × waits other since) (without place places) (λ other since among its. its.1)
+      (never_fall_filter waits (λ n. not (n == place)) places are.never_fall);
   past = λ other since its. are.past other since its.1;
 }
   where
@@ -71,7 +85,8 @@ turn_without waits now places place are = record {
 abbrev pub OrNow : (ℕ → ℕ → Type 0) → ℕ → ℕ → ℕ → ℕ → Type 0
 OrNow waits place now other since = waits other since ⊎ ((other ≡ place) × (since ≡ now))
 
-pub turn_push : (waits : ℕ → ℕ → Type 0) (now : ℕ) (places : List ℕ) (place : ℕ) → AreInTurn waits now places → ((since : ℕ) → waits place since → ⊥) → AreInTurn (OrNow waits place now) now (places ++ place ∷ [])
+pub turn_push : (waits : ℕ → ℕ → Type 0) (now : ℕ) (places : List ℕ) (place : ℕ) → AreInTurn waits now places
+    → ((since : ℕ) → waits place since → ⊥) → AreInTurn (OrNow waits place now) now (places ++ place ∷ [])
 turn_push waits now places place are none = record {
   waiting = λ other among.
       elim (Contains-push_cases places place other among) [
@@ -83,7 +98,9 @@ turn_push waits now places place are none = record {
         | inl e ↦ Contains-append_left places (place ∷ []) other (are.all other since e)
         | inr e ↦ subst (λ n. Contains (places ++ place ∷ []) n) (sym e.0) (Contains-push places place)
       ];
-  never_fall = never_fall_push (OrNow waits place now) places place (λ other since next among first second. last_of other since next first second) (never_fall_weaker waits (OrNow waits place now) places (λ other since among its. old_of other since among its) are.never_fall);
+  never_fall =
+      never_fall_push (OrNow waits place now) places place (λ other since next among first second. last_of other since next first second)
+      (never_fall_weaker waits (OrNow waits place now) places (λ other since among its. old_of other since among its) are.never_fall);
   past = λ other since its. past_of other since its;
 }
   where
@@ -111,17 +128,20 @@ since_other : (rows : Rows) (p : ℕ) (cell : Option Row) (k since : ℕ) → k 
 since_other rows p cell k since other waits = (waits.0, waits.1, get-set_other rows p k cell other ∙ waits.2, waits.3)
 
 -- what waits after a write waited elsewhere, or is what was written
-since_cases : (rows : Rows) (p : ℕ) (old cell : Option Row) (k since : ℕ) → slice_get rows p ≡ Some old → WaitsSince (set rows p cell) k since → ((k ≢ p) × WaitsSince rows k since) ⊎ ((k ≡ p) × ((queue : Queue) × (row : Row) × (cell ≡ Some row) × (row.phase ≡ Waiting queue since)))
+since_cases : (rows : Rows) (p : ℕ) (old cell : Option Row) (k since : ℕ) → slice_get rows p ≡ Some old → WaitsSince (set rows p cell) k since
+    → ((k ≢ p) × WaitsSince rows k since) ⊎ ((k ≡ p) × ((queue : Queue) × (row : Row) × (cell ≡ Some row) × (row.phase ≡ Waiting queue since)))
 since_cases rows p old cell k since stood waits = elim (get-set_cases rows p k old cell (Some waits.0) stood waits.2) [
   | inl e ↦ inr (e.0, (waits.1, waits.0, e.1, waits.3))
   | inr e ↦ inl (e.0, (waits.0, waits.1, e.1, waits.3))
 ]
 
 -- a row that doesn't wait becomes one that doesn't
-pub rows_rest : (rows : Rows) (p before now : ℕ) (old cell : Option Row) (places : List ℕ) → AreInTurn (WaitsSince rows) before places → slice_get rows p ≡ Some old → Rests old → Rests cell → before ≤ now → AreInTurn (WaitsSince (set rows p cell)) now places
+pub rows_rest : (rows : Rows) (p before now : ℕ) (old cell : Option Row) (places : List ℕ) → AreInTurn (WaitsSince rows) before places
+    → slice_get rows p ≡ Some old → Rests old → Rests cell → before ≤ now → AreInTurn (WaitsSince (set rows p cell)) now places
 rows_rest rows p before now old cell places are stood first second later =
     turn_alike (WaitsSince rows) (WaitsSince (set rows p cell)) before now places are
-    (λ k since waits. since_other rows p cell k since (λ same. not_since rows p since old stood first (subst (λ n. WaitsSince rows n since) same waits)) waits)
+    (λ k since waits. since_other rows p cell k since (λ same. not_since rows p since old stood first (subst (λ n. WaitsSince rows n since) same waits))
+    waits)
     (λ k since waits.
     elim (since_cases rows p old cell k since stood waits) [
       | inl e ↦ e.1
@@ -130,9 +150,11 @@ rows_rest rows p before now old cell places are stood first second later =
     later
 
 -- a row waits no more
-pub rows_left : (rows : Rows) (p now : ℕ) (old cell : Option Row) (places : List ℕ) → AreInTurn (WaitsSince rows) now places → slice_get rows p ≡ Some old → Rests cell → AreInTurn (WaitsSince (set rows p cell)) now (without p places)
+pub rows_left : (rows : Rows) (p now : ℕ) (old cell : Option Row) (places : List ℕ) → AreInTurn (WaitsSince rows) now places
+    → slice_get rows p ≡ Some old → Rests cell → AreInTurn (WaitsSince (set rows p cell)) now (without p places)
 rows_left rows p now old cell places are stood rests =
-    turn_alike (λ other since. (other ≢ p) × WaitsSince rows other since) (WaitsSince (set rows p cell)) now now (without p places) (turn_without (WaitsSince rows) now places p are)
+    turn_alike (λ other since. (other ≢ p) × WaitsSince rows other since) (WaitsSince (set rows p cell)) now now (without p places)
+    (turn_without (WaitsSince rows) now places p are)
     (λ k since its. since_other rows p cell k since its.0 its.1)
     (λ k since waits.
     elim (since_cases rows p old cell k since stood waits) [
@@ -142,15 +164,19 @@ rows_left rows p now old cell places are stood rests =
     (omega arith)
 
 -- a row begins to wait
-pub rows_joined : (rows : Rows) (p now : ℕ) (queue : Queue) (old : Option Row) (next : Row) (places : List ℕ) → AreInTurn (WaitsSince rows) now places → slice_get rows p ≡ Some old → Rests old → next.phase ≡ Waiting queue now → AreInTurn (WaitsSince (set rows p (Some next))) now (places ++ p ∷ [])
+pub rows_joined : (rows : Rows) (p now : ℕ) (queue : Queue) (old : Option Row) (next : Row) (places : List ℕ) → AreInTurn (WaitsSince rows) now places
+    → slice_get rows p ≡ Some old → Rests old → next.phase ≡ Waiting queue now
+    → AreInTurn (WaitsSince (set rows p (Some next))) now (places ++ p ∷ [])
 rows_joined rows p now queue old next places are stood rests waits =
-    turn_alike (OrNow (WaitsSince rows) p now) (WaitsSince (set rows p (Some next))) now now (places ++ p ∷ []) (turn_push (WaitsSince rows) now places p are (λ since. not_since rows p since old stood rests))
+    turn_alike (OrNow (WaitsSince rows) p now) (WaitsSince (set rows p (Some next))) now now (places ++ p ∷ [])
+    (turn_push (WaitsSince rows) now places p are (λ since. not_since rows p since old stood rests))
     (λ k since its. on k since its)
     (λ k since its. back k since its)
     (omega arith)
   where
     on : (k since : ℕ) → OrNow (WaitsSince rows) p now k since → WaitsSince (set rows p (Some next)) k since
-    on k since (inl e) = since_other rows p (Some next) k since (λ same. not_since rows p since old stood rests (subst (λ n. WaitsSince rows n since) same e)) e
+    on k since (inl e) =
+        since_other rows p (Some next) k since (λ same. not_since rows p since old stood rests (subst (λ n. WaitsSince rows n since) same e)) e
     on k since (inr e) =
         subst (λ n. WaitsSince (set rows p (Some next)) n since) (sym e.0)
         (next, queue, get-set_same rows p old (Some next) stood, waits ∙ ap (λ n. Waiting queue n) (sym e.1))

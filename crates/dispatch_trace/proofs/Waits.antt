@@ -1,10 +1,10 @@
 -- Those that wait by place, as the rows say and as one entry changes them.
-use Rattle.std.proofs.Common.{◌≡◌, ◌≢◌, ℕ, zero, suc, ◌+◌, ◌==◌, ◌&&◌, Bool, true, false, List, [], ◌∷◌, ◌++◌, Option, None, Some, option_map, slice_get, map, length, refl, ap, sym, ◌∙◌, subst, arith, inl, inr}
+use Rattle.std.proofs.Common.{◌≡◌, ◌≢◌, ℕ, zero, suc, ◌+◌, ◌==◌, ◌&&◌, Bool, true, false, List, [], ◌∷◌, ◌++◌, Option, None}
+use Rattle.std.proofs.Common.{Some, option_map, slice_get, length, refl, ap, sym, ◌∙◌, arith}
 use Rattle.std.proofs.Math.ListN.{set}
 use Rattle.std.proofs.lemmas.Bool.Decides.{Decides-eqb}
 use Rattle.std.proofs.lemmas.List.{map-set, length-map}
 use Rattle.std.proofs.lemmas.Option.{same_Some, slice_get-map}
-use Rattle.due_key.specs.declared.key.Key.{Key}
 use Rattle.dispatch_log.specs.declared.entry.Entry.{Entry}
 use Rattle.dispatch_log.specs.declared.entry.Entry.TheVariants.{Joined, Moved}
 use Rattle.dispatch_log.specs.declared.queue.Queue.{Queue}
@@ -16,7 +16,7 @@ use Rattle.dispatch_log.specs.Refusals.{is_waiting}
 use Rattle.dispatch_log.specs.Rows.{Rows, StandsAt, same_queue}
 use Rattle.list_facts.proofs.Places.{same_places}
 use Rattle.dispatch_log.proofs.RowLemmas.{HaveOwnTickets}
-use Rattle.readable_log.specs.Grants.{joining_in, joins, joining_of}
+use Rattle.readable_log.specs.Grants.{joining_in, joins}
 use Rattle.readable_log.proofs.Joinings.{joining_of_other, nothing_joins}
 use Rattle.wait_queues.specs.declared.waiters.Waiter.{Waiter}
 use Rattle.wait_queues.specs.Waitlists.{Waiters}
@@ -29,18 +29,24 @@ module _ {X : Type 0} where
   set_same (y ∷ xs) (suc p) x e = ap (λ l. y ∷ l) (set_same xs p x e)
 
   -- lists that differ at one place alone are one once that is written
-  pub set_alike : (xs ys : List X) (p : ℕ) (x : X) → length xs ≡ length ys → ((k : ℕ) → k ≢ p → slice_get xs k ≡ slice_get ys k) → set xs p x ≡ set ys p x
+  pub set_alike : (xs ys : List X) (p : ℕ) (x : X) → length xs ≡ length ys → ((k : ℕ) → k ≢ p → slice_get xs k ≡ slice_get ys k)
+      → set xs p x ≡ set ys p x
   set_alike [] [] p x long same = refl
-  set_alike [] (y ∷ ys) p x long same = let more : length (y ∷ ys) ≡ length ys + 1 = omega arith in let none : length {A = X} [] ≡ 0 = refl in absurd (omega arith)
-  set_alike (z ∷ xs) [] p x long same = let more : length (z ∷ xs) ≡ length xs + 1 = omega arith in let none : length {A = X} [] ≡ 0 = refl in absurd (omega arith)
+  set_alike [] (y ∷ ys) p x long same =
+      let more : length (y ∷ ys) ≡ length ys + 1 = omega arith in let none : length {A = X} [] ≡ 0 = refl in absurd (omega arith)
+  set_alike (z ∷ xs) [] p x long same =
+      let more : length (z ∷ xs) ≡ length xs + 1 = omega arith in let none : length {A = X} [] ≡ 0 = refl in absurd (omega arith)
   set_alike (z ∷ xs) (y ∷ ys) zero x long same = ap (λ l. x ∷ l) (same_places xs ys (λ k. same (suc k) (λ e. cc)))
   set_alike (z ∷ xs) (y ∷ ys) (suc p) x long same =
       let head : z ≡ y = same_Some z y (same 0 (λ e. cc)) in
-      let rest : set xs p x ≡ set ys p x = set_alike xs ys p x (let a : length (z ∷ xs) ≡ length xs + 1 = omega arith in let b : length (y ∷ ys) ≡ length ys + 1 = omega arith in omega arith) (λ k differs. same (suc k) (λ e. differs (omega arith))) in
+      let rest : set xs p x ≡ set ys p x =
+      set_alike xs ys p x (let a : length (z ∷ xs) ≡ length xs + 1 = omega arith in let b : length (y ∷ ys) ≡ length ys + 1 = omega arith in
+      omega arith) (λ k differs. same (suc k) (λ e. differs (omega arith))) in
       ap (λ w. w ∷ set xs p x) head ∙ ap (λ l. y ∷ l) rest
 
 -- an entry that doesn't put a ticket into a queue leaves how its row waits
-pub same_waiter : (log : List Entry) (e : Entry) (cell : Option Row) → ((row : Row) → cell ≡ Some row → (q : Queue) → joins row.key.ticket q e ≡ false) → waiter_of (log ++ e ∷ []) cell ≡ waiter_of log cell
+pub same_waiter : (log : List Entry) (e : Entry) (cell : Option Row)
+    → ((row : Row) → cell ≡ Some row → (q : Queue) → joins row.key.ticket q e ≡ false) → waiter_of (log ++ e ∷ []) cell ≡ waiter_of log cell
 same_waiter log e None other = refl
 same_waiter log e (Some row) other = by_phase row.phase
   where
@@ -48,26 +54,34 @@ same_waiter log e (Some row) other = by_phase row.phase
     by_phase Loose = refl
     by_phase (Serving server) = refl
     by_phase (Told cause) = refl
-    by_phase (Waiting queue since) = ap (λ n. Some (record { key = row.key; queue = queue; joined = n })) (joining_of_other row.key.ticket queue log e (other row refl queue))
+    by_phase (Waiting queue since) =
+        ap (λ n. Some (record { key = row.key; queue = queue; joined = n })) (joining_of_other row.key.ticket queue log e (other row refl queue))
 
-pub waiters_same : (log : List Entry) (e : Entry) (rows : Rows) → ((t : ℕ) (q : Queue) → joins t q e ≡ false) → waiters_of (log ++ e ∷ []) rows ≡ waiters_of log rows
+pub waiters_same : (log : List Entry) (e : Entry) (rows : Rows) → ((t : ℕ) (q : Queue) → joins t q e ≡ false)
+    → waiters_of (log ++ e ∷ []) rows ≡ waiters_of log rows
 waiters_same log e [] other = refl
 waiters_same log e (cell ∷ rows) other =
-    ap (λ (w : Option Waiter). w ∷ waiters_of (log ++ e ∷ []) rows) (same_waiter log e cell (λ row is q. other row.key.ticket q)) ∙ ap (λ (l : Waiters). waiter_of log cell ∷ l) (waiters_same log e rows other)
+    ap (λ (w : Option Waiter). w ∷ waiters_of (log ++ e ∷ []) rows) (same_waiter log e cell (λ row is q. other row.key.ticket q))
+    ∙ ap (λ (l : Waiters). waiter_of log cell ∷ l) (waiters_same log e rows other)
 
 -- a row is written, and no other ticket is put into a queue
-pub waiters_set : (log : List Entry) (e : Entry) (rows : Rows) (p : ℕ) (row : Row) (cell : Option Row) → HaveOwnTickets rows → StandsAt rows p row → ((t : ℕ) (q : Queue) → t ≢ row.key.ticket → joins t q e ≡ false)
+pub waiters_set : (log : List Entry) (e : Entry) (rows : Rows) (p : ℕ) (row : Row) (cell : Option Row) → HaveOwnTickets rows → StandsAt rows p row
+    → ((t : ℕ) (q : Queue) → t ≢ row.key.ticket → joins t q e ≡ false)
     → waiters_of (log ++ e ∷ []) (set rows p cell) ≡ set (waiters_of log rows) p (waiter_of (log ++ e ∷ []) cell)
 waiters_set log e rows p row cell own stands other =
     map-set (waiter_of (log ++ e ∷ [])) rows p cell
-    ∙ set_alike (waiters_of (log ++ e ∷ []) rows) (waiters_of log rows) p (waiter_of (log ++ e ∷ []) cell) (length-map rows (waiter_of (log ++ e ∷ [])) ∙ sym (length-map rows (waiter_of log))) alike
+    ∙ set_alike (waiters_of (log ++ e ∷ []) rows) (waiters_of log rows) p (waiter_of (log ++ e ∷ []) cell)
+    (length-map rows (waiter_of (log ++ e ∷ [])) ∙ sym (length-map rows (waiter_of log))) alike
   where
-    by_cell : (k : ℕ) → k ≢ p → (found : Option (Option Row)) → slice_get rows k ≡ found → option_map (waiter_of (log ++ e ∷ [])) found ≡ option_map (waiter_of log) found
+    by_cell : (k : ℕ) → k ≢ p → (found : Option (Option Row)) → slice_get rows k ≡ found
+        → option_map (waiter_of (log ++ e ∷ [])) found ≡ option_map (waiter_of log) found
     by_cell k differs None at = refl
-    by_cell k differs (Some its) at = ap Some (same_waiter log e its (λ r is q. other r.key.ticket q (λ same. differs (own.own k p r row (at ∙ ap Some is) stands same))))
+    by_cell k differs (Some its) at =
+        ap Some (same_waiter log e its (λ r is q. other r.key.ticket q (λ same. differs (own.own k p r row (at ∙ ap Some is) stands same))))
 
     alike : (k : ℕ) → k ≢ p → slice_get (waiters_of (log ++ e ∷ []) rows) k ≡ slice_get (waiters_of log rows) k
-    alike k differs = slice_get-map (waiter_of (log ++ e ∷ [])) rows k ∙ by_cell k differs (slice_get rows k) refl ∙ sym (slice_get-map (waiter_of log) rows k)
+    alike k differs =
+        slice_get-map (waiter_of (log ++ e ∷ [])) rows k ∙ by_cell k differs (slice_get rows k) refl ∙ sym (slice_get-map (waiter_of log) rows k)
 
 -- a row that doesn't wait isn't among them
 pub idle_waiter : (log : List Entry) (row : Row) → is_waiting row.phase ≡ false → waiter_of log (Some row) ≡ None
@@ -80,7 +94,8 @@ idle_waiter log row idle = by_phase row.phase idle
     by_phase (Waiting queue since) e = cc
 
 -- the waiter at a place
-pub waiter_at : (log : List Entry) (rows : Rows) (p : ℕ) (cell : Option Row) → slice_get rows p ≡ Some cell → slice_get (waiters_of log rows) p ≡ Some (waiter_of log cell)
+pub waiter_at : (log : List Entry) (rows : Rows) (p : ℕ) (cell : Option Row) → slice_get rows p ≡ Some cell
+    → slice_get (waiters_of log rows) p ≡ Some (waiter_of log cell)
 waiter_at log rows p cell at = slice_get-map (waiter_of log) rows p ∙ ap (option_map (waiter_of log)) at
 
 -- entries that put only one ticket into a queue

@@ -1,11 +1,11 @@
 -- The servers and queues of placements are those that there are.
-use Rattle.std.proofs.Common.{◌≡◌, ℕ, ◌<◌, ◌==◌, ◌||◌, ◌&&◌, nat_lt, if◌then◌else◌, MatchOption, Bool, true, false, Option, None, Some, length, refl, sym, subst}
+use Rattle.std.proofs.Common.{◌≡◌, ℕ, ◌<◌, ◌==◌, ◌||◌, nat_lt, if◌then◌else◌, MatchOption, Bool, true, false, Option, None, Some}
+use Rattle.std.proofs.Common.{length, refl, sym, subst}
 use Rattle.std.proofs.lemmas.Bool.Decides.{Decides-eqb}
 use Rattle.std.proofs.lemmas.Option.{same_Some}
 use Rattle.dispatch_log.specs.declared.entry.Entry.TheVariants.{Joined}
 use Rattle.dispatch_log.specs.declared.queue.Queue.{Queue}
 use Rattle.dispatch_log.specs.declared.queue.Queue.TheVariants.{Backend, Server}
-use Rattle.dispatch_log.specs.Grants.{IsLawfulGrant}
 use Rattle.dispatch_log.specs.Histories.{History, state_of}
 use Rattle.dispatch_log.specs.Judgement.{Stage, placing, leaving, MayCome}
 use Rattle.dispatch_log.specs.Picks.{IsPick}
@@ -24,7 +24,9 @@ use Rattle.dispatch_trace.specs.Histories.{stage_of, MayComeNext}
 takes_within : (here : Scene) (server : ℕ) → takes_pinned here server ≡ true → server < length here.servers
 takes_within here server takes = by_free (is_free here server) refl (and_second (is_up here server) _ takes)
   where
-    by_free : (b : Bool) → is_free here server ≡ b → b || of_server here server (λ it. (it.maxqueue == 0) || nat_lt (queued (Server server) here.rows) it.maxqueue) ≡ true → server < length here.servers
+    by_free : (b : Bool) → is_free here server ≡ b
+        → b || of_server here server (λ it. (it.maxqueue == 0) || nat_lt (queued (Server server) here.rows) it.maxqueue) ≡ true
+        → server < length here.servers
     by_free true e t = free_within here server e
     by_free false e t = server_within here server (λ it. (it.maxqueue == 0) || nat_lt (queued (Server server) here.rows) it.maxqueue) t
 
@@ -39,7 +41,8 @@ pin_within here (Some own) server e = by_test (takes_pinned here own) refl e
 chosen_within : (here : Scene) (cursor : ℕ) (pin avoid : Option ℕ) (server : ℕ) → IsChosen here cursor pin avoid server → server < length here.servers
 chosen_within here cursor pin avoid server chosen = by_pin (working_pin here pin) refl chosen
   where
-    by_pin : (w : Option ℕ) → working_pin here pin ≡ w → MatchOption w (IsPick here cursor (IsCandidate here avoid) server) (λ own. own ≡ server) → server < length here.servers
+    by_pin : (w : Option ℕ) → working_pin here pin ≡ w → MatchOption w (IsPick here cursor (IsCandidate here avoid) server) (λ own. own ≡ server)
+        → server < length here.servers
     by_pin None e pick = room_within here server pick.member.0
     by_pin (Some own) e same = subst (λ n. n < length here.servers) same (pin_within here pin own e)
 
@@ -54,7 +57,8 @@ joined_within h u (Server v) may = by_stage (stage_of h) may
     by_stage t m = absurd m
 
 -- the server and the queue of a lawful grant are among them
-pub take_within : (here : Scene) (cursor : ℕ) (heads : Held) (server : ℕ) (queue : Queue) → IsLawfulTake here cursor heads server queue → (server < length here.servers) × IsQueueOf (length here.servers) queue
+pub take_within : (here : Scene) (cursor : ℕ) (heads : Held) (server : ℕ) (queue : Queue) → IsLawfulTake here cursor heads server queue
+    → (server < length here.servers) × IsQueueOf (length here.servers) queue
 take_within here cursor heads server queue take =
     let grant = take.2 in
     let within : server < length here.servers = free_within here server grant.next.takes.0 in
@@ -62,4 +66,5 @@ take_within here cursor heads server queue take =
   where
     by_queue : (q : Queue) → may_take here server q ≡ true → server < length here.servers → IsQueueOf (length here.servers) q
     by_queue Backend taken within = tt
-    by_queue (Server own) taken within = subst (λ n. n < length here.servers) (sym ((Decides-eqb own server).0 (and_second (is_up here server) _ taken))) within
+    by_queue (Server own) taken within =
+        subst (λ n. n < length here.servers) (sym ((Decides-eqb own server).0 (and_second (is_up here server) _ taken))) within

@@ -1,9 +1,8 @@
 -- Requests that have waited as long as they may.
-use Rattle.std.specs.Prelude.{◌≡◌, ℕ, ◌+◌, ◌≤◌, ◌↔◌, List, ◌++◌, Contains, All, length, false}
-use Rattle.dispatch_log.specs.declared.entry.Entry.{Entry}
+use Rattle.std.specs.Prelude.{◌≡◌, ℕ, ◌↔◌, List, Contains}
 use Rattle.dispatch_log.specs.declared.row.Row.{Row}
-use Rattle.dispatch_log.specs.Histories.{History, state_of, begins_event}
-use Rattle.dispatch_log.specs.Judgement.{has_expired, IsExpired}
+use Rattle.dispatch_log.specs.Histories.{History, state_of}
+use Rattle.dispatch_log.specs.Judgement.{has_expired}
 use Rattle.dispatch_log.specs.Rows.{StandsAt}
 
 -- a place has a request
@@ -16,4 +15,7 @@ ExpiresAt history now place = (row : Row) × StandsAt (state_of history).rows pl
 
 -- tickets with places are just those of the expired requests
 abbrev pub AreExpired : History → List (ℕ × ℕ) → Type 0
-AreExpired history tickets = (ticket place : ℕ) → Contains tickets (ticket, place) ↔ ((row : Row) × StandsAt (state_of history).rows place row × has_expired history.setup (state_of history).moment row.phase × (row.key.ticket ≡ ticket))
+AreExpired history tickets =
+    (ticket place : ℕ)
+    → Contains tickets (ticket, place) ↔
+    ((row : Row) × StandsAt (state_of history).rows place row × has_expired history.setup (state_of history).moment row.phase × (row.key.ticket ≡ ticket))

@@ -3,12 +3,12 @@ use Rattle.std.proofs.Common.{◌≡◌, ℕ, ◌+◌, ◌<◌, ◌≤◌, ◌^�
 use Rattle.std.proofs.lemmas.List.{get_or-replicate, length-append}
 use Rattle.verdict.specs.declared.Ending.{Ending}
 use Rattle.grant_board.specs.declared.tally.Tally.{Tally}
-use Rattle.grant_board.specs.Weights.{total, Each}
+use Rattle.list_facts.specs.Weights.{total, Each}
 use Rattle.grant_board.specs.Views.{Grant, Terms, RelayView, serves_at, count_of, without}
 use Rattle.grant_board.specs.RelayCalls.{Relay, new_relay, relay_looked, take_after, post_after, join_after}
 use Rattle.grant_board.specs.Counted.{IsPassOf, IsCounted}
-use Rattle.grant_board.proofs.Totals.{total-append, total-push, total-one}
-use Rattle.grant_board.proofs.Items.{Each-append}
+use Rattle.list_facts.proofs.Totals.{total-append, total-push, total-one}
+use Rattle.list_facts.proofs.Each.{Each-append}
 use Rattle.grant_board.proofs.Grants.{count_of_le, Each-without}
 
 -- no server's count is above the whole

@@ -11,14 +11,14 @@ use Rattle.grant_board.specs.declared.laws.Word.TheVariants.{Empty, Offered, Tak
 use Rattle.verdict.specs.declared.Ending.TheVariants.{Done, Failed}
 use Rattle.grant_board.specs.declared.view.View.{View}
 use Rattle.grant_board.specs.Words.{code_of, encode_of, IsWord, IsWordAmong, nonzero}
-use Rattle.grant_board.specs.Weights.{total, along, Each}
+use Rattle.list_facts.specs.Weights.{total, along, Each}
 use Rattle.grant_board.specs.Views.{Terms, KeeperView, KeeperPart, RelayView}
 use Rattle.grant_board.specs.Rule.{BoardState, standing, offered, taken, posted, as_return, of_relays, is_first, is_other, split_off, joined_in, Agrees, Orderly}
 use Rattle.grant_board.specs.Ruled.{view, at_rest}
 use Rattle.grant_board.specs.KeeperCalls.{new_keeper, IsClosed}
 use Rattle.grant_board.specs.RelayCalls.{new_relay}
 use Rattle.grant_board.specs.Plays.{Seated, seated, opened}
-use Rattle.grant_board.proofs.Totals.{total-one, total-take, weightless, alone}
+use Rattle.list_facts.proofs.Totals.{total-one, total-take, weightless, alone}
 use Rattle.grant_board.proofs.Finding.{keeper_alone}
 
 all_empty : ℕ → List Word

@@ -9,14 +9,14 @@ use Rattle.grant_board.specs.declared.laws.Word.{Word}
 use Rattle.grant_board.specs.declared.laws.Word.TheVariants.{Empty, Offered, Taken, Posted}
 use Rattle.grant_board.specs.declared.view.View.{View}
 use Rattle.grant_board.specs.Words.{encode_of}
-use Rattle.grant_board.specs.Weights.{total}
+use Rattle.list_facts.specs.Weights.{total}
 use Rattle.grant_board.specs.Views.{Grant, grant, Terms, KeeperPart, RelayView, Sighting, at_place, serves_at, count_of}
 use Rattle.grant_board.specs.Rule.{BoardState, standing, taken, posted, of_keepers, of_relays, Orderly}
 use Rattle.grant_board.specs.Ruled.{view}
-use Rattle.grant_board.proofs.Totals.{term_le, terms_le, total-one, weightless, alone}
+use Rattle.list_facts.proofs.Totals.{term_le, terms_le, total-one, weightless, alone}
 use Rattle.grant_board.proofs.Positions.{along_mono, along_found, along_at, along_once, along_length}
-use Rattle.grant_board.proofs.Items.{index-map, item_in}
-use Rattle.grant_board.proofs.Members as members
+use Rattle.list_facts.proofs.Each.{index-map, item_in}
+use Rattle.list_facts.proofs.Ones as members
 use Rattle.grant_board.proofs.Grants as grants
 
 -- 1 at this grant alone

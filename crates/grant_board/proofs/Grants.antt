@@ -7,10 +7,10 @@ use Rattle.verdict.specs.declared.cause.Cause.{Cause}
 use Rattle.verdict.specs.declared.cause.Cause.TheVariants.{Aborted, Timeout, Retries, NoServer}
 use Rattle.verdict.specs.declared.Verdict.{Verdict}
 use Rattle.verdict.specs.declared.Verdict.TheVariants.{Serve, Told}
-use Rattle.grant_board.specs.Weights.{total, Each}
+use Rattle.list_facts.specs.Weights.{total, Each}
 use Rattle.grant_board.specs.Views.{Grant, grant, at_place, serves_at, count_at, count_of, without}
-use Rattle.grant_board.proofs.Totals.{total-one, total_mono}
-use Rattle.grant_board.proofs.Members.{TellsEqual, both_true}
+use Rattle.list_facts.proofs.Totals.{total-one, total_mono}
+use Rattle.list_facts.proofs.Ones.{TellsEqual, both_true}
 
 -- the weight of a grant where it is of this place
 abbrev pub here : ℕ → (Grant → ℕ) → Grant → ℕ

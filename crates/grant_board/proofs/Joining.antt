@@ -7,13 +7,13 @@ use Rattle.atomic_table.specs.Table.{Splits, Joins}
 use Rattle.atomic_table.proofs.Lists.{at_set, at_snoc, set_else}
 use Rattle.grant_board.specs.declared.returned.Return.{Return}
 use Rattle.grant_board.specs.declared.view.View.{View}
-use Rattle.grant_board.specs.Weights.{total, Each}
+use Rattle.list_facts.specs.Weights.{total, Each}
 use Rattle.grant_board.specs.Views.{Grant, Terms, KeeperPart, RelayView, count_of}
 use Rattle.grant_board.specs.Rule.{BoardState, of_keepers, of_relays, is_first, is_other, split_off, joined_in, KeeperAgrees, RelayAgrees, Agrees, Orderly}
 use Rattle.grant_board.specs.Ruled.{view}
 use Rattle.grant_board.specs.Plays.{blank, beside, but_last, last_alone, aside, cut_off, parent, child, gathered}
-use Rattle.grant_board.proofs.Totals.{total-append, total-set, terms_le}
-use Rattle.grant_board.proofs.Items.{Each-append}
+use Rattle.list_facts.proofs.Totals.{total-append, total-set, terms_le}
+use Rattle.list_facts.proofs.Each.{Each-append}
 use Rattle.grant_board.proofs.Moving.{board}
 
 -- other views of the same words keep the rule, where they weigh the same

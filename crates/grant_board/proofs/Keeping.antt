@@ -18,16 +18,16 @@ use Rattle.grant_board.specs.declared.laws.Word.{Word}
 use Rattle.grant_board.specs.declared.laws.Word.TheVariants.{Empty, Offered, Taken, Posted}
 use Rattle.grant_board.specs.declared.view.View.{View}
 use Rattle.grant_board.specs.Words.{encode_of, IsWord, IsAmong, IsWordAmong}
-use Rattle.grant_board.specs.Weights.{total}
+use Rattle.list_facts.specs.Weights.{total}
 use Rattle.grant_board.specs.Views.{Grant, grant, Terms, KeeperView, KeeperPart, RelayView, Sighting, return_of, at_place, serves_at, count_at, count_of, without}
 use Rattle.grant_board.specs.Rule.{Slot, BoardState, standing, posted, of_keepers, of_relays, Orderly}
 use Rattle.grant_board.specs.Ruled.{view, at_rest}
 use Rattle.grant_board.specs.KeeperCalls.{keeper_looked, offer_after, collect_after, MayLimit, limit_after}
 use Rattle.grant_board.specs.RelayCalls.{relay_looked, take_after, post_after}
 use Rattle.grant_board.specs.Plays.{Seated, seated, keeper_seat, relay_seat, offers, sees, clears, limits, vouches, glances, takes, posts, meets, counts}
-use Rattle.grant_board.proofs.Totals as sums
+use Rattle.list_facts.proofs.Totals as sums
 use Rattle.grant_board.proofs.Positions.{along_le}
-use Rattle.grant_board.proofs.Items as items
+use Rattle.list_facts.proofs.Each as items
 use Rattle.grant_board.proofs.Grants as grants
 use Rattle.grant_board.proofs.Codes.{same_word}
 use Rattle.grant_board.proofs.Moving.{moved, unmoved, rebounded}

@@ -1,7 +1,4 @@
-pub mod Totals
 pub mod Positions
-pub mod Items
-pub mod Members
 pub mod Grants
 mod Codes
 mod Moving

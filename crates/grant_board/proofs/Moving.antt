@@ -9,12 +9,12 @@ use Rattle.grant_board.specs.declared.laws.Word.{Word}
 use Rattle.grant_board.specs.declared.returned.Return.{Return}
 use Rattle.grant_board.specs.declared.view.View.{View}
 use Rattle.grant_board.specs.Words.{encode_of, IsWord, IsWordAmong}
-use Rattle.grant_board.specs.Weights.{total, along, Each}
+use Rattle.list_facts.specs.Weights.{total, along, Each}
 use Rattle.grant_board.specs.Views.{Grant, Terms, KeeperPart, RelayView, Sighting, count_of}
 use Rattle.grant_board.specs.Rule.{Slot, BoardState, standing, offered, taken, posted, as_return, of_keepers, of_relays, is_first, is_other, split_off, joined_in, KeeperAgrees, Agrees, Orderly}
-use Rattle.grant_board.proofs.Totals.{total-set}
+use Rattle.list_facts.proofs.Totals.{total-set}
 use Rattle.grant_board.proofs.Positions.{along-set}
-use Rattle.grant_board.proofs.Items.{Each-set, item_in}
+use Rattle.list_facts.proofs.Each.{Each-set, item_in}
 
 abbrev pub board : List ℕ → List (Option Slot) → List View → BoardState
 board words homes views = record { words = words; homes = homes; views = views }

@@ -4,7 +4,7 @@ use mathlib.Core.Logic.{dite}
 use native.Mathlib.Decide.{ℕ_discrete}
 use mathlib.Core.Option.{some, some-injective, some-ne-none}
 use lib.ListN.{get_elem?}
-use Rattle.grant_board.specs.Weights.{along}
+use Rattle.list_facts.specs.Weights.{along}
 
 module _ {A : Type 0} where
   -- along a row, the item at i has the position k, which is j + i

@@ -8,14 +8,14 @@ use Rattle.grant_board.specs.declared.laws.Word.{Word}
 use Rattle.grant_board.specs.declared.laws.Word.TheVariants.{Empty, Offered, Taken, Posted}
 use Rattle.grant_board.specs.declared.view.View.{View}
 use Rattle.grant_board.specs.Words.{encode_of, IsWord, IsAmong, IsWordAmong}
-use Rattle.grant_board.specs.Weights.{total}
+use Rattle.list_facts.specs.Weights.{total}
 use Rattle.grant_board.specs.Views.{Grant, grant, Terms, KeeperPart, RelayView, at_place, count_at, count_of}
 use Rattle.grant_board.specs.Rule.{BoardState, standing, taken, of_relays, Orderly}
 use Rattle.grant_board.specs.Ruled.{view}
 use Rattle.grant_board.specs.Places.{HasKeeper, HasRelay, Says, ByPlaces, RuleByPlaces}
-use Rattle.grant_board.proofs.Totals.{term_le, terms_le, has_le, found_at}
+use Rattle.list_facts.proofs.Totals.{term_le, terms_le, has_le, found_at}
 use Rattle.grant_board.proofs.Positions.{along_le, along_found}
-use Rattle.grant_board.proofs.Items.{item_at, item_in, Each-at}
+use Rattle.list_facts.proofs.Each.{item_at, item_in, Each-at}
 use Rattle.grant_board.proofs.Grants as grants
 use Rattle.grant_board.proofs.Codes.{same_word}
 use Rattle.grant_board.proofs.Finding.{one, one-is, one-same, has_one, empty_there, keeper_alone, relays_le, number_at, bound_at, taken_there, out_at, passes_once}

@@ -12,7 +12,7 @@ use Rattle.verdict.specs.declared.Ending.{Ending}
 use Rattle.grant_board.specs.declared.laws.Word.TheVariants.{Empty, Offered, Taken, Posted}
 use Rattle.grant_board.specs.Words.{encode_of, IsWord, IsAmong, IsVerdict}
 use Rattle.grant_board.specs.Views.{Grant, grant, Terms, KeeperView, KeeperPart, RelayView, count_at, count_of, serves_at, without}
-use Rattle.grant_board.specs.Weights.{total}
+use Rattle.list_facts.specs.Weights.{total}
 use Rattle.grant_board.specs.Rule.{Orderly}
 use Rattle.grant_board.specs.Ruled.{view, at_rest, MeetsRule, MeetsRuleWith, KeeperRuled, RelayRuled, VouchRuled, MeetRuled}
 use Rattle.grant_board.specs.KeeperCalls.{Keeper, HasRoom, keeper_looked, collect_after, Collects, MayLimit}
@@ -22,7 +22,7 @@ use Rattle.grant_board.specs.Parts.{IsTableOf, IsKeeperSeat, IsRelaySeat}
 use Rattle.grant_board.proofs.Grants.{serves_at-other}
 use Rattle.grant_board.proofs.Keeping.{MayOffer, offered_kept, seen_kept, cleared_kept, limited_kept, vouched_kept, glanced_kept, taken_kept, posted_kept, met_kept, counted_kept}
 use Rattle.atomic_table.proofs.Lists.{set_here}
-use Rattle.grant_board.proofs.Items.{item_in}
+use Rattle.list_facts.proofs.Each.{item_in}
 use Rattle.grant_board.proofs.Joining.{branch_kept, gathered_kept}
 
 -- a relay's seat is of the board where what contracts see of it is

@@ -3,7 +3,7 @@ use Rattle.std.specs.Prelude.{◌≡◌, ℕ, ◌<◌, ◌≤◌, Bool, length, 
 use Rattle.grant_board.specs.declared.laws.Word.TheVariants.{Taken}
 use Rattle.grant_board.specs.declared.tally.Tally.{Tally}
 use Rattle.grant_board.specs.Words.{IsWord}
-use Rattle.grant_board.specs.Weights.{Each}
+use Rattle.list_facts.specs.Weights.{Each}
 use Rattle.grant_board.specs.Views.{Grant, count_of}
 use Rattle.grant_board.specs.RelayCalls.{Relay}
 

@@ -1,5 +1,4 @@
 pub mod Words
-pub mod Weights
 pub mod Views
 pub mod Names
 pub mod Rule

@@ -9,7 +9,7 @@ use Rattle.grant_board.specs.declared.returned.Return.{Return}
 use Rattle.grant_board.specs.declared.view.View.{View}
 use Rattle.grant_board.specs.declared.view.Plan.{Plan}
 use Rattle.grant_board.specs.Words.{encode_of, IsWord, IsWordAmong}
-use Rattle.grant_board.specs.Weights.{total, along, Each}
+use Rattle.list_facts.specs.Weights.{total, along, Each}
 use Rattle.grant_board.specs.Views.{Grant, grant, Terms, KeeperPart, RelayView, Sighting, return_of, count_of}
 
 -- what a board was opened with

@@ -4,7 +4,7 @@ use Rattle.verdict.specs.declared.Verdict.{Verdict}
 use Rattle.verdict.specs.declared.Verdict.TheVariants.{Serve, Told}
 use Rattle.verdict.specs.declared.Ending.{Ending}
 use Rattle.grant_board.specs.declared.returned.Return.{Return}
-use Rattle.grant_board.specs.Weights.{total}
+use Rattle.list_facts.specs.Weights.{total}
 
 -- a verdict for a ticket, at a place
 pub record Grant : Type 0 where

@@ -1,7 +1,7 @@
 // How a board begins and ends.
 ghost use Rattle.std.specs.Prelude.{◌≡◌, ◌<◌, ◌≤◌, ◌++◌, true, length, take, replicate, IfOk};
 ghost use Rattle.std.specs.Mem.Slots.{slots_items, slots_len, IsFull};
-ghost use Rattle.grant_board.specs.Weights.{total};
+ghost use Rattle.list_facts.specs.Weights.{total};
 ghost use Rattle.grant_board.specs.Words.{nonzero};
 ghost use Rattle.grant_board.specs.Views.{terms};
 ghost use Rattle.grant_board.specs.Rule.{terms_of};

@@ -1,6 +1,6 @@
 ghost use Rattle.std.specs.Prelude.{◌≡◌, ◌+◌, ◌<◌, ◌≤◌, true, false, length, slice_index, Contains};
 ghost use Rattle.grant_board.specs.Words.{MayEnd};
-ghost use Rattle.grant_board.specs.Weights.{total};
+ghost use Rattle.list_facts.specs.Weights.{total};
 ghost use Rattle.grant_board.specs.Views.{Grant, count_at, count_of};
 ghost use Rattle.grant_board.specs.Ruled.{RelayRuled, MeetRuled};
 ghost use Rattle.grant_board.specs.RelayCalls.{Answers, relay_looked, post_after, split_after, join_after, new_relay};

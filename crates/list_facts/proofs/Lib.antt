@@ -5,3 +5,8 @@ pub mod Never
 pub mod Both
 pub mod Found
 pub mod Counts
+pub mod Once
+pub mod Sums
+pub mod Totals
+pub mod Ones
+pub mod Each

@@ -6,9 +6,12 @@ use Rattle.std.proofs.lemmas.Bool.{eq-eqb, ne_eqb, eqb-true, ltb-true, or_cases,
 use Rattle.std.proofs.lemmas.List.{get_or_default}
 use Rattle.std.proofs.lemmas.List.Elements.{Contains-append_left, Contains-append_right, Contains-push, Contains-push_cases}
 use Rattle.std.proofs.lemmas.Map.Steps.{length-le_from_distinct_below}
-use Rattle.wait_queues.specs.Order.{Order, ComeOnce, IsOrder, without, next_after}
+use Rattle.wait_queues.specs.Order.{Order, IsOrder, without, next_after}
+use Rattle.list_facts.specs.Once.{ComeOnce}
 use Rattle.wait_queues.specs.Links.{AreLinked, places_of, IsLinked}
-use Rattle.wait_queues.proofs.Members.{Contains-nil, Contains-head, Contains-tail, Contains-cases, Contains-middle, Contains-around, Contains-around_cases, contains_or_not, split_at, not_before, not_after, once_around, once_push, without_parts}
+use Rattle.list_facts.proofs.Members.{Contains-nil, Contains-head, Contains-tail, Contains-cases, Contains-middle, Contains-around, Contains-around_cases}
+use Rattle.list_facts.proofs.Once.{contains_or_not, split_at, not_before, not_after, once_around, once_push}
+use Rattle.wait_queues.proofs.Members.{without_parts}
 use Rattle.wait_queues.proofs.Rings.{before_in, last_in, head_next, linked_after, walk_is, first_is, next_after_parts, unlinked, linked_at_end}
 
 -- no more places than the room has

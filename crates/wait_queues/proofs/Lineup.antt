@@ -28,7 +28,8 @@ use Rattle.wait_queues.specs.Kept.{weight_at, weight_of, line_weight, AreLinedUp
 use Rattle.wait_queues.specs.Lines.{Line, Lined, line_at, with_line, with_moved, gathered}
 use Rattle.wait_queues.specs.Waitlists.{Waiters, WaitsAt, HasNoKey, NoneWaitsIn, IsFirstIn}
 use Rattle.wait_queues.proofs.Lining.{one_or_other, line_own, line_other, lines_kept, room_kept}
-use Rattle.wait_queues.proofs.Weights.{sum_has, sum_found, sum_ones, Weighs, weight_set, weight_has, weight_found, weight_most}
+use Rattle.list_facts.proofs.Sums.{sum_has, sum_found, sum_ones}
+use Rattle.wait_queues.proofs.Weights.{Weighs, weight_set, weight_has, weight_found, weight_most}
 
 -- a weight for one pair alone
 one_pair : Key → ℕ → Key × ℕ → ℕ

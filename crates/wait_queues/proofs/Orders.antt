@@ -7,9 +7,12 @@ use Rattle.std.proofs.lemmas.Option.{same_Some}
 use Rattle.list_facts.proofs.Places.{get-set_same, get-set_other, get-set_cases}
 use Rattle.list_facts.proofs.Members.{Contains-filter, Contains-filter_kept}
 use Rattle.wait_queues.specs.declared.waiters.Waiter.{Waiter}
-use Rattle.wait_queues.specs.Order.{ComeOnce, without}
+use Rattle.list_facts.specs.Once.{ComeOnce}
+use Rattle.wait_queues.specs.Order.{without}
 use Rattle.wait_queues.specs.Waitlists.{Waiters, WaitsAt, IsOrderOf}
-use Rattle.wait_queues.proofs.Members.{Contains-head, split_at, once_push, once_around, without_parts}
+use Rattle.list_facts.proofs.Members.{Contains-head}
+use Rattle.list_facts.proofs.Once.{split_at, once_push, once_around}
+use Rattle.wait_queues.proofs.Members.{without_parts}
 
 -- a place that nobody waits at isn't in the order
 pub vacant_absent : (ws : Waiters) (order : List ℕ) (p : ℕ) → IsOrderOf ws order → slice_get ws p ≡ Some None → ¬ (Contains order p)

@@ -2,9 +2,10 @@
 use Rattle.std.proofs.Common.{◌≡◌, ◌≢◌, ℕ, zero, suc, ◌≤◌, ◌⊎◌, List, [], ◌∷◌, ◌++◌, Contains, Some, None, cond, eqb, length, slice_get, refl, sym, ap, subst, ◌∙◌, inl, inr, arith}
 use Rattle.std.proofs.lemmas.Bool.{eq-eqb, ne_eqb}
 use Rattle.std.proofs.lemmas.List.Elements.{Contains-append_left, Contains-append_right}
-use Rattle.wait_queues.specs.Order.{ComeOnce, next_after}
+use Rattle.list_facts.specs.Once.{ComeOnce}
+use Rattle.wait_queues.specs.Order.{next_after}
 use Rattle.wait_queues.specs.Links.{AreLinked, walk}
-use Rattle.wait_queues.proofs.Members.{Contains-head, Contains-tail, Contains-middle}
+use Rattle.list_facts.proofs.Members.{Contains-head, Contains-tail, Contains-middle}
 
 module _ (f g : ℕ → ℕ) where
   -- a cell's neighbours

@@ -1,6 +1,6 @@
 -- How an order is kept: each cell leads to the next one, and back to the one before.
 use Rattle.std.specs.Prelude.{◌≡◌, ℕ, zero, suc, ◌+◌, ◌<◌, ◌==◌, List, [], ◌∷◌, length, Contains, slice_index, if◌then◌else◌}
-use Rattle.wait_queues.specs.Order.{ComeOnce}
+use Rattle.list_facts.specs.Once.{ComeOnce}
 
 -- the links lead from one cell over the places, in turn, to another cell, and back
 abbrev pub AreLinked : (ℕ → ℕ) → (ℕ → ℕ) → ℕ → List ℕ → ℕ → Type 0

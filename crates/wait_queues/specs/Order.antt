@@ -1,15 +1,11 @@
 -- An order of places, as contracts see it.
 use Rattle.std.specs.Prelude.{ℕ, ◌<◌, ◌==◌, not, List, [], ◌∷◌, Option, None, Contains, filter, slice_get, if◌then◌else◌}
+use Rattle.list_facts.specs.Once.{ComeOnce}
 
 -- the places, the one that joined first at the front, and below which number each is
 pub record Order : Type 0 where
   pub places : List ℕ
   pub room : ℕ
-
--- no place comes twice
-abbrev pub ComeOnce : List ℕ → Type 0
-ComeOnce [] = Unit {0}
-ComeOnce (place ∷ later) = ¬ (Contains later place) × ComeOnce later
 
 -- no place comes twice, and each is below the room
 pub record IsOrder (order : Order) : Type 0 where

@@ -8,7 +8,8 @@ use Rattle.dispatch_log.specs.declared.queue.Queue.TheVariants.{Backend}
 use Rattle.slot_ledger.specs.Counts.{IsQueueOf}
 use Rattle.server_pick.specs.Heads.{Held, head_at}
 use Rattle.wait_queues.specs.declared.waiters.Waiter.{Waiter}
-use Rattle.wait_queues.specs.Order.{ComeOnce, without}
+use Rattle.list_facts.specs.Once.{ComeOnce}
+use Rattle.wait_queues.specs.Order.{without}
 
 -- the places, each empty or with a request that waits
 abbrev pub Waiters : Type 0

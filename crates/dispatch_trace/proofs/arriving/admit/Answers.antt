@@ -1,8 +1,3 @@
-use Rattle.std.proofs.Common.{◌≡◌, None, Some, ap, sym, ◌∙◌, subst}
-use Rattle.std.proofs.Math.ListN.{set}
-use Rattle.std.proofs.lemmas.List.{set-set}
-use Rattle.dispatch_log.specs.declared.row.Row.{Row}
-use Rattle.slot_ledger.specs.Ledgers.{Kept, with_slots}
 use Rattle.dispatch_trace.proofs.Admitting.{admitted_stands, admitted_node, admitted_back}
 use Rattle.dispatch_trace.proofs.arriving.admit.Goals as goal
 
@@ -13,7 +8,12 @@ pub end-requires : goal.end-requires
 end-requires g c = admitted_stands _ _ _ _ c.admit-place.ensures.vacant c.admit-place.ensures.admitted
 
 pub returns-in-Ok-clause-admitted : goal.returns-in-Ok-clause-admitted
-returns-in-Ok-clause-admitted g c = (c.in-Ok.node, c.in-Ok.ensures, admitted_node _ _ _ _ _ c.in-Ok.node c.admit-place.ensures.vacant c.requires.loose c.admit-place.ensures.admitted c.loosen.ensures)
+returns-in-Ok-clause-admitted g c = (
+  c.in-Ok.node,
+  c.in-Ok.ensures,
+  admitted_node _ _ _ _ _ c.in-Ok.node c.admit-place.ensures.vacant c.requires.loose c.admit-place.ensures.admitted
+      c.loosen.ensures,
+)
 
 pub returns-in-Err-clause-err : goal.returns-in-Err-clause-err
 returns-in-Err-clause-err g c = admitted_back _ _ _ _ _ c.admit-place.ensures.vacant c.admit-place.ensures.admitted c.end.ensures

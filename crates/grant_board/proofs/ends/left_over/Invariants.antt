@@ -1,6 +1,6 @@
 use Rattle.std.proofs.Common.{◌≡◌, ◌≤◌, take}
 use Rattle.std.specs.Mem.Slots.{slots_items}
-use Rattle.grant_board.specs.Weights.{total}
+use Rattle.list_facts.specs.Weights.{total}
 use Rattle.grant_board.specs.Words.{nonzero}
 use Rattle.grant_board.proofs.ends.left_over.Given as goal
 

@@ -1,7 +1,7 @@
-use Rattle.std.proofs.Common.{◌≡◌, None, refl, sym, ◌∙◌, subst}
+use Rattle.std.proofs.Common.{refl, subst}
 use Rattle.dispatch_log.specs.Dispatch.{IsDispatched}
 use Rattle.dispatch_log.specs.declared.entry.Entry.TheVariants.{Abort}
-use Rattle.dispatch_log.specs.Histories.{History, refuses_abort, effective, AddsEvent}
+use Rattle.dispatch_log.specs.Histories.{History, effective, AddsEvent}
 use Rattle.dispatch_log.proofs.Dispatched.{dispatched}
 use Rattle.dispatch_core.proofs.Calls.{added_dispatched}
 use Rattle.dispatch_core.proofs.Dismissals.{aborted_waits, may_abort, abort_may_grant, abort_settles, abort_adds}
@@ -12,33 +12,40 @@ use Rattle.dispatch_core.proofs.dispatcher.Core.abort.Goals as goal
 pub returns-in-Err-clause-dispatched : goal.returns-in-Err-clause-dispatched
 returns-in-Err-clause-dispatched g c = subst IsDispatched c.self.view_is (dispatched _ c.self.invariant.legal)
 
+pub dismiss-requires-clause-at : goal.dismiss-requires-clause-at
+dismiss-requires-clause-at g c = at_abort c.self.inside.events.trace c.abort.new.self _ c.in-Ok.it.ticket c.in-Ok.it c.abort.ensures c.in-Ok.ensures.found.at
+
 pub dismiss-requires-clause-lawful : goal.dismiss-requires-clause-lawful
-dismiss-requires-clause-lawful g c = may_abort c.self.inside.trace c.abort.new.self _ c.in-Ok.it.ticket (subst (λ n. refuses_abort c.self.inside.trace n ≡ None) (sym c.in-Ok.ensures.found.named) c.in-Ok.ensures.accepted) c.abort.ensures
+dismiss-requires-clause-lawful g c =
+    may_abort c.self.inside.events.trace c.abort.new.self _ _ _ c.in-Ok.ensures.found c.in-Ok.ensures.accepted c.abort.ensures
 
 pub dismiss-requires-clause-waits : goal.dismiss-requires-clause-waits
-dismiss-requires-clause-waits g c = aborted_waits c.self.inside.trace c.abort.new.self _ c.in-Ok.it.ticket (subst (λ n. refuses_abort c.self.inside.trace n ≡ None) (sym c.in-Ok.ensures.found.named) c.in-Ok.ensures.accepted) c.abort.ensures
+dismiss-requires-clause-waits g c =
+    aborted_waits c.self.inside.events.trace c.abort.new.self _ _ _ c.in-Ok.ensures.found c.in-Ok.ensures.accepted c.abort.ensures
 
 pub settle-requires-clause-may_grant : goal.settle-requires-clause-may_grant
-settle-requires-clause-may_grant g c = abort_may_grant c.self.inside.trace c.abort.new.self _ c.in-Ok.it.ticket (subst (λ n. refuses_abort c.self.inside.trace n ≡ None) (sym c.in-Ok.ensures.found.named) c.in-Ok.ensures.accepted) c.abort.ensures c.dismiss.new.self c.dismiss.ensures.left
+settle-requires-clause-may_grant g c =
+    abort_may_grant c.self.inside.events.trace c.abort.new.self _ _ _ c.in-Ok.ensures.found c.in-Ok.ensures.accepted c.abort.ensures
+    c.dismiss.new.self c.dismiss.ensures.left
 
 pub settle-requires-clause-room : goal.settle-requires-clause-room
-settle-requires-clause-room g c = abort_settles c.self.inside.trace c.abort.new.self _ c.in-Ok.it.ticket (subst (λ n. refuses_abort c.self.inside.trace n ≡ None) (sym c.in-Ok.ensures.found.named) c.in-Ok.ensures.accepted) c.abort.ensures c.dismiss.new.self c.dismiss.ensures.left
+settle-requires-clause-room g c =
+    abort_settles c.self.inside.events.trace c.abort.new.self _ _ _ c.in-Ok.ensures.found c.in-Ok.ensures.accepted c.abort.ensures
+    c.dismiss.new.self c.dismiss.ensures.left
 
 pub invariant_of-self : goal.invariant_of-self
 invariant_of-self g c =
-    core_kept c.self.inside.trace c.settle.new.trace _ _ _ _ c.self.invariant
-    (abort_adds c.self.inside.trace c.abort.new.self _ c.in-Ok.it.ticket (subst (λ n. refuses_abort c.self.inside.trace n ≡ None) (sym c.in-Ok.ensures.found.named) c.in-Ok.ensures.accepted) c.abort.ensures c.dismiss.new.self c.dismiss.ensures.left c.settle.new.trace c.settle.ensures) refl c.self.invariant.none refl
+    let h = c.self.inside.events.trace in
+    let added = abort_adds h _ _ _ _ c.in-Ok.ensures.found c.in-Ok.ensures.accepted c.abort.ensures _ c.dismiss.ensures.left _ c.settle.ensures in
+    core_kept _ _ _ _ _ _ c.self.invariant added refl c.self.invariant.none refl
 
 pub returns-clause-ok : goal.returns-clause-ok
 returns-clause-ok g c =
-    subst (λ (h : History). AddsEvent h c.settle.new.trace (Abort (effective h c.args.moment) c.args.ticket)) c.self.view_is
-    (subst (λ n. AddsEvent c.self.inside.trace c.settle.new.trace (Abort (effective c.self.inside.trace c.args.moment) n)) c.in-Ok.ensures.found.named
-    (abort_adds c.self.inside.trace c.abort.new.self _ c.in-Ok.it.ticket (subst (λ n. refuses_abort c.self.inside.trace n ≡ None) (sym c.in-Ok.ensures.found.named) c.in-Ok.ensures.accepted) c.abort.ensures c.dismiss.new.self c.dismiss.ensures.left c.settle.new.trace c.settle.ensures))
+    let h = c.self.inside.events.trace in
+    let added = abort_adds h _ _ _ _ c.in-Ok.ensures.found c.in-Ok.ensures.accepted c.abort.ensures _ c.dismiss.ensures.left _ c.settle.ensures in
+    subst (λ (h : History). AddsEvent h c.settle.new.self.trace (Abort (effective h c.args.moment) c.args.ticket)) c.self.view_is added
 
 pub returns-clause-dispatched : goal.returns-clause-dispatched
 returns-clause-dispatched g c =
-    added_dispatched c.self.inside.trace c.settle.new.trace _
-    (abort_adds c.self.inside.trace c.abort.new.self _ c.in-Ok.it.ticket (subst (λ n. refuses_abort c.self.inside.trace n ≡ None) (sym c.in-Ok.ensures.found.named) c.in-Ok.ensures.accepted) c.abort.ensures c.dismiss.new.self c.dismiss.ensures.left c.settle.new.trace c.settle.ensures)
-
-pub dismiss-requires-clause-at : goal.dismiss-requires-clause-at
-dismiss-requires-clause-at g c = at_abort c.self.inside.trace c.abort.new.self _ c.in-Ok.it.ticket c.in-Ok.it c.abort.ensures c.in-Ok.ensures.found.at
+    let h = c.self.inside.events.trace in
+    added_dispatched _ _ _ (abort_adds h _ _ _ _ c.in-Ok.ensures.found c.in-Ok.ensures.accepted c.abort.ensures _ c.dismiss.ensures.left _ c.settle.ensures)

@@ -1,8 +1,9 @@
 use Rattle.std.proofs.Common.{refl, sym, ◌∙◌, subst}
 use Rattle.dispatch_log.specs.Dispatch.{IsDispatched}
 use Rattle.dispatch_log.proofs.Dispatched.{dispatched}
-use Rattle.dispatch_core.proofs.Calls.{newcomer_put, arrival_places, arrive_settles, arrive_adds, added_dispatched}
+use Rattle.dispatch_core.proofs.Calls.{newcomer_put, arrival_places, arrive_settles, added_dispatched}
 use Rattle.dispatch_core.proofs.Checking.{core_kept}
+use Rattle.dispatch_core.proofs.Going.{goes_places, over_granting, may_granting, adds}
 use Rattle.dispatch_core.proofs.dispatcher.Core.arrive.Goals as goal
 
 pub returns-in-Some-clause-dispatched : goal.returns-in-Some-clause-dispatched
@@ -12,18 +13,27 @@ pub returns-in_default-arrive-clause-dispatched : goal.returns-in_default-arrive
 returns-in_default-arrive-clause-dispatched g c = subst IsDispatched (sym c.in_default-arrive.ensures.err) (dispatched _ c.self.invariant.legal)
 
 pub place-requires-clause-may_put : goal.place-requires-clause-may_put
-place-requires-clause-may_put g c = newcomer_put c.arrive.new.self _ c.args.pin (arrival_places c.self.inside.trace c.arrive.new.self _ _ c.in-Ok.ensures.ok) c.in-Ok.ensures.pin
+place-requires-clause-may_put g c =
+    newcomer_put c.arrive.new.self _ c.args.pin (arrival_places c.self.inside.events.trace c.arrive.new.self _ _ c.in-Ok.ensures.ok) c.in-Ok.ensures.pin
 
 pub settle-requires-clause-may_grant : goal.settle-requires-clause-may_grant
-settle-requires-clause-may_grant g c = (arrive_settles c.self.inside.trace c.arrive.new.self c.place.new.trace _ _ c.args.pin (sym c.refuses_arrival.ensures ∙ c.in_default.is) c.in-Ok.ensures.ok c.place.ensures).0
+settle-requires-clause-may_grant g c = may_granting c.place.new.self.trace c.place.ensures.over
 
 pub settle-requires-clause-room : goal.settle-requires-clause-room
-settle-requires-clause-room g c = (arrive_settles c.self.inside.trace c.arrive.new.self c.place.new.trace _ _ c.args.pin (sym c.refuses_arrival.ensures ∙ c.in_default.is) c.in-Ok.ensures.ok c.place.ensures).1
+settle-requires-clause-room g c =
+    arrive_settles c.self.inside.events.trace c.arrive.new.self c.place.new.self.trace _ _ c.args.pin (sym c.refuses_arrival.ensures ∙ c.in_default.is)
+    c.in-Ok.ensures.ok c.place.ensures
 
 pub returns-clause-dispatched : goal.returns-clause-dispatched
-returns-clause-dispatched g c = added_dispatched c.self.inside.trace c.settle.new.trace _ (arrive_adds c.self.inside.trace c.arrive.new.self c.place.new.trace c.settle.new.trace _ _ c.in-Ok.ensures.ok c.place.ensures c.settle.ensures)
+returns-clause-dispatched g c =
+    let over = over_granting c.place.new.self.trace c.place.ensures.over in
+    added_dispatched c.self.inside.events.trace c.settle.new.self.trace _
+    (adds c.self.inside.events.trace c.arrive.new.self c.place.new.self.trace c.settle.new.self.trace _ c.in-Ok.ensures.ok
+    (goes_places c.arrive.new.self c.place.new.self.trace c.place.ensures) over c.settle.ensures)
 
 pub invariant_of-self-2 : goal.invariant_of-self-2
 invariant_of-self-2 g c =
-    core_kept c.self.inside.trace c.settle.new.trace _ _ _ _ c.self.invariant
-    (arrive_adds c.self.inside.trace c.arrive.new.self c.place.new.trace c.settle.new.trace _ _ c.in-Ok.ensures.ok c.place.ensures c.settle.ensures) refl c.self.invariant.none refl
+    let over = over_granting c.place.new.self.trace c.place.ensures.over in
+    let added = adds c.self.inside.events.trace c.arrive.new.self c.place.new.self.trace c.settle.new.self.trace _ c.in-Ok.ensures.ok
+    (goes_places c.arrive.new.self c.place.new.self.trace c.place.ensures) over c.settle.ensures in
+    core_kept c.self.inside.events.trace c.settle.new.self.trace _ _ _ _ c.self.invariant added refl c.self.invariant.none refl

@@ -1,45 +1,57 @@
-use Rattle.std.proofs.Common.{ap, sym, ◌∙◌, refl, subst}
+use Rattle.std.proofs.Common.{sym, ◌∙◌, refl, subst}
 use Rattle.dispatch_log.specs.Dispatch.{IsDispatched}
 use Rattle.dispatch_log.specs.declared.entry.Entry.TheVariants.{Check}
 use Rattle.dispatch_log.specs.Histories.{History, effective, AddsEvent}
 use Rattle.dispatch_log.proofs.Dispatched.{dispatched}
 use Rattle.dispatch_core.proofs.Calls.{added_dispatched}
 use Rattle.dispatch_core.proofs.Checking.{has_health, check_stage, check_change, check_within, check_room, core_goes}
-use Rattle.dispatch_core.proofs.Retrying.{carried_adds}
+use Rattle.dispatch_core.proofs.Going.{carried_adds}
 use Rattle.dispatch_core.proofs.dispatcher.Core.check.Goals as goal
 
 pub returns-in-Some-clause-dispatched : goal.returns-in-Some-clause-dispatched
 returns-in-Some-clause-dispatched g c = subst IsDispatched c.self.view_is (dispatched _ c.self.invariant.legal)
 
 pub result-change-requires : goal.result-change-requires
-result-change-requires g c = has_health c.self.inside.trace c.args.server _ c.self.inside.healths (sym c.refuses_check.ensures ∙ c.in_default.is) c.self.invariant.healthy
+result-change-requires g c =
+    has_health c.self.inside.events.trace c.args.server _ c.self.inside.healths (sym c.refuses_check.ensures ∙ c.in_default.is) c.self.invariant.healthy
 
 pub up-up-requires : goal.up-up-requires
-up-up-requires g c = has_health c.self.inside.trace c.args.server _ c.result-change.new.self (sym c.refuses_check.ensures ∙ c.in_default.is) (c.result-change.ensures.healths _ _ c.self.invariant.healthy)
+up-up-requires g c =
+    has_health c.self.inside.events.trace c.args.server _ c.result-change.new.self (sym c.refuses_check.ensures ∙ c.in_default.is)
+    (c.result-change.ensures.healths _ _ c.self.invariant.healthy)
 
 pub follow-requires-clause-checking : goal.follow-requires-clause-checking
-follow-requires-clause-checking g c = check_stage c.self.inside.trace c.check.new.self _ c.args.server c.args.ok (sym c.refuses_check.ensures ∙ c.in_default.is) c.check.ensures
+follow-requires-clause-checking g c =
+    let accepted = sym c.refuses_check.ensures ∙ c.in_default.is in
+    check_stage c.self.inside.events.trace c.check.new.self _ c.args.server c.args.ok accepted c.check.ensures
 
 pub follow-requires-clause-change : goal.follow-requires-clause-change
-follow-requires-clause-change g c = check_change c.self.inside.trace c.check.new.self _ c.args.server c.args.ok (sym c.refuses_check.ensures ∙ c.in_default.is) c.check.ensures c.result-change.result (c.result-change.ensures.change _ _ c.self.invariant.healthy)
+follow-requires-clause-change g c =
+    let accepted = sym c.refuses_check.ensures ∙ c.in_default.is in
+    check_change c.self.inside.events.trace c.check.new.self _ c.args.server c.args.ok accepted c.check.ensures c.result-change.result
+    (c.result-change.ensures.change _ _ c.self.invariant.healthy)
 
 pub follow-requires-clause-within : goal.follow-requires-clause-within
-follow-requires-clause-within g c = check_within c.self.inside.trace c.check.new.self _ c.args.server c.args.ok (sym c.refuses_check.ensures ∙ c.in_default.is) c.check.ensures
+follow-requires-clause-within g c =
+    let accepted = sym c.refuses_check.ensures ∙ c.in_default.is in
+    check_within c.self.inside.events.trace c.check.new.self _ c.args.server c.args.ok accepted c.check.ensures
 
 pub follow-requires-clause-room : goal.follow-requires-clause-room
-follow-requires-clause-room g c = check_room c.self.inside.trace c.check.new.self _ c.args.server c.args.ok (sym c.refuses_check.ensures ∙ c.in_default.is) c.check.ensures
+follow-requires-clause-room g c =
+    let accepted = sym c.refuses_check.ensures ∙ c.in_default.is in
+    check_room c.self.inside.events.trace c.check.new.self _ c.args.server c.args.ok accepted c.check.ensures
 
 pub invariant_of-self : goal.invariant_of-self
 invariant_of-self g c =
-    core_goes c.self.inside.trace c.settle.new.trace _ c.self.inside.healths c.result-change.new.self _ c.self.inside.expiring c.self.invariant
-    (carried_adds c.self.inside.trace c.check.new.self c.follow.new.trace c.settle.new.trace _ c.check.ensures c.follow.ensures c.settle.ensures)
+    core_goes _ _ _ c.self.inside.healths c.result-change.new.self _ c.self.inside.expiring c.self.invariant
+    (carried_adds c.self.inside.events.trace _ _ _ _ c.check.ensures c.follow.ensures c.settle.ensures)
     (c.result-change.ensures.healths _ _ c.self.invariant.healthy) c.self.invariant.none refl
 
 pub returns-clause-ok : goal.returns-clause-ok
 returns-clause-ok g c =
-    subst (λ (h : History). AddsEvent h c.settle.new.trace (Check (effective h c.args.moment) c.args.server c.args.ok)) c.self.view_is
-    (carried_adds c.self.inside.trace c.check.new.self c.follow.new.trace c.settle.new.trace _ c.check.ensures c.follow.ensures c.settle.ensures)
+    subst (λ (h : History). AddsEvent h c.settle.new.self.trace (Check (effective h c.args.moment) c.args.server c.args.ok)) c.self.view_is
+    (carried_adds c.self.inside.events.trace _ _ _ _ c.check.ensures c.follow.ensures c.settle.ensures)
 
 pub returns-clause-dispatched : goal.returns-clause-dispatched
 returns-clause-dispatched g c =
-    added_dispatched c.self.inside.trace c.settle.new.trace _ (carried_adds c.self.inside.trace c.check.new.self c.follow.new.trace c.settle.new.trace _ c.check.ensures c.follow.ensures c.settle.ensures)
+    added_dispatched _ _ _ (carried_adds c.self.inside.events.trace _ _ _ _ c.check.ensures c.follow.ensures c.settle.ensures)

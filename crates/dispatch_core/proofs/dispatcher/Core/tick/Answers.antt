@@ -5,46 +5,53 @@ use Rattle.dispatch_log.specs.Histories.{History, effective, AddsEvent}
 use Rattle.dispatch_log.proofs.Dispatched.{dispatched}
 use Rattle.dispatch_core.proofs.Calls.{added_dispatched}
 use Rattle.dispatch_core.proofs.Checking.{core_kept}
-use Rattle.dispatch_core.proofs.Timing.{tick_tells, tick_room, tick_adds, quiet_adds}
+use Rattle.dispatch_core.proofs.Going.{carried_adds}
+use Rattle.dispatch_core.proofs.Timing.{tick_tells, tick_room, quiet_adds}
 use Rattle.dispatch_core.proofs.dispatcher.Core.tick.Goals as goal
 
 pub returns-then-not-has_room-clause-dispatched : goal.returns-then-not-has_room-clause-dispatched
 returns-then-not-has_room-clause-dispatched g c = subst IsDispatched c.self.view_is (dispatched _ c.self.invariant.legal)
 
 pub time_out-requires-clause-telling : goal.time_out-requires-clause-telling
-time_out-requires-clause-telling g c = tick_tells c.self.inside.trace c.tick.new.self _ c.tick.ensures
+time_out-requires-clause-telling g c = tick_tells c.self.inside.events.trace c.tick.new.self _ c.tick.ensures
 
 pub time_out-requires-clause-room : goal.time_out-requires-clause-room
-time_out-requires-clause-room g c = tick_room c.self.inside.trace c.tick.new.self _ c.tick.ensures (c.has_room.ensures.0 c.if-not-has_room.false)
+time_out-requires-clause-room g c = tick_room c.self.inside.events.trace c.tick.new.self _ c.tick.ensures (c.has_room.ensures.0 c.if-not-has_room.false)
 
 pub invariant_of-self-2 : goal.invariant_of-self-2
 invariant_of-self-2 g c =
-    core_kept c.self.inside.trace c.settle.new.trace _ _ _ _ c.self.invariant
-    (tick_adds c.self.inside.trace c.tick.new.self _ c.tick.ensures c.time_out.new.trace c.settle.new.trace c.time_out.ensures.told c.settle.ensures)
+    core_kept _ _ _ _ _ _ c.self.invariant
+    (carried_adds c.self.inside.events.trace _ _ _ _ c.tick.ensures c.time_out.ensures.told c.settle.ensures)
     refl c.time_out.ensures.none c.time_out.ensures.kept
 
 pub returns-clause-ok : goal.returns-clause-ok
 returns-clause-ok g c =
-    subst (λ (h : History). AddsEvent h c.settle.new.trace (Tick (effective h c.args.moment))) c.self.view_is
-    (tick_adds c.self.inside.trace c.tick.new.self _ c.tick.ensures c.time_out.new.trace c.settle.new.trace c.time_out.ensures.told c.settle.ensures)
+    subst (λ (h : History). AddsEvent h c.settle.new.self.trace (Tick (effective h c.args.moment))) c.self.view_is
+    (carried_adds c.self.inside.events.trace _ _ _ _ c.tick.ensures c.time_out.ensures.told c.settle.ensures)
 
 pub returns-clause-dispatched : goal.returns-clause-dispatched
 returns-clause-dispatched g c =
-    added_dispatched c.self.inside.trace c.settle.new.trace _
-    (tick_adds c.self.inside.trace c.tick.new.self _ c.tick.ensures c.time_out.new.trace c.settle.new.trace c.time_out.ensures.told c.settle.ensures)
+    added_dispatched _ _ _
+    (carried_adds c.self.inside.events.trace _ _ _ _ c.tick.ensures c.time_out.ensures.told c.settle.ensures)
 
 pub invariant_of-self : goal.invariant_of-self
 invariant_of-self g c =
-    core_kept c.self.inside.trace c.tick.new.self _ _ _ _ c.self.invariant
-    (quiet_adds c.self.inside.trace c.tick.new.self _ c.tick.ensures c.args.moment refl c.self.invariant.legal (c.has_room.ensures.0 c.if-not-has_room.false) _ c.if-not-expired.true c.expired.ensures.1)
+    let room = c.has_room.ensures.0 c.if-not-has_room.false in
+    core_kept c.self.inside.events.trace c.tick.new.self _ _ _ _ c.self.invariant
+    (quiet_adds c.self.inside.events.trace c.tick.new.self _ c.tick.ensures c.args.moment refl c.self.invariant.legal room _ c.if-not-expired.true
+    c.expired.ensures.1)
     refl c.self.invariant.none refl
 
 pub returns-then-not-expired-clause-ok : goal.returns-then-not-expired-clause-ok
 returns-then-not-expired-clause-ok g c =
+    let room = c.has_room.ensures.0 c.if-not-has_room.false in
     subst (λ (h : History). AddsEvent h c.tick.new.self (Tick (effective h c.args.moment))) c.self.view_is
-    (quiet_adds c.self.inside.trace c.tick.new.self _ c.tick.ensures c.args.moment refl c.self.invariant.legal (c.has_room.ensures.0 c.if-not-has_room.false) _ c.if-not-expired.true c.expired.ensures.1)
+    (quiet_adds c.self.inside.events.trace c.tick.new.self _ c.tick.ensures c.args.moment refl c.self.invariant.legal room _ c.if-not-expired.true
+    c.expired.ensures.1)
 
 pub returns-then-not-expired-clause-dispatched : goal.returns-then-not-expired-clause-dispatched
 returns-then-not-expired-clause-dispatched g c =
-    added_dispatched c.self.inside.trace c.tick.new.self _
-    (quiet_adds c.self.inside.trace c.tick.new.self _ c.tick.ensures c.args.moment refl c.self.invariant.legal (c.has_room.ensures.0 c.if-not-has_room.false) _ c.if-not-expired.true c.expired.ensures.1)
+    let room = c.has_room.ensures.0 c.if-not-has_room.false in
+    added_dispatched c.self.inside.events.trace c.tick.new.self _
+    (quiet_adds c.self.inside.events.trace c.tick.new.self _ c.tick.ensures c.args.moment refl c.self.invariant.legal room _ c.if-not-expired.true
+    c.expired.ensures.1)

@@ -8,5 +8,6 @@ abbrev pub invariant-loop-server : goal.invariant-loop-server
 invariant-loop-server l = record {
   many : length l.list.items ≡ l.server-index;
   room : vec_capacity l.list ≡ length l.servers;
-  each : (server : ℕ) (it : ServerSet) → server < l.server-index → slice_get l.servers server ≡ Some it → IsHealthBy it.rise_fall [] (slice_index_or l.list.items server None);
+  each : (server : ℕ) (it : ServerSet) → server < l.server-index → slice_get l.servers server ≡ Some it
+      → IsHealthBy it.rise_fall [] (slice_index_or l.list.items server None);
 }

@@ -1,22 +1,20 @@
-use Rattle.std.proofs.Common.{refl, sym, subst}
+use Rattle.std.proofs.Common.{refl}
 use Rattle.dispatch_log.specs.declared.entry.Entry.TheVariants.{Abort}
-use Rattle.dispatch_log.specs.Histories.{History, refuses_abort}
+use Rattle.dispatch_log.specs.Histories.{refuses_abort}
 use Rattle.readable_log.proofs.Judged.{judged_follows}
-use Rattle.dispatch_trace.specs.Histories.{MayComeNext, MayBeginNext}
-use Rattle.dispatch_trace.specs.Traces.{history_of}
 use Rattle.dispatch_trace.proofs.Beginning.{begun_kept}
 use Rattle.dispatch_trace.proofs.Stepping.{closed}
+use Rattle.dispatch_trace.proofs.Stepping.{here_begins}
 use Rattle.dispatch_trace.proofs.trace.Trace.abort.Goals as goal
 
 pub note-requires-clause-follows : goal.note-requires-clause-follows
 note-requires-clause-follows g c =
-    let begins = subst (λ (h : History). MayBeginNext h c.args.moment (refuses_abort h c.args.it.ticket)) (sym c.self.view_is) c.requires.begins in
-    judged_follows _ _ _ (begun_kept g.Q.PendQueue.pair_of (record { kept = c.self.inside.ledger; log = c.self.inside.log; waits = c.self.inside.waiting; position = c.self.inside.position }) (Abort c.later-now.result c.args.it.ticket) c.args.moment c.later-now.result c.self.invariant refl c.later-now.ensures
-    (λ when. subst (λ n. MayComeNext (history_of (record { kept = c.self.inside.ledger; log = c.self.inside.log; waits = c.self.inside.waiting; position = c.self.inside.position })) (Abort n c.args.it.ticket)) (sym when) begins) refl).judged
+    let begins = here_begins _ _ c.args.moment (λ h. refuses_abort h c.args.it.ticket) c.self.view_is c.requires.begins in
+    judged_follows _ _ _
+    (begun_kept _ _ (λ n. Abort n c.args.it.ticket) c.args.moment c.later-now.result c.self.invariant refl c.later-now.ensures begins refl).judged
 
 pub invariant_of-self : goal.invariant_of-self
 invariant_of-self g c =
-    let begins = subst (λ (h : History). MayBeginNext h c.args.moment (refuses_abort h c.args.it.ticket)) (sym c.self.view_is) c.requires.begins in
-    closed g.Q.PendQueue.pair_of _ _ _ _ _ _ _ refl c.note.ensures refl
-    (begun_kept g.Q.PendQueue.pair_of (record { kept = c.self.inside.ledger; log = c.self.inside.log; waits = c.self.inside.waiting; position = c.self.inside.position }) (Abort c.later-now.result c.args.it.ticket) c.args.moment c.later-now.result c.self.invariant refl c.later-now.ensures
-    (λ when. subst (λ n. MayComeNext (history_of (record { kept = c.self.inside.ledger; log = c.self.inside.log; waits = c.self.inside.waiting; position = c.self.inside.position })) (Abort n c.args.it.ticket)) (sym when) begins) refl)
+    let begins = here_begins _ _ c.args.moment (λ h. refuses_abort h c.args.it.ticket) c.self.view_is c.requires.begins in
+    closed _ _ _ _ _ _ _ _ refl c.note.ensures refl
+    (begun_kept _ _ (λ n. Abort n c.args.it.ticket) c.args.moment c.later-now.result c.self.invariant refl c.later-now.ensures begins refl)

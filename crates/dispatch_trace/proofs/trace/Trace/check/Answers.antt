@@ -1,23 +1,25 @@
 use Rattle.std.proofs.Common.{◌≡◌, refl, sym, subst}
-use Rattle.dispatch_log.specs.declared.entry.Entry.TheVariants.{Check}
 use Rattle.dispatch_log.specs.Health.{with_result}
 use Rattle.dispatch_log.specs.Histories.{History, state_of, refuses_check}
 use Rattle.readable_log.proofs.Judged.{judged_follows}
-use Rattle.dispatch_trace.specs.Histories.{MayBeginNext}
 use Rattle.dispatch_trace.specs.Traces.{is_up_at}
 use Rattle.dispatch_trace.proofs.Checks.{check_kept}
 use Rattle.dispatch_trace.proofs.Stepping.{closed}
+use Rattle.dispatch_trace.proofs.Stepping.{here_begins}
 use Rattle.dispatch_trace.proofs.trace.Trace.check.Goals as goal
 
 pub note-requires-clause-follows : goal.note-requires-clause-follows
 note-requires-clause-follows g c =
-    let begins = subst (λ (h : History). MayBeginNext h c.args.moment (refuses_check h c.args.server)) (sym c.self.view_is) c.requires.begins in
-    let up = subst (λ (h : History). c.args.up ≡ is_up_at h.setup.servers (with_result c.args.server c.args.ok (state_of h).results) c.args.server) (sym c.self.view_is) c.requires.up in
-    judged_follows _ _ _ (check_kept g.Q.PendQueue.pair_of (record { kept = c.self.inside.ledger; log = c.self.inside.log; waits = c.self.inside.waiting; position = c.self.inside.position }) c.args.server c.args.moment c.later-now.result c.args.ok c.args.up c.self.invariant begins c.later-now.ensures up).judged
+    let begins = here_begins _ _ c.args.moment (λ h. refuses_check h c.args.server) c.self.view_is c.requires.begins in
+    let up = subst (λ (h : History). c.args.up ≡ is_up_at h.setup.servers (with_result c.args.server c.args.ok (state_of h).results) c.args.server)
+    (sym c.self.view_is) c.requires.up in
+    judged_follows _ _ _
+    (check_kept _ _ c.args.server c.args.moment c.later-now.result c.args.ok c.args.up c.self.invariant begins c.later-now.ensures up).judged
 
 pub invariant_of-self : goal.invariant_of-self
 invariant_of-self g c =
-    let begins = subst (λ (h : History). MayBeginNext h c.args.moment (refuses_check h c.args.server)) (sym c.self.view_is) c.requires.begins in
-    let up = subst (λ (h : History). c.args.up ≡ is_up_at h.setup.servers (with_result c.args.server c.args.ok (state_of h).results) c.args.server) (sym c.self.view_is) c.requires.up in
-    closed g.Q.PendQueue.pair_of _ _ _ _ _ _ _ c.set_up.ensures c.note.ensures refl
-    (check_kept g.Q.PendQueue.pair_of (record { kept = c.self.inside.ledger; log = c.self.inside.log; waits = c.self.inside.waiting; position = c.self.inside.position }) c.args.server c.args.moment c.later-now.result c.args.ok c.args.up c.self.invariant begins c.later-now.ensures up)
+    let begins = here_begins _ _ c.args.moment (λ h. refuses_check h c.args.server) c.self.view_is c.requires.begins in
+    let up = subst (λ (h : History). c.args.up ≡ is_up_at h.setup.servers (with_result c.args.server c.args.ok (state_of h).results) c.args.server)
+    (sym c.self.view_is) c.requires.up in
+    closed _ _ _ _ _ _ _ _ c.set_up.ensures c.note.ensures refl
+    (check_kept _ _ c.args.server c.args.moment c.later-now.result c.args.ok c.args.up c.self.invariant begins c.later-now.ensures up)

@@ -1,23 +1,22 @@
-use Rattle.std.proofs.Common.{refl, sym, subst}
+use Rattle.std.proofs.Common.{refl}
 use Rattle.dispatch_log.specs.declared.entry.Entry.TheVariants.{Ended}
-use Rattle.dispatch_log.specs.Histories.{History, state_of}
 use Rattle.readable_log.proofs.Judged.{judged_follows}
-use Rattle.dispatch_trace.specs.Histories.{IsAt, MayComeNext}
 use Rattle.dispatch_trace.proofs.Entries.{end_kept}
 use Rattle.dispatch_trace.proofs.Stepping.{has_row, closed}
+use Rattle.dispatch_trace.proofs.Stepping.{here_at, here_may}
 use Rattle.dispatch_trace.proofs.trace.Trace.end.Goals as goal
 
 pub end-requires : goal.end-requires
-end-requires g c = has_row g.Q.PendQueue.pair_of _ c.args.it c.self.invariant (subst (λ (h : History). IsAt (state_of h).rows c.args.it) (sym c.self.view_is) c.requires.at)
+end-requires g c = has_row _ _ c.args.it c.self.invariant (here_at _ _ c.args.it c.self.view_is c.requires.at)
 
 pub note-requires-clause-follows : goal.note-requires-clause-follows
 note-requires-clause-follows g c =
-    let at = subst (λ (h : History). IsAt (state_of h).rows c.args.it) (sym c.self.view_is) c.requires.at in
-    let may = subst (λ (h : History). MayComeNext h (Ended c.args.it.ticket)) (sym c.self.view_is) c.requires.lawful in
-    judged_follows _ _ _ (end_kept g.Q.PendQueue.pair_of _ c.args.it c.self.invariant may at).judged
+    let at = here_at _ _ c.args.it c.self.view_is c.requires.at in
+    let may = here_may _ _ (Ended c.args.it.ticket) c.self.view_is c.requires.lawful in
+    judged_follows _ _ _ (end_kept _ _ c.args.it c.self.invariant may at).judged
 
 pub invariant_of-self : goal.invariant_of-self
 invariant_of-self g c =
-    let at = subst (λ (h : History). IsAt (state_of h).rows c.args.it) (sym c.self.view_is) c.requires.at in
-    let may = subst (λ (h : History). MayComeNext h (Ended c.args.it.ticket)) (sym c.self.view_is) c.requires.lawful in
-    closed g.Q.PendQueue.pair_of _ _ _ _ _ _ _ c.end.ensures c.note.ensures refl (end_kept g.Q.PendQueue.pair_of _ c.args.it c.self.invariant may at)
+    let at = here_at _ _ c.args.it c.self.view_is c.requires.at in
+    let may = here_may _ _ (Ended c.args.it.ticket) c.self.view_is c.requires.lawful in
+    closed _ _ _ _ _ _ _ _ c.end.ensures c.note.ensures refl (end_kept _ _ c.args.it c.self.invariant may at)

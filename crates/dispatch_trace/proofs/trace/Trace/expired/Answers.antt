@@ -1,14 +1,18 @@
 use Rattle.std.proofs.Common.{Bool, IsTrue, max, ap, sym, ◌∙◌, subst}
-use Rattle.dispatch_log.specs.Histories.{History, SomeExpires}
-use Rattle.dispatch_trace.proofs.Expiring.{first_has_row, some_expires, last_moment, in_turn_there, many_places}
+use Rattle.dispatch_log.specs.Histories.{SomeExpires}
+use Rattle.dispatch_trace.proofs.Expiring.{first_has_row, some_expires, last_moment, in_turn_there}
 use Rattle.dispatch_trace.proofs.trace.Trace.expired.Goals as goal
 
 pub if_expired-requires : goal.if_expired-requires
-if_expired-requires g c = first_has_row c.args.self.now c.self.inside.waiting.order (in_turn_there g.Q.PendQueue.pair_of (record { kept = c.self.inside.ledger; log = c.self.inside.log; waits = c.self.inside.waiting; position = c.self.inside.position }) c.self.invariant c.args.self.now c.self.view_is) c.oldest.result c.oldest.ensures.oldest
+if_expired-requires g c =
+    first_has_row c.args.self.now c.self.inside.waiting.order (in_turn_there _ _ c.self.invariant c.args.self.now c.self.view_is) c.oldest.result
+    c.oldest.ensures.oldest
 
 pub returns : goal.returns
 returns g c =
-    let stays = in_turn_there g.Q.PendQueue.pair_of (record { kept = c.self.inside.ledger; log = c.self.inside.log; waits = c.self.inside.waiting; position = c.self.inside.position }) c.self.invariant c.args.self.now c.self.view_is in
-    let when = c.later.ensures ∙ ap (λ n. max n c.args.moment) (last_moment g.Q.PendQueue.pair_of (record { kept = c.self.inside.ledger; log = c.self.inside.log; waits = c.self.inside.waiting; position = c.self.inside.position }) c.self.invariant c.args.self.now c.self.view_is) in
-    subst (λ (b : Bool). (IsTrue b → SomeExpires c.args.self.now c.args.moment) × (SomeExpires c.args.self.now c.args.moment → IsTrue b)) (sym c.is_some.ensures)
-    (some_expires c.args.self.now c.self.inside.waiting.order stays c.later.result c.args.moment c.oldest.result c.if_expired.result c.oldest.ensures.oldest when c.if_expired.ensures)
+    let stays = in_turn_there _ _ c.self.invariant c.args.self.now c.self.view_is in
+    let when = c.later.ensures ∙ ap (λ n. max n c.args.moment) (last_moment _ _ c.self.invariant c.args.self.now c.self.view_is) in
+    subst (λ (b : Bool). (IsTrue b → SomeExpires c.args.self.now c.args.moment) × (SomeExpires c.args.self.now c.args.moment → IsTrue b))
+    (sym c.is_some.ensures)
+    (some_expires c.args.self.now c.self.inside.waiting.order stays c.later.result c.args.moment c.oldest.result c.if_expired.result c.oldest.ensures.oldest
+    when c.if_expired.ensures)

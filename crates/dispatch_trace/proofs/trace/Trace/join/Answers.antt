@@ -1,52 +1,60 @@
-use Rattle.std.proofs.Common.{◌≡◌, ◌+◌, length, refl, ap, sym, ◌∙◌, subst}
+use Rattle.std.proofs.Common.{◌+◌, length, ap, sym, ◌∙◌, subst}
 use Rattle.dispatch_log.specs.declared.entry.Entry.TheVariants.{Joined}
-use Rattle.dispatch_log.specs.Histories.{History, state_of}
+use Rattle.dispatch_log.specs.Histories.{History}
 use Rattle.readable_log.proofs.Judged.{judged_follows}
 use Rattle.slot_ledger.specs.Counts.{IsQueueOf}
-use Rattle.dispatch_trace.specs.Histories.{IsAt, MayComeNext, cursor_after}
-use Rattle.dispatch_trace.proofs.Joining.{JoinCalls, join_node, join_vacant, join_key, join_pair, join_kept}
+use Rattle.dispatch_trace.specs.Histories.{cursor_after}
+use Rattle.dispatch_trace.proofs.Joining.{join_node, join_vacant, join_key, join_pair, join_kept}
 use Rattle.dispatch_trace.proofs.Stepping.{has_row, closed}
 use Rattle.dispatch_trace.proofs.Within.{joined_within}
+use Rattle.dispatch_trace.proofs.Joining.{join_calls}
+use Rattle.dispatch_trace.proofs.Stepping.{here_at}
 use Rattle.dispatch_trace.proofs.trace.Trace.join.Goals as goal
 
 pub row-requires : goal.row-requires
-row-requires g c = has_row g.Q.PendQueue.pair_of (record { kept = c.self.inside.ledger; log = c.self.inside.log; waits = c.self.inside.waiting; position = c.self.inside.position }) c.args.it c.self.invariant (subst (λ (h : History). IsAt (state_of h).rows c.args.it) (sym c.self.view_is) c.requires.at)
+row-requires g c = has_row _ _ c.args.it c.self.invariant (here_at _ _ c.args.it c.self.view_is c.requires.at)
 
 pub wait-node-requires-clause-row : goal.wait-node-requires-clause-row
 wait-node-requires-clause-row g c =
-    let calls : JoinCalls g.Q.PendQueue.pair_of (record { kept = c.self.inside.ledger; log = c.self.inside.log; waits = c.self.inside.waiting; position = c.self.inside.position }) c.args.it c.args.queue = record { before = c.self.invariant; may = subst (λ (h : History). MayComeNext h (Joined c.args.it.ticket c.args.queue)) (sym c.self.view_is) c.requires.lawful; at = subst (λ (h : History). IsAt (state_of h).rows c.args.it) (sym c.self.view_is) c.requires.at } in
-    join_node g.Q.PendQueue.pair_of (record { kept = c.self.inside.ledger; log = c.self.inside.log; waits = c.self.inside.waiting; position = c.self.inside.position }) c.args.it c.args.queue calls
+    let calls = join_calls _ _ _ c.args.it c.args.queue c.self.invariant c.self.view_is c.requires.lawful c.requires.at in
+    join_node _ _ c.args.it c.args.queue calls
 
 pub wait-node-requires-clause-within : goal.wait-node-requires-clause-within
-wait-node-requires-clause-within g c = subst (λ (h : History). IsQueueOf (length h.setup.servers) c.args.queue) (sym c.self.view_is) (joined_within c.args.self.now c.args.it.ticket c.args.queue c.requires.lawful)
+wait-node-requires-clause-within g c =
+    subst (λ (h : History). IsQueueOf (length h.setup.servers) c.args.queue) (sym c.self.view_is)
+    (joined_within c.args.self.now c.args.it.ticket c.args.queue c.requires.lawful)
 
 pub join-requires-clause-vacant : goal.join-requires-clause-vacant
 join-requires-clause-vacant g c =
-    let calls : JoinCalls g.Q.PendQueue.pair_of (record { kept = c.self.inside.ledger; log = c.self.inside.log; waits = c.self.inside.waiting; position = c.self.inside.position }) c.args.it c.args.queue = record { before = c.self.invariant; may = subst (λ (h : History). MayComeNext h (Joined c.args.it.ticket c.args.queue)) (sym c.self.view_is) c.requires.lawful; at = subst (λ (h : History). IsAt (state_of h).rows c.args.it) (sym c.self.view_is) c.requires.at } in
-    join_vacant g.Q.PendQueue.pair_of (record { kept = c.self.inside.ledger; log = c.self.inside.log; waits = c.self.inside.waiting; position = c.self.inside.position }) c.args.it c.args.queue calls
+    let calls = join_calls _ _ _ c.args.it c.args.queue c.self.invariant c.self.view_is c.requires.lawful c.requires.at in
+    join_vacant _ _ c.args.it c.args.queue calls
 
 pub join-requires-clause-within : goal.join-requires-clause-within
 join-requires-clause-within g c =
-    subst (λ n. IsQueueOf n c.args.queue) (sym c.self.invariant.servers) (subst (λ (h : History). IsQueueOf (length h.setup.servers) c.args.queue) (sym c.self.view_is) (joined_within c.args.self.now c.args.it.ticket c.args.queue c.requires.lawful))
+    subst (λ n. IsQueueOf n c.args.queue) (sym c.self.invariant.servers)
+    (subst (λ (h : History). IsQueueOf (length h.setup.servers) c.args.queue) (sym c.self.view_is)
+    (joined_within c.args.self.now c.args.it.ticket c.args.queue c.requires.lawful))
 
 pub join-requires-clause-own_key : goal.join-requires-clause-own_key
 join-requires-clause-own_key g c =
-    let calls : JoinCalls g.Q.PendQueue.pair_of (record { kept = c.self.inside.ledger; log = c.self.inside.log; waits = c.self.inside.waiting; position = c.self.inside.position }) c.args.it c.args.queue = record { before = c.self.invariant; may = subst (λ (h : History). MayComeNext h (Joined c.args.it.ticket c.args.queue)) (sym c.self.view_is) c.requires.lawful; at = subst (λ (h : History). IsAt (state_of h).rows c.args.it) (sym c.self.view_is) c.requires.at } in
-    join_key g.Q.PendQueue.pair_of (record { kept = c.self.inside.ledger; log = c.self.inside.log; waits = c.self.inside.waiting; position = c.self.inside.position }) c.args.it c.args.queue calls c.row.result c.row.ensures
+    let calls = join_calls _ _ _ c.args.it c.args.queue c.self.invariant c.self.view_is c.requires.lawful c.requires.at in
+    join_key _ _ c.args.it c.args.queue calls c.row.result c.row.ensures
 
 pub join-requires-clause-pair : goal.join-requires-clause-pair
 join-requires-clause-pair g c =
-    let calls : JoinCalls g.Q.PendQueue.pair_of (record { kept = c.self.inside.ledger; log = c.self.inside.log; waits = c.self.inside.waiting; position = c.self.inside.position }) c.args.it c.args.queue = record { before = c.self.invariant; may = subst (λ (h : History). MayComeNext h (Joined c.args.it.ticket c.args.queue)) (sym c.self.view_is) c.requires.lawful; at = subst (λ (h : History). IsAt (state_of h).rows c.args.it) (sym c.self.view_is) c.requires.at } in
-    join_pair g.Q.PendQueue.pair_of (record { kept = c.self.inside.ledger; log = c.self.inside.log; waits = c.self.inside.waiting; position = c.self.inside.position }) c.args.it c.args.queue calls c.row.result c.row.ensures c.wait-node.result c.wait-node.ensures.node
+    let calls = join_calls _ _ _ c.args.it c.args.queue c.self.invariant c.self.view_is c.requires.lawful c.requires.at in
+    join_pair _ _ c.args.it c.args.queue calls c.row.result c.row.ensures c.wait-node.result c.wait-node.ensures.node
 
 pub note-requires-clause-follows : goal.note-requires-clause-follows
 note-requires-clause-follows g c =
-    let calls : JoinCalls g.Q.PendQueue.pair_of (record { kept = c.self.inside.ledger; log = c.self.inside.log; waits = c.self.inside.waiting; position = c.self.inside.position }) c.args.it c.args.queue = record { before = c.self.invariant; may = subst (λ (h : History). MayComeNext h (Joined c.args.it.ticket c.args.queue)) (sym c.self.view_is) c.requires.lawful; at = subst (λ (h : History). IsAt (state_of h).rows c.args.it) (sym c.self.view_is) c.requires.at } in
+    let calls = join_calls _ _ _ c.args.it c.args.queue c.self.invariant c.self.view_is c.requires.lawful c.requires.at in
     let moved = c.requires.cursor ∙ ap (λ (h : History). cursor_after h (Joined c.args.it.ticket c.args.queue)) (sym c.self.view_is) in
-    judged_follows _ _ _ (join_kept g.Q.PendQueue.pair_of (record { kept = c.self.inside.ledger; log = c.self.inside.log; waits = c.self.inside.waiting; position = c.self.inside.position }) c.args.it c.args.queue calls c.row.result c.row.ensures (c.len.result + 1) c.args.cursor (ap (λ n. n + 1) c.len.ensures) moved).judged
+    judged_follows _ _ _
+    (join_kept _ _ c.args.it c.args.queue calls c.row.result c.row.ensures (c.len.result + 1) c.args.cursor (ap (λ n. n + 1) c.len.ensures) moved).judged
 
 pub invariant_of-self : goal.invariant_of-self
 invariant_of-self g c =
-    let calls : JoinCalls g.Q.PendQueue.pair_of (record { kept = c.self.inside.ledger; log = c.self.inside.log; waits = c.self.inside.waiting; position = c.self.inside.position }) c.args.it c.args.queue = record { before = c.self.invariant; may = subst (λ (h : History). MayComeNext h (Joined c.args.it.ticket c.args.queue)) (sym c.self.view_is) c.requires.lawful; at = subst (λ (h : History). IsAt (state_of h).rows c.args.it) (sym c.self.view_is) c.requires.at } in
+    let calls = join_calls _ _ _ c.args.it c.args.queue c.self.invariant c.self.view_is c.requires.lawful c.requires.at in
     let moved = c.requires.cursor ∙ ap (λ (h : History). cursor_after h (Joined c.args.it.ticket c.args.queue)) (sym c.self.view_is) in
-    closed g.Q.PendQueue.pair_of _ _ _ _ _ _ _ c.wait-node.ensures.waiting c.note.ensures c.join.ensures (join_kept g.Q.PendQueue.pair_of (record { kept = c.self.inside.ledger; log = c.self.inside.log; waits = c.self.inside.waiting; position = c.self.inside.position }) c.args.it c.args.queue calls c.row.result c.row.ensures (c.len.result + 1) c.args.cursor (ap (λ n. n + 1) c.len.ensures) moved)
+    closed _ _ _ _ _ _ _ _ c.wait-node.ensures.waiting c.note.ensures c.join.ensures
+    (join_kept _ _ c.args.it c.args.queue calls c.row.result c.row.ensures (c.len.result + 1) c.args.cursor (ap (λ n. n + 1) c.len.ensures) moved)

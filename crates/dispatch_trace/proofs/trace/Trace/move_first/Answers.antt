@@ -1,10 +1,8 @@
-use Rattle.std.proofs.Common.{◌≡◌, ◌+◌, ◌≤◌, IsTrue, None, length, refl, ap, sym, ◌∙◌, subst}
+use Rattle.std.proofs.Common.{◌+◌, ◌≤◌, length, ap, sym, ◌∙◌, subst}
 use Rattle.dispatch_log.specs.declared.entry.Entry.TheVariants.{Moved}
-use Rattle.dispatch_log.specs.declared.queue.Queue.TheVariants.{Backend, Server}
-use Rattle.dispatch_log.specs.declared.row.Phase.TheVariants.{Waiting}
+use Rattle.dispatch_log.specs.declared.queue.Queue.TheVariants.{Server}
 use Rattle.dispatch_log.specs.declared.setup.Setup.{Setup}
 use Rattle.dispatch_log.specs.Histories.{History, state_of}
-use Rattle.dispatch_log.specs.Judgement.{falling}
 use Rattle.dispatch_log.specs.Logs.{Recorded}
 use Rattle.dispatch_log.specs.Rows.{queued}
 use Rattle.readable_log.specs.Readable.{MayFollow}
@@ -12,42 +10,58 @@ use Rattle.readable_log.proofs.Judged.{judged_follows}
 use Rattle.slot_ledger.specs.Ledgers.{Kept, with_slots}
 use Rattle.slot_ledger.specs.Slots.{unpinned}
 use Rattle.slot_ledger.proofs.Standing.{still_stands}
-use Rattle.wait_queues.specs.Waitlists.{Waitlist, with_waiter_anew, moved_waiter}
-use Rattle.dispatch_trace.specs.Histories.{stage_of, IsMove}
+use Rattle.dispatch_trace.specs.Histories.{IsMove}
 use Rattle.dispatch_trace.specs.Traces.{noted}
 use Rattle.dispatch_trace.proofs.Moves.{emptied, move_row, move_ticket, move_may, move_room, is_move}
 use Rattle.dispatch_trace.proofs.Stepping.{closed}
 use Rattle.dispatch_trace.proofs.Waiters.{moved_on}
+use Rattle.dispatch_trace.proofs.Moves.{move_calls}
 use Rattle.dispatch_trace.proofs.trace.Trace.move_first.Goals as goal
 
 pub returns-in_default-clause-emptied : goal.returns-in_default-clause-emptied
-returns-in_default-clause-emptied g c = emptied g.Q.PendQueue.pair_of (record { kept = c.self.inside.ledger; log = c.self.inside.log; waits = c.self.inside.waiting; position = c.self.inside.position }) c.args.server c.args.self.now c.self.invariant c.self.view_is c.in_default.ensures.0
+returns-in_default-clause-emptied g c = emptied _ _ c.args.server c.args.self.now c.self.invariant c.self.view_is c.in_default.ensures.0
 
 pub row-ticket-requires : goal.row-ticket-requires
-row-ticket-requires g c = move_row g.Q.PendQueue.pair_of (record { kept = c.self.inside.ledger; log = c.self.inside.log; waits = c.self.inside.waiting; position = c.self.inside.position }) c.args.server c.in-Some.place c.in-Some.ensures.0 (record { before = c.self.invariant; stage = subst (λ (h : History). stage_of h ≡ falling c.args.server) (sym c.self.view_is) c.requires.falling; redispatch = subst (λ (h : History). IsTrue h.setup.redispatch) (sym c.self.view_is) c.requires.redispatch; first = c.in-Some.ensures.1 })
+row-ticket-requires g c =
+    let calls = move_calls _ _ _ c.args.server c.in-Some.place _ c.self.invariant c.self.view_is c.requires.falling c.requires.redispatch c.in-Some.ensures.1 in
+    move_row _ _ _ _ _ calls
 
 pub unpin-requires : goal.unpin-requires
-unpin-requires g c = still_stands _ _ _ c.in-Some.place (move_row g.Q.PendQueue.pair_of (record { kept = c.self.inside.ledger; log = c.self.inside.log; waits = c.self.inside.waiting; position = c.self.inside.position }) c.args.server c.in-Some.place c.in-Some.ensures.0 (record { before = c.self.invariant; stage = subst (λ (h : History). stage_of h ≡ falling c.args.server) (sym c.self.view_is) c.requires.falling; redispatch = subst (λ (h : History). IsTrue h.setup.redispatch) (sym c.self.view_is) c.requires.redispatch; first = c.in-Some.ensures.1 })) (ap (λ (k : Kept _). k.slots) c.shift-2.ensures)
+unpin-requires g c =
+    let calls = move_calls _ _ _ c.args.server c.in-Some.place _ c.self.invariant c.self.view_is c.requires.falling c.requires.redispatch c.in-Some.ensures.1 in
+    still_stands _ _ _ c.in-Some.place (move_row _ _ _ _ _ calls) (ap (λ (k : Kept _). k.slots) c.shift-2.ensures)
 
 pub note-requires-clause-room : goal.note-requires-clause-room
-note-requires-clause-room g c = move_room g.Q.PendQueue.pair_of (record { kept = c.self.inside.ledger; log = c.self.inside.log; waits = c.self.inside.waiting; position = c.self.inside.position }) c.args.server c.in-Some.place c.in-Some.ensures.0 (record { before = c.self.invariant; stage = subst (λ (h : History). stage_of h ≡ falling c.args.server) (sym c.self.view_is) c.requires.falling; redispatch = subst (λ (h : History). IsTrue h.setup.redispatch) (sym c.self.view_is) c.requires.redispatch; first = c.in-Some.ensures.1 }) (subst (λ (h : History). length h.log + queued (Server c.args.server) (state_of h).rows ≤ h.setup.log) (sym c.self.view_is) c.requires.room)
+note-requires-clause-room g c =
+    let calls = move_calls _ _ _ c.args.server c.in-Some.place _ c.self.invariant c.self.view_is c.requires.falling c.requires.redispatch c.in-Some.ensures.1 in
+    move_room _ _ _ _ _ calls
+    (subst (λ (h : History). length h.log + queued (Server c.args.server) (state_of h).rows ≤ h.setup.log) (sym c.self.view_is) c.requires.room)
 
 pub note-requires-clause-follows : goal.note-requires-clause-follows
 note-requires-clause-follows g c =
-    let ticket = move_ticket g.Q.PendQueue.pair_of (record { kept = c.self.inside.ledger; log = c.self.inside.log; waits = c.self.inside.waiting; position = c.self.inside.position }) c.args.server c.in-Some.place c.in-Some.ensures.0 (record { before = c.self.invariant; stage = subst (λ (h : History). stage_of h ≡ falling c.args.server) (sym c.self.view_is) c.requires.falling; redispatch = subst (λ (h : History). IsTrue h.setup.redispatch) (sym c.self.view_is) c.requires.redispatch; first = c.in-Some.ensures.1 }) c.row-ticket.result c.row-ticket.ensures in
-    subst (λ n. MayFollow c.self.inside.log.entries (Moved n c.args.server)) (sym ticket) (judged_follows _ _ _ (moved_on g.Q.PendQueue.pair_of (record { kept = c.self.inside.ledger; log = c.self.inside.log; waits = c.self.inside.waiting; position = c.self.inside.position }) c.in-Some.place c.args.server (c.len-joined.result + 1) c.in-Some.ensures.0 c.self.invariant (move_may g.Q.PendQueue.pair_of (record { kept = c.self.inside.ledger; log = c.self.inside.log; waits = c.self.inside.waiting; position = c.self.inside.position }) c.args.server c.in-Some.place c.in-Some.ensures.0 (record { before = c.self.invariant; stage = subst (λ (h : History). stage_of h ≡ falling c.args.server) (sym c.self.view_is) c.requires.falling; redispatch = subst (λ (h : History). IsTrue h.setup.redispatch) (sym c.self.view_is) c.requires.redispatch; first = c.in-Some.ensures.1 })) c.in-Some.ensures.1.waits (ap (λ n. n + 1) c.len-joined.ensures)).judged)
+    let calls = move_calls _ _ _ c.args.server c.in-Some.place _ c.self.invariant c.self.view_is c.requires.falling c.requires.redispatch c.in-Some.ensures.1 in
+    let ticket = move_ticket _ _ _ _ _ calls c.row-ticket.result c.row-ticket.ensures in
+    subst (λ n. MayFollow c.self.inside.log.entries (Moved n c.args.server)) (sym ticket)
+    (judged_follows _ _ _
+    (moved_on _ _ c.in-Some.place c.args.server (c.len-joined.result + 1) c.in-Some.ensures.0 c.self.invariant
+    (move_may _ _ _ _ _ calls) c.in-Some.ensures.1.waits (ap (λ n. n + 1) c.len-joined.ensures)).judged)
 
 pub invariant_of-self-2 : goal.invariant_of-self-2
 invariant_of-self-2 g c =
-    let ticket = move_ticket g.Q.PendQueue.pair_of (record { kept = c.self.inside.ledger; log = c.self.inside.log; waits = c.self.inside.waiting; position = c.self.inside.position }) c.args.server c.in-Some.place c.in-Some.ensures.0 (record { before = c.self.invariant; stage = subst (λ (h : History). stage_of h ≡ falling c.args.server) (sym c.self.view_is) c.requires.falling; redispatch = subst (λ (h : History). IsTrue h.setup.redispatch) (sym c.self.view_is) c.requires.redispatch; first = c.in-Some.ensures.1 }) c.row-ticket.result c.row-ticket.ensures in
-    closed g.Q.PendQueue.pair_of _ _ _ _ _ _ _ (c.unpin.ensures ∙ ap (λ (k : Kept _). with_slots k (unpinned k.slots c.in-Some.place)) c.shift-2.ensures)
+    let calls = move_calls _ _ _ c.args.server c.in-Some.place _ c.self.invariant c.self.view_is c.requires.falling c.requires.redispatch c.in-Some.ensures.1 in
+    let ticket = move_ticket _ _ _ _ _ calls c.row-ticket.result c.row-ticket.ensures in
+    closed _ _ _ _ _ _ _ _ (c.unpin.ensures ∙ ap (λ (k : Kept _). with_slots k (unpinned k.slots c.in-Some.place)) c.shift-2.ensures)
     (c.note.ensures ∙ ap (λ n. noted c.self.inside.log (Moved n c.args.server)) ticket) c.in-Some.ensures.2
-    (moved_on g.Q.PendQueue.pair_of (record { kept = c.self.inside.ledger; log = c.self.inside.log; waits = c.self.inside.waiting; position = c.self.inside.position }) c.in-Some.place c.args.server (c.len-joined.result + 1) c.in-Some.ensures.0 c.self.invariant (move_may g.Q.PendQueue.pair_of (record { kept = c.self.inside.ledger; log = c.self.inside.log; waits = c.self.inside.waiting; position = c.self.inside.position }) c.args.server c.in-Some.place c.in-Some.ensures.0 (record { before = c.self.invariant; stage = subst (λ (h : History). stage_of h ≡ falling c.args.server) (sym c.self.view_is) c.requires.falling; redispatch = subst (λ (h : History). IsTrue h.setup.redispatch) (sym c.self.view_is) c.requires.redispatch; first = c.in-Some.ensures.1 })) c.in-Some.ensures.1.waits (ap (λ n. n + 1) c.len-joined.ensures))
+    (moved_on _ _ c.in-Some.place c.args.server (c.len-joined.result + 1) c.in-Some.ensures.0 c.self.invariant
+    (move_may _ _ _ _ _ calls) c.in-Some.ensures.1.waits (ap (λ n. n + 1) c.len-joined.ensures))
 
 pub returns-clause-moved : goal.returns-clause-moved
 returns-clause-moved g c =
-    let ticket = move_ticket g.Q.PendQueue.pair_of (record { kept = c.self.inside.ledger; log = c.self.inside.log; waits = c.self.inside.waiting; position = c.self.inside.position }) c.args.server c.in-Some.place c.in-Some.ensures.0 (record { before = c.self.invariant; stage = subst (λ (h : History). stage_of h ≡ falling c.args.server) (sym c.self.view_is) c.requires.falling; redispatch = subst (λ (h : History). IsTrue h.setup.redispatch) (sym c.self.view_is) c.requires.redispatch; first = c.in-Some.ensures.1 }) c.row-ticket.result c.row-ticket.ensures in
+    let calls = move_calls _ _ _ c.args.server c.in-Some.place _ c.self.invariant c.self.view_is c.requires.falling c.requires.redispatch c.in-Some.ensures.1 in
+    let ticket = move_ticket _ _ _ _ _ calls c.row-ticket.result c.row-ticket.ensures in
     let setup = ap (λ (k : Kept _). k.setup) (c.unpin.ensures ∙ ap (λ (k : Kept _). with_slots k (unpinned k.slots c.in-Some.place)) c.shift-2.ensures) in
     subst (λ (h : History). IsMove c.args.server h (record { setup = c.unpin.new.self.setup; log = c.note.new.self.entries })) c.self.view_is
-    (is_move g.Q.PendQueue.pair_of (record { kept = c.self.inside.ledger; log = c.self.inside.log; waits = c.self.inside.waiting; position = c.self.inside.position }) c.args.server c.in-Some.place c.in-Some.ensures.0 (record { before = c.self.invariant; stage = subst (λ (h : History). stage_of h ≡ falling c.args.server) (sym c.self.view_is) c.requires.falling; redispatch = subst (λ (h : History). IsTrue h.setup.redispatch) (sym c.self.view_is) c.requires.redispatch; first = c.in-Some.ensures.1 }) (record { setup = c.unpin.new.self.setup; log = c.note.new.self.entries })
-    (ap (λ (s : Setup). record { setup = s; log = c.note.new.self.entries }) setup ∙ ap (λ (r : Recorded). record { setup = c.self.inside.ledger.setup; log = r.entries }) (c.note.ensures ∙ ap (λ n. noted c.self.inside.log (Moved n c.args.server)) ticket)))
+    (is_move _ _ _ _ _ calls (record { setup = c.unpin.new.self.setup; log = c.note.new.self.entries })
+    (ap (λ (s : Setup). record { setup = s; log = c.note.new.self.entries }) setup
+    ∙ ap (λ (r : Recorded). record { setup = c.self.inside.ledger.setup; log = r.entries })
+    (c.note.ensures ∙ ap (λ n. noted c.self.inside.log (Moved n c.args.server)) ticket)))

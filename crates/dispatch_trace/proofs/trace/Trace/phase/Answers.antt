@@ -1,16 +1,16 @@
-use Rattle.std.proofs.Common.{◌≡◌, Some, option_map, sym, subst}
+use Rattle.std.proofs.Common.{◌≡◌, Some, option_map, subst}
 use Rattle.dispatch_log.specs.declared.row.Row.{Row}
 use Rattle.dispatch_log.specs.Histories.{History, state_of}
 use Rattle.dispatch_log.specs.Rows.{row_of}
-use Rattle.dispatch_trace.specs.Histories.{IsAt}
 use Rattle.dispatch_trace.proofs.Beginning.{phase_is}
 use Rattle.dispatch_trace.proofs.Stepping.{has_row}
+use Rattle.dispatch_trace.proofs.Stepping.{here_at}
 use Rattle.dispatch_trace.proofs.trace.Trace.phase.Goals as goal
 
 pub row-requires : goal.row-requires
-row-requires g c = has_row g.Q.PendQueue.pair_of _ c.args.it c.self.invariant (subst (λ (h : History). IsAt (state_of h).rows c.args.it) (sym c.self.view_is) c.requires)
+row-requires g c = has_row _ _ c.args.it c.self.invariant (here_at _ _ c.args.it c.self.view_is c.requires)
 
 pub returns : goal.returns
 returns g c =
     subst (λ (h : History). option_map (λ (r : Row). r.phase) (row_of c.args.it.ticket (state_of h).rows) ≡ Some c.row.result.phase) c.self.view_is
-    (phase_is g.Q.PendQueue.pair_of _ c.args.it c.row.result c.self.invariant (subst (λ (h : History). IsAt (state_of h).rows c.args.it) (sym c.self.view_is) c.requires) c.row.ensures)
+    (phase_is _ _ c.args.it c.row.result c.self.invariant (here_at _ _ c.args.it c.self.view_is c.requires) c.row.ensures)

@@ -1,18 +1,17 @@
-use Rattle.std.proofs.Common.{refl, sym, subst}
+use Rattle.std.proofs.Common.{refl}
 use Rattle.dispatch_log.specs.declared.entry.Entry.TheVariants.{Health}
-use Rattle.dispatch_log.specs.Histories.{History}
 use Rattle.readable_log.proofs.Judged.{judged_follows}
-use Rattle.dispatch_trace.specs.Histories.{MayComeNext}
 use Rattle.dispatch_trace.proofs.Beginning.{still_kept}
 use Rattle.dispatch_trace.proofs.Stepping.{closed}
+use Rattle.dispatch_trace.proofs.Stepping.{here_may}
 use Rattle.dispatch_trace.proofs.trace.Trace.tell_health.Goals as goal
 
 pub note-requires-clause-follows : goal.note-requires-clause-follows
 note-requires-clause-follows g c =
-    let may = subst (λ (h : History). MayComeNext h (Health c.args.server c.args.up)) (sym c.self.view_is) c.requires.lawful in
-    judged_follows _ _ _ (still_kept g.Q.PendQueue.pair_of _ (Health c.args.server c.args.up) c.self.invariant refl may refl).judged
+    let may = here_may _ _ (Health c.args.server c.args.up) c.self.view_is c.requires.lawful in
+    judged_follows _ _ _ (still_kept _ _ (Health c.args.server c.args.up) c.self.invariant refl may refl).judged
 
 pub invariant_of-self : goal.invariant_of-self
 invariant_of-self g c =
-    let may = subst (λ (h : History). MayComeNext h (Health c.args.server c.args.up)) (sym c.self.view_is) c.requires.lawful in
-    closed g.Q.PendQueue.pair_of _ _ _ _ _ _ _ refl c.note.ensures refl (still_kept g.Q.PendQueue.pair_of _ (Health c.args.server c.args.up) c.self.invariant refl may refl)
+    let may = here_may _ _ (Health c.args.server c.args.up) c.self.view_is c.requires.lawful in
+    closed _ _ _ _ _ _ _ _ refl c.note.ensures refl (still_kept _ _ (Health c.args.server c.args.up) c.self.invariant refl may refl)

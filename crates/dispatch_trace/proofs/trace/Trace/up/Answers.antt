@@ -7,5 +7,5 @@ use Rattle.dispatch_trace.proofs.trace.Trace.up.Goals as goal
 
 pub returns : goal.returns
 returns g c =
-    c.up.ensures ∙ ap (λ (s : Scene). is_up s c.args.server) (scene_is g.Q.PendQueue.pair_of _ c.self.invariant)
+    c.up.ensures ∙ ap (λ (s : Scene). is_up s c.args.server) (scene_is _ _ c.self.invariant)
     ∙ ap (λ (h : History). is_up (scene_of h) c.args.server) c.self.view_is

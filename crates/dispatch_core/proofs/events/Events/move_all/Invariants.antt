@@ -1,0 +1,12 @@
+use Rattle.dispatch_log.specs.declared.queue.Queue.TheVariants.{Server}
+use Rattle.dispatch_log.specs.Histories.{state_of}
+use Rattle.dispatch_log.specs.Rows.{queued}
+use Rattle.dispatch_core.proofs.Emptying.{MovesSince}
+use Rattle.dispatch_core.proofs.events.Events.move_all.Given as goal
+
+abbrev pub invariant-moving : goal.invariant-moving
+invariant-moving g l = MovesSince l.server l.initial.self.trace l.self.trace
+
+-- each move leaves one request less in the server's queue
+abbrev pub decreases-moving : goal.decreases-moving
+decreases-moving g l = queued (Server l.server) (state_of l.self.trace).rows

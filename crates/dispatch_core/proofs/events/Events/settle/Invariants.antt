@@ -1,0 +1,10 @@
+use Rattle.dispatch_trace.specs.Histories.{waiting_of}
+use Rattle.dispatch_core.proofs.Settling.{GrantsSince}
+use Rattle.dispatch_core.proofs.events.Events.settle.Given as goal
+
+abbrev pub invariant-granting : goal.invariant-granting
+invariant-granting g l = GrantsSince l.initial.self.trace l.self.trace
+
+-- each grant leaves one request less waiting
+abbrev pub decreases-granting : goal.decreases-granting
+decreases-granting g l = waiting_of l.self.trace

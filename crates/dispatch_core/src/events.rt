@@ -1,0 +1,182 @@
+ghost use Rattle.std.specs.Prelude.{◌≡◌, ◌+◌, ◌<◌, ◌≤◌, [], length, IsTrue, None, true, false};
+ghost use Rattle.check_state.specs.Standing.{change_between};
+ghost use Rattle.dispatch_log.specs.Histories.{state_of};
+ghost use Rattle.dispatch_log.specs.Judgement.{returning, failing, checking, falling, telling, was_up, HasSlot};
+ghost use Rattle.dispatch_log.specs.Words.{is_up};
+ghost use Rattle.dispatch_log.specs.Retries.{are_spent, are_redispatched};
+ghost use Rattle.dispatch_log.specs.Rows.{pin_of, failures_of};
+ghost use Rattle.dispatch_core.specs.Steps.{IsReturn, Places, Leaves, Settles, CarriesOn, MovesAll, HasEventRoom};
+ghost use Rattle.dispatch_trace.specs.Histories.{stage_of, scene_of, waiting_of, IsAt, MayPut, MayGrantNext};
+
+use check_state::Change;
+use dispatch_log::Queue;
+use dispatch_trace::{Fate, Ticketed, Trace};
+use due_key::Key;
+use pend_queue::{ListQueue, PendQueue};
+use server_pick::Placement;
+use verdict::Cause;
+
+/// A trace that goes on by the parts of events, of which each is some entries.
+#[derive(Drop)]
+pub(crate) struct Events<Q: PendQueue<Key, usize>> {
+    pub(crate) trace: Trace<Q>,
+}
+
+impl<Q: PendQueue<Key, usize>> Events<Q> {
+    /// Puts a request that is in no place on a server or into a queue, or tells it that no server could
+    /// take it.
+    pub(crate) fn place(&mut self, it: Ticketed, pin: Option<usize>, avoid: Option<usize>)
+        requires at { IsAt (state_of self.old.trace).rows it }
+        requires may_put { MayPut self.old.trace pin avoid it.ticket }
+        requires pin { pin_of it.ticket (state_of self.old.trace).rows ≡ pin }
+        requires room { length self.old.trace.log < self.old.trace.setup.log }
+        ensures { Places self.old.trace self.new.trace }
+    {
+        let (placement, cursor) = self.trace.placement(pin, avoid);
+        match placement {
+            Placement::Slot(server) => self.trace.direct(it, server, cursor),
+            Placement::OwnQueue(server) => self.trace.join(it, Queue::Server(server), cursor),
+            Placement::BackendQueue => self.trace.join(it, Queue::Backend, cursor),
+            Placement::Nowhere => self.trace.tell(it, Cause::NoServer),
+        }
+    }
+
+    /// Ends a request, and gives its slot back where it has one.
+    pub(crate) fn leave(&mut self, it: Ticketed, server: Option<usize>)
+        requires at { IsAt (state_of self.old.trace).rows it }
+        requires returning { stage_of self.old.trace ≡ returning it.ticket }
+        requires row { IsReturn (state_of self.old.trace).rows it.ticket server }
+        requires room { length self.old.trace.log + 2 ≤ self.old.trace.setup.log }
+        ensures { Leaves self.old.trace self.new.trace }
+    {
+        match server {
+            Some(server) => self.give_back(it, server),
+            None => self.trace.end(it),
+        }
+    }
+
+    /// Gives a request's slot back, and ends the request.
+    fn give_back(&mut self, it: Ticketed, server: usize)
+        requires at { IsAt (state_of self.old.trace).rows it }
+        requires returning { stage_of self.old.trace ≡ returning it.ticket }
+        requires slot { HasSlot (state_of self.old.trace).rows it.ticket server }
+        requires room { length self.old.trace.log + 2 ≤ self.old.trace.setup.log }
+        ensures { Leaves self.old.trace self.new.trace }
+    {
+        self.trace.free(it, server);
+        self.trace.end(it);
+    }
+
+    /// Tries a request again whose connection failed, or tells it that its retries are spent.
+    pub(crate) fn carry_on(&mut self, it: Ticketed, server: usize, failures: u32)
+        requires at { IsAt (state_of self.old.trace).rows it }
+        requires failing { stage_of self.old.trace ≡ failing it.ticket }
+        requires slot { HasSlot (state_of self.old.trace).rows it.ticket server }
+        requires failures { failures_of it.ticket (state_of self.old.trace).rows ≡ failures }
+        requires pin { IsTrue (are_redispatched self.old.trace.setup failures) → pin_of it.ticket (state_of self.old.trace).rows ≡ None }
+        requires room { HasEventRoom self.old.trace }
+        ensures { CarriesOn self.old.trace self.new.trace }
+    {
+        match self.trace.fate(failures) {
+            Fate::Retried => self.trace.retry(it.ticket, server, failures),
+            Fate::Spent => self.give_up(it, server),
+            Fate::Redispatched => self.redispatch(it, server),
+        }
+    }
+
+    /// Gives a request's slot back, and tells it that its retries are spent.
+    fn give_up(&mut self, it: Ticketed, server: usize)
+        requires at { IsAt (state_of self.old.trace).rows it }
+        requires failing { stage_of self.old.trace ≡ failing it.ticket }
+        requires slot { HasSlot (state_of self.old.trace).rows it.ticket server }
+        requires spent { IsTrue (are_spent self.old.trace.setup (failures_of it.ticket (state_of self.old.trace).rows)) }
+        requires room { HasEventRoom self.old.trace }
+        ensures { CarriesOn self.old.trace self.new.trace }
+    {
+        self.trace.free(it, server);
+        self.trace.tell(it, Cause::Retries);
+    }
+
+    /// Gives a request's slot back, which others take first, and puts the request anew, away from the
+    /// server where it can be.
+    fn redispatch(&mut self, it: Ticketed, server: usize)
+        requires at { IsAt (state_of self.old.trace).rows it }
+        requires failing { stage_of self.old.trace ≡ failing it.ticket }
+        requires slot { HasSlot (state_of self.old.trace).rows it.ticket server }
+        requires redispatched { IsTrue (are_redispatched self.old.trace.setup (failures_of it.ticket (state_of self.old.trace).rows)) }
+        requires pin { pin_of it.ticket (state_of self.old.trace).rows ≡ None }
+        requires room { HasEventRoom self.old.trace }
+        ensures { CarriesOn self.old.trace self.new.trace }
+    {
+        self.trace.free(it, server);
+        self.settle();
+        self.place(it, None, Some(server));
+    }
+
+    /// Notes what a check changed of a server's health, and what follows from it.
+    pub(crate) fn follow(&mut self, server: usize, change: Change)
+        requires checking { stage_of self.old.trace ≡ checking server }
+        requires change { change ≡ change_between (was_up self.old.trace.setup (state_of self.old.trace) server) (is_up (scene_of self.old.trace) server) }
+        requires within { server < length self.old.trace.setup.servers }
+        requires room { HasEventRoom self.old.trace }
+        ensures { CarriesOn self.old.trace self.new.trace }
+    {
+        match change {
+            Change::Stay => {}
+            Change::WentUp => self.trace.tell_health(server, true),
+            Change::WentDown => self.fall(server),
+        }
+    }
+
+    /// Notes that a server went down, and moves its requests where they are to be moved.
+    fn fall(&mut self, server: usize)
+        requires checking { stage_of self.old.trace ≡ checking server }
+        requires was { was_up self.old.trace.setup (state_of self.old.trace) server ≡ true }
+        requires down { is_up (scene_of self.old.trace) server ≡ false }
+        requires within { server < length self.old.trace.setup.servers }
+        requires room { HasEventRoom self.old.trace }
+        ensures { CarriesOn self.old.trace self.new.trace }
+    {
+        self.trace.tell_health(server, false);
+        if self.trace.setup().redispatch {
+            self.move_all(server);
+        }
+    }
+
+    /// Moves the requests of a server's queue into the backend's, by rising key.
+    fn move_all(&mut self, server: usize)
+        requires falling { stage_of self.old.trace ≡ falling server }
+        requires redispatch { IsTrue self.old.trace.setup.redispatch }
+        requires within { server < length self.old.trace.setup.servers }
+        requires room { length self.old.trace.log + waiting_of self.old.trace ≤ self.old.trace.setup.log }
+        ensures { MovesAll server self.old.trace self.new.trace }
+    {
+        'moving: while self.trace.move_first(server) {}
+    }
+
+    /// Grants slots until all is settled.
+    pub(crate) fn settle(&mut self)
+        requires may_grant { MayGrantNext self.old.trace }
+        requires room { length self.old.trace.log + waiting_of self.old.trace ≤ self.old.trace.setup.log }
+        ensures { Settles self.old.trace self.new.trace }
+    {
+        'granting: while self.trace.grant() {}
+    }
+
+    /// Tells the requests that have waited as long as they may, by rising ticket.
+    pub(crate) fn time_out(&mut self, tickets: &mut ListQueue<u64, usize>)
+        requires telling { stage_of self.old.trace ≡ telling }
+        requires room { length self.old.trace.log + waiting_of self.old.trace ≤ self.old.trace.setup.log }
+        requires none { tickets.old.pairs ≡ [] }
+        requires places { self.old.trace.setup.places ≤ tickets.old.room }
+        ensures told { CarriesOn self.old.trace self.new.trace }
+        ensures none { tickets.new.pairs ≡ [] }
+        ensures kept { tickets.new.room ≡ tickets.old.room }
+    {
+        self.trace.gather(tickets);
+        'telling: while let Some((ticket, place)) = tickets.pop() {
+            self.trace
+                .dismiss(Ticketed { place, ticket }, Cause::Timeout);
+        }
+    }
+}

@@ -9,8 +9,10 @@ use Rattle.std.proofs.lemmas.List.{length-map, map-set}
 use Rattle.std.proofs.lemmas.List.Sums.{sum_by-cons}
 use Rattle.std.proofs.lemmas.Option.{same_Some, slice_get-map}
 use Rattle.due_key.specs.declared.key.Key.{Key}
+use Rattle.due_key.specs.declared.class.TheConstants.{LOWEST_CLASS, HIGHEST_CLASS}
 use Rattle.due_key.specs.declared.offset.TheConstants.{LOWEST_OFFSET, HIGHEST_OFFSET}
 use Rattle.due_key.specs.Range.{IsBetween}
+use Rattle.dispatch_log.specs.declared.allowance.Allowance.{Allowance}
 use Rattle.dispatch_log.specs.declared.entry.Arrival.{Arrival}
 use Rattle.dispatch_log.specs.declared.entry.Entry.{Entry}
 use Rattle.dispatch_log.specs.declared.entry.Entry.TheVariants.{Arrive}
@@ -23,9 +25,9 @@ use Rattle.dispatch_log.specs.Judgement.{IsNewcomer}
 use Rattle.dispatch_log.specs.Refusals.{first_of, is_full, pins_to_none}
 use Rattle.dispatch_log.specs.Rows.{Rows, row_of, pin_of}
 use Rattle.dispatch_log.specs.Setups.{IsSound}
-use Rattle.dispatch_log.specs.States.{State, after, arrived}
+use Rattle.dispatch_log.specs.States.{State, after, arrived, opening_state, opening_limits}
 use Rattle.dispatch_log.specs.Words.{Scene}
-use Rattle.dispatch_log.proofs.Dispatched.{none_stands}
+use Rattle.dispatch_log.proofs.Windows.{none_stands, opening_base}
 use Rattle.list_facts.proofs.Places.{tally, get-set_same}
 use Rattle.dispatch_log.proofs.RowLemmas.{row_of_at, row_of_none}
 use Rattle.list_facts.proofs.Members.{Contains-nil}
@@ -68,7 +70,7 @@ module _ {N : Type 0} (pair_of : N → Key × ℕ) where
       let e = event now in
       let when : now ≡ effective (history_of t) moment = later ∙ ap (λ (p : Position). max p.last moment) is.holds.position in
       let far = moment_moved t.position s now is.holds.position in
-      row_less pair_of t e t.kept.ups (record {
+      row_less pair_of t e t.kept.ups t.kept.limits (record {
         cursor =
             t.position.cursor;
         last = now;
@@ -78,6 +80,7 @@ module _ {N : Type 0} (pair_of : N → Key × ℕ) where
       (let grows : s.moment ≤ now = (let m : s.moment ≤ max s.moment moment = grind (arith, nat_tests) in omega arith) in
       let is_now : (after t.kept.setup s e).moment ≡ now = ap (λ (x : State). x.moment) leaves in omega arith)
       (is.holds.ups ∙ ap (λ (x : State). ups_of t.kept.setup.servers x.results) (sym leaves))
+      (is.holds.limits ∙ ap (λ (x : State). x.limits) (sym leaves))
       (far ∙ ap position_of (sym leaves))
 
   -- an entry that changes nothing that a trace holds
@@ -86,9 +89,10 @@ module _ {N : Type 0} (pair_of : N → Key × ℕ) where
       → IsTrace pair_of (record { kept = t.kept; log = noted t.log e; waits = t.waits; position = t.position })
   still_kept t e is none may leaves =
       let s = state_of (history_of t) in
-      row_less pair_of t e t.kept.ups t.position is may none (ap (λ (x : State). x.rows) leaves)
+      row_less pair_of t e t.kept.ups t.kept.limits t.position is may none (ap (λ (x : State). x.rows) leaves)
       (let same : (after t.kept.setup s e).moment ≡ s.moment = ap (λ (x : State). x.moment) leaves in omega arith)
       (is.holds.ups ∙ ap (λ (x : State). ups_of t.kept.setup.servers x.results) (sym leaves))
+      (is.holds.limits ∙ ap (λ (x : State). x.limits) (sym leaves))
       (is.holds.position ∙ ap position_of (sym leaves))
 
   -- what a look-up of a ticket tells
@@ -115,11 +119,17 @@ module _ {N : Type 0} (pair_of : N → Key × ℕ) where
       ∙ ap (λ (r : Row). Some r.phase) (same ∙ read.2)
 
   -- a trace's scene is its history's
-  pub scene_is : (t : Traced N) → IsTrace pair_of t → record { servers = t.kept.setup.servers; ups = t.kept.ups; rows = rows_in t.kept.slots } ≡ scene_of
+  pub scene_is : (t : Traced N) → IsTrace pair_of t → record { servers = t.kept.setup.servers; limits = t.kept.limits; ups = t.kept.ups; rows = rows_in t.kept.slots } ≡ scene_of
       (history_of t)
   scene_is t is =
-      ap (λ (r : Rows). record { servers = t.kept.setup.servers; ups = t.kept.ups; rows = r }) is.holds.rows
-      ∙ ap (λ (u : List Bool). record { servers = t.kept.setup.servers; ups = u; rows = (state_of (history_of t)).rows }) is.holds.ups
+      ap (λ (r : Rows). record { servers = t.kept.setup.servers; limits = t.kept.limits; ups = t.kept.ups; rows = r }) is.holds.rows
+      ∙ ap (λ (u : List Bool). record { servers = t.kept.setup.servers; limits = t.kept.limits; ups = u; rows = (state_of (history_of t)).rows }) is.holds.ups
+      ∙ ap (λ (l : List Allowance). record {
+        servers = t.kept.setup.servers;
+        limits = l;
+        ups = ups_of t.kept.setup.servers (state_of (history_of t)).results;
+        rows = (state_of (history_of t)).rows;
+      }) is.holds.limits
 
   pub cursor_is : (t : Traced N) → IsTrace pair_of t → t.position.cursor ≡ (state_of (history_of t)).cursor
   cursor_is t is = ap (λ (p : Position). p.cursor) is.holds.position
@@ -174,7 +184,7 @@ module _ {N : Type 0} (pair_of : N → Key × ℕ) where
       let fewer : count_by is_some (state_of h).rows < h.setup.places = grind (arith, nat_tests) in
       let counted = count_rows t.kept.slots in
       let rows : count_by is_some (rows_in t.kept.slots) ≡ count_by is_some (state_of h).rows = ap (count_by is_some) is.holds.rows in
-      let places = trace_places pair_of t in
+      let places = trace_places pair_of t is in
       let long : length (rows_in t.kept.slots) ≡ length (state_of h).rows = ap length is.holds.rows in
       let same : length (rows_in t.kept.slots) ≡ length t.kept.slots = length-map t.kept.slots row_in in
       omega arith
@@ -191,7 +201,7 @@ module _ {N : Type 0} (pair_of : N → Key × ℕ) where
   pub arrive_kept : (t : Traced N) (moment now place : ℕ) (offset : ℤ) (a : Arrival) (node : N) → IsTrace pair_of t
       → MayBeginNext (history_of t) moment (refuses_arrival (history_of t) a.pin)
       → now ≡ max t.position.last moment → a.ticket ≡ t.position.ticket + 1 → a.place ≡ place → a.due ≡ (pos now +ℤ offset)
-      → IsBetween LOWEST_OFFSET HIGHEST_OFFSET offset
+      → IsBetween LOWEST_OFFSET HIGHEST_OFFSET offset → IsBetween LOWEST_CLASS HIGHEST_CLASS a.class
       → slice_get t.kept.slots place ≡ Some None → pair_of node ≡ ((arrived a).key, place)
       → IsTrace pair_of
       (record {
@@ -200,7 +210,7 @@ module _ {N : Type 0} (pair_of : N → Key × ℕ) where
         waits = t.waits;
         position = record { cursor = t.position.cursor; last = now; ticket = a.ticket };
       })
-  arrive_kept t moment now place offset a node is begins later next at due within vacant its =
+  arrive_kept t moment now place offset a node is begins later next at due within class vacant its =
       let h = history_of t in
       let s = state_of h in
       let when : now ≡ effective h moment = later ∙ ap (λ (p : Position). max p.last moment) is.holds.position in
@@ -210,10 +220,11 @@ module _ {N : Type 0} (pair_of : N → Key × ℕ) where
       let newcomer : IsNewcomer s now a = record {
         numbered = next ∙ ap (λ n. n + 1) (ticket_is pair_of t is);
         vacant = subst (λ n. slice_get s.rows n ≡ Some None) (sym at) free;
+        class = class;
         due = (offset, within, due);
       } in
       let may : MayComeNext h (Arrive now a) = subst (λ n. MayComeNext h (Arrive n a)) (sym when) (begins, subst (λ n. IsNewcomer s n a) when newcomer) in
-      stepped pair_of t (Arrive now a) t.kept.ups (set t.kept.slots place (Some cell)) t.waits (record {
+      stepped pair_of t (Arrive now a) t.kept.ups t.kept.limits (set t.kept.slots place (Some cell)) t.waits (record {
         cursor =
             t.position.cursor;
         last = now;
@@ -226,6 +237,7 @@ module _ {N : Type 0} (pair_of : N → Key × ℕ) where
             nodes_set pair_of t.kept.slots place None (Some cell) is.holds.nodes vacant
             (λ x same. subst (λ (y : Slot N). HasItsNode pair_of place y.row.phase y) (same_Some cell x same) (node, refl, its));
         ups = is.holds.ups;
+        limits = is.holds.limits;
         waiters = is.holds.waiters
             ∙ sym (set_same (waiters_of t.log.entries s.rows) place None (waiter_at t.log.entries s.rows place None free))
             ∙ sym (map-set (waiter_of t.log.entries) s.rows place (Some (arrived a)))
@@ -255,14 +267,14 @@ module _ {N : Type 0} (pair_of : N → Key × ℕ) where
 
   -- a new trace
   pub new_is : (setup : Setup) (t : Traced N) (servers : ℕ) → IsSound setup → servers ≡ length setup.servers
-      → t.kept ≡ record { setup = setup; ups = replicate (length setup.servers) true; slots = replicate setup.places None }
-      → t.log ≡ record { entries = []; room = setup.log } → t.waits ≡ record { waiters = replicate setup.places None; order = []; servers = servers }
+      → t.kept ≡ record { setup = setup; ups = replicate (length setup.servers) true; limits = opening_limits setup.servers; slots = replicate setup.places None }
+      → t.log ≡ record { base = opening_state setup; entries = []; room = setup.log } → t.waits ≡ record { waiters = replicate setup.places None; order = []; servers = servers }
       → t.position ≡ record { cursor = servers - 1; last = 0; ticket = 0 } → IsTrace pair_of t
   new_is setup t servers sound many kept log waits far =
       subst (IsTrace pair_of)
       (ap (λ (k : Kept N). record {
         kept = k;
-        log = record { entries = []; room = setup.log };
+        log = record { base = opening_state setup; entries = []; room = setup.log };
         waits =
             record { waiters = replicate setup.places None; order = []; servers = servers };
         position = record { cursor = servers - 1; last = 0; ticket = 0 };
@@ -279,13 +291,14 @@ module _ {N : Type 0} (pair_of : N → Key × ℕ) where
       ∙ ap (λ (p : Position). record { kept = t.kept; log = t.log; waits = t.waits; position = p }) (sym far))
       (record {
         sound = sound;
-        judged = tt;
+        judged = record { begins = opening_base setup; judged = tt };
         holds = record {
           rows = none_rows N setup.places;
           nodes =
               λ p s there. absurd
               (none_stands setup.places p s.row (stands_row (replicate setup.places None) (replicate setup.places None) p s (none_rows N setup.places) there));
           ups = opening_ups setup;
+          limits = refl;
           waiters = sym (none_waits setup.places);
           in_turn = record {
             waiting = λ place among. absurd (Contains-nil place among);
@@ -310,7 +323,7 @@ module _ {N : Type 0} (pair_of : N → Key × ℕ) where
 
   -- where a request goes
   pub placed_here : (t : Traced N) (pin avoid : Option ℕ) (placement : Placement) (now : History) → IsTrace pair_of t → history_of t ≡ now
-      → IsPlacement (record { servers = t.kept.setup.servers; ups = t.kept.ups; rows = rows_in t.kept.slots }) t.position.cursor pin avoid placement
+      → IsPlacement (record { servers = t.kept.setup.servers; limits = t.kept.limits; ups = t.kept.ups; rows = rows_in t.kept.slots }) t.position.cursor pin avoid placement
       → IsPlacement (scene_of now) (state_of now).cursor pin avoid placement
   placed_here t pin avoid placement now is same placed =
       subst (λ (h : History). IsPlacement (scene_of h) (state_of h).cursor pin avoid placement) same

@@ -58,11 +58,12 @@ module _ {N : Type 0} (pair_of : N → Key × ℕ) where
       → is_waiting at.0.phase ≡ false → is_waiting phase ≡ false
       → (after t.kept.setup (state_of (history_of t)) e).rows ≡ changed it.ticket (in_phase phase) (state_of (history_of t)).rows
       → (after t.kept.setup (state_of (history_of t)) e).results ≡ (state_of (history_of t)).results
+      → (after t.kept.setup (state_of (history_of t)) e).limits ≡ (state_of (history_of t)).limits
       → (after t.kept.setup (state_of (history_of t)) e).moment ≡ (state_of (history_of t)).moment
       → position ≡ position_of (after t.kept.setup (state_of (history_of t)) e)
       → IsTrace pair_of
       (record { kept = with_slots t.kept (with_phase phase t.kept.slots it.place); log = noted t.log e; waits = t.waits; position = position })
-  phase_changed t e it phase position is may at none idle stays rows results still far =
+  phase_changed t e it phase position is may at none idle stays rows results limited still far =
       let s = state_of (history_of t) in
       let slot = stands_slot t.kept.slots s.rows it.place at.0 is.holds.rows at.1 in
       let idle_slot : is_waiting slot.0.row.phase ≡ false = ap (λ (r : Row). is_waiting r.phase) slot.2 ∙ idle in
@@ -78,6 +79,7 @@ module _ {N : Type 0} (pair_of : N → Key × ℕ) where
             rows ∙ changed_at s.rows it.ticket it.place slot.0.row (in_phase phase) (trace_consistent pair_of t is).tickets there
             (ap (λ (r : Row). r.key.ticket) slot.2 ∙ at.2);
         results = results;
+        limits = limited;
         node =
             λ x same. subst (λ (y : Slot N). HasItsNode pair_of it.place y.row.phase y) (same_Some next x same)
             (its_node pair_of it.place next phase (node.0, node.1, node.2));
@@ -109,7 +111,7 @@ module _ {N : Type 0} (pair_of : N → Key × ℕ) where
             now;
         last = t.position.last;
         ticket = t.position.ticket;
-      }) is may at refl (ap is_waiting loose) refl refl refl refl
+      }) is may at refl (ap is_waiting loose) refl refl refl refl refl
       (cursor_moved t.position (state_of h) now is.holds.position ∙ ap (λ n. position_of (record (state_of h) { cursor = n })) moved)
 
   -- a request in no place is told that it isn't served
@@ -127,7 +129,7 @@ module _ {N : Type 0} (pair_of : N → Key × ℕ) where
       let h = history_of t in
       let loose =
       loose_at t it is at (loose_left h.setup (state_of h) (length h.log) (stage_of h) it.ticket cause (trace_consistent pair_of t is) first second may) in
-      phase_changed t (Left it.ticket cause) it (Told cause) t.position is may at refl (ap is_waiting loose) refl refl refl refl is.holds.position
+      phase_changed t (Left it.ticket cause) it (Told cause) t.position is may at refl (ap is_waiting loose) refl refl refl refl refl is.holds.position
 
   -- a slot is given back
   pub free_kept : (t : Traced N) (it : Ticketed) (v : ℕ) → IsTrace pair_of t → MayComeNext (history_of t) (Freed it.ticket v)
@@ -146,7 +148,7 @@ module _ {N : Type 0} (pair_of : N → Key × ℕ) where
       let there = at_row (state_of h).rows it slot.live.0 slot.row (trace_consistent pair_of t is).tickets at slot.live.1 slot.named in
       let serves : at.0.phase ≡ Serving v = ap (λ (r : Row). r.phase) (same_Some at.0 slot.row (same_Some (Some at.0) (Some slot.row) (sym at.1 ∙ there)))
       ∙ served_phase v slot.row.phase slot.phase in
-      phase_changed t (Freed it.ticket v) it Loose t.position is may at refl (ap is_waiting serves) refl refl refl refl is.holds.position
+      phase_changed t (Freed it.ticket v) it Loose t.position is may at refl (ap is_waiting serves) refl refl refl refl refl is.holds.position
 
   -- a row is gone
   end_rests : (t : Traced N) (it : Ticketed) → IsTrace pair_of t → (at : IsAt (state_of (history_of t)).rows it)
@@ -173,5 +175,6 @@ module _ {N : Type 0} (pair_of : N → Key × ℕ) where
             changed_at s.rows it.ticket it.place slot.0.row gone (trace_consistent pair_of t is).tickets there
             (ap (λ (r : Row). r.key.ticket) slot.2 ∙ at.2);
         results = refl;
+        limits = refl;
         node = λ x same. cc;
       }) refl (ap (λ (r : Row). is_waiting r.phase) slot.2 ∙ idle) refl (λ queue. none_rests queue) (omega arith) is.holds.position

@@ -324,7 +324,7 @@ module _ {N : Type 0} (pair_of : N → Key × ℕ) (t : Traced N) (is : IsTrace 
   last_moment = ap (λ (p : Position). p.last) is.holds.position ∙ ap (λ (x : History). (state_of x).moment) same
 
   pub many_places : length (state_of h).rows ≡ h.setup.places
-  many_places = subst (λ (x : History). length (state_of x).rows ≡ x.setup.places) same (trace_places pair_of t)
+  many_places = subst (λ (x : History). length (state_of x).rows ≡ x.setup.places) same (trace_places pair_of t is)
 
   pub in_turn_there : AreInTurn (WaitsSince (state_of h).rows) (state_of h).moment t.waits.order
   in_turn_there = subst (λ (x : History). AreInTurn (WaitsSince (state_of x).rows) (state_of x).moment t.waits.order) same is.holds.in_turn

@@ -12,9 +12,12 @@ use Rattle.dispatch_log.specs.declared.row.Phase.TheVariants.{Loose, Waiting, Se
 use Rattle.dispatch_log.specs.declared.row.Row.{Row}
 use Rattle.dispatch_log.specs.declared.setup.Setup.{Setup}
 use Rattle.dispatch_log.specs.Retries.{are_redispatched, failed_row, failed}
-use Rattle.dispatch_log.specs.Rows.{Rows, StandsAt, IsRow, row_of, failures_of, with_change, changed, in_phase, in_backend_since, gone}
+use Rattle.dispatch_log.specs.Rows.{Rows, StandsAt, IsRow, phase_is_told, row_of, failures_of, with_change, changed, in_phase, in_backend_since, gone}
 use Rattle.dispatch_log.specs.States.{State, after, after_all, arrived, opening_state}
-use Rattle.dispatch_log.proofs.Dispatched.{none_stands}
+use Rattle.dispatch_log.specs.Judgement.{granting}
+use Rattle.dispatch_log.proofs.Dispatched.{base_consistent}
+use Rattle.dispatch_log.proofs.Tried.{tried_all, tried_over}
+use Rattle.list_facts.proofs.Never.{false_true}
 use Rattle.list_facts.proofs.Places.{get-set_same}
 use Rattle.slot_ledger.specs.declared.places.Slot.{Slot}
 use Rattle.slot_ledger.specs.Slots.{StandsIn, HasCountable, with_slot, with_failure, unpinned}
@@ -30,7 +33,7 @@ use Rattle.slot_ledger.specs.Ledgers.{Kept, with_slots}
 use Rattle.dispatch_trace.specs.declared.position.Position.{Position}
 use Rattle.dispatch_trace.specs.declared.position.Ticketed.{Ticketed}
 use Rattle.dispatch_trace.specs.Fates.{failed_slot}
-use Rattle.dispatch_trace.specs.Histories.{IsAt, MayComeNext, MayBeginNext}
+use Rattle.dispatch_trace.specs.Histories.{stage_of, IsAt, MayComeNext, MayBeginNext}
 use Rattle.dispatch_trace.specs.Traces.{Traced, history_of, noted, HasItsNode, IsTrace}
 use Rattle.dispatch_trace.proofs.Entries.{moment_moved}
 use Rattle.dispatch_trace.proofs.Resting.{rests, slot_rests}
@@ -80,104 +83,35 @@ module _ {H : Type 0} where
       (subst (λ (r : Row). are_redispatched kept.setup (r.failures + 1) ≡ true) (sym there.2)
       (subst (λ (x : Setup). are_redispatched x (row.failures + 1) ≡ true) (same ∙ ap (λ (k : Kept H). k.setup) goes) takes)))
 
--- a row has at most one failure more than one that was there
-pub record IsFew (rows : Rows) (r : Row) : Type 0 where
-  pub row : Row
-  pub live : IsRow rows row
-  pub few : r.failures ≤ row.failures + 1
-
--- a change that counts at most one failure more
-abbrev CountsOne : (Row → Option Row) → Type 0
-CountsOne f = (b r : Row) → f b ≡ Some r → r.failures ≤ b.failures + 1
-
-few_changed : (rows : Rows) (t p : ℕ) (f : Row → Option Row) (r : Row) → CountsOne f → StandsAt (changed t f rows) p r → IsFew rows r
-few_changed rows t p f r counts at = by_cell (slice_get rows p) refl (sym (slice_get-map (with_change t f) rows p) ∙ at)
-  where
-    by_name : (b : Row) → slice_get rows p ≡ Some (Some b) → (named : Bool) → cond {A = Option Row} named (f b) (Some b) ≡ Some r → IsFew rows r
-    by_name b stood true made = record { row = b; live = (p, stood); few = counts b r made }
-    by_name b stood false made =
-        record { row = b; live = (p, stood); few = (let e : b.failures ≡ r.failures = ap (λ (x : Row). x.failures) (same_Some b r made) in omega arith) }
-
-    by_cell : (cell : Option (Option Row)) → slice_get rows p ≡ cell → option_map (with_change t f) cell ≡ Some (Some r) → IsFew rows r
-    by_cell None stood made = cc
-    by_cell (Some None) stood made = cc
-    by_cell (Some (Some b)) stood made = by_name b stood (b.key.ticket == t) (same_Some _ _ made)
-
-counts_phase : (phase : Phase) → CountsOne (in_phase phase)
-counts_phase phase b r made = let e : b.failures ≡ r.failures = ap (λ (x : Row). x.failures) (same_Some (record b { phase = phase }) r made) in omega arith
-
-counts_moved : (since : ℕ) → CountsOne (in_backend_since since)
-counts_moved since b r made = let e : b.failures ≡ r.failures = ap (λ (x : Row). x.failures) (same_Some _ r made) in omega arith
-
-counts_failed : (setup : Setup) → CountsOne (failed setup)
-counts_failed setup b r made = let e : b.failures + 1 ≡ r.failures = ap (λ (x : Row). x.failures) (same_Some (failed_row setup b) r made) in omega arith
-
-counts_gone : CountsOne gone
-counts_gone b r made = let no : None ≡ Some r = made in cc
-
-same_rows : (rows : Rows) (p : ℕ) (r : Row) → StandsAt rows p r → IsFew rows r
-same_rows rows p r at = record { row = r; live = (p, at); few = omega arith }
-
-none_yet : (rows : Rows) (i p : ℕ) (a r : Row) → a.failures ≡ 0 → StandsAt (set rows i (Some a)) p r → (r.failures ≡ 0) ⊎ IsFew rows r
-none_yet [] i p a r none at = inr (same_rows [] p r at)
-none_yet (x ∷ rows) zero zero a r none at = inl (ap (λ (y : Row). y.failures) (sym (same_Some a r (same_Some (Some a) (Some r) at))) ∙ none)
-none_yet (x ∷ rows) zero (suc p) a r none at = inr (same_rows (x ∷ rows) (suc p) r at)
-none_yet (x ∷ rows) (suc i) zero a r none at = inr (same_rows (x ∷ rows) zero r at)
-none_yet (x ∷ rows) (suc i) (suc p) a r none at = further (none_yet rows i p a r none at)
-  where
-    further : (r.failures ≡ 0) ⊎ IsFew rows r → (r.failures ≡ 0) ⊎ IsFew (x ∷ rows) r
-    further (inl e) = inl e
-    further (inr is) = inr (record { row = is.row; live = (suc is.live.0, is.live.1); few = is.few })
-
-failures_after : (setup : Setup) (s : State) (e : Entry) (p : ℕ) (r : Row) → StandsAt (after setup s e).rows p r → (r.failures ≡ 0) ⊎ IsFew s.rows r
-failures_after setup s (Arrive m a) p r at = none_yet s.rows a.place p (arrived a) r refl at
-failures_after setup s (Done m u) p r at = inr (same_rows s.rows p r at)
-failures_after setup s (Fail m u) p r at = inr (few_changed s.rows u p (failed setup) r (counts_failed setup) at)
-failures_after setup s (Abort m u) p r at = inr (same_rows s.rows p r at)
-failures_after setup s (Tick m) p r at = inr (same_rows s.rows p r at)
-failures_after setup s (Check m v ok) p r at = inr (same_rows s.rows p r at)
-failures_after setup s (Direct u v) p r at = inr (few_changed s.rows u p (in_phase (Serving v)) r (counts_phase (Serving v)) at)
-failures_after setup s (Joined u q) p r at = inr (few_changed s.rows u p (in_phase (Waiting q s.moment)) r (counts_phase (Waiting q s.moment)) at)
-failures_after setup s (Granted u q v) p r at = inr (few_changed s.rows u p (in_phase (Serving v)) r (counts_phase (Serving v)) at)
-failures_after setup s (Moved u v) p r at = inr (few_changed s.rows u p (in_backend_since s.moment) r (counts_moved s.moment) at)
-failures_after setup s (Freed u v) p r at = inr (few_changed s.rows u p (in_phase Loose) r (counts_phase Loose) at)
-failures_after setup s (Retried u v k) p r at = inr (same_rows s.rows p r at)
-failures_after setup s (Left u c) p r at = inr (few_changed s.rows u p (in_phase (Told c)) r (counts_phase (Told c)) at)
-failures_after setup s (Health v up) p r at = inr (same_rows s.rows p r at)
-failures_after setup s (Ended u) p r at = inr (few_changed s.rows u p gone r counts_gone at)
-
--- no row has more failures than its log has entries
-few_failures : (setup : Setup) (s : State) (es : List Entry) (most : ℕ) → ((row : Row) → IsRow s.rows row → row.failures ≤ most) → (row : Row)
-    → IsRow (after_all setup s es).rows row → row.failures ≤ most + length es
-few_failures setup s [] most below row live = let few = below row live in omega arith
-few_failures setup s (e ∷ es) most below row live =
-    let rest : row.failures ≤ (most + 1) + length es =
-    few_failures setup (after setup s e) es (most + 1) (λ r there. step r (failures_after setup s e there.0 r there.1)) row live in
-    omega arith
-  where
-    step : (r : Row) → (r.failures ≡ 0) ⊎ IsFew s.rows r → r.failures ≤ most + 1
-    step r (inl none) = omega arith
-    step r (inr is) = let few = is.few in let old = below is.row is.live in omega arith
-
-pub failures_within : (setup : Setup) (log : List Entry) (row : Row) → IsRow (after_all setup (opening_state setup) log).rows row
-    → row.failures ≤ length log
-failures_within setup log row live =
-    let few : row.failures ≤ 0 + length log =
-    few_failures setup (opening_state setup) log 0 (λ r there. absurd (none_stands setup.places there.0 r there.1)) row live in
-    omega arith
+slot_untold : (phase : Phase) → has_a_slot phase ≡ true → phase_is_told phase ≡ false
+slot_untold (Serving v) slot = refl
+slot_untold Loose slot = false_true slot
+slot_untold (Waiting q m) slot = false_true slot
+slot_untold (Told c) slot = false_true slot
 
 has_slot : (b : Bool) → not b ≡ false → b ≡ true
 has_slot true e = refl
 has_slot false e = cc
 
 module _ {N : Type 0} (pair_of : N → Key × ℕ) where
-  pub fail_countable : (t : Traced N) (it : Ticketed) → IsTrace pair_of t → length t.log.entries < t.kept.setup.log
-      → IsAt (state_of (history_of t)).rows it → HasCountable t.kept.slots it.place
-  fail_countable t it is room at =
-      let s = stands_slot t.kept.slots (state_of (history_of t)).rows it.place at.0 is.holds.rows at.1 in
-      let few : at.0.failures ≤ length t.log.entries = failures_within t.kept.setup t.log.entries at.0 (it.place, at.1) in
-      let same : s.0.row.failures ≡ at.0.failures = ap (λ (r : Row). r.failures) s.2 in
-      let most = is.sound.log in
+  -- the failures of a request that has a slot are far from all that can be counted
+  pub fail_countable : (t : Traced N) (it : Ticketed) (moment : ℕ) → IsTrace pair_of t
+      → MayBeginNext (history_of t) moment (refuses_failure (history_of t) it.ticket) → IsAt (state_of (history_of t)).rows it
+      → HasCountable t.kept.slots it.place
+  fail_countable t it moment is begins at =
+      let h = history_of t in
+      let rows = (state_of h).rows in
+      let its = row_of_accepted (λ phase. not (has_a_slot phase)) h.setup (state_of h) (length h.log) it.ticket begins.accepted in
+      let there = at_row rows it its.place its.row (trace_consistent pair_of t is).tickets at its.stands its.named in
+      let same : at.0 ≡ its.row = same_Some at.0 its.row (same_Some (Some at.0) (Some its.row) (sym at.1 ∙ there)) in
+      let s = stands_slot t.kept.slots rows it.place at.0 is.holds.rows at.1 in
+      let opened = base_consistent h.setup h.base is.judged.begins in
+      let tried = tried_all h.setup h.base 0 granting h.log opened is.judged.judged (λ row live untold other. is.judged.begins.tried row live untold) in
+      let few : its.row.failures ≤ h.setup.retries =
+      tried_over h.setup (state_of h) (stage_of h) tried begins.over its.row (its.place, its.stands)
+      (slot_untold its.row.phase (has_slot (has_a_slot its.row.phase) its.right)) in
+      let its_own : s.0.row.failures ≡ its.row.failures = ap (λ (r : Row). r.failures) (s.2 ∙ same) in
+      let most = is.sound.retries in
       (s.0, s.1, omega arith)
 
   -- a failure is counted
@@ -221,6 +155,7 @@ module _ {N : Type 0} (pair_of : N → Key × ℕ) where
             changed_at s.rows it.ticket it.place slot.0.row (failed t.kept.setup) (trace_consistent pair_of t is).tickets
             (stands_row t.kept.slots s.rows it.place slot.0 is.holds.rows slot.1) (ap (λ (r : Row). r.key.ticket) slot.2 ∙ at.2);
         results = refl;
+        limits = refl;
         node =
             λ x alike. subst (λ (y : Slot N). HasItsNode pair_of it.place y.row.phase y) (same_Some next x alike)
             (its_node pair_of it.place next slot.0.row.phase (node.0, node.1, node.2));

@@ -1,5 +1,5 @@
 -- Grants and moves of a trace.
-use Rattle.std.proofs.Common.{◌≡◌, ◌≢◌, ℕ, ◌+◌, ◌<◌, ◌≤◌, Option, None, Some, MatchOption, length, refl, ap, sym, ◌∙◌, subst}
+use Rattle.std.proofs.Common.{◌≡◌, ◌≢◌, ℕ, ◌+◌, ◌<◌, ◌≤◌, List, [], ◌∷◌, Option, None, Some, MatchOption, IsTrue, length, refl, ap, sym, ◌∙◌, subst}
 use Rattle.std.proofs.Common.{arith, Ordering, Less, Equal, Greater}
 use Rattle.due_key.specs.declared.key.Key.{Key}
 use Rattle.due_key.specs.Order.{key_cmp}
@@ -11,11 +11,13 @@ use Rattle.dispatch_log.specs.Grants.{IsLawfulGrant, IsSettled}
 use Rattle.dispatch_log.specs.Histories.{History, state_of}
 use Rattle.dispatch_log.specs.Refusals.{is_waiting}
 use Rattle.dispatch_log.specs.Rows.{Rows, in_phase}
-use Rattle.dispatch_log.specs.States.{granted_by}
+use Rattle.dispatch_log.specs.declared.entry.Entry.{Entry}
+use Rattle.dispatch_log.specs.States.{scene, after_all, granted_by}
 use Rattle.dispatch_log.specs.Words.{Scene}
 use Rattle.dispatch_log.proofs.RowLemmas.{changed_at}
 use Rattle.list_facts.proofs.Orders.{greater_from_less}
-use Rattle.readable_log.specs.Grants.{joining_of}
+use Rattle.readable_log.specs.Grants.{joining_of, has_joined}
+use Rattle.readable_log.specs.Windows.{base_rows}
 use Rattle.readable_log.specs.Readable.{HasArrived}
 use Rattle.slot_ledger.specs.Counts.{IsQueueOf}
 use Rattle.slot_ledger.specs.Ledgers.{Kept, with_slots}
@@ -34,7 +36,7 @@ use Rattle.dispatch_trace.proofs.Within.{take_within}
 
 -- what a decision on a ledger looks at
 abbrev pub kept_scene : {N : Type 0} → Kept N → Scene
-kept_scene kept = record { servers = kept.setup.servers; ups = kept.ups; rows = rows_in kept.slots }
+kept_scene kept = record { servers = kept.setup.servers; limits = kept.limits; ups = kept.ups; rows = rows_in kept.slots }
 
 -- two first requests of a queue have one key
 pub first_once : (queue : Queue) (waiters : Waiters) (p q : ℕ) (v w : Waiter) → IsFirstIn queue waiters p v → IsFirstIn queue waiters q w
@@ -154,7 +156,7 @@ module _ {N : Type 0} (pair_of : N → Key × ℕ) where
               now;
           last = t.position.last;
           ticket = t.position.ticket;
-        }) calls.before grant_may refl calls.first.waits refl pair refl refl refl
+        }) calls.before grant_may refl calls.first.waits refl pair refl refl refl refl
         (cursor_moved t.position s now calls.before.holds.position
         ∙ ap (λ n. position_of (record s { cursor = n })) (moved ∙ ap (granted_by t.kept.setup server) (cursor_is pair_of t calls.before)))
 
@@ -179,15 +181,30 @@ module _ {N : Type 0} (pair_of : N → Key × ℕ) where
     pub grant_room : length t.log.entries + waiting_of (history_of t) ≤ t.kept.setup.log → length t.log.entries < t.log.room
     grant_room room = let fewer = grant_fewer in let most = calls.before.log_room in omega arith
 
-    pub grant_arrived : HasArrived t.log.entries waiter.key.ticket waiter.key.class waiter.key.due
+    pub grant_arrived : HasArrived (base_rows t.log.base.rows) t.log.entries waiter.key.ticket waiter.key.class waiter.key.due
     grant_arrived =
-        subst (λ (k : Key). HasArrived t.log.entries k.ticket k.class k.due) its.key (row_arrived pair_of t its.row calls.before (place, its.stands))
+        subst (λ (k : Key). HasArrived (base_rows t.log.base.rows) t.log.entries k.ticket k.class k.due) its.key
+        (row_arrived pair_of t its.row calls.before (place, its.stands))
 
-    pub grant_joined : (joining_of waiter.key.ticket queue t.log.entries ≡ waiter.joined) × (0 < waiter.joined)
+    pub grant_joined : joining_of waiter.key.ticket queue t.log.entries ≡ waiter.joined
     grant_joined =
-        let same : joining_of waiter.key.ticket queue t.log.entries ≡ waiter.joined =
         ap (λ (k : Key). joining_of k.ticket queue t.log.entries) (sym its.key) ∙ ap (λ (q : Queue). joining_of its.row.key.ticket q t.log.entries)
-        (sym calls.first.its) ∙ its.joined in
-        let waits_so : 0 < joining_of its.row.key.ticket waiter.queue t.log.entries = row_joined pair_of t its.row waiter.queue calls.before (place, its.stands)
-        (phase_waits waiter.queue its.since its.row.phase its.phase) in
-        (same, subst (λ n. 0 < n) its.joined waits_so)
+        (sym calls.first.its) ∙ its.joined
+
+    pub grant_waits : IsTrue (has_joined (base_rows t.log.base.rows) waiter.key.ticket queue t.log.entries)
+    grant_waits =
+        let base = base_rows t.log.base.rows in
+        let waits_so = row_joined pair_of t its.row waiter.queue calls.before (place, its.stands) (phase_waits waiter.queue its.since its.row.phase its.phase) in
+        subst (λ (k : Key). IsTrue (has_joined base k.ticket queue t.log.entries)) its.key
+        (subst (λ (q : Queue). IsTrue (has_joined base its.row.key.ticket q t.log.entries)) calls.first.its waits_so)
+
+    -- an event has begun: where none has all is settled
+    pub grant_begun : 0 < length t.log.entries
+    grant_begun = begun_by t.log.entries refl
+      where
+        begun_by : (log : List Entry) → t.log.entries ≡ log → 0 < length t.log.entries
+        begun_by [] none =
+            let settled : IsSettled (scene_of (history_of t)) =
+            subst (λ l. IsSettled (scene t.kept.setup (after_all t.kept.setup t.log.base l))) (sym none) calls.before.judged.begins.dispatched.settled in
+            absurd (settled server grant_may.1.next.takes)
+        begun_by (e ∷ log) some = subst (λ l. 0 < length l) (sym some) (omega arith)

@@ -8,7 +8,8 @@ use Rattle.dispatch_log.specs.declared.setup.Setup.{Setup}
 use Rattle.dispatch_log.specs.Health.{is_up_by, ups_of, with_result}
 use Rattle.dispatch_log.specs.Histories.{History, state_of}
 use Rattle.dispatch_log.specs.States.{State, after, after_all, opening_state}
-use Rattle.dispatch_log.proofs.Judged.{results_after}
+use Rattle.dispatch_log.specs.Legal.{IsBase}
+use Rattle.dispatch_log.proofs.Judged.{results_all}
 use Rattle.dispatch_trace.specs.Traces.{is_up_at}
 
 -- a server without a result is up
@@ -36,9 +37,5 @@ ups_set (first ∷ servers) (own ∷ results) (suc server) ok long =
     ap (λ (l : List Bool). is_up_by first.rise_fall own ∷ l) (ups_set servers results server ok (omega arith))
 
 -- there are as many lists of results as servers
-results_all : (setup : Setup) (s : State) (es : List Entry) → length (after_all setup s es).results ≡ length s.results
-results_all setup s [] = refl
-results_all setup s (e ∷ es) = results_all setup (after setup s e) es ∙ results_after setup s e
-
-pub many_results : (h : History) → length (state_of h).results ≡ length h.setup.servers
-many_results h = results_all h.setup (opening_state h.setup) h.log ∙ length-replicate (length h.setup.servers) []
+pub many_results : (h : History) → IsBase h.setup h.base → length (state_of h).results ≡ length h.setup.servers
+many_results h is = results_all h.setup h.base h.log ∙ is.checked

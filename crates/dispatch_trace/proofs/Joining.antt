@@ -153,7 +153,7 @@ module _ {N : Type 0} (pair_of : N → Key × ℕ) where
           position = t.position;
         })) named
         (unqueued pair_of t (Left its.0.key.ticket cause) it.place its.0 (Told cause) node t.position calls.before
-        (subst (λ n. MayComeNext (history_of t) (Left n cause)) (sym named) calls.may) refl its.1 refl its.2 refl refl refl calls.before.holds.position)
+        (subst (λ n. MayComeNext (history_of t) (Left n cause)) (sym named) calls.may) refl its.1 refl its.2 refl refl refl refl calls.before.holds.position)
 
     pub leave_fewer : waiting_of (with_entry (history_of t) (Left it.ticket cause)) + 1 ≡ waiting_of (history_of t)
     leave_fewer =

@@ -87,7 +87,7 @@ module _ {N : Type 0} (pair_of : N → Key × ℕ) where
     rows_after : (state_of (with_entry (history_of t) (Moved waiter.key.ticket server))).rows ≡ set (state_of (history_of t)).rows place
         (Some (record its.row { pin = None; phase = Waiting Backend (state_of (history_of t)).moment }))
     rows_after =
-        ap (λ (s : State). s.rows) (after_all-push t.kept.setup (opening_state t.kept.setup) t.log.entries (Moved waiter.key.ticket server))
+        ap (λ (s : State). s.rows) (after_all-push t.kept.setup t.log.base t.log.entries (Moved waiter.key.ticket server))
         ∙ changed_at (state_of (history_of t)).rows waiter.key.ticket place its.row (in_backend_since (state_of (history_of t)).moment)
         (trace_consistent pair_of t calls.before).tickets its.stands (ap (λ (k : Key). k.ticket) its.key)
 

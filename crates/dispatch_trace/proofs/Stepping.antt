@@ -1,7 +1,8 @@
 -- What a trace holds, while one entry changes it.
-use Rattle.std.proofs.Common.{◌≡◌, ℕ, ◌+◌, ◌≤◌, Bool, false, List, [], ◌∷◌, ◌++◌, Option, None, Some, option_map, slice_get, length}
+use Rattle.std.proofs.Common.{◌≡◌, ℕ, ◌+◌, ◌<◌, ◌≤◌, ◌^◌, max, Bool, false, List, [], ◌∷◌, ◌++◌, Option, None, Some, option_map, slice_get, length}
 use Rattle.std.proofs.Common.{refl, ap, sym, ◌∙◌, subst, arith, inl, inr}
-use Rattle.std.proofs.Math.ListN.{set, length-replicate}
+use Rattle.std.proofs.Math.ListN.{set}
+use Rattle.std.proofs.lemmas.Bool.Decides.{nat_tests}
 use Rattle.std.proofs.lemmas.List.{map-set}
 use Rattle.std.proofs.lemmas.Option.{same_Some, slice_get-map}
 use Rattle.due_key.specs.declared.key.Key.{Key}
@@ -11,18 +12,23 @@ use Rattle.dispatch_log.specs.declared.row.Phase.TheVariants.{Loose, Waiting, Se
 use Rattle.dispatch_log.specs.declared.row.Row.{Row}
 use Rattle.dispatch_log.specs.Health.{ups_of}
 use Rattle.dispatch_log.specs.declared.refusal.Refusal.{Refusal}
-use Rattle.dispatch_log.specs.Histories.{History, state_of}
+use Rattle.dispatch_log.specs.Histories.{History, state_of, effective}
 use Rattle.dispatch_log.specs.Judgement.{granting, MayCome}
 use Rattle.dispatch_log.specs.Logs.{Recorded}
 use Rattle.dispatch_log.specs.Refusals.{is_waiting}
 use Rattle.dispatch_log.specs.Rows.{Rows, StandsAt}
-use Rattle.dispatch_log.specs.States.{after, opening_state}
+use Rattle.dispatch_log.specs.declared.allowance.Allowance.{Allowance}
+use Rattle.dispatch_log.specs.declared.setup.Setup.{Setup}
+use Rattle.dispatch_log.specs.States.{State, after}
 use Rattle.dispatch_log.proofs.Consistency.{IsConsistent}
-use Rattle.dispatch_log.proofs.Dispatched.{opening_consistent}
+use Rattle.dispatch_log.proofs.Dispatched.{base_consistent}
 use Rattle.dispatch_log.proofs.Judged.{after_all-push, judged_push, consistent_all, places_all}
 use Rattle.list_facts.proofs.Places.{get-set_cases}
 use Rattle.dispatch_log.proofs.RowLemmas.{HaveOwnTickets}
 use Rattle.readable_log.specs.Grants.{joining_in}
+use Rattle.readable_log.specs.Readable.{MayFollow}
+use Rattle.readable_log.specs.Windows.{base_rows}
+use Rattle.readable_log.proofs.Judged.{judged_follows}
 use Rattle.slot_ledger.specs.declared.places.Slot.{Slot}
 use Rattle.slot_ledger.specs.Ledgers.{Kept, with_slots}
 use Rattle.slot_ledger.specs.Slots.{rows_in, StandsIn, HasRow}
@@ -30,7 +36,7 @@ use Rattle.slot_ledger.proofs.Counting.{row_in}
 use Rattle.wait_queues.specs.Waitlists.{Waitlist}
 use Rattle.dispatch_trace.specs.declared.position.Position.{Position}
 use Rattle.dispatch_trace.specs.declared.position.Ticketed.{Ticketed}
-use Rattle.dispatch_trace.specs.Histories.{stage_of, IsAt, MayComeNext, MayBeginNext}
+use Rattle.dispatch_trace.specs.Histories.{stage_of, IsAt, IsJudged, MayAccept, MayComeNext, MayBeginNext}
 use Rattle.dispatch_trace.specs.Traces.{Traced, history_of, noted, HasItsNode, HaveNodes, Holds, IsTrace, position_of, waiter_of, waiters_of}
 use Rattle.dispatch_trace.specs.Turns.{WaitsSince, AreInTurn}
 use Rattle.dispatch_trace.proofs.Resting.{rests}
@@ -44,9 +50,10 @@ here_at h now it same at = subst (λ (x : History). IsAt (state_of x).rows it) (
 pub here_may : (h now : History) (e : Entry) → h ≡ now → MayComeNext now e → MayComeNext h e
 here_may h now e same may = subst (λ (x : History). MayComeNext x e) (sym same) may
 
-pub here_begins : (h now : History) (moment : ℕ) (refused : History → Option Refusal) → h ≡ now → MayBeginNext now moment (refused now)
-    → MayBeginNext h moment (refused h)
-here_begins h now moment refused same begins = subst (λ (x : History). MayBeginNext x moment (refused x)) (sym same) begins
+-- the last entry of a judged window may follow those before it
+pub follows_on : (setup : Setup) (base : State) (log : List Entry) (e : Entry) → IsJudged (record { setup = setup; base = base; log = log ++ e ∷ [] })
+    → MayFollow (base_rows base.rows) log e
+follows_on setup base log e is = judged_follows setup base log e is.begins is.judged
 
 module _ {N : Type 0} where
   pub stands_row : (slots : List (Option (Slot N))) (rows : Rows) (p : ℕ) (s : Slot N) → rows_in slots ≡ rows → StandsIn slots p s
@@ -109,35 +116,39 @@ module _ {N : Type 0} (pair_of : N → Key × ℕ) where
   -- the states of a trace's log are consistent
   pub trace_consistent : (t : Traced N) → IsTrace pair_of t
       → IsConsistent (state_of (history_of t)).rows (state_of (history_of t)).ticket (stage_of (history_of t))
-  trace_consistent t is = consistent_all t.kept.setup (opening_state t.kept.setup) 0 granting t.log.entries (opening_consistent t.kept.setup) is.judged
+  trace_consistent t is =
+      consistent_all t.kept.setup t.log.base 0 granting t.log.entries (base_consistent t.kept.setup t.log.base is.judged.begins) is.judged.judged
 
   -- there are as many places as the setup says
-  pub trace_places : (t : Traced N) → length (state_of (history_of t)).rows ≡ t.kept.setup.places
-  trace_places t = places_all t.kept.setup (opening_state t.kept.setup) t.log.entries ∙ length-replicate t.kept.setup.places None
+  pub trace_places : (t : Traced N) → IsTrace pair_of t → length (state_of (history_of t)).rows ≡ t.kept.setup.places
+  trace_places t is = places_all t.kept.setup t.log.base t.log.entries ∙ is.judged.begins.places
 
   -- a live request has a slot at its place
   pub has_row : (t : Traced N) (it : Ticketed) → IsTrace pair_of t → IsAt (state_of (history_of t)).rows it → HasRow t.kept.slots it.place
   has_row t it is at = let s = stands_slot t.kept.slots (state_of (history_of t)).rows it.place at.0 is.holds.rows at.1 in (s.0, s.1)
 
   -- a trace with an entry more, which holds what that leaves
-  pub stepped : (t : Traced N) (e : Entry) (ups : List Bool) (slots : List (Option (Slot N))) (waits : Waitlist) (position : Position) → IsTrace pair_of t
+  pub stepped : (t : Traced N) (e : Entry) (ups : List Bool) (limits : List Allowance) (slots : List (Option (Slot N))) (waits : Waitlist) (position : Position) → IsTrace pair_of t
       → MayComeNext (history_of t) e → waits.servers ≡ t.waits.servers
-      → Holds pair_of (record { kept = record { setup = t.kept.setup; ups = ups; slots = slots }; log = noted t.log e; waits = waits; position = position })
+      → Holds pair_of (record { kept = record { setup = t.kept.setup; ups = ups; limits = limits; slots = slots }; log = noted t.log e; waits = waits; position = position })
       (t.log.entries ++ e ∷ []) (after t.kept.setup (state_of (history_of t)) e)
-      → IsTrace pair_of (record { kept = record { setup = t.kept.setup; ups = ups; slots = slots }; log = noted t.log e; waits = waits; position = position })
-  stepped t e ups slots waits position is may many holds = record {
+      → IsTrace pair_of (record { kept = record { setup = t.kept.setup; ups = ups; limits = limits; slots = slots }; log = noted t.log e; waits = waits; position = position })
+  stepped t e ups limits slots waits position is may many holds = record {
     sound = is.sound;
-    judged = judged_push t.kept.setup (opening_state t.kept.setup) 0 granting t.log.entries e is.judged
-        (let count : 0 + length t.log.entries ≡ length t.log.entries = omega arith in
-        subst (λ n. MayCome t.kept.setup (state_of (history_of t)) n (stage_of (history_of t)) e) (sym count) may);
+    judged = record {
+      begins = is.judged.begins;
+      judged = judged_push t.kept.setup t.log.base 0 granting t.log.entries e is.judged.judged
+          (let count : 0 + length t.log.entries ≡ length t.log.entries = omega arith in
+          subst (λ n. MayCome t.kept.setup (state_of (history_of t)) n (stage_of (history_of t)) e) (sym count) may);
+    };
     holds = subst (Holds pair_of (record {
       kept =
-          record { setup = t.kept.setup; ups = ups; slots = slots };
+          record { setup = t.kept.setup; ups = ups; limits = limits; slots = slots };
       log = noted t.log e;
       waits = waits;
       position = position;
     }) (t.log.entries ++ e ∷ []))
-        (sym (after_all-push t.kept.setup (opening_state t.kept.setup) t.log.entries e)) holds;
+        (sym (after_all-push t.kept.setup t.log.base t.log.entries e)) holds;
     servers = many ∙ is.servers;
     log_room = is.log_room;
   }
@@ -152,20 +163,22 @@ module _ {N : Type 0} (pair_of : N → Key × ℕ) where
       (subst (λ (w : Waitlist). IsTrace pair_of (record { kept = kept; log = log; waits = w; position = position })) (sym waiting) is))
 
   -- an entry that changes no row
-  pub row_less : (t : Traced N) (e : Entry) (ups : List Bool) (position : Position) → IsTrace pair_of t → MayComeNext (history_of t) e
+  pub row_less : (t : Traced N) (e : Entry) (ups : List Bool) (limits : List Allowance) (position : Position) → IsTrace pair_of t → MayComeNext (history_of t) e
       → joining_in e ≡ None
       → (after t.kept.setup (state_of (history_of t)) e).rows ≡ (state_of (history_of t)).rows
       → (state_of (history_of t)).moment ≤ (after t.kept.setup (state_of (history_of t)) e).moment
       → ups ≡ ups_of t.kept.setup.servers (after t.kept.setup (state_of (history_of t)) e).results
+      → limits ≡ (after t.kept.setup (state_of (history_of t)) e).limits
       → position ≡ position_of (after t.kept.setup (state_of (history_of t)) e)
       → IsTrace pair_of
-      (record { kept = record { setup = t.kept.setup; ups = ups; slots = t.kept.slots }; log = noted t.log e; waits = t.waits; position = position })
-  row_less t e ups position is may none rows later up far =
+      (record { kept = record { setup = t.kept.setup; ups = ups; limits = limits; slots = t.kept.slots }; log = noted t.log e; waits = t.waits; position = position })
+  row_less t e ups limits position is may none rows later up limited far =
       let s = state_of (history_of t) in
-      stepped t e ups t.kept.slots t.waits position is may refl (record {
+      stepped t e ups limits t.kept.slots t.waits position is may refl (record {
         rows = is.holds.rows ∙ sym rows;
         nodes = is.holds.nodes;
         ups = up;
+        limits = limited;
         waiters = is.holds.waiters ∙ sym (waiters_same t.log.entries e s.rows (none_join e none)) ∙ ap (waiters_of (t.log.entries ++ e ∷ [])) (sym rows);
         in_turn =
             subst (λ (l : Rows). AreInTurn (WaitsSince l) (after t.kept.setup s e).moment t.waits.order) (sym rows)
@@ -183,6 +196,7 @@ module _ {N : Type 0} (pair_of : N → Key × ℕ) where
     pub stands : StandsIn t.kept.slots p s
     pub rows : (after t.kept.setup (state_of (history_of t)) e).rows ≡ set (state_of (history_of t)).rows p (row_in cell)
     pub results : (after t.kept.setup (state_of (history_of t)) e).results ≡ (state_of (history_of t)).results
+    pub limits : (after t.kept.setup (state_of (history_of t)) e).limits ≡ (state_of (history_of t)).limits
     pub node : (x : Slot N) → cell ≡ Some x → HasItsNode pair_of p x.row.phase x
 
   -- an entry that changes a ticket's row, and with it who waits
@@ -194,10 +208,11 @@ module _ {N : Type 0} (pair_of : N → Key × ℕ) where
       → IsTrace pair_of (record { kept = with_slots t.kept (set t.kept.slots p cell); log = noted t.log e; waits = waits; position = position })
   row_changed t e p s cell waits position is may change many waiters turn far =
       let state = state_of (history_of t) in
-      stepped t e t.kept.ups (set t.kept.slots p cell) waits position is may many (record {
+      stepped t e t.kept.ups t.kept.limits (set t.kept.slots p cell) waits position is may many (record {
         rows = map-set row_in t.kept.slots p cell ∙ ap (λ (l : Rows). set l p (row_in cell)) is.holds.rows ∙ sym change.rows;
         nodes = nodes_set t.kept.slots p (Some s) cell is.holds.nodes change.stands change.node;
         ups = is.holds.ups ∙ ap (ups_of t.kept.setup.servers) (sym change.results);
+        limits = is.holds.limits ∙ sym change.limits;
         waiters = waiters ∙ ap (waiters_of (t.log.entries ++ e ∷ [])) (sym change.rows);
         in_turn = subst (λ (l : Rows). AreInTurn (WaitsSince l) (after t.kept.setup state e).moment waits.order) (sym change.rows) turn;
         position = far;
@@ -223,3 +238,18 @@ module _ {N : Type 0} (pair_of : N → Key × ℕ) where
       (rows_rest state.rows p state.moment (after t.kept.setup state e).moment (Some s.row) (row_in cell) t.waits.order is.holds.in_turn there
       (λ queue. rests queue s.row idle) resting later)
       far
+
+  -- an event that a trace may accept may begin
+  pub here_begins : (t : Traced N) (now : History) (moment last : ℕ) (refused : History → Option Refusal) → IsTrace pair_of t → history_of t ≡ now
+      → MayAccept now (refused now) → last ≡ max t.position.last moment → last < 2 ^ 62 → MayBeginNext (history_of t) moment (refused (history_of t))
+  here_begins t now moment last refused is same may later within =
+      let h = history_of t in
+      let here : MayAccept h (refused h) = subst (λ (x : History). MayAccept x (refused x)) (sym same) may in
+      let when : last ≡ effective h moment = later ∙ ap (λ (p : Position). max p.last moment) is.holds.position in
+      record {
+        over = here.over;
+        settled = here.settled;
+        accepted = here.accepted;
+        later = grind (arith, nat_tests);
+        within = subst (λ n. n < 2 ^ 62) when within;
+      }

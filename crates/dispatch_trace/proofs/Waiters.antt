@@ -16,14 +16,16 @@ use Rattle.dispatch_log.specs.declared.row.Row.{Row}
 use Rattle.dispatch_log.specs.Histories.{History, state_of}
 use Rattle.dispatch_log.specs.Refusals.{is_waiting}
 use Rattle.dispatch_log.specs.Rows.{Rows, StandsAt, IsRow, changed, in_phase, in_backend_since, phase_waits_in, same_queue}
-use Rattle.dispatch_log.specs.States.{State, after, opening_state}
+use Rattle.dispatch_log.specs.States.{State, after}
 use Rattle.dispatch_log.proofs.Judged.{after_all-push}
 use Rattle.list_facts.proofs.Places.{tally, get-set_same, count-set}
 use Rattle.dispatch_log.proofs.RowLemmas.{changed_at}
-use Rattle.readable_log.specs.Grants.{joining_in, joins, joining_of}
+use Rattle.readable_log.specs.Grants.{joining_in, joins, joining_of, has_joined}
 use Rattle.readable_log.specs.Readable.{HasArrived}
 use Rattle.readable_log.proofs.Joinings.{joining_of_last}
-use Rattle.readable_log.proofs.Judged.{opens_empty, judged_keep_order}
+use Rattle.readable_log.specs.Windows.{base_rows}
+use Rattle.readable_log.proofs.Based.{base_arrived, base_joined}
+use Rattle.readable_log.proofs.Judged.{judged_keep_order}
 use Rattle.readable_log.proofs.Rows.{rows_arrived, rows_joined}
 use Rattle.slot_ledger.specs.declared.places.Slot.{Slot}
 use Rattle.slot_ledger.specs.Ledgers.{with_slots}
@@ -90,7 +92,7 @@ pub one_fewer : (old : History) (e : Entry) (p : ℕ) (row next : Row) → Stand
     → waiting_of (with_entry old e) + 1 ≡ waiting_of old
 one_fewer old e p row next stands leaves waited idle =
     let rows : (state_of (with_entry old e)).rows ≡ set (state_of old).rows p (Some next) =
-    ap (λ (s : State). s.rows) (after_all-push old.setup (opening_state old.setup) old.log e) ∙ leaves in
+    ap (λ (s : State). s.rows) (after_all-push old.setup old.base old.log e) ∙ leaves in
     let count : count_by waits (set (state_of old).rows p (Some next)) + tally (waits (Some row)) ≡ count_by waits (state_of old).rows + tally
     (waits (Some next)) = count-set waits (state_of old).rows p (Some row) (Some next) stands in
     let one : tally (waits (Some row)) ≡ 1 = ap tally waited in
@@ -137,6 +139,7 @@ module _ {N : Type 0} (pair_of : N → Key × ℕ) where
       → is_waiting phase ≡ false → pair_of node ≡ (waiter.key, place)
       → (after t.kept.setup (state_of (history_of t)) e).rows ≡ changed waiter.key.ticket (in_phase phase) (state_of (history_of t)).rows
       → (after t.kept.setup (state_of (history_of t)) e).results ≡ (state_of (history_of t)).results
+      → (after t.kept.setup (state_of (history_of t)) e).limits ≡ (state_of (history_of t)).limits
       → (after t.kept.setup (state_of (history_of t)) e).moment ≡ (state_of (history_of t)).moment
       → position ≡ position_of (after t.kept.setup (state_of (history_of t)) e)
       → IsTrace pair_of
@@ -147,7 +150,7 @@ module _ {N : Type 0} (pair_of : N → Key × ℕ) where
             without_waiter t.waits place;
         position = position;
       })
-  unqueued t e place waiter phase node position is may none waited idle pair rows results still far =
+  unqueued t e place waiter phase node position is may none waited idle pair rows results limited still far =
       let s = state_of (history_of t) in
       let its = waits_listed t place waiter is waited in
       let slot = stands_slot t.kept.slots s.rows place its.row is.holds.rows its.stands in
@@ -169,6 +172,7 @@ module _ {N : Type 0} (pair_of : N → Key × ℕ) where
         stands = slot.1;
         rows = rows ∙ changed_at s.rows waiter.key.ticket place slot.0.row (in_phase phase) own there (ap (λ (k : Key). k.ticket) key);
         results = results;
+        limits = limited;
         node =
             λ x same. subst (λ (y : Slot N). HasItsNode pair_of place y.row.phase y) (same_Some next x same)
             (its_node pair_of place next phase (node, refl, pair ∙ ap (λ (k : Key). (k, place)) (sym key)));
@@ -232,6 +236,7 @@ module _ {N : Type 0} (pair_of : N → Key × ℕ) where
         stands = slot.1;
         rows = changed_at s.rows it.ticket it.place slot.0.row (in_phase (Waiting queue s.moment)) own there named;
         results = refl;
+        limits = refl;
         node = λ x same. subst (λ (y : Slot N). HasItsNode pair_of it.place y.row.phase y) (same_Some next x same) tt;
       }) refl
       (ap (λ (l : Waiters). set l it.place (Some waiter)) is.holds.waiters ∙ ap (set (waiters_of t.log.entries s.rows) it.place) (sym is_its)
@@ -298,6 +303,7 @@ module _ {N : Type 0} (pair_of : N → Key × ℕ) where
         stands = slot.1;
         rows = changed_at s.rows waiter.key.ticket place slot.0.row (in_backend_since s.moment) own there named;
         results = refl;
+        limits = refl;
         node = λ x same. subst (λ (y : Slot N). HasItsNode pair_of place y.row.phase y) (same_Some next x same) tt;
       }) refl
       (ap (λ (l : Waiters). set l place (Some (moved_waiter waiter joined))) is.holds.waiters ∙ ap (set (waiters_of t.log.entries s.rows) place) (sym is_its)
@@ -309,12 +315,13 @@ module _ {N : Type 0} (pair_of : N → Key × ℕ) where
 
   -- a live request's ticket has arrived, with the class and the due date of its key, and one that waits has joined its queue
   pub row_arrived : (t : Traced N) (row : Row) → IsTrace pair_of t → IsRow (state_of (history_of t)).rows row
-      → HasArrived t.log.entries row.key.ticket row.key.class row.key.due
+      → HasArrived (base_rows t.log.base.rows) t.log.entries row.key.ticket row.key.class row.key.due
   row_arrived t row is live =
-      rows_arrived t.kept.setup (opening_state t.kept.setup) t.log.entries (opens_empty t.kept.setup)
-      (judged_keep_order t.kept.setup (opening_state t.kept.setup) t.log.entries (opens_empty t.kept.setup) is.judged) row live
+      let begins = is.judged.begins in
+      rows_arrived (base_rows t.log.base.rows) t.kept.setup t.log.base t.log.entries (base_arrived t.kept.setup t.log.base begins)
+      (judged_keep_order t.kept.setup t.log.base t.log.entries begins is.judged.judged) row live
 
   pub row_joined : (t : Traced N) (row : Row) (queue : Queue) → IsTrace pair_of t → IsRow (state_of (history_of t)).rows row
-      → IsTrue (phase_waits_in queue row.phase) → 0 < joining_of row.key.ticket queue t.log.entries
+      → IsTrue (phase_waits_in queue row.phase) → IsTrue (has_joined (base_rows t.log.base.rows) row.key.ticket queue t.log.entries)
   row_joined t row queue is live waits_so =
-      rows_joined t.kept.setup (opening_state t.kept.setup) t.log.entries (opens_empty t.kept.setup) row queue live waits_so
+      rows_joined (base_rows t.log.base.rows) t.kept.setup t.log.base t.log.entries (base_joined t.kept.setup t.log.base is.judged.begins) row queue live waits_so

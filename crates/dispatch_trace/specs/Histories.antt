@@ -11,13 +11,15 @@ use Rattle.dispatch_log.specs.declared.row.Row.{Row}
 use Rattle.dispatch_log.specs.Refusals.{is_waiting}
 use Rattle.dispatch_log.specs.Rows.{Rows, IsRow, StandsAt, phase_waits_in, queued}
 use Rattle.dispatch_log.specs.Judgement.{Stage, granting, next_stage, stage_after, IsPut, IsOver, MayGrant, MayCome, AllMayCome, MayBegin}
-use Rattle.dispatch_log.specs.States.{scene, after, opening_state}
+use Rattle.dispatch_log.specs.Grants.{IsSettled}
+use Rattle.dispatch_log.specs.Legal.{IsBase}
+use Rattle.dispatch_log.specs.States.{scene, after}
 use Rattle.dispatch_log.specs.Words.{Scene}
 use Rattle.dispatch_trace.specs.declared.position.Ticketed.{Ticketed}
 
 -- a history with an entry more
 abbrev pub with_entry : History → Entry → History
-with_entry history entry = record { setup = history.setup; log = history.log ++ entry ∷ [] }
+with_entry history entry = record history { log = history.log ++ entry ∷ [] }
 
 -- the stage at a history's end
 abbrev pub stage_of : History → Stage
@@ -33,7 +35,13 @@ MayPut history pin avoid ticket =
     (entry : Entry) → IsPut (scene history.setup (state_of history)) (state_of history).cursor pin avoid ticket entry
     → MayComeNext history entry × (next_stage (stage_of history) entry ≡ granting)
 
--- an event may begin at a history's end
+-- at a history's end the last event is over, all is settled, and nothing refuses the next one
+pub record MayAccept (history : History) (refused : Option Refusal) : Type 0 where
+  pub over : IsOver history.setup (state_of history) (stage_of history)
+  pub settled : IsSettled (scene history.setup (state_of history))
+  pub accepted : refused ≡ None
+
+-- an event may begin there, no earlier than at a moment
 abbrev pub MayBeginNext : History → ℕ → Option Refusal → Type 0
 MayBeginNext history moment refused = MayBegin history.setup (state_of history) (stage_of history) (effective history moment) refused
 
@@ -73,9 +81,10 @@ pub record IsGrant (old new : History) : Type 0 where
   pub lawful : MayComeNext old (Granted ticket queue server)
   pub fewer : waiting_of new + 1 ≡ waiting_of old
 
--- each entry may come where it stands
-abbrev pub IsJudged : History → Type 0
-IsJudged history = AllMayCome history.setup (opening_state history.setup) 0 granting history.log
+-- a history's window begins at a proper base, and each of its entries may come where it stands
+pub record IsJudged (history : History) : Type 0 where
+  pub begins : IsBase history.setup history.base
+  pub judged : AllMayCome history.setup history.base 0 granting history.log
 
 -- a live request is at its place
 abbrev pub IsAt : Rows → Ticketed → Type 0

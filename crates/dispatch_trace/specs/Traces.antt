@@ -8,11 +8,10 @@ use Rattle.dispatch_log.specs.declared.row.Row.{Row}
 use Rattle.dispatch_log.specs.declared.setup.ServerSet.{ServerSet}
 use Rattle.dispatch_log.specs.Health.{ups_of}
 use Rattle.dispatch_log.specs.Histories.{History, state_of}
-use Rattle.dispatch_log.specs.Judgement.{granting, AllMayCome}
 use Rattle.dispatch_log.specs.Logs.{Recorded}
 use Rattle.dispatch_log.specs.Rows.{Rows}
 use Rattle.dispatch_log.specs.Setups.{IsSound}
-use Rattle.dispatch_log.specs.States.{State, opening_state}
+use Rattle.dispatch_log.specs.States.{State}
 use Rattle.readable_log.specs.Grants.{joining_of}
 use Rattle.slot_ledger.specs.declared.places.Slot.{Slot}
 use Rattle.slot_ledger.specs.Ledgers.{Kept}
@@ -20,6 +19,7 @@ use Rattle.slot_ledger.specs.Slots.{rows_in, StandsIn}
 use Rattle.wait_queues.specs.declared.waiters.Waiter.{Waiter}
 use Rattle.wait_queues.specs.Waitlists.{Waitlist, Waiters}
 use Rattle.dispatch_trace.specs.declared.position.Position.{Position}
+use Rattle.dispatch_trace.specs.Histories.{IsJudged}
 use Rattle.dispatch_trace.specs.Turns.{WaitsSince, AreInTurn}
 
 -- what a trace holds: the live requests, the log, those that wait, and how far it has come
@@ -31,11 +31,11 @@ pub record Traced (N : Type 0) : Type 0 where
 
 -- its history
 abbrev pub history_of : {N : Type 0} → Traced N → History
-history_of trace = record { setup = trace.kept.setup; log = trace.log.entries }
+history_of trace = record { setup = trace.kept.setup; base = trace.log.base; log = trace.log.entries }
 
 -- a log with an entry more
 abbrev pub noted : Recorded → Entry → Recorded
-noted log entry = record { entries = log.entries ++ entry ∷ []; room = log.room }
+noted log entry = record log { entries = log.entries ++ entry ∷ [] }
 
 -- whether a server is up by the results
 abbrev pub is_up_at : List ServerSet → List (List Bool) → ℕ → Bool
@@ -75,6 +75,7 @@ pub record Holds {N : Type 0} (pair_of : N → Key × ℕ) (trace : Traced N) (e
   pub rows : rows_in trace.kept.slots ≡ state.rows
   pub nodes : HaveNodes pair_of trace.kept.slots
   pub ups : trace.kept.ups ≡ ups_of trace.kept.setup.servers state.results
+  pub limits : trace.kept.limits ≡ state.limits
   pub waiters : trace.waits.waiters ≡ waiters_of entries state.rows
   pub in_turn : AreInTurn (WaitsSince state.rows) state.moment trace.waits.order
   pub position : trace.position ≡ position_of state
@@ -82,7 +83,7 @@ pub record Holds {N : Type 0} (pair_of : N → Key × ℕ) (trace : Traced N) (e
 -- a trace holds what its log leaves, and its log is judged
 pub record IsTrace {N : Type 0} (pair_of : N → Key × ℕ) (trace : Traced N) : Type 0 where
   pub sound : IsSound trace.kept.setup
-  pub judged : AllMayCome trace.kept.setup (opening_state trace.kept.setup) 0 granting trace.log.entries
+  pub judged : IsJudged (history_of trace)
   pub holds : Holds pair_of trace trace.log.entries (state_of (history_of trace))
   pub servers : trace.waits.servers ≡ length trace.kept.setup.servers
   pub log_room : trace.log.room ≡ trace.kept.setup.log

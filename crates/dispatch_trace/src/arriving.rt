@@ -4,7 +4,7 @@ ghost use Rattle.slot_ledger.specs.Slots.{AreBelow};
 ghost use Rattle.dispatch_log.specs.declared.entry.Entry.TheVariants.{Arrive};
 ghost use Rattle.dispatch_log.specs.Histories.{state_of, effective, refuses_arrival};
 ghost use Rattle.dispatch_log.specs.Rows.{pin_of};
-ghost use Rattle.dispatch_trace.specs.Histories.{with_entry, IsAt, MayBeginNext};
+ghost use Rattle.dispatch_trace.specs.Histories.{with_entry, IsAt, MayAccept};
 
 use crate::position::Ticketed;
 use crate::trace::Trace;
@@ -26,7 +26,7 @@ impl<Q: PendQueue<Key, usize>> Trace<Q> {
         offset: Offset,
         pin: Option<usize>,
     ) -> Result<Ticketed, AllocError>
-        requires begins { MayBeginNext self.old moment (refuses_arrival self.old pin) }
+        requires begins { MayAccept self.old (refuses_arrival self.old pin) }
         requires room { length self.old.log < self.old.setup.log }
         ensures ok { IfOk result (λ it. self.new ≡ with_entry self.old (Arrive (effective self.old moment) (record { ticket = it.ticket; class = class; due = pos (effective self.old moment) +ℤ offset; pin = pin; place = it.place }))) }
         ensures pin { IfOk result (λ it. pin_of it.ticket (state_of self.new).rows ≡ pin) }
@@ -36,11 +36,12 @@ impl<Q: PendQueue<Key, usize>> Trace<Q> {
         let now = self.position.last.later(moment);
         let ticket = self.position.ticket + 1;
         let due = Due::of(now, offset);
+        let key = class.key(due, ticket);
         let place = admit::<Q>(
             alloc,
             &mut self.ledger,
             Row {
-                key: Key { class, due, ticket },
+                key,
                 pin,
                 failures: 0,
                 phase: Phase::Loose,

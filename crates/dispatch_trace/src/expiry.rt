@@ -5,7 +5,7 @@ ghost use Rattle.dispatch_log.specs.declared.entry.Entry.TheVariants.{Tick};
 ghost use Rattle.dispatch_log.specs.Histories.{effective, refuses_tick, SomeExpires};
 ghost use Rattle.dispatch_log.specs.Judgement.{has_expired};
 ghost use Rattle.pend_queue.specs.Pairs.{IsAscending};
-ghost use Rattle.dispatch_trace.specs.Histories.{with_entry, MayBeginNext};
+ghost use Rattle.dispatch_trace.specs.Histories.{with_entry, MayAccept};
 ghost use Rattle.dispatch_trace.specs.Timeouts.{HasRowAt, ExpiresAt, AreExpired};
 
 use crate::trace::Trace;
@@ -17,7 +17,7 @@ use pend_queue::{ListQueue, PendQueue};
 impl<Q: PendQueue<Key, usize>> Trace<Q> {
     /// A tick begins.
     pub fn tick(&mut self, moment: Moment)
-        requires begins { MayBeginNext self.old moment (refuses_tick self.old) }
+        requires begins { MayAccept self.old (refuses_tick self.old) }
         requires room { length self.old.log < self.old.setup.log }
         ensures { self.new ≡ with_entry self.old (Tick (effective self.old moment)) }
     {

@@ -7,7 +7,7 @@ ghost use Rattle.slot_ledger.specs.declared.places.Slot.{Slot};
 ghost use Rattle.slot_ledger.specs.Ledgers.{with_slots};
 ghost use Rattle.slot_ledger.specs.Slots.{HasCountable, with_slot};
 ghost use Rattle.dispatch_trace.specs.Fates.{fate_of, failed_slot};
-ghost use Rattle.dispatch_trace.specs.Histories.{with_entry, IsAt, MayComeNext, MayBeginNext};
+ghost use Rattle.dispatch_trace.specs.Histories.{with_entry, IsAt, MayComeNext, MayAccept};
 
 use crate::position::Ticketed;
 use crate::trace::Trace;
@@ -31,7 +31,7 @@ pub enum Fate {
 impl<Q: PendQueue<Key, usize>> Trace<Q> {
     /// A connection of the ticket's request failed, which has a slot. Answers how many failed so far.
     pub fn fail(&mut self, moment: Moment, it: Ticketed) -> u32
-        requires begins { MayBeginNext self.old moment (refuses_failure self.old it.ticket) }
+        requires begins { MayAccept self.old (refuses_failure self.old it.ticket) }
         requires at { IsAt (state_of self.old).rows it }
         requires room { length self.old.log < self.old.setup.log }
         ensures fails { self.new ≡ with_entry self.old (Fail (effective self.old moment) it.ticket) }

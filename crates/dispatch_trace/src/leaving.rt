@@ -3,7 +3,7 @@ ghost use Rattle.dispatch_log.specs.declared.entry.Entry.TheVariants.{Abort, Lef
 ghost use Rattle.dispatch_log.specs.Histories.{state_of, effective, refuses_abort};
 ghost use Rattle.dispatch_log.specs.Judgement.{IsInPhase};
 ghost use Rattle.dispatch_log.specs.Refusals.{is_waiting};
-ghost use Rattle.dispatch_trace.specs.Histories.{with_entry, waiting_of, IsAt, MayComeNext, MayBeginNext};
+ghost use Rattle.dispatch_trace.specs.Histories.{with_entry, waiting_of, IsAt, MayComeNext, MayAccept};
 
 use crate::position::Ticketed;
 use crate::trace::Trace;
@@ -16,7 +16,7 @@ use verdict::Cause;
 impl<Q: PendQueue<Key, usize>> Trace<Q> {
     /// The abort of a ticket begins.
     pub fn abort(&mut self, moment: Moment, it: Ticketed)
-        requires begins { MayBeginNext self.old moment (refuses_abort self.old it.ticket) }
+        requires begins { MayAccept self.old (refuses_abort self.old it.ticket) }
         requires room { length self.old.log < self.old.setup.log }
         ensures { self.new ≡ with_entry self.old (Abort (effective self.old moment) it.ticket) }
     {

@@ -4,7 +4,7 @@ ghost use Rattle.dispatch_log.specs.declared.entry.Entry.TheVariants.{Done, Dire
 ghost use Rattle.verdict.specs.declared.cause.Cause.TheVariants.{Aborted, Timeout};
 ghost use Rattle.dispatch_log.specs.Grants.{IsSettled};
 ghost use Rattle.dispatch_log.specs.Histories.{state_of, effective, refuses_done};
-ghost use Rattle.dispatch_trace.specs.Histories.{with_entry, scene_of, cursor_after, waiting_of, IsAt, MayComeNext, MayBeginNext, MayGrantNext, IsGrant, IsJudged};
+ghost use Rattle.dispatch_trace.specs.Histories.{with_entry, scene_of, cursor_after, waiting_of, IsAt, MayComeNext, MayAccept, MayGrantNext, IsGrant, IsJudged};
 
 use crate::position::Ticketed;
 use crate::trace::Trace;
@@ -19,7 +19,7 @@ use wait_queues::{Taken, Waiter};
 impl<Q: PendQueue<Key, usize>> Trace<Q> {
     /// The return of a ticket's slot begins.
     pub fn done(&mut self, moment: Moment, it: Ticketed)
-        requires begins { MayBeginNext self.old moment (refuses_done self.old it.ticket) }
+        requires begins { MayAccept self.old (refuses_done self.old it.ticket) }
         requires room { length self.old.log < self.old.setup.log }
         ensures { self.new ≡ with_entry self.old (Done (effective self.old moment) it.ticket) }
     {
@@ -118,12 +118,11 @@ impl<Q: PendQueue<Key, usize>> Trace<Q> {
             waiter,
             node,
         } = taken;
-        let Key { class, due, ticket } = waiter.key;
         self.ledger.loosen(place, node);
         self.ledger.serve(place, server);
         self.position.cursor = cursor;
         self.log
-            .note_grant(ticket, queue, server, class, due, waiter.joined);
+            .note_grant(waiter.key, queue, server, waiter.joined);
         true
     }
 }

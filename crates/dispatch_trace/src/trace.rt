@@ -1,6 +1,6 @@
 ghost use Rattle.std.specs.Prelude.{◌≡◌, ◌<◌, ◌≤◌, ◌↔◌, [], length, None, Some, IfOk, IfErr, IsTrue, MatchOption, option_map, slice_get};
 ghost use Rattle.dispatch_log.specs.Grants.{IsSettled};
-ghost use Rattle.dispatch_log.specs.Histories.{state_of, refuses_arrival, refuses_done, refuses_failure, refuses_abort};
+ghost use Rattle.dispatch_log.specs.Histories.{first_window, state_of, refuses_arrival, refuses_done, refuses_failure, refuses_abort};
 ghost use Rattle.dispatch_log.specs.Refusals.{pins_to_none};
 ghost use Rattle.dispatch_log.specs.Rows.{row_of, served, queued};
 ghost use Rattle.dispatch_log.specs.Setups.{IsSound};
@@ -12,7 +12,7 @@ use crate::position::{Position, Ticketed};
 use dispatch_log::{Phase, Queue, Refusal, Setup};
 use due_key::{Key, Moment};
 use pend_queue::PendQueue;
-use readable_log::Log;
+use readable_log::{Base, Log};
 use server_pick::{Cursor, Placement};
 use slot_ledger::Ledger;
 use std::alloc::{AllocError, Global};
@@ -44,10 +44,11 @@ impl<Q: PendQueue<Key, usize>> Trace<Q> {
     /// A trace without an entry.
     pub fn new(alloc: Global, setup: Setup) -> Result<Trace<Q>, AllocError>
         requires { IsSound setup }
-        ensures { IfOk result (λ trace. trace ≡ record { setup = setup; log = [] }) }
+        ensures { IfOk result (λ trace. trace ≡ first_window setup []) }
     {
         let servers = setup.servers.len();
-        let log = Log::with_room(alloc, setup.log)?;
+        let base = Base::opening(alloc, &setup)?;
+        let log = Log::with_room(alloc, base, setup.log)?;
         let waiting = WaitQueues::new(alloc, servers, setup.places)?;
         let ledger = Ledger::new(alloc, setup)?;
         Ok(Trace {
@@ -71,7 +72,8 @@ impl<Q: PendQueue<Key, usize>> Trace<Q> {
     }
 
     pub fn log(&self) -> &Log
-        ensures { result.now.entries ≡ self.now.log }
+        ensures base { result.now.base ≡ self.now.base }
+        ensures entries { result.now.entries ≡ self.now.log }
     {
         &self.log
     }

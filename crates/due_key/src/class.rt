@@ -2,6 +2,8 @@ ghost use Rattle.std.specs.Prelude.{◌≡◌};
 ghost use Rattle.due_key.specs.Range.{nearest, IsBetween};
 ghost use Rattle.due_key.specs.declared.class.TheConstants.{LOWEST_CLASS, HIGHEST_CLASS};
 
+use crate::due::Due;
+use crate::key::Key;
 use std::fmt;
 use std::marker::Model;
 
@@ -47,6 +49,18 @@ impl Class {
         ensures range { IsBetween LOWEST_CLASS HIGHEST_CLASS result }
     {
         self.number
+    }
+
+    /// The key of a request of this class, due then, with this ticket.
+    pub fn key(self, due: Due, ticket: u64) -> Key
+        ensures key { result ≡ record { class = self; due = due; ticket = ticket } }
+        ensures range { IsBetween LOWEST_CLASS HIGHEST_CLASS result.class }
+    {
+        Key {
+            class: self,
+            due,
+            ticket,
+        }
     }
 }
 

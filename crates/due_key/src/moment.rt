@@ -52,7 +52,8 @@ impl Moment {
 
     /// The later of the two.
     pub fn later(self, other: Moment) -> Moment
-        ensures { result ≡ max self other }
+        ensures later { result ≡ max self other }
+        ensures range { result < 2 ^ 62 }
     {
         Moment {
             number: self.number.max(other.number),

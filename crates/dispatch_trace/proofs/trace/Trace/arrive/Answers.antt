@@ -1,7 +1,12 @@
-use Rattle.std.proofs.Common.{◌+◌, refl}
+use Rattle.std.proofs.Common.{◌≡◌, ◌+◌, Some, slice_set, refl, subst}
+use Rattle.dispatch_log.specs.declared.row.Phase.TheVariants.{Loose}
+use Rattle.slot_ledger.specs.Ledgers.{with_slots}
+use Rattle.due_key.specs.Range.{IsBetween}
+use Rattle.due_key.specs.declared.class.TheConstants.{LOWEST_CLASS, HIGHEST_CLASS}
+use Rattle.due_key.specs.declared.key.Key.{Key}
 use Rattle.dispatch_log.specs.declared.entry.Arrival.{Arrival}
 use Rattle.dispatch_log.specs.Histories.{refuses_arrival}
-use Rattle.readable_log.proofs.Judged.{judged_follows}
+use Rattle.dispatch_trace.proofs.Stepping.{follows_on}
 use Rattle.dispatch_trace.proofs.Beginning.{arrival_fits, next_is_highest, arrive_kept, newcomer_at}
 use Rattle.dispatch_trace.proofs.Stepping.{closed}
 use Rattle.dispatch_trace.proofs.Stepping.{here_begins}
@@ -9,15 +14,17 @@ use Rattle.dispatch_trace.proofs.trace.Trace.arrive.Goals as goal
 
 pub admit-requires-clause-room : goal.admit-requires-clause-room
 admit-requires-clause-room g c =
-    let begins = here_begins _ _ c.args.moment (λ h. refuses_arrival h c.args.pin) c.self.view_is c.requires.begins in
+    let begins = here_begins _ _ _ c.args.moment c.later-now.result (λ h. refuses_arrival h c.args.pin) c.self.invariant c.self.view_is c.requires.begins c.later-now.ensures.later
+    c.later-now.ensures.range in
     arrival_fits _ _ c.args.pin c.self.invariant begins.accepted
 
 pub admit-requires-clause-highest : goal.admit-requires-clause-highest
-admit-requires-clause-highest g c = next_is_highest _ _ c.self.invariant
+admit-requires-clause-highest g c = rw c.key-key.ensures.key (next_is_highest _ _ c.self.invariant)
 
 pub note-requires-clause-follows : goal.note-requires-clause-follows
 note-requires-clause-follows g c =
-    let begins = here_begins _ _ c.args.moment (λ h. refuses_arrival h c.args.pin) c.self.view_is c.requires.begins in
+    let begins = here_begins _ _ _ c.args.moment c.later-now.result (λ h. refuses_arrival h c.args.pin) c.self.invariant c.self.view_is c.requires.begins c.later-now.ensures.later
+    c.later-now.ensures.range in
     let arrival : Arrival = record {
       ticket = c.self.inside.position.ticket + 1;
       class = c.args.class;
@@ -26,14 +33,20 @@ note-requires-clause-follows g c =
       place =
           c.in_ok-place.place;
     } in
-    let admitted = c.in_ok-place.ensures.admitted in
-    judged_follows _ _ _
-    (arrive_kept _ _ c.args.moment c.later-now.result c.in_ok-place.place c.args.offset arrival admitted.0 c.self.invariant begins c.later-now.ensures refl
-    refl c.of-due.ensures.sum c.of-due.ensures.range c.in_ok-place.ensures.vacant admitted.1).judged
+    let admitted =
+    subst (λ (k : Key). (node : g.row.Q-Node.Denot) × (g.Q.PendQueue.pair_of node ≡ (k, c.in_ok-place.place))
+    × (c.admit.new.ledger ≡ with_slots c.self.inside.ledger (slice_set c.self.inside.ledger.slots c.in_ok-place.place
+    (Some (record { row = record { key = k; pin = c.args.pin; failures = 0; phase = Loose }; node = Some node })))))
+    c.key-key.ensures.key c.in_ok-place.ensures.admitted in
+    let class = subst (λ (k : Key). IsBetween LOWEST_CLASS HIGHEST_CLASS k.class) c.key-key.ensures.key c.key-key.ensures.range in
+    follows_on _ _ _ _
+    (arrive_kept _ _ c.args.moment c.later-now.result c.in_ok-place.place c.args.offset arrival admitted.0 c.self.invariant begins c.later-now.ensures.later refl
+    refl c.of-due.ensures.sum c.of-due.ensures.range class c.in_ok-place.ensures.vacant admitted.1).judged
 
 pub invariant_of-self-2 : goal.invariant_of-self-2
 invariant_of-self-2 g c =
-    let begins = here_begins _ _ c.args.moment (λ h. refuses_arrival h c.args.pin) c.self.view_is c.requires.begins in
+    let begins = here_begins _ _ _ c.args.moment c.later-now.result (λ h. refuses_arrival h c.args.pin) c.self.invariant c.self.view_is c.requires.begins c.later-now.ensures.later
+    c.later-now.ensures.range in
     let arrival : Arrival = record {
       ticket = c.self.inside.position.ticket + 1;
       class = c.args.class;
@@ -42,14 +55,20 @@ invariant_of-self-2 g c =
       place =
           c.in_ok-place.place;
     } in
-    let admitted = c.in_ok-place.ensures.admitted in
+    let admitted =
+    subst (λ (k : Key). (node : g.row.Q-Node.Denot) × (g.Q.PendQueue.pair_of node ≡ (k, c.in_ok-place.place))
+    × (c.admit.new.ledger ≡ with_slots c.self.inside.ledger (slice_set c.self.inside.ledger.slots c.in_ok-place.place
+    (Some (record { row = record { key = k; pin = c.args.pin; failures = 0; phase = Loose }; node = Some node })))))
+    c.key-key.ensures.key c.in_ok-place.ensures.admitted in
+    let class = subst (λ (k : Key). IsBetween LOWEST_CLASS HIGHEST_CLASS k.class) c.key-key.ensures.key c.key-key.ensures.range in
     closed _ _ _ _ _ _ _ _ admitted.2 c.note.ensures refl
-    (arrive_kept _ _ c.args.moment c.later-now.result c.in_ok-place.place c.args.offset arrival admitted.0 c.self.invariant begins c.later-now.ensures refl refl
-    c.of-due.ensures.sum c.of-due.ensures.range c.in_ok-place.ensures.vacant admitted.1)
+    (arrive_kept _ _ c.args.moment c.later-now.result c.in_ok-place.place c.args.offset arrival admitted.0 c.self.invariant begins c.later-now.ensures.later refl refl
+    c.of-due.ensures.sum c.of-due.ensures.range class c.in_ok-place.ensures.vacant admitted.1)
 
 pub returns-clause-pin : goal.returns-clause-pin
 returns-clause-pin g c =
-    let begins = here_begins _ _ c.args.moment (λ h. refuses_arrival h c.args.pin) c.self.view_is c.requires.begins in
+    let begins = here_begins _ _ _ c.args.moment c.later-now.result (λ h. refuses_arrival h c.args.pin) c.self.invariant c.self.view_is c.requires.begins c.later-now.ensures.later
+    c.later-now.ensures.range in
     let arrival : Arrival = record {
       ticket = c.self.inside.position.ticket + 1;
       class = c.args.class;
@@ -58,16 +77,22 @@ returns-clause-pin g c =
       place =
           c.in_ok-place.place;
     } in
-    let admitted = c.in_ok-place.ensures.admitted in
+    let admitted =
+    subst (λ (k : Key). (node : g.row.Q-Node.Denot) × (g.Q.PendQueue.pair_of node ≡ (k, c.in_ok-place.place))
+    × (c.admit.new.ledger ≡ with_slots c.self.inside.ledger (slice_set c.self.inside.ledger.slots c.in_ok-place.place
+    (Some (record { row = record { key = k; pin = c.args.pin; failures = 0; phase = Loose }; node = Some node })))))
+    c.key-key.ensures.key c.in_ok-place.ensures.admitted in
+    let class = subst (λ (k : Key). IsBetween LOWEST_CLASS HIGHEST_CLASS k.class) c.key-key.ensures.key c.key-key.ensures.range in
     (newcomer_at _ _ _ c.in_ok-place.place _
     (closed _ _ _ _ _ _ _ _ admitted.2 c.note.ensures refl
-    (arrive_kept _ _ c.args.moment c.later-now.result c.in_ok-place.place c.args.offset arrival admitted.0 c.self.invariant begins c.later-now.ensures refl refl
-    c.of-due.ensures.sum c.of-due.ensures.range c.in_ok-place.ensures.vacant admitted.1))
+    (arrive_kept _ _ c.args.moment c.later-now.result c.in_ok-place.place c.args.offset arrival admitted.0 c.self.invariant begins c.later-now.ensures.later refl refl
+    c.of-due.ensures.sum c.of-due.ensures.range class c.in_ok-place.ensures.vacant admitted.1))
     admitted.2 c.in_ok-place.ensures.vacant).1
 
 pub returns-clause-at : goal.returns-clause-at
 returns-clause-at g c =
-    let begins = here_begins _ _ c.args.moment (λ h. refuses_arrival h c.args.pin) c.self.view_is c.requires.begins in
+    let begins = here_begins _ _ _ c.args.moment c.later-now.result (λ h. refuses_arrival h c.args.pin) c.self.invariant c.self.view_is c.requires.begins c.later-now.ensures.later
+    c.later-now.ensures.range in
     let arrival : Arrival = record {
       ticket = c.self.inside.position.ticket + 1;
       class = c.args.class;
@@ -76,9 +101,14 @@ returns-clause-at g c =
       place =
           c.in_ok-place.place;
     } in
-    let admitted = c.in_ok-place.ensures.admitted in
+    let admitted =
+    subst (λ (k : Key). (node : g.row.Q-Node.Denot) × (g.Q.PendQueue.pair_of node ≡ (k, c.in_ok-place.place))
+    × (c.admit.new.ledger ≡ with_slots c.self.inside.ledger (slice_set c.self.inside.ledger.slots c.in_ok-place.place
+    (Some (record { row = record { key = k; pin = c.args.pin; failures = 0; phase = Loose }; node = Some node })))))
+    c.key-key.ensures.key c.in_ok-place.ensures.admitted in
+    let class = subst (λ (k : Key). IsBetween LOWEST_CLASS HIGHEST_CLASS k.class) c.key-key.ensures.key c.key-key.ensures.range in
     (newcomer_at _ _ _ c.in_ok-place.place _
     (closed _ _ _ _ _ _ _ _ admitted.2 c.note.ensures refl
-    (arrive_kept _ _ c.args.moment c.later-now.result c.in_ok-place.place c.args.offset arrival admitted.0 c.self.invariant begins c.later-now.ensures refl refl
-    c.of-due.ensures.sum c.of-due.ensures.range c.in_ok-place.ensures.vacant admitted.1))
+    (arrive_kept _ _ c.args.moment c.later-now.result c.in_ok-place.place c.args.offset arrival admitted.0 c.self.invariant begins c.later-now.ensures.later refl refl
+    c.of-due.ensures.sum c.of-due.ensures.range class c.in_ok-place.ensures.vacant admitted.1))
     admitted.2 c.in_ok-place.ensures.vacant).0

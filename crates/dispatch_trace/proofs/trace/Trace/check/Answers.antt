@@ -1,7 +1,7 @@
 use Rattle.std.proofs.Common.{◌≡◌, refl, sym, subst}
 use Rattle.dispatch_log.specs.Health.{with_result}
 use Rattle.dispatch_log.specs.Histories.{History, state_of, refuses_check}
-use Rattle.readable_log.proofs.Judged.{judged_follows}
+use Rattle.dispatch_trace.proofs.Stepping.{follows_on}
 use Rattle.dispatch_trace.specs.Traces.{is_up_at}
 use Rattle.dispatch_trace.proofs.Checks.{check_kept}
 use Rattle.dispatch_trace.proofs.Stepping.{closed}
@@ -10,16 +10,18 @@ use Rattle.dispatch_trace.proofs.trace.Trace.check.Goals as goal
 
 pub note-requires-clause-follows : goal.note-requires-clause-follows
 note-requires-clause-follows g c =
-    let begins = here_begins _ _ c.args.moment (λ h. refuses_check h c.args.server) c.self.view_is c.requires.begins in
+    let begins = here_begins _ _ _ c.args.moment c.later-now.result (λ h. refuses_check h c.args.server) c.self.invariant c.self.view_is c.requires.begins c.later-now.ensures.later
+    c.later-now.ensures.range in
     let up = subst (λ (h : History). c.args.up ≡ is_up_at h.setup.servers (with_result c.args.server c.args.ok (state_of h).results) c.args.server)
     (sym c.self.view_is) c.requires.up in
-    judged_follows _ _ _
-    (check_kept _ _ c.args.server c.args.moment c.later-now.result c.args.ok c.args.up c.self.invariant begins c.later-now.ensures up).judged
+    follows_on _ _ _ _
+    (check_kept _ _ c.args.server c.args.moment c.later-now.result c.args.ok c.args.up c.self.invariant begins c.later-now.ensures.later up).judged
 
 pub invariant_of-self : goal.invariant_of-self
 invariant_of-self g c =
-    let begins = here_begins _ _ c.args.moment (λ h. refuses_check h c.args.server) c.self.view_is c.requires.begins in
+    let begins = here_begins _ _ _ c.args.moment c.later-now.result (λ h. refuses_check h c.args.server) c.self.invariant c.self.view_is c.requires.begins c.later-now.ensures.later
+    c.later-now.ensures.range in
     let up = subst (λ (h : History). c.args.up ≡ is_up_at h.setup.servers (with_result c.args.server c.args.ok (state_of h).results) c.args.server)
     (sym c.self.view_is) c.requires.up in
     closed _ _ _ _ _ _ _ _ c.set_up.ensures c.note.ensures refl
-    (check_kept _ _ c.args.server c.args.moment c.later-now.result c.args.ok c.args.up c.self.invariant begins c.later-now.ensures up)
+    (check_kept _ _ c.args.server c.args.moment c.later-now.result c.args.ok c.args.up c.self.invariant begins c.later-now.ensures.later up)

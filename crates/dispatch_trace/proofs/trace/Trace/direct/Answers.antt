@@ -1,7 +1,7 @@
 use Rattle.std.proofs.Common.{◌<◌, length, refl, ap, sym, ◌∙◌, subst}
 use Rattle.dispatch_log.specs.declared.entry.Entry.TheVariants.{Direct}
 use Rattle.dispatch_log.specs.Histories.{History}
-use Rattle.readable_log.proofs.Judged.{judged_follows}
+use Rattle.dispatch_trace.proofs.Stepping.{follows_on}
 use Rattle.dispatch_trace.specs.Histories.{cursor_after}
 use Rattle.dispatch_trace.proofs.Entries.{direct_within, direct_kept}
 use Rattle.dispatch_trace.proofs.Stepping.{has_row, closed}
@@ -21,7 +21,7 @@ note-requires-clause-follows g c =
     let at = here_at _ _ c.args.it c.self.view_is c.requires.at in
     let may = here_may _ _ (Direct c.args.it.ticket c.args.server) c.self.view_is c.requires.lawful in
     let moved = c.requires.cursor ∙ ap (λ (h : History). cursor_after h (Direct c.args.it.ticket c.args.server)) (sym c.self.view_is) in
-    judged_follows _ _ _ (direct_kept _ _ c.args.it c.args.server c.args.cursor c.self.invariant may at moved).judged
+    follows_on _ _ _ _ (direct_kept _ _ c.args.it c.args.server c.args.cursor c.self.invariant may at moved).judged
 
 pub invariant_of-self : goal.invariant_of-self
 invariant_of-self g c =

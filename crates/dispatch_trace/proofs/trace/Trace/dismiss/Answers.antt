@@ -3,7 +3,7 @@ use Rattle.dispatch_log.specs.declared.row.Phase.TheVariants.{Told}
 use Rattle.dispatch_log.specs.declared.setup.Setup.{Setup}
 use Rattle.dispatch_log.specs.Histories.{History}
 use Rattle.dispatch_log.specs.Logs.{Recorded}
-use Rattle.readable_log.proofs.Judged.{judged_follows}
+use Rattle.dispatch_trace.proofs.Stepping.{follows_on}
 use Rattle.slot_ledger.specs.Ledgers.{Kept, with_slots}
 use Rattle.slot_ledger.specs.Slots.{with_phase}
 use Rattle.slot_ledger.proofs.Standing.{still_stands}
@@ -30,7 +30,7 @@ tell-requires g c =
 pub note-requires-clause-follows : goal.note-requires-clause-follows
 note-requires-clause-follows g c =
     let calls = leave_calls _ _ _ c.args.it c.args.cause c.self.invariant c.self.view_is c.requires.lawful c.requires.at c.requires.waits in
-    judged_follows _ _ _ (leave_kept _ _ c.args.it c.args.cause calls c.leave-node.result c.leave-node.ensures.pair).judged
+    follows_on _ _ _ _ (leave_kept _ _ c.args.it c.args.cause calls c.leave-node.result c.leave-node.ensures.pair).judged
 
 pub invariant_of-self : goal.invariant_of-self
 invariant_of-self g c =
@@ -45,6 +45,6 @@ returns-clause-fewer g c =
     let setup =
     ap (λ (k : Kept _). k.setup)
     (c.tell.ensures ∙ ap (λ (k : Kept _). with_slots k (with_phase (Told c.args.cause) k.slots c.args.it.place)) c.loosen.ensures) in
-    let goes = ap (λ (s : Setup). record { setup = s; log = c.note.new.self.entries }) setup
-    ∙ ap (λ (r : Recorded). record { setup = c.self.inside.ledger.setup; log = r.entries }) c.note.ensures in
+    let goes = ap (λ (s : Setup). record { setup = s; base = c.note.new.self.base; log = c.note.new.self.entries }) setup
+    ∙ ap (λ (r : Recorded). record { setup = c.self.inside.ledger.setup; base = r.base; log = r.entries }) c.note.ensures in
     ap (λ (h : History). waiting_of h + 1) goes ∙ leave_fewer _ _ c.args.it c.args.cause calls ∙ ap waiting_of c.self.view_is

@@ -11,7 +11,7 @@ if_expired-requires g c =
 pub returns : goal.returns
 returns g c =
     let stays = in_turn_there _ _ c.self.invariant c.args.self.now c.self.view_is in
-    let when = c.later.ensures ∙ ap (λ n. max n c.args.moment) (last_moment _ _ c.self.invariant c.args.self.now c.self.view_is) in
+    let when = c.later.ensures.later ∙ ap (λ n. max n c.args.moment) (last_moment _ _ c.self.invariant c.args.self.now c.self.view_is) in
     subst (λ (b : Bool). (IsTrue b → SomeExpires c.args.self.now c.args.moment) × (SomeExpires c.args.self.now c.args.moment → IsTrue b))
     (sym c.is_some.ensures)
     (some_expires c.args.self.now c.self.inside.waiting.order stays c.later.result c.args.moment c.oldest.result c.if_expired.result c.oldest.ensures.oldest

@@ -10,7 +10,7 @@ use Rattle.slot_ledger.proofs.Standing.{still_stands}
 use Rattle.wait_queues.specs.Waitlists.{Waitlist, NoneWaitsIn, AreFirst, without_waiter}
 use Rattle.dispatch_trace.specs.Histories.{waiting_of, IsGrant}
 use Rattle.dispatch_trace.proofs.Grants.{kept_scene, heads_are, not_empty, grant_within, grant_row, grant_kept, is_grant, grant_room, grant_arrived}
-use Rattle.dispatch_trace.proofs.Grants.{grant_joined}
+use Rattle.dispatch_trace.proofs.Grants.{grant_joined, grant_waits, grant_begun}
 use Rattle.dispatch_trace.proofs.Stepping.{closed}
 use Rattle.dispatch_trace.proofs.Within.{take_within}
 use Rattle.dispatch_trace.proofs.Grants.{grant_calls}
@@ -67,6 +67,14 @@ note_grant-requires-clause-room g c =
     c.in-Some-take.ensures.first in
     grant_room _ _ _ _ _ _ _ calls (subst (λ (h : History). length h.log + waiting_of h ≤ h.setup.log) (sym c.self.view_is) c.requires.room)
 
+pub note_grant-requires-clause-begun : goal.note_grant-requires-clause-begun
+note_grant-requires-clause-begun g c =
+    let calls =
+    grant_calls _ _ _ _ c.heads-heads.result c.in-Some.server c.in-Some.queue c.in-Some-take.taken.place c.in-Some-take.taken.waiter
+    c.self.invariant c.self.view_is c.requires.may_grant c.heads-heads.ensures.heads c.heads-heads.ensures.same c.in-Some.ensures.taken
+    c.in-Some-take.ensures.first in
+    grant_begun _ _ _ _ _ _ _ calls
+
 pub note_grant-requires-clause-arrived : goal.note_grant-requires-clause-arrived
 note_grant-requires-clause-arrived g c =
     let calls =
@@ -81,7 +89,7 @@ note_grant-requires-clause-joined g c =
     grant_calls _ _ _ _ c.heads-heads.result c.in-Some.server c.in-Some.queue c.in-Some-take.taken.place c.in-Some-take.taken.waiter
     c.self.invariant c.self.view_is c.requires.may_grant c.heads-heads.ensures.heads c.heads-heads.ensures.same c.in-Some.ensures.taken
     c.in-Some-take.ensures.first in
-    (grant_joined _ _ _ _ _ _ _ calls).0
+    grant_joined _ _ _ _ _ _ _ calls
 
 pub note_grant-requires-clause-waits : goal.note_grant-requires-clause-waits
 note_grant-requires-clause-waits g c =
@@ -89,7 +97,7 @@ note_grant-requires-clause-waits g c =
     grant_calls _ _ _ _ c.heads-heads.result c.in-Some.server c.in-Some.queue c.in-Some-take.taken.place c.in-Some-take.taken.waiter
     c.self.invariant c.self.view_is c.requires.may_grant c.heads-heads.ensures.heads c.heads-heads.ensures.same c.in-Some.ensures.taken
     c.in-Some-take.ensures.first in
-    (grant_joined _ _ _ _ _ _ _ calls).1
+    grant_waits _ _ _ _ _ _ _ calls
 
 pub invariant_of-self-2 : goal.invariant_of-self-2
 invariant_of-self-2 g c =
@@ -112,10 +120,10 @@ returns-clause-granted g c =
     let setup =
     ap (λ (k : Kept _). k.setup)
     (c.serve.ensures ∙ ap (λ (k : Kept _). with_slots k (with_phase (Serving c.in-Some.server) k.slots c.in-Some-take.taken.place)) c.loosen.ensures) in
-    subst (λ (h : History). IsGrant h (record { setup = c.serve.new.self.setup; log = c.note_grant.new.self.entries })) c.self.view_is
-    (is_grant _ _ _ _ _ _ _ calls (record { setup = c.serve.new.self.setup; log = c.note_grant.new.self.entries })
-    (ap (λ (s : Setup). record { setup = s; log = c.note_grant.new.self.entries }) setup
-    ∙ ap (λ (r : Recorded). record { setup = c.self.inside.ledger.setup; log = r.entries }) c.note_grant.ensures))
+    subst (λ (h : History). IsGrant h (record { setup = c.serve.new.self.setup; base = c.note_grant.new.self.base; log = c.note_grant.new.self.entries })) c.self.view_is
+    (is_grant _ _ _ _ _ _ _ calls (record { setup = c.serve.new.self.setup; base = c.note_grant.new.self.base; log = c.note_grant.new.self.entries })
+    (ap (λ (s : Setup). record { setup = s; base = c.note_grant.new.self.base; log = c.note_grant.new.self.entries }) setup
+    ∙ ap (λ (r : Recorded). record { setup = c.self.inside.ledger.setup; base = r.base; log = r.entries }) c.note_grant.ensures))
 
 pub returns-clause-judged : goal.returns-clause-judged
 returns-clause-judged g c =

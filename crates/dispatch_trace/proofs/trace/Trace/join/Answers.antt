@@ -1,7 +1,7 @@
 use Rattle.std.proofs.Common.{◌+◌, length, ap, sym, ◌∙◌, subst}
 use Rattle.dispatch_log.specs.declared.entry.Entry.TheVariants.{Joined}
 use Rattle.dispatch_log.specs.Histories.{History}
-use Rattle.readable_log.proofs.Judged.{judged_follows}
+use Rattle.dispatch_trace.proofs.Stepping.{follows_on}
 use Rattle.slot_ledger.specs.Counts.{IsQueueOf}
 use Rattle.dispatch_trace.specs.Histories.{cursor_after}
 use Rattle.dispatch_trace.proofs.Joining.{join_node, join_vacant, join_key, join_pair, join_kept}
@@ -49,7 +49,7 @@ pub note-requires-clause-follows : goal.note-requires-clause-follows
 note-requires-clause-follows g c =
     let calls = join_calls _ _ _ c.args.it c.args.queue c.self.invariant c.self.view_is c.requires.lawful c.requires.at in
     let moved = c.requires.cursor ∙ ap (λ (h : History). cursor_after h (Joined c.args.it.ticket c.args.queue)) (sym c.self.view_is) in
-    judged_follows _ _ _
+    follows_on _ _ _ _
     (join_kept _ _ c.args.it c.args.queue calls c.row.result c.row.ensures (c.len.result + 1) c.args.cursor (ap (λ n. n + 1) c.len.ensures) moved).judged
 
 pub invariant_of-self : goal.invariant_of-self

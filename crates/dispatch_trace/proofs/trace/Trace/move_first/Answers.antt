@@ -6,7 +6,8 @@ use Rattle.dispatch_log.specs.Histories.{History, state_of}
 use Rattle.dispatch_log.specs.Logs.{Recorded}
 use Rattle.dispatch_log.specs.Rows.{queued}
 use Rattle.readable_log.specs.Readable.{MayFollow}
-use Rattle.readable_log.proofs.Judged.{judged_follows}
+use Rattle.readable_log.specs.Windows.{base_rows}
+use Rattle.dispatch_trace.proofs.Stepping.{follows_on}
 use Rattle.slot_ledger.specs.Ledgers.{Kept, with_slots}
 use Rattle.slot_ledger.specs.Slots.{unpinned}
 use Rattle.slot_ledger.proofs.Standing.{still_stands}
@@ -41,8 +42,8 @@ pub note-requires-clause-follows : goal.note-requires-clause-follows
 note-requires-clause-follows g c =
     let calls = move_calls _ _ _ c.args.server c.in-Some.place _ c.self.invariant c.self.view_is c.requires.falling c.requires.redispatch c.in-Some.ensures.1 in
     let ticket = move_ticket _ _ _ _ _ calls c.row-ticket.result c.row-ticket.ensures in
-    subst (λ n. MayFollow c.self.inside.log.entries (Moved n c.args.server)) (sym ticket)
-    (judged_follows _ _ _
+    subst (λ n. MayFollow (base_rows c.self.inside.log.base.rows) c.self.inside.log.entries (Moved n c.args.server)) (sym ticket)
+    (follows_on _ _ _ _
     (moved_on _ _ c.in-Some.place c.args.server (c.len-joined.result + 1) c.in-Some.ensures.0 c.self.invariant
     (move_may _ _ _ _ _ calls) c.in-Some.ensures.1.waits (ap (λ n. n + 1) c.len-joined.ensures)).judged)
 
@@ -60,8 +61,8 @@ returns-clause-moved g c =
     let calls = move_calls _ _ _ c.args.server c.in-Some.place _ c.self.invariant c.self.view_is c.requires.falling c.requires.redispatch c.in-Some.ensures.1 in
     let ticket = move_ticket _ _ _ _ _ calls c.row-ticket.result c.row-ticket.ensures in
     let setup = ap (λ (k : Kept _). k.setup) (c.unpin.ensures ∙ ap (λ (k : Kept _). with_slots k (unpinned k.slots c.in-Some.place)) c.shift-2.ensures) in
-    subst (λ (h : History). IsMove c.args.server h (record { setup = c.unpin.new.self.setup; log = c.note.new.self.entries })) c.self.view_is
-    (is_move _ _ _ _ _ calls (record { setup = c.unpin.new.self.setup; log = c.note.new.self.entries })
-    (ap (λ (s : Setup). record { setup = s; log = c.note.new.self.entries }) setup
-    ∙ ap (λ (r : Recorded). record { setup = c.self.inside.ledger.setup; log = r.entries })
+    subst (λ (h : History). IsMove c.args.server h (record { setup = c.unpin.new.self.setup; base = c.note.new.self.base; log = c.note.new.self.entries })) c.self.view_is
+    (is_move _ _ _ _ _ calls (record { setup = c.unpin.new.self.setup; base = c.note.new.self.base; log = c.note.new.self.entries })
+    (ap (λ (s : Setup). record { setup = s; base = c.note.new.self.base; log = c.note.new.self.entries }) setup
+    ∙ ap (λ (r : Recorded). record { setup = c.self.inside.ledger.setup; base = r.base; log = r.entries })
     (c.note.ensures ∙ ap (λ n. noted c.self.inside.log (Moved n c.args.server)) ticket)))

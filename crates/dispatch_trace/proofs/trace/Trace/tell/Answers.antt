@@ -1,6 +1,6 @@
 use Rattle.std.proofs.Common.{refl}
 use Rattle.dispatch_log.specs.declared.entry.Entry.TheVariants.{Left}
-use Rattle.readable_log.proofs.Judged.{judged_follows}
+use Rattle.dispatch_trace.proofs.Stepping.{follows_on}
 use Rattle.dispatch_trace.proofs.Entries.{left_kept}
 use Rattle.dispatch_trace.proofs.Stepping.{has_row, closed}
 use Rattle.dispatch_trace.proofs.Stepping.{here_at, here_may}
@@ -13,7 +13,7 @@ pub note-requires-clause-follows : goal.note-requires-clause-follows
 note-requires-clause-follows g c =
     let at = here_at _ _ c.args.it c.self.view_is c.requires.at in
     let may = here_may _ _ (Left c.args.it.ticket c.args.cause) c.self.view_is c.requires.lawful in
-    judged_follows _ _ _ (left_kept _ _ c.args.it c.args.cause c.self.invariant c.requires.no_abort c.requires.no_timeout may at).judged
+    follows_on _ _ _ _ (left_kept _ _ c.args.it c.args.cause c.self.invariant c.requires.no_abort c.requires.no_timeout may at).judged
 
 pub invariant_of-self : goal.invariant_of-self
 invariant_of-self g c =

@@ -1,6 +1,6 @@
 use Rattle.std.proofs.Common.{refl}
 use Rattle.dispatch_log.specs.declared.entry.Entry.TheVariants.{Health}
-use Rattle.readable_log.proofs.Judged.{judged_follows}
+use Rattle.dispatch_trace.proofs.Stepping.{follows_on}
 use Rattle.dispatch_trace.proofs.Beginning.{still_kept}
 use Rattle.dispatch_trace.proofs.Stepping.{closed}
 use Rattle.dispatch_trace.proofs.Stepping.{here_may}
@@ -9,7 +9,7 @@ use Rattle.dispatch_trace.proofs.trace.Trace.tell_health.Goals as goal
 pub note-requires-clause-follows : goal.note-requires-clause-follows
 note-requires-clause-follows g c =
     let may = here_may _ _ (Health c.args.server c.args.up) c.self.view_is c.requires.lawful in
-    judged_follows _ _ _ (still_kept _ _ (Health c.args.server c.args.up) c.self.invariant refl may refl).judged
+    follows_on _ _ _ _ (still_kept _ _ (Health c.args.server c.args.up) c.self.invariant refl may refl).judged
 
 pub invariant_of-self : goal.invariant_of-self
 invariant_of-self g c =

@@ -1,7 +1,7 @@
 use Rattle.std.proofs.Common.{refl}
 use Rattle.dispatch_log.specs.declared.entry.Entry.TheVariants.{Tick}
 use Rattle.dispatch_log.specs.Histories.{refuses_tick}
-use Rattle.readable_log.proofs.Judged.{judged_follows}
+use Rattle.dispatch_trace.proofs.Stepping.{follows_on}
 use Rattle.dispatch_trace.proofs.Beginning.{begun_kept}
 use Rattle.dispatch_trace.proofs.Stepping.{closed}
 use Rattle.dispatch_trace.proofs.Stepping.{here_begins}
@@ -9,11 +9,13 @@ use Rattle.dispatch_trace.proofs.trace.Trace.tick.Goals as goal
 
 pub note-requires-clause-follows : goal.note-requires-clause-follows
 note-requires-clause-follows g c =
-    let begins = here_begins _ _ c.args.moment refuses_tick c.self.view_is c.requires.begins in
-    judged_follows _ _ _ (begun_kept _ _ (λ n. Tick n) c.args.moment c.later-now.result c.self.invariant refl c.later-now.ensures begins refl).judged
+    let begins = here_begins _ _ _ c.args.moment c.later-now.result refuses_tick c.self.invariant c.self.view_is c.requires.begins c.later-now.ensures.later
+    c.later-now.ensures.range in
+    follows_on _ _ _ _ (begun_kept _ _ (λ n. Tick n) c.args.moment c.later-now.result c.self.invariant refl c.later-now.ensures.later begins refl).judged
 
 pub invariant_of-self : goal.invariant_of-self
 invariant_of-self g c =
-    let begins = here_begins _ _ c.args.moment refuses_tick c.self.view_is c.requires.begins in
+    let begins = here_begins _ _ _ c.args.moment c.later-now.result refuses_tick c.self.invariant c.self.view_is c.requires.begins c.later-now.ensures.later
+    c.later-now.ensures.range in
     closed _ _ _ _ _ _ _ _ refl c.note.ensures refl
-    (begun_kept _ _ (λ n. Tick n) c.args.moment c.later-now.result c.self.invariant refl c.later-now.ensures begins refl)
+    (begun_kept _ _ (λ n. Tick n) c.args.moment c.later-now.result c.self.invariant refl c.later-now.ensures.later begins refl)

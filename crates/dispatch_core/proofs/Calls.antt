@@ -4,33 +4,31 @@ use Rattle.std.proofs.Common.{length, refl, ap, sym, ◌∙◌, subst, arith}
 use Rattle.std.specs.Option.{option_map_or, option_and_then}
 use Rattle.std.proofs.lemmas.Bool.Decides.{Decides-eqb}
 use Rattle.std.proofs.lemmas.Option.{same_Some}
-use Rattle.dispatch_log.specs.declared.entry.Arrival.{Arrival}
 use Rattle.dispatch_log.specs.declared.entry.Entry.{Entry}
-use Rattle.dispatch_log.specs.declared.entry.Entry.TheVariants.{Arrive, Done, Direct, Joined, Freed, Left, Ended}
-use Rattle.dispatch_log.specs.declared.queue.Queue.TheVariants.{Backend, Server}
-use Rattle.verdict.specs.declared.cause.Cause.TheVariants.{NoServer}
+use Rattle.dispatch_log.specs.declared.entry.Entry.TheVariants.{Done, Freed, Ended}
 use Rattle.server_pick.specs.declared.placement.Placement.{Placement}
 use Rattle.server_pick.specs.declared.placement.Placement.TheVariants.{Slot, OwnQueue, BackendQueue, Nowhere}
 use Rattle.server_pick.specs.Picked.{IsPlacement}
-use Rattle.dispatch_log.specs.declared.refusal.Refusal.{Refusal}
-use Rattle.dispatch_log.specs.declared.refusal.Refusal.TheVariants.{PlacesFull, LogFull, NoSuchTicket, NoSuchServer, WrongPhase, TicketsSpent}
+use Rattle.dispatch_log.specs.declared.refusal.Refusal.TheVariants.{LogFull, NoSuchTicket, WrongPhase}
 use Rattle.dispatch_log.specs.declared.row.Phase.{Phase}
 use Rattle.dispatch_log.specs.declared.row.Phase.TheVariants.{Loose, Waiting, Serving, Told}
 use Rattle.dispatch_log.specs.declared.row.Row.{Row}
 use Rattle.dispatch_log.specs.declared.setup.Setup.{Setup}
 use Rattle.dispatch_log.specs.Dispatch.{IsDispatched}
-use Rattle.dispatch_log.specs.Histories.{History, IsLegal, state_of, begins_event, refuses_arrival, refuses_done, AddsEvent}
-use Rattle.dispatch_log.specs.Judgement.{Stage, placing, returning, ending, granting, IsPut, MayCome, next_stage, HasSlot, IsTold}
+use Rattle.dispatch_log.specs.Histories.{History, IsLegal, state_of, begins_event, refuses_done, AddsEvent}
+use Rattle.dispatch_log.specs.Judgement.{Stage, returning, ending, granting, MayCome, next_stage, HasSlot, IsTold}
 use Rattle.dispatch_log.specs.Refusals.{first_of, is_waiting, lacks_room}
-use Rattle.dispatch_log.specs.Rows.{Rows, StandsAt, row_of, server_in, has_ticket, phase_is_served_by, phase_is_told, pin_of}
+use Rattle.dispatch_log.specs.Rows.{Rows, StandsAt, row_of, server_in, has_ticket, phase_is_served_by, phase_is_told}
 use Rattle.dispatch_log.specs.States.{State, after, opening_state}
 use Rattle.dispatch_log.proofs.Consistency.{IsConsistent}
 use Rattle.dispatch_log.proofs.Dispatched.{dispatched, opening_consistent}
 use Rattle.dispatch_log.proofs.Runs.{empty_legal}
 use Rattle.dispatch_log.proofs.Judged.{after_all-push, stage_after-push, over_none, consistent_all}
 use Rattle.dispatch_core.specs.Steps.{IsReturn, Places, Leaves, Settles}
-use Rattle.dispatch_trace.specs.Histories.{with_entry, stage_of, scene_of, waiting_of, MayComeNext, MayBeginNext, MayPut, IsFound}
-use Rattle.dispatch_core.proofs.Going.{goes_entry, goes_more, goes_places, room_left, has_room, begun_room, over_granting, adds}
+use Rattle.dispatch_trace.specs.Histories.{with_entry, stage_of, scene_of, waiting_of, MayComeNext, MayPut, IsFound}
+use Rattle.dispatch_trace.proofs.Placing.{entry_of, placed_stage}
+use Rattle.dispatch_core.proofs.Going.{goes_entry, goes_more, room_left, begun_room, adds}
+use Rattle.dispatch_trace.proofs.Placing.{has_room, over_granting}
 use Rattle.dispatch_core.proofs.Standing.{of_ticket}
 use Rattle.dispatch_trace.specs.declared.position.Ticketed.{Ticketed}
 
@@ -43,15 +41,7 @@ may_next h e next t stage may =
     (subst (λ (x : Stage). MayCome h.setup (after h.setup (state_of h) e) (length (h.log ++ e ∷ [])) x next)
     (sym (stage_after-push granting h.log e ∙ stage)) may)
 
--- between two events an event may begin that nothing refuses
-pub begins_next : (h : History) (m : ℕ) (refused : Option Refusal) → IsLegal h → refused ≡ None → MayBeginNext h m refused
-begins_next h m refused legal accepted = record { over = legal.whole; settled = legal.settled; accepted = accepted; later = omega arith }
-
 -- what is accepted has room, and nothing else refuses it
-arrival_room : (a b c d : Bool) → first_of ((a, LogFull) ∷ (b, NoSuchServer) ∷ (c, TicketsSpent) ∷ (d, PlacesFull) ∷ []) ≡ None → a ≡ false
-arrival_room true b c d e = cc
-arrival_room false b c d e = refl
-
 done_tests : (a b c : Bool) → first_of ((a, LogFull) ∷ (b, NoSuchTicket) ∷ (c, WrongPhase) ∷ []) ≡ None
     → (a ≡ false) × (b ≡ false) × (c ≡ false)
 done_tests true b c e = cc
@@ -163,74 +153,21 @@ module _ (h one two : History) (m t : ℕ) (it : Ticketed) (found : IsFound (sta
   done_adds now begun is settled =
       adds h one two now (Done m t) (of_ticket h one (λ n. Done m n) t it found begun) is.goes (over_granting two is.over) settled
 
--- a newcomer is placed next
-pub arrival_places : (h one : History) (m : ℕ) (a : Arrival) → one ≡ with_entry h (Arrive m a) → stage_of one ≡ placing a.ticket
-arrival_places h one m a begun = ap stage_of begun ∙ stage_after-push granting h.log (Arrive m a)
-
--- a newcomer may be put where its pin lets it
-pub newcomer_put : (h : History) (t : ℕ) (pin : Option ℕ) → stage_of h ≡ placing t → pin_of t (state_of h).rows ≡ pin → MayPut h pin None t
-newcomer_put h t pin stage its (Direct u v) put = (
-  subst (λ (x : Stage). MayCome h.setup (state_of h) (length h.log) x (Direct u v)) (sym stage)
-      (subst (λ (p : Option ℕ). IsPut (scene_of h) (state_of h).cursor p None t (Direct u v)) (sym its) put),
-  ap
-      (λ (x : Stage). next_stage x (Direct u v)) stage,
-)
-newcomer_put h t pin stage its (Joined u q) put = (
-  subst (λ (x : Stage). MayCome h.setup (state_of h) (length h.log) x (Joined u q)) (sym stage)
-      (subst (λ (p : Option ℕ). IsPut (scene_of h) (state_of h).cursor p None t (Joined u q)) (sym its) put),
-  ap
-      (λ (x : Stage). next_stage x (Joined u q)) stage,
-)
-newcomer_put h t pin stage its (Left u NoServer) put = (
-  subst (λ (x : Stage). MayCome h.setup (state_of h) (length h.log) x (Left u NoServer)) (sym stage)
-      (subst (λ (p : Option ℕ). IsPut (scene_of h) (state_of h).cursor p None t (Left u NoServer)) (sym its) put),
-  ap
-      (λ (x : Stage). next_stage x (Left u NoServer)) stage,
-)
-newcomer_put h t pin stage its e put = absurd put
-
--- the entry of a placement, which may come
-abbrev pub entry_of : ℕ → Placement → Entry
-entry_of t (Slot server) = Direct t server
-entry_of t (OwnQueue server) = Joined t (Server server)
-entry_of t BackendQueue = Joined t Backend
-entry_of t Nowhere = Left t NoServer
-
-put_is : (h : History) (pin avoid : Option ℕ) (t : ℕ) (p : Placement) → IsPlacement (scene_of h) (state_of h).cursor pin avoid p
-    → IsPut (scene_of h) (state_of h).cursor pin avoid t (entry_of t p)
-put_is h pin avoid t (Slot server) placed = (refl, placed)
-put_is h pin avoid t (OwnQueue server) placed = (refl, placed)
-put_is h pin avoid t BackendQueue placed = (refl, placed)
-put_is h pin avoid t Nowhere placed = (refl, placed)
-
 no_event : (t : ℕ) (p : Placement) → begins_event (entry_of t p) ≡ false
 no_event t (Slot server) = refl
 no_event t (OwnQueue server) = refl
 no_event t BackendQueue = refl
 no_event t Nowhere = refl
 
-module _ (h : History) (pin avoid : Option ℕ) (t : ℕ) (given p : Placement) (may : MayPut h pin avoid t)
-    (placed : IsPlacement (scene_of h) (state_of h).cursor pin avoid given) (is : given ≡ p) where
-  put : IsPut (scene_of h) (state_of h).cursor pin avoid t (entry_of t p)
-  put = put_is h pin avoid t p (subst (λ (x : Placement). IsPlacement (scene_of h) (state_of h).cursor pin avoid x) is placed)
-
-  pub may_place : MayComeNext h (entry_of t p)
-  may_place = (may (entry_of t p) put).0
-
-  pub places : (next : History) → next ≡ with_entry h (entry_of t p) → Places h next
-  places next goes = record {
-    placement = entry_of t p;
-    placed = goes;
-    over = ap stage_of goes ∙ stage_after-push granting h.log (entry_of t p) ∙ (may (entry_of t p) put).1;
-    one_event = no_event t p;
-  }
-
--- the calls of an arrival, up to its grants
-pub arrive_settles : (h one two : History) (m : ℕ) (a : Arrival) (pin : Option ℕ) → refuses_arrival h pin ≡ None → one ≡ with_entry h (Arrive m a)
-    → Places one two → length two.log + waiting_of two ≤ two.setup.log
-arrive_settles h one two m a pin accepted begun is =
-    let room = begun_room h one (Arrive m a) (has_room h (arrival_room _ _ _ _ accepted)) begun in
-    room_left one two (goes_places one two is) 1 (omega arith) (omega arith)
+-- a request is placed by that entry
+pub places : (h next : History) (pin avoid : Option ℕ) (t : ℕ) (given p : Placement) → MayPut h pin avoid t
+    → IsPlacement (scene_of h) (state_of h).cursor pin avoid given → given ≡ p → next ≡ with_entry h (entry_of t p) → Places h next
+places h next pin avoid t given p may placed is goes = record {
+  placement = entry_of t p;
+  placed = goes;
+  over = placed_stage h pin avoid t given p may placed is next goes;
+  one_event = no_event t p;
+}
 
 -- what is legal after an event is dispatched
 pub added_dispatched : (h now : History) (event : Entry) → AddsEvent h now event → IsDispatched now

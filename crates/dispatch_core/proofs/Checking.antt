@@ -26,7 +26,9 @@ use Rattle.dispatch_core.specs.Steps.{HasEventRoom}
 use Rattle.dispatch_trace.specs.Traces.{is_up_at}
 use Rattle.dispatch_trace.specs.Histories.{with_entry, stage_of, scene_of}
 use Rattle.dispatch_core.proofs.Calls.{new_legal}
-use Rattle.dispatch_core.proofs.Going.{same_setup, has_room, begun_room}
+use Rattle.dispatch_core.proofs.Going.{begun_room}
+use Rattle.dispatch_trace.proofs.Placing.{has_room}
+use Rattle.dispatch_trace.proofs.Placing.{same_setup}
 use Rattle.dispatch_core.proofs.Healthy.{up_at, results_set}
 use Rattle.dispatch_trace.proofs.Healthy.{many_results}
 

@@ -14,7 +14,8 @@ use Rattle.dispatch_trace.specs.Histories.{with_entry, stage_of, waiting_of, May
 use Rattle.dispatch_trace.specs.declared.position.Ticketed.{Ticketed}
 use Rattle.dispatch_core.proofs.Standing.{of_ticket}
 use Rattle.dispatch_core.proofs.Calls.{may_next}
-use Rattle.dispatch_core.proofs.Going.{goes_entry, room_left, has_room, begun_room, over_granting, may_granting, adds}
+use Rattle.dispatch_core.proofs.Going.{goes_entry, room_left, begun_room, adds}
+use Rattle.dispatch_trace.proofs.Placing.{has_room, over_granting, may_granting}
 
 -- where no event of a ticket is refused, the log has room for it
 pub ticket_room : (wrong : Phase → Bool) (h : History) (t : ℕ) → ticket_refusal wrong h.setup (state_of h) (length h.log) t ≡ None → HasEntryRoom h

@@ -17,7 +17,8 @@ use Rattle.dispatch_log.specs.Rows.{Rows, queued, waits_in, phase_waits_in}
 use Rattle.dispatch_log.proofs.Judged.{stage_after-push}
 use Rattle.list_facts.proofs.Places.{tally}
 use Rattle.dispatch_core.specs.Steps.{GoesOn, MovesAll}
-use Rattle.dispatch_core.proofs.Going.{goes_none, goes_more, longer, same_setup}
+use Rattle.dispatch_core.proofs.Going.{goes_none, goes_more}
+use Rattle.dispatch_trace.proofs.Placing.{longer, same_setup}
 use Rattle.dispatch_trace.specs.Histories.{stage_of, waits, waiting_of, IsMove, IsEmptied}
 
 one_of : (a b : Bool) → (a ≡ true → b ≡ true) → tally a ≤ tally b

@@ -11,7 +11,8 @@ use Rattle.dispatch_log.specs.Words.{is_up}
 use Rattle.dispatch_log.proofs.Judged.{stage_after-push}
 use Rattle.dispatch_core.specs.Steps.{GoesOn, CarriesOn, MovesAll, HasEventRoom}
 use Rattle.dispatch_trace.specs.Histories.{with_entry, stage_of, scene_of, waiting_of, MayComeNext}
-use Rattle.dispatch_core.proofs.Going.{goes_none, goes_entry, goes_then, same_setup, few_wait, room_left, carries}
+use Rattle.dispatch_core.proofs.Going.{goes_none, goes_entry, goes_then, room_left, carries}
+use Rattle.dispatch_trace.proofs.Placing.{same_setup, few_wait}
 
 -- what a change says of before and after
 stay_same : (a b : Bool) → Stay ≡ change_between a b → a ≡ b

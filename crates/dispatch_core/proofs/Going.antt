@@ -1,27 +1,19 @@
 -- How a history goes on inside an event, and the event whole.
-use Rattle.std.proofs.Common.{◌≡◌, ℕ, ◌+◌, ◌≤◌, false, List, [], ◌∷◌, ◌++◌, None, length, refl, ap, sym, ◌∙◌, subst, arith}
+use Rattle.std.proofs.Common.{◌≡◌, ℕ, ◌+◌, ◌≤◌, false, List, [], ◌∷◌, ◌++◌, length, refl, ap, sym, ◌∙◌, arith}
 use Rattle.std.proofs.Common.{append_assoc, length-append}
-use Rattle.std.proofs.Math.ListN.{length-replicate}
-use Rattle.std.proofs.lemmas.Bool.Decides.{nat_tests}
 use Rattle.std.proofs.lemmas.List.{append-nil}
 use Rattle.std.proofs.lemmas.List.Elements.{All-cons, All-nil, All-append}
-use Rattle.std.proofs.lemmas.List.Sums.{count_by-le-length}
 use Rattle.dispatch_log.specs.declared.entry.Entry.{Entry}
 use Rattle.dispatch_log.specs.declared.setup.Setup.{Setup}
-use Rattle.dispatch_log.specs.Histories.{History, state_of, begins_event, AddsEvent}
-use Rattle.dispatch_log.specs.Judgement.{Stage, granting, IsOver, MayGrant}
-use Rattle.dispatch_log.specs.Refusals.{lacks_room}
-use Rattle.dispatch_log.specs.States.{opening_state}
-use Rattle.dispatch_log.proofs.Judged.{places_all}
-use Rattle.dispatch_trace.specs.Histories.{with_entry, stage_of, waits, waiting_of, IsOverNext, MayGrantNext, HasEntryRoom}
+use Rattle.dispatch_log.specs.Histories.{History, begins_event, AddsEvent}
+use Rattle.dispatch_log.specs.Judgement.{granting}
+use Rattle.dispatch_trace.specs.Histories.{with_entry, stage_of, waiting_of, IsOverNext, HasEntryRoom}
+use Rattle.dispatch_trace.proofs.Placing.{same_setup, longer, few_wait, over_granting, may_granting}
 use Rattle.dispatch_core.specs.Steps.{GoesOn, Places, Settles, CarriesOn, HasEventRoom}
 
 -- an entry that begins no event
 abbrev IsInside : Entry → Type 0
 IsInside entry = begins_event entry ≡ false
-
-pub same_setup : (h next : History) (e : Entry) → next ≡ with_entry h e → next.setup ≡ h.setup
-same_setup h next e goes = ap (λ (x : History). x.setup) goes
 
 -- ways of going on
 abbrev pub goes_none : (h : History) → GoesOn h h
@@ -54,16 +46,6 @@ goes_places a b is = goes_entry a b is.placement is.placed is.one_event
 pub goes_long : (a b : History) (goes : GoesOn a b) → length b.log ≡ length a.log + length goes.entries
 goes_long a b goes = ap length goes.log ∙ length-append a.log goes.entries
 
-pub longer : (h next : History) (e : Entry) → next ≡ with_entry h e → length next.log ≡ length h.log + 1
-longer h next e goes = ap (λ (x : History). length x.log) goes ∙ length-append h.log (e ∷ [])
-
--- no more requests wait than there are places
-pub few_wait : (h : History) → waiting_of h ≤ h.setup.places
-few_wait h =
-    let few = count_by-le-length waits (state_of h).rows in
-    let places : length (state_of h).rows ≡ h.setup.places = places_all h.setup (opening_state h.setup) h.log ∙ length-replicate h.setup.places None in
-    omega arith
-
 -- there is room for the grants where there was for them and for some entries more, and no more came
 pub room_left : (a b : History) (goes : GoesOn a b) (n : ℕ) → length goes.entries ≤ n → length a.log + n + a.setup.places ≤ a.setup.log
     → length b.log + waiting_of b ≤ b.setup.log
@@ -74,23 +56,13 @@ room_left a b goes n few room =
     let most : b.setup.log ≡ a.setup.log = ap (λ (s : Setup). s.log) goes.setup in
     omega arith
 
--- what isn't refused for a full log has room for an event, and once begun for the rest of it
-pub has_room : (h : History) → lacks_room h.setup (length h.log) ≡ false → HasEntryRoom h
-has_room h fits = grind (arith, nat_tests)
-
+-- once begun, what has room for an event has room for the rest of it
 pub begun_room : (h one : History) (e : Entry) → HasEntryRoom h → one ≡ with_entry h e → HasEventRoom one
 begun_room h one e room begun =
     let long = longer h one e begun in
     let places : one.setup.places ≡ h.setup.places = ap (λ (s : Setup). s.places) (same_setup h one e begun) in
     let most : one.setup.log ≡ h.setup.log = ap (λ (s : Setup). s.log) (same_setup h one e begun) in
     omega arith
-
--- between events nothing is owed but grants, which may come
-pub over_granting : (h : History) → stage_of h ≡ granting → IsOverNext h
-over_granting h stage = subst (λ (t : Stage). IsOver h.setup (state_of h) t) (sym stage) tt
-
-pub may_granting : (h : History) → stage_of h ≡ granting → MayGrantNext h
-may_granting h stage = subst (λ (t : Stage). MayGrant h.setup (state_of h) t) (sym stage) tt
 
 -- nothing is owed where the event's own entries have come
 pub carries : (a b : History) (goes : GoesOn a b) (n : ℕ) → stage_of b ≡ granting → length goes.entries ≤ n

@@ -1,19 +1,20 @@
 -- The calls of a failure as compositions of entries.
-use Rattle.std.proofs.Common.{◌≡◌, ℕ, ◌+◌, ◌<◌, ◌≤◌, ◌||◌, not, cond, Bool, true, false, [], ◌∷◌, ◌++◌, Option, None, Some}
+use Rattle.std.proofs.Common.{◌≡◌, ℕ, ◌+◌, ◌<◌, ◌≤◌, not, cond, Bool, true, [], ◌∷◌, ◌++◌, Option, None, Some}
 use Rattle.std.proofs.Common.{option_map, IsTrue, length, refl, ap, sym, ◌∙◌, subst, arith, length-append, inl, inr}
 use Rattle.std.specs.Option.{option_map_or, option_and_then}
 use Rattle.std.proofs.Math.ListN.{set}
 use Rattle.std.proofs.lemmas.Bool.Decides.{Decides-eqb}
 use Rattle.verdict.specs.declared.cause.Cause.TheVariants.{Retries, NoServer}
+use Rattle.dispatch_log.specs.declared.entry.Entry.{Entry}
 use Rattle.dispatch_log.specs.declared.entry.Entry.TheVariants.{Fail, Direct, Joined, Freed, Retried, Left}
 use Rattle.dispatch_log.specs.declared.row.Phase.{Phase}
 use Rattle.dispatch_log.specs.declared.row.Phase.TheVariants.{Loose, Waiting, Serving, Told}
 use Rattle.dispatch_log.specs.declared.row.Row.{Row}
 use Rattle.dispatch_log.specs.declared.setup.Setup.{Setup}
 use Rattle.dispatch_log.specs.Histories.{History, IsLegal, state_of, refuses_failure}
-use Rattle.dispatch_log.specs.Judgement.{Stage, failing, leaving, granting, MayGrant, MayCome, next_stage, HasSlot}
+use Rattle.dispatch_log.specs.Judgement.{IsPut, Stage, failing, leaving, granting, MayGrant, MayCome, next_stage, HasSlot}
 use Rattle.dispatch_log.specs.Refusals.{has_a_slot}
-use Rattle.dispatch_log.specs.Retries.{are_spent, are_redispatched, are_retried, failed_row, failed}
+use Rattle.dispatch_log.specs.Retries.{are_spent, are_redispatched, failed_row, failed}
 use Rattle.dispatch_log.specs.Rows.{Rows, StandsAt, changed, in_phase, row_of, server_in, phase_is_served_by, pin_of, failures_of}
 use Rattle.dispatch_log.specs.States.{State, opening_state}
 use Rattle.std.proofs.lemmas.Option.{same_Some}
@@ -22,18 +23,13 @@ use Rattle.dispatch_log.proofs.Judged.{after_all-push, stage_after-push}
 use Rattle.list_facts.proofs.Places.{get-set_same, get-set_cases}
 use Rattle.dispatch_log.proofs.RowLemmas.{HaveOwnTickets, changed_at, row_of_at}
 use Rattle.dispatch_core.specs.Steps.{GoesOn, CarriesOn, Places, Settles, HasEventRoom}
-use Rattle.dispatch_trace.specs.Histories.{with_entry, stage_of, waiting_of, MayComeNext, MayGrantNext, MayPut, IsFound}
+use Rattle.dispatch_trace.specs.Histories.{scene_of, with_entry, stage_of, waiting_of, MayComeNext, MayGrantNext, MayPut, IsFound}
 use Rattle.dispatch_core.proofs.Calls.{legal_consistent}
 use Rattle.dispatch_core.proofs.Dismissals.{ticket_room}
-use Rattle.dispatch_core.proofs.Going.{goes_entry, goes_then, goes_more, goes_places, goes_long, same_setup, few_wait, room_left, begun_room, carries}
+use Rattle.dispatch_core.proofs.Going.{goes_entry, goes_then, goes_more, goes_places, goes_long, room_left, begun_room, carries}
+use Rattle.dispatch_trace.proofs.Placing.{same_setup, few_wait}
 use Rattle.dispatch_trace.specs.declared.position.Ticketed.{Ticketed}
 use Rattle.dispatch_core.proofs.Phases.{failures_stay, pins_stay}
-
--- a request is retried
-pub may_retry : (h : History) (t server k : ℕ) → stage_of h ≡ failing t → HasSlot (state_of h).rows t server → failures_of t (state_of h).rows ≡ k
-    → are_retried h.setup k ≡ true → MayComeNext h (Retried t server k)
-may_retry h t server k stage slot failures retried =
-    subst (λ (x : Stage). MayCome h.setup (state_of h) (length h.log) x (Retried t server k)) (sym stage) (refl, slot, failures, retried)
 
 pub carries_retry : (h one : History) (t server k : ℕ) → stage_of h ≡ failing t → one ≡ with_entry h (Retried t server k) → HasEventRoom h
     → CarriesOn h one
@@ -41,23 +37,6 @@ carries_retry h one t server k stage goes room =
     carries h one (goes_entry h one (Retried t server k) goes refl) 1
     (ap stage_of goes ∙ stage_after-push granting h.log (Retried t server k) ∙ ap (λ (x : Stage). next_stage x (Retried t server k)) stage)
     (omega arith) (omega arith)
-
--- its slot is given back
-pub may_free_failed : (h : History) (t server : ℕ) → stage_of h ≡ failing t → HasSlot (state_of h).rows t server
-    → are_retried h.setup (failures_of t (state_of h).rows) ≡ false → MayComeNext h (Freed t server)
-may_free_failed h t server stage slot other =
-    subst (λ (x : Stage). MayCome h.setup (state_of h) (length h.log) x (Freed t server)) (sym stage)
-    (refl, slot, λ retried. let no : false ≡ true = sym other ∙ retried in cc)
-
-pub spent_not_retried : (setup : Setup) (k : ℕ) → are_spent setup k ≡ true → are_retried setup k ≡ false
-spent_not_retried setup k spent = ap (λ b. not (b || are_redispatched setup k)) spent
-
-pub redispatched_not_retried : (setup : Setup) (k : ℕ) → are_redispatched setup k ≡ true → are_retried setup k ≡ false
-redispatched_not_retried setup k goes = ap (λ b. not (are_spent setup k || b)) goes ∙ or_true (are_spent setup k)
-  where
-    or_true : (b : Bool) → not (b || true) ≡ false
-    or_true true = refl
-    or_true false = refl
 
 module _ (one two : History) (t server : ℕ) (stage : stage_of one ≡ failing t) (freed : two ≡ with_entry one (Freed t server)) where
   pub freed_stage : stage_of two ≡ leaving t server
@@ -111,22 +90,16 @@ module _ (one two : History) (t server : ℕ) (stage : stage_of one ≡ failing 
 
     -- and once all is settled it may be put anew
     pub redispatch_put : MayPut three None (Some server) t
-    redispatch_put (Direct u v) put = (
-      subst (λ (x : Stage). MayCome three.setup (state_of three) (length three.log) x (Direct u v)) (sym settled_stage)
-          (record { redispatched = again; settled = settled.settled; put = put }),
-      ap (λ (x : Stage). next_stage x (Direct u v)) settled_stage,
-    )
-    redispatch_put (Joined u q) put = (
-      subst (λ (x : Stage). MayCome three.setup (state_of three) (length three.log) x (Joined u q)) (sym settled_stage)
-          (record { redispatched = again; settled = settled.settled; put = put }),
-      ap (λ (x : Stage). next_stage x (Joined u q)) settled_stage,
-    )
-    redispatch_put (Left u NoServer) put = (
-      subst (λ (x : Stage). MayCome three.setup (state_of three) (length three.log) x (Left u NoServer)) (sym settled_stage)
-          (record { redispatched = again; settled = settled.settled; put = put }),
-      ap (λ (x : Stage). next_stage x (Left u NoServer)) settled_stage,
-    )
-    redispatch_put e put = absurd put
+    redispatch_put e put =
+        subst (λ (x : Stage). MayCome three.setup (state_of three) (length three.log) x e × (next_stage x e ≡ granting)) (sym settled_stage)
+        (placed e put)
+      where
+        placed : (e : Entry) → IsPut (scene_of three) (state_of three).cursor None (Some server) t e
+            → MayCome three.setup (state_of three) (length three.log) (leaving t server) e × (next_stage (leaving t server) e ≡ granting)
+        placed (Direct u v) put = (record { redispatched = again; settled = settled.settled; put = put }, refl)
+        placed (Joined u q) put = (record { redispatched = again; settled = settled.settled; put = put }, refl)
+        placed (Left u NoServer) put = (record { redispatched = again; settled = settled.settled; put = put }, refl)
+        placed e put = absurd put
 
     pub redispatch_pin : pin_of t (state_of one).rows ≡ None → pin_of t (state_of three).rows ≡ None
     redispatch_pin none = settled.pins t ∙ freed_pin ∙ none

@@ -17,7 +17,8 @@ use Rattle.dispatch_core.proofs.Phases.{failures_stay, pins_stay}
 use Rattle.dispatch_core.proofs.Standing.{at_changed, at_after}
 use Rattle.dispatch_trace.specs.declared.position.Ticketed.{Ticketed}
 use Rattle.dispatch_core.specs.Steps.{GoesOn, Settles}
-use Rattle.dispatch_core.proofs.Going.{goes_none, goes_more, longer}
+use Rattle.dispatch_core.proofs.Going.{goes_none, goes_more}
+use Rattle.dispatch_trace.proofs.Placing.{longer}
 use Rattle.dispatch_trace.specs.Histories.{with_entry, stage_of, scene_of, waiting_of, IsOverNext, MayGrantNext, IsGrant, IsJudged, IsAt}
 
 -- a grant owes nothing after it

@@ -29,7 +29,8 @@ use Rattle.list_facts.proofs.Members.{Contains-nil, Contains-head, Contains-tail
 use Rattle.dispatch_core.specs.Steps.{GoesOn, CarriesOn}
 use Rattle.dispatch_trace.specs.Histories.{with_entry, stage_of, scene_of, waits, waiting_of, IsJudged, MayComeNext, HasEntryRoom, IsAt}
 use Rattle.dispatch_trace.specs.Timeouts.{AreExpired}
-use Rattle.dispatch_core.proofs.Going.{goes_none, goes_more, longer, same_setup, room_left, begun_room}
+use Rattle.dispatch_core.proofs.Going.{goes_none, goes_more, room_left, begun_room}
+use Rattle.dispatch_trace.proofs.Placing.{longer, same_setup}
 use Rattle.dispatch_trace.proofs.Expiring.{expired_since}
 
 told_not_expired : (setup : Setup) (now : ℕ) (r : Row) (phase : Phase) → has_expired setup now r.phase → r.phase ≡ phase → is_waiting phase ≡ false

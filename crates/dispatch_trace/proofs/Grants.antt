@@ -7,7 +7,7 @@ use Rattle.due_key.proofs.KeyOrder.{key_cmp_total, key_cmp_exact}
 use Rattle.dispatch_log.specs.declared.entry.Entry.TheVariants.{Granted}
 use Rattle.dispatch_log.specs.declared.queue.Queue.{Queue}
 use Rattle.dispatch_log.specs.declared.row.Phase.TheVariants.{Waiting, Serving}
-use Rattle.dispatch_log.specs.Grants.{IsLawfulGrant, IsSettled}
+use Rattle.dispatch_log.specs.Grants.{IsLawfulGrant}
 use Rattle.dispatch_log.specs.Histories.{History, state_of}
 use Rattle.dispatch_log.specs.Refusals.{is_waiting}
 use Rattle.dispatch_log.specs.Rows.{Rows, in_phase}
@@ -80,11 +80,6 @@ module _ {N : Type 0} (pair_of : N → Key × ℕ) where
           → MatchOption head (IsEmptyQueue queue (state_of (history_of t)).rows) (IsLeastIn queue (state_of (history_of t)).rows)
       by_head None none = none_wait t queue is none
       by_head (Some key) its = least_is t queue key is its
-
-  -- all is settled where no server takes
-  pub settled_here : (t : Traced N) (now : History) → IsTrace pair_of t → history_of t ≡ now → IsSettled (kept_scene t.kept)
-      → IsSettled (scene_of now)
-  settled_here t now is same settled = subst (λ (h : History). IsSettled (scene_of h)) same (subst IsSettled (scene_is pair_of t is) settled)
 
   -- the key of a lawful take is the first one's
   first_key : (t : Traced N) (heads : Held) (server cursor : ℕ) (queue : Queue) → IsTrace pair_of t → AreFirst heads t.waits

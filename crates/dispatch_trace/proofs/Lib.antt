@@ -14,3 +14,4 @@ pub mod Within
 pub mod Grants
 pub mod Joining
 pub mod Moves
+pub mod Placing

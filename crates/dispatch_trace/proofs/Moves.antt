@@ -81,9 +81,6 @@ module _ {N : Type 0} (pair_of : N → Key × ℕ) where
         subst (λ (x : Stage). MayCome t.kept.setup (state_of (history_of t)) (length t.log.entries) x (Moved waiter.key.ticket server)) (sym calls.stage)
         (refl, calls.redispatch, first)
 
-    next_row : Row
-    next_row = record its.row { pin = None; phase = Waiting Backend (state_of (history_of t)).moment }
-
     rows_after : (state_of (with_entry (history_of t) (Moved waiter.key.ticket server))).rows ≡ set (state_of (history_of t)).rows place
         (Some (record its.row { pin = None; phase = Waiting Backend (state_of (history_of t)).moment }))
     rows_after =

@@ -17,3 +17,6 @@ mod trace;
 pub use failing::Fate;
 pub use position::{Position, Ticketed};
 pub use trace::Trace;
+
+#[cfg(test)]
+mod tests;

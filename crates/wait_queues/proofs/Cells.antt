@@ -1,5 +1,7 @@
 -- The cells of an order, and what each change leaves in them.
-use Rattle.std.proofs.Common.{◌≡◌, ◌≢◌, ℕ, ◌+◌, ◌<◌, ◌≤◌, ◌⊎◌, ◌↔◌, true, false, not, List, [], ◌∷◌, ◌++◌, Contains, Some, None, cond, eqb, ltb, length, set, get_or, slice_get, refl, sym, ap, subst, ◌∙◌, inl, inr, IsTrue, arith, get_or-set_same, get_or-set_other, length-set}
+use Rattle.std.proofs.Common.{◌≡◌, ◌≢◌, ℕ, ◌+◌, ◌<◌, ◌≤◌, ◌⊎◌, ◌↔◌, true, false, not, List, [], ◌∷◌, ◌++◌}
+use Rattle.std.proofs.Common.{Contains, Some, None, cond, eqb, ltb, length, set, get_or, slice_get, refl, sym, ap, subst, ◌∙◌, inl, inr, IsTrue, arith}
+use Rattle.std.proofs.Common.{get_or-set_same, get_or-set_other, length-set}
 use Rattle.std.specs.List.{IsDistinct, AllByRecursion, list_any}
 use Rattle.std.specs.Prelude.{slice_index}
 use Rattle.std.proofs.lemmas.Bool.{eq-eqb, ne_eqb, eqb-true, ltb-true, or_cases, cases_eq, true≢false}
@@ -98,7 +100,8 @@ module _ (n v : List ℕ) (room : ℕ) (xs : List ℕ) (p : ℕ) (ys : List ℕ)
 
   next_cell : slice_index n p < room + 1
   next_cell = elim next_cases [
-    | inl among ↦ let least = is.below (slice_index n p) (Contains-append_right xs (p ∷ ys) (slice_index n p) (Contains-tail p ys (slice_index n p) among)) in omega arith
+    | inl among ↦ let least =
+        is.below (slice_index n p) (Contains-append_right xs (p ∷ ys) (slice_index n p) (Contains-tail p ys (slice_index n p) among)) in omega arith
     | inr end ↦ omega arith
   ]
 
@@ -135,7 +138,9 @@ module _ (n v : List ℕ) (room : ℕ) (xs : List ℕ) (p : ℕ) (ys : List ℕ)
                 | inl end ↦ absurd (omega arith)
                 | inr among ↦ absent (subst (λ z. Contains (xs ++ ys) z) (sym same) (Contains-append_left xs ys before among))
               ] in
-              get_or-set_other (set n before after) p place p 0 (λ same. other (sym same)) ∙ get_or-set_other n before place after 0 not_first ∙ is.others place least (λ among. elim (Contains-around_cases xs p ys place among) [ inl same ↦ other same | inr around ↦ absent around ])
+              get_or-set_other (set n before after) p place p 0 (λ same. other (sym same)) ∙ get_or-set_other n before place after 0 not_first
+              ∙ is.others place least
+              (λ among. elim (Contains-around_cases xs p ys place among) [ inl same ↦ other same | inr around ↦ absent around ])
         ];
       }
 
@@ -155,30 +160,37 @@ module _ (n v : List ℕ) (room : ℕ) (places : List ℕ) (is : IsLinked n v ro
     leads_on = let split = split_at places p among in next_other n v room split.before p split.after (around split.before split.after split.parts)
 
     pub after_is : next_after p places ≡ cond (eqb (slice_index n p) room) None (Some (slice_index n p))
-    after_is = let split = split_at places p among in ap (next_after p) split.parts ∙ after_parts n v room split.before p split.after (around split.before split.after split.parts)
+    after_is = let split =
+        split_at places p among in ap (next_after p) split.parts
+        ∙ after_parts n v room split.before p split.after (around split.before split.after split.parts)
 
     pub removed : IsLinked (set (set n (slice_index v p) (slice_index n p)) p p) (set v (slice_index n p) (slice_index v p)) room (without p places)
     removed =
         let split = split_at places p among in
         let linked = around split.before split.after split.parts in
-        subst (IsLinked (set (set n (slice_index v p) (slice_index n p)) p p) (set v (slice_index n p) (slice_index v p)) room) (sym (ap (without p) split.parts ∙ without_parts split.before p split.after linked.once)) (removed_parts n v room split.before p split.after linked)
+        subst (IsLinked (set (set n (slice_index v p) (slice_index n p)) p p) (set v (slice_index n p) (slice_index v p)) room)
+        (sym (ap (without p) split.parts ∙ without_parts split.before p split.after linked.once))
+        (removed_parts n v room split.before p split.after linked)
 
   pub contains_is : p < room → IsTrue (not (eqb (slice_index n p) p)) ↔ Contains places p
   contains_is least = (
     λ leads. elim (contains_or_not places p) [
       | inl among ↦ among
-      | inr absent ↦ let stays : eqb (slice_index n p) p ≡ true = eq-eqb (slice_index n p) p (is.others p least absent) in absurd (true≢false (sym (subst (λ b. IsTrue (not b)) stays leads)))
+      | inr absent ↦ let stays : eqb (slice_index n p) p ≡ true = eq-eqb (slice_index n p) p (is.others p least absent) in
+          absurd (true≢false (sym (subst (λ b. IsTrue (not b)) stays leads)))
     ],
     λ among. subst (λ b. IsTrue (not b)) (sym (ne_eqb (slice_index n p) p (leads_on among))) refl,
   )
 
-  pub appended : p < room → ¬ (Contains places p) → IsLinked (set (set n (slice_index v room) p) p room) (set (set v p (slice_index v room)) room p) room (places ++ p ∷ [])
+  pub appended : p < room → ¬ (Contains places p) → IsLinked (set (set n (slice_index v room) p) p room) (set (set v p (slice_index v room)) room p) room
+      (places ++ p ∷ [])
   appended least absent =
       let last : ℕ = slice_index v room in
       let last_parts : Contains (room ∷ places) last = last_in (slice_index n) (slice_index v) room places room is.ring in
       let last_within : last < room + 1 = last_cell n v room places is in
       let not_end : p ≢ room = λ same. absurd (omega arith) in
-      let not_on_ring : ¬ (Contains (room ∷ places) p) = λ among. elim (Contains-cases room places p among) [ inl end ↦ not_end (sym end) | inr place ↦ absent place ] in
+      let not_on_ring : ¬ (Contains (room ∷ places) p) =
+      λ among. elim (Contains-cases room places p among) [ inl end ↦ not_end (sym end) | inr place ↦ absent place ] in
       let not_last : last ≢ p = λ same. not_on_ring (subst (Contains (room ∷ places)) same last_parts) in
       let cells = is.next_cells in
       let back_cells = is.previous_cells in
@@ -205,11 +217,13 @@ module _ (n v : List ℕ) (room : ℕ) (places : List ℕ) (is : IsLinked n v ro
               | inl end ↦ absurd (omega arith)
               | inr among ↦ out (subst (λ z. Contains (places ++ p ∷ []) z) (sym same) (Contains-append_left places (p ∷ []) last among))
             ] in
-            get_or-set_other (set n last p) p place room 0 not_place ∙ get_or-set_other n last place p 0 not_tail ∙ is.others place least (λ among. out (Contains-append_left places (p ∷ []) place among));
+            get_or-set_other (set n last p) p place room 0 not_place ∙ get_or-set_other n last place p 0 not_tail
+            ∙ is.others place least (λ among. out (Contains-append_left places (p ∷ []) place among));
       }
 
 -- so many cells that all lead to themselves hold no places
-pub made : (n v : List ℕ) (room count : ℕ) → count ≡ room + 1 → length n ≡ count → length v ≡ count → ((cell : ℕ) → cell < count → get_or n cell 0 ≡ cell) → ((cell : ℕ) → cell < count → get_or v cell 0 ≡ cell) → IsLinked n v room []
+pub made : (n v : List ℕ) (room count : ℕ) → count ≡ room + 1 → length n ≡ count → length v ≡ count
+    → ((cell : ℕ) → cell < count → get_or n cell 0 ≡ cell) → ((cell : ℕ) → cell < count → get_or v cell 0 ≡ cell) → IsLinked n v room []
 made n v room count all cells back_cells leads leads_back = record {
   next_cells = omega arith;
   previous_cells = omega arith;
@@ -246,7 +260,8 @@ module _ (n v : List ℕ) (room : ℕ) (order : Order) (seen : order_of (places_
       tells low =
           let cells = is.next_cells in
           let value : at ≡ slice_index n p = at_is ∙ get_or_default n p at 0 (omega arith) in
-          subst (λ k. IsTrue (not (eqb k p)) ↔ Contains order.places p) (sym value) (subst (λ (o : Order). IsTrue (not (eqb (slice_index n p) p)) ↔ Contains o.places p) seen (contains_is n v room (places_of n room) is p low))
+          subst (λ k. IsTrue (not (eqb k p)) ↔ Contains order.places p) (sym value)
+          (subst (λ (o : Order). IsTrue (not (eqb (slice_index n p) p)) ↔ Contains o.places p) seen (contains_is n v room (places_of n room) is p low))
 
     module _ (joined : Contains order.places p) where
       among : Contains (places_of n room) p
@@ -260,7 +275,8 @@ module _ (n v : List ℕ) (room : ℕ) (order : Order) (seen : order_of (places_
           let low = place_within in
           let cells = is.next_cells in
           let value : at ≡ slice_index n p = at_is ∙ get_or_default n p at 0 (omega arith) in
-          ap (λ (o : Order). next_after p o.places) (sym seen) ∙ after_is n v room (places_of n room) is p among ∙ ap (λ k. cond (eqb k room) None (Some k)) (sym value)
+          ap (λ (o : Order). next_after p o.places) (sym seen) ∙ after_is n v room (places_of n room) is p among
+          ∙ ap (λ k. cond (eqb k room) None (Some k)) (sym value)
 
       -- the neighbours that the cells of a place name
       module _ (before after : ℕ) (before_is : before ≡ get_or v p before) (after_is : after ≡ get_or n p after) where
@@ -284,7 +300,9 @@ module _ (n v : List ℕ) (room : ℕ) (order : Order) (seen : order_of (places_
             let out = removed n v room (places_of n room) is p among in
             let cells : set (set n (slice_index v p) (slice_index n p)) p p ≡ set n' p p = cc in
             let back_cells : set v (slice_index n p) (slice_index v p) ≡ v' = cc in
-            subst (IsLinked (set n' p p) v' room) places (subst (λ l. IsLinked (set n' p p) l room (without p (places_of n room))) back_cells (subst (λ l. IsLinked l (set v (slice_index n p) (slice_index v p)) room (without p (places_of n room))) cells out))
+            subst (IsLinked (set n' p p) v' room) places
+            (subst (λ l. IsLinked (set n' p p) l room (without p (places_of n room))) back_cells
+            (subst (λ l. IsLinked l (set v (slice_index n p) (slice_index v p)) room (without p (places_of n room))) cells out))
 
     pub none_above : room ≤ p → IsTrue (ltb p room) ↔ Contains order.places p
     none_above high = (
@@ -300,11 +318,14 @@ module _ (n v : List ℕ) (room : ℕ) (order : Order) (seen : order_of (places_
       pub last_within : last < room + 1
       last_within = subst (λ k. k < room + 1) (sym last_value) (last_cell n v room (places_of n room) is)
 
-      pub addition : p < order.room → ¬ (Contains order.places p) → (n' v' n'' v'' : List ℕ) → n' ≡ set n last p → v' ≡ set v p last → n'' ≡ set n' p room → v'' ≡ set v' room p → IsLinked n'' v'' room (order.places ++ p ∷ [])
+      pub addition : p < order.room → ¬ (Contains order.places p) → (n' v' n'' v'' : List ℕ) → n' ≡ set n last p → v' ≡ set v p last
+          → n'' ≡ set n' p room → v'' ≡ set v' room p → IsLinked n'' v'' room (order.places ++ p ∷ [])
       addition within absent n' v' n'' v'' forth back end end_back =
           let value = last_value in
           let places = ap (λ (o : Order). o.places ++ p ∷ []) seen in
           let put = appended n v room (places_of n room) is p (shown_within within) (shown_absent absent) in
           let cells : set (set n (slice_index v room) p) p room ≡ n'' = cc in
           let back_cells : set (set v p (slice_index v room)) room p ≡ v'' = cc in
-          subst (IsLinked n'' v'' room) places (subst (λ l. IsLinked n'' l room (places_of n room ++ p ∷ [])) back_cells (subst (λ l. IsLinked l (set (set v p (slice_index v room)) room p) room (places_of n room ++ p ∷ [])) cells put))
+          subst (IsLinked n'' v'' room) places
+          (subst (λ l. IsLinked n'' l room (places_of n room ++ p ∷ [])) back_cells
+          (subst (λ l. IsLinked l (set (set v p (slice_index v room)) room p) room (places_of n room ++ p ∷ [])) cells put))

@@ -1,12 +1,13 @@
 -- The waiting requests after each call.
-use Rattle.std.proofs.Common.{◌≡◌, ◌≢◌, ℕ, zero, suc, ◌+◌, ◌<◌, replicate, slice_index_or, List, [], ◌∷◌, ◌++◌, Option, None, Some, MatchOption, option_map, drop, slice_get, length, Contains, refl, ap, sym, ◌∙◌, subst, arith, inl, inr, IsPermutation}
+use Rattle.std.proofs.Common.{◌≡◌, ℕ, zero, suc, replicate, slice_index_or, List, [], ◌∷◌, ◌++◌, Option, None}
+use Rattle.std.proofs.Common.{Some, MatchOption, option_map, drop, slice_get, length, Contains, refl, ap, sym, ◌∙◌, subst, arith, inl, inr, IsPermutation}
 use Rattle.std.specs.List.{sum_by}
 use Rattle.std.specs.Option.{option_to_list}
 use Rattle.std.proofs.Math.ListN.{set, length-set}
 use Rattle.std.proofs.lemmas.Cmp.{tied_itself}
 use Rattle.std.proofs.lemmas.List.{set-set, length-replicate}
 use Rattle.std.proofs.lemmas.List.Sorted.{IsPermutation-refl}
-use Rattle.std.proofs.lemmas.Option.{same_Some, slice_get_within}
+use Rattle.std.proofs.lemmas.Option.{same_Some}
 use Rattle.due_key.specs.declared.key.Key.{Key}
 use Rattle.due_key.specs.Order.{key_cmp}
 use Rattle.due_key.proofs.KeyOrder.{key_cmp_total}
@@ -25,30 +26,39 @@ use Rattle.wait_queues.specs.Lines.{Line, Lined, line_at, with_line, with_moved,
 use Rattle.wait_queues.specs.Order.{Order, with_places}
 use Rattle.wait_queues.specs.Order.{without as without_place}
 use Rattle.wait_queues.specs.Waitlists.{Waitlist, Waiters, WaitsAt, HasNoKey, NoneWaitsIn, IsFirstIn, IsFirstKey, moved_waiter, with_waiter_anew}
-use Rattle.wait_queues.proofs.Lineup.{IsWhole, gathered_whole, server_whole, gathered_up, joined_up, left_up, aside_up, first_in, none_in, waits_line, line_waits}
+use Rattle.wait_queues.proofs.Lineup.{IsWhole, gathered_whole, server_whole, gathered_up, joined_up, left_up, aside_up, first_in, none_in, waits_line}
+use Rattle.wait_queues.proofs.Lineup.{line_waits}
 use Rattle.wait_queues.proofs.Lining.{index-replicate}
 use Rattle.wait_queues.proofs.Orders.{ordered_more, ordered_less}
 
 -- what was moved is merged
 pub gather_kept : (lined next : Lined) (ws : Waiters) (order : Order) → AreWaiting lined ws order → next ≡ gathered lined → AreWaiting next ws order
-gather_kept lined next ws order is merges = subst (λ (l : Lined). AreWaiting l ws order) (sym merges) (record { lined_up = gathered_up lined ws is.lined_up; order_room = is.order_room; in_order = is.in_order })
+gather_kept lined next ws order is merges =
+    subst (λ (l : Lined). AreWaiting l ws order) (sym merges)
+    (record { lined_up = gathered_up lined ws is.lined_up; order_room = is.order_room; in_order = is.in_order })
 
 -- the heads of whole queues are their first requests' keys
-pub heads_first : (lined : Lined) (ws : Waiters) (heads : Held) → AreLinedUp lined ws → lined.moved ≡ [] → ((queue : Queue) → IsQueueOf (length lined.own) queue → head_at heads queue ≡ option_map (λ pair. pair.0) (slice_get (line_at lined queue) 0))
+pub heads_first : (lined : Lined) (ws : Waiters) (heads : Held) → AreLinedUp lined ws → lined.moved ≡ []
+    → ((queue : Queue) → IsQueueOf (length lined.own) queue → head_at heads queue ≡ option_map (λ pair. pair.0) (slice_get (line_at lined queue) 0))
     → (queue : Queue) → IsQueueOf (length lined.own) queue → MatchOption (head_at heads queue) (NoneWaitsIn queue ws) (IsFirstKey queue ws)
 heads_first lined ws heads is none told queue within =
-    subst (λ (head : Option Key). MatchOption head (NoneWaitsIn queue ws) (IsFirstKey queue ws)) (sym (told queue within)) (by_first (slice_get (line_at lined queue) 0) refl)
+    subst (λ (head : Option Key). MatchOption head (NoneWaitsIn queue ws) (IsFirstKey queue ws)) (sym (told queue within))
+    (by_first (slice_get (line_at lined queue) 0) refl)
   where
-    by_first : (first : Option (Key × ℕ)) → slice_get (line_at lined queue) 0 ≡ first → MatchOption (option_map (λ pair. pair.0) first) (NoneWaitsIn queue ws) (IsFirstKey queue ws)
+    by_first : (first : Option (Key × ℕ)) → slice_get (line_at lined queue) 0 ≡ first
+        → MatchOption (option_map (λ pair. pair.0) first) (NoneWaitsIn queue ws) (IsFirstKey queue ws)
     by_first None e = none_in lined ws queue is (gathered_whole lined queue none) e
     by_first (Some pair) e = let it = first_in lined ws queue pair.0 pair.1 is within (gathered_whole lined queue none) e in (pair.1, it.0, it.1, it.2)
 
 -- a request begins to wait
-pub join_kept : (lined next : Lined) (ws new : Waiters) (order after : Order) (p : ℕ) (w : Waiter) (pair : Key × ℕ) → AreWaiting lined ws order → lined.moved ≡ [] → pair ≡ (w.key, p)
+pub join_kept : (lined next : Lined) (ws new : Waiters) (order after : Order) (p : ℕ) (w : Waiter) (pair : Key × ℕ) → AreWaiting lined ws order
+    → lined.moved ≡ [] → pair ≡ (w.key, p)
     → IsQueueOf (length lined.own) w.queue → slice_get ws p ≡ Some None → HasNoKey ws w.key
-    → next ≡ with_line lined w.queue (inserted key_cmp pair (line_at lined w.queue)) → new ≡ set ws p (Some w) → after ≡ with_places order (order.places ++ p ∷ []) → AreWaiting next new after
+    → next ≡ with_line lined w.queue (inserted key_cmp pair (line_at lined w.queue)) → new ≡ set ws p (Some w)
+    → after ≡ with_places order (order.places ++ p ∷ []) → AreWaiting next new after
 join_kept lined next ws new order after p w pair is none its within vacant fresh line written joined =
-    subst (λ (l : Lined). AreWaiting l new after) (sym (line ∙ ap (λ (x : Key × ℕ). with_line lined w.queue (inserted key_cmp x (line_at lined w.queue))) its))
+    subst (λ (l : Lined). AreWaiting l new after)
+    (sym (line ∙ ap (λ (x : Key × ℕ). with_line lined w.queue (inserted key_cmp x (line_at lined w.queue))) its))
     (subst (λ (x : Waiters). AreWaiting (with_line lined w.queue (inserted key_cmp (w.key, p) (line_at lined w.queue))) x after) (sym written)
     (subst (λ (o : Order). AreWaiting (with_line lined w.queue (inserted key_cmp (w.key, p) (line_at lined w.queue))) (set ws p (Some w)) o) (sym joined)
     (let up = joined_up lined ws p w is.lined_up none within vacant fresh in record {
@@ -62,14 +72,17 @@ join_kept lined next ws new order after p w pair is none its within vacant fresh
     same_room l (Server s) x = refl
 
 -- a request waits no more, whose pair is gone from its queue
-pub leave_kept : (lined next : Lined) (ws new : Waiters) (order after : Order) (p : ℕ) (w : Waiter) (rest : Line) → AreWaiting lined ws order → lined.moved ≡ [] → WaitsAt ws p w
+pub leave_kept : (lined next : Lined) (ws new : Waiters) (order after : Order) (p : ℕ) (w : Waiter) (rest : Line) → AreWaiting lined ws order
+    → lined.moved ≡ [] → WaitsAt ws p w
     → IsPermutation (line_at lined w.queue) ((w.key, p) ∷ rest) → IsAscending key_cmp rest
-    → next ≡ with_line lined w.queue rest → new ≡ set ws p None → after ≡ with_places order (without_place p order.places) → AreWaiting next new after
+    → next ≡ with_line lined w.queue rest → new ≡ set ws p None → after ≡ with_places order (without_place p order.places)
+    → AreWaiting next new after
 leave_kept lined next ws new order after p w rest is none waits parts rises line written left =
     subst (λ (l : Lined). AreWaiting l new after) (sym line)
     (subst (λ (x : Waiters). AreWaiting (with_line lined w.queue rest) x after) (sym written)
     (subst (λ (o : Order). AreWaiting (with_line lined w.queue rest) (set ws p None) o) (sym left)
-    (let up = left_up lined ws p w rest is.lined_up waits parts rises (subst (HaveNoCommonKey key_cmp (with_line lined w.queue rest).backend) (sym none) tt) in record {
+    (let up = left_up lined ws p w rest is.lined_up waits parts rises (subst (HaveNoCommonKey key_cmp (with_line lined w.queue rest).backend) (sym none) tt) in
+    record {
       lined_up = up;
       order_room = is.order_room ∙ sym is.lined_up.room ∙ sym (same_room lined w.queue rest) ∙ up.room;
       in_order = ordered_less ws order.places p w is.in_order waits;
@@ -82,7 +95,8 @@ leave_kept lined next ws new order after p w rest is none waits parts rises line
 -- a line is its first pair and the rest
 first_apart : (line : Line) (pair : Key × ℕ) → slice_get line 0 ≡ Some pair → IsPermutation line (pair ∷ drop 1 line)
 first_apart [] pair e = cc
-first_apart (head ∷ rest) pair e = subst (λ (x : Key × ℕ). IsPermutation (head ∷ rest) (x ∷ rest)) (same_Some head pair e) (IsPermutation-refl (head ∷ rest))
+first_apart (head ∷ rest) pair e =
+    subst (λ (x : Key × ℕ). IsPermutation (head ∷ rest) (x ∷ rest)) (same_Some head pair e) (IsPermutation-refl (head ∷ rest))
 
 -- what the first request of a queue is, and what is left without it
 pub record Takes (lined : Lined) (ws : Waiters) (queue : Queue) (p : ℕ) (w : Waiter) : Type 0 where
@@ -90,7 +104,8 @@ pub record Takes (lined : Lined) (ws : Waiters) (queue : Queue) (p : ℕ) (w : W
   pub parts : IsPermutation (line_at lined w.queue) ((w.key, p) ∷ drop 1 (line_at lined w.queue))
   pub rises : IsAscending key_cmp (drop 1 (line_at lined w.queue))
 
-pub takes : (lined : Lined) (ws : Waiters) (queue : Queue) (key : Key) (p : ℕ) (w : Waiter) → AreLinedUp lined ws → IsQueueOf (length lined.own) queue → IsWhole lined queue → slice_get (line_at lined queue) 0 ≡ Some (key, p) → WaitsAt ws p w → Takes lined ws queue p w × (w.key ≡ key)
+pub takes : (lined : Lined) (ws : Waiters) (queue : Queue) (key : Key) (p : ℕ) (w : Waiter) → AreLinedUp lined ws → IsQueueOf (length lined.own) queue
+    → IsWhole lined queue → slice_get (line_at lined queue) 0 ≡ Some (key, p) → WaitsAt ws p w → Takes lined ws queue p w × (w.key ≡ key)
 takes lined ws queue key p w is within whole first waits =
     let it = first_in lined ws queue key p is within whole first in
     let same : it.0 ≡ w = same_Some it.0 w (same_Some (Some it.0) (Some w) (sym it.1.waits ∙ waits)) in
@@ -99,7 +114,9 @@ takes lined ws queue key p w is within whole first waits =
     let line : line_at lined queue ≡ line_at lined w.queue = ap (line_at lined) (sym first_so.its) in (
       record {
         first = first_so;
-        parts = first_apart (line_at lined w.queue) (w.key, p) (ap (λ (l : Line). slice_get l 0) (sym line) ∙ first ∙ ap (λ (k : Key). Some (k, p)) (sym named));
+        parts =
+            first_apart (line_at lined w.queue) (w.key, p)
+            (ap (λ (l : Line). slice_get l 0) (sym line) ∙ first ∙ ap (λ (k : Key). Some (k, p)) (sym named));
         rises = IsAscending-drop key_cmp (line_at lined w.queue) (is.ascending w.queue);
       },
       named,
@@ -118,12 +135,16 @@ leaves lined ws p w is none waits =
     let found = pair_at-member key_cmp_total w.key line (w.key, p) (is.ascending w.queue) among (tied_itself key_cmp_total w.key) in
     record {
       there = found;
-      parts = subst (λ (o : Option (Key × ℕ)). IsPermutation line (option_to_list o ++ without key_cmp w.key line)) found (IsPermutation-without key_cmp_total w.key line (is.ascending w.queue));
+      parts =
+          subst (λ (o : Option (Key × ℕ)). IsPermutation line (option_to_list o ++ without key_cmp w.key line)) found
+          (IsPermutation-without key_cmp_total w.key line (is.ascending w.queue));
       rises = IsAscending-without key_cmp w.key line (is.ascending w.queue);
     }
 
 -- nobody else has the key of a request that has left
-fresh_key : (ws : Waiters) (p : ℕ) (w : Waiter) → ((place other : ℕ) (x y : Waiter) → WaitsAt ws place x → WaitsAt ws other y → x.key ≡ y.key → place ≡ other) → WaitsAt ws p w → HasNoKey (set ws p None) w.key
+fresh_key : (ws : Waiters) (p : ℕ) (w : Waiter)
+    → ((place other : ℕ) (x y : Waiter) → WaitsAt ws place x → WaitsAt ws other y → x.key ≡ y.key → place ≡ other) → WaitsAt ws p w
+    → HasNoKey (set ws p None) w.key
 fresh_key ws p w own waits place v there same =
     elim (get-set_cases ws p place (Some w) None (Some v) waits there) [
       | inl here ↦ let no : None ≡ Some v = here.1 in cc
@@ -131,25 +152,30 @@ fresh_key ws p w own waits place v there same =
     ]
 
 -- a request is moved from a server's queue into the backend's
-pub shift_kept : (lined next : Lined) (ws new : Waiters) (order after : Order) (p s : ℕ) (w moved : Waiter) (pair : Key × ℕ) → AreWaiting lined ws order → Takes lined ws (Server s) p w → pair ≡ (w.key, p) → moved.key ≡ w.key → moved.queue ≡ Backend
-    → next ≡ with_moved (with_line lined (Server s) (drop 1 (line_at lined (Server s)))) (inserted key_cmp pair lined.moved) → new ≡ set ws p (Some moved) → after ≡ with_places order (without_place p order.places ++ p ∷ []) → AreWaiting next new after
+pub shift_kept : (lined next : Lined) (ws new : Waiters) (order after : Order) (p s : ℕ) (w moved : Waiter) (pair : Key × ℕ) → AreWaiting lined ws order
+    → Takes lined ws (Server s) p w → pair ≡ (w.key, p) → moved.key ≡ w.key → moved.queue ≡ Backend
+    → next ≡ with_moved (with_line lined (Server s) (drop 1 (line_at lined (Server s)))) (inserted key_cmp pair lined.moved)
+    → new ≡ set ws p (Some moved) → after ≡ with_places order (without_place p order.places ++ p ∷ []) → AreWaiting next new after
 shift_kept lined next ws new order after p s w moved pair is take its key backend line written joined =
     let its_queue : w.queue ≡ Server s = take.first.its in
     let rest : Line = drop 1 (line_at lined w.queue) in
     let mid : Lined = with_line lined w.queue rest in
-    let apart : HaveNoCommonKey key_cmp mid.backend lined.moved = subst (λ (q : Queue). HaveNoCommonKey key_cmp (with_line lined q rest).backend lined.moved) (sym its_queue) is.lined_up.apart in
+    let apart : HaveNoCommonKey key_cmp mid.backend lined.moved = subst (λ (q : Queue). HaveNoCommonKey key_cmp (with_line lined q rest).backend lined.moved)
+    (sym its_queue) is.lined_up.apart in
     let left = left_up lined ws p w rest is.lined_up take.first.waits take.parts take.rises apart in
     let gone : slice_get (set ws p None) p ≡ Some None = get-set_same ws p (Some w) None take.first.waits in
     let fresh : HasNoKey (set ws p None) moved.key = subst (HasNoKey (set ws p None)) (sym key) (fresh_key ws p w is.lined_up.own_keys take.first.waits) in
     let up = aside_up mid (set ws p None) p moved left backend gone fresh in
     let twice : set (set ws p None) p (Some moved) ≡ set ws p (Some moved) = set-set ws p None (Some moved) in
     let same : next ≡ with_moved mid (inserted key_cmp (moved.key, p) mid.moved) =
-    line ∙ ap (λ (x : Key × ℕ). with_moved (with_line lined (Server s) (drop 1 (line_at lined (Server s)))) (inserted key_cmp x lined.moved)) (its ∙ ap (λ (k : Key). (k, p)) (sym key))
+    line ∙ ap (λ (x : Key × ℕ). with_moved (with_line lined (Server s) (drop 1 (line_at lined (Server s)))) (inserted key_cmp x lined.moved))
+    (its ∙ ap (λ (k : Key). (k, p)) (sym key))
     ∙ ap (λ (q : Queue). with_moved (with_line lined q (drop 1 (line_at lined q))) (inserted key_cmp (moved.key, p) lined.moved)) (sym its_queue)
     ∙ ap (λ (m : Line). with_moved mid (inserted key_cmp (moved.key, p) m)) (sym (same_moved lined w.queue rest)) in
     subst (λ (l : Lined). AreWaiting l new after) (sym same)
     (subst (λ (x : Waiters). AreWaiting (with_moved mid (inserted key_cmp (moved.key, p) mid.moved)) x after) (twice ∙ sym written)
-    (subst (λ (o : Order). AreWaiting (with_moved mid (inserted key_cmp (moved.key, p) mid.moved)) (set (set ws p None) p (Some moved)) o) (sym joined) (record {
+    (subst (λ (o : Order). AreWaiting (with_moved mid (inserted key_cmp (moved.key, p) mid.moved)) (set (set ws p None) p (Some moved)) o) (sym joined)
+    (record {
       lined_up = up;
       order_room = is.order_room ∙ sym is.lined_up.room ∙ sym (same_room lined w.queue rest) ∙ up.room;
       in_order = ordered_more (set ws p None) (without_place p order.places) p moved (ordered_less ws order.places p w is.in_order take.first.waits) gone;
@@ -173,12 +199,15 @@ set_none [] s e = refl
 set_none (w ∷ own) zero e = ap (λ (x : Line). x ∷ own) (sym e)
 set_none (w ∷ own) (suc s) e = ap (λ (l : List Line). w ∷ l) (set_none own s e)
 
-pub nothing_popped : (lined left : Lined) (queue : Queue) → None ≡ slice_get (line_at lined queue) 0 → left ≡ with_line lined queue (drop 1 (line_at lined queue)) → left ≡ lined
-nothing_popped lined left queue none goes = goes ∙ ap (λ (w : Line). with_line lined queue (drop 1 w)) (no_first (line_at lined queue) none) ∙ by_queue queue (no_first (line_at lined queue) none)
+pub nothing_popped : (lined left : Lined) (queue : Queue) → None ≡ slice_get (line_at lined queue) 0
+    → left ≡ with_line lined queue (drop 1 (line_at lined queue)) → left ≡ lined
+nothing_popped lined left queue none goes =
+    goes ∙ ap (λ (w : Line). with_line lined queue (drop 1 w)) (no_first (line_at lined queue) none) ∙ by_queue queue (no_first (line_at lined queue) none)
   where
     by_queue : (q : Queue) → line_at lined q ≡ [] → with_line lined q [] ≡ lined
     by_queue Backend e = ap (λ (w : Line). record { own = lined.own; backend = w; moved = lined.moved; room = lined.room }) (sym e)
-    by_queue (Server s) e = ap (λ (l : List Line). record { own = l; backend = lined.backend; moved = lined.moved; room = lined.room }) (set_none lined.own s e)
+    by_queue (Server s) e =
+        ap (λ (l : List Line). record { own = l; backend = lined.backend; moved = lined.moved; room = lined.room }) (set_none lined.own s e)
 
 -- nobody waits where all places are empty
 pub nobody : (n place : ℕ) (w : Waiter) → WaitsAt (replicate n None) place w → ⊥
@@ -187,9 +216,12 @@ nobody (suc n) zero w e = let no : None ≡ Some w = same_Some None (Some w) e i
 nobody (suc n) (suc place) w e = nobody n place w e
 
 -- nobody waits at first
-pub none_wait : (lined : Lined) (ws : Waiters) (order : Order) (servers places : ℕ) → lined ≡ record { own = replicate servers []; backend = []; moved = []; room = places } → ws ≡ replicate places None → order ≡ record { places = []; room = places } → AreWaiting lined ws order
+pub none_wait : (lined : Lined) (ws : Waiters) (order : Order) (servers places : ℕ)
+    → lined ≡ record { own = replicate servers []; backend = []; moved = []; room = places } → ws ≡ replicate places None
+    → order ≡ record { places = []; room = places } → AreWaiting lined ws order
 none_wait lined ws order servers places queues cells joined =
-    subst (λ (l : Lined). AreWaiting l ws order) (sym queues) (subst (λ (x : Waiters). AreWaiting start x order) (sym cells) (subst (AreWaiting start (replicate places None)) (sym joined) (record {
+    subst (λ (l : Lined). AreWaiting l ws order) (sym queues)
+    (subst (λ (x : Waiters). AreWaiting start x order) (sym cells) (subst (AreWaiting start (replicate places None)) (sym joined) (record {
       lined_up = record {
         weighs = by_queue;
         ascending = rising;
@@ -214,36 +246,48 @@ none_wait lined ws order servers places queues cells joined =
     light weight queue zero at = refl
     light weight queue (suc n) at = let rest = light weight queue n (suc at) in omega arith
 
-    by_queue : (queue : Queue) → IsQueueOf (length (replicate {A = Line} servers [])) queue → (weight : Key × ℕ → ℕ) → line_weight weight (record { own = replicate servers []; backend = []; moved = []; room = places }) queue ≡ weight_of weight queue 0 (replicate places None)
+    by_queue : (queue : Queue) → IsQueueOf (length (replicate {A = Line} servers [])) queue → (weight : Key × ℕ → ℕ)
+        → line_weight weight (record { own = replicate servers []; backend = []; moved = []; room = places }) queue ≡ weight_of weight queue 0
+        (replicate places None)
     by_queue Backend within weight = let rest = light weight Backend places 0 in let none : sum_by weight [] ≡ 0 = refl in omega arith
-    by_queue (Server s) within weight = let rest = light weight (Server s) places 0 in let none : sum_by weight (slice_index_or (replicate servers []) s []) ≡ 0 = ap (sum_by weight) (index-replicate servers s []) in omega arith
+    by_queue (Server s) within weight =
+        let rest = light weight (Server s) places 0 in let none : sum_by weight (slice_index_or (replicate servers []) s []) ≡ 0 =
+        ap (sum_by weight) (index-replicate servers s []) in omega arith
 
     rising : (queue : Queue) → IsAscending key_cmp (line_at (record { own = replicate servers []; backend = []; moved = []; room = places }) queue)
     rising Backend = tt
     rising (Server s) = subst (IsAscending key_cmp) (sym (index-replicate servers s [])) tt
 
 -- a queue's first pair, as a node that was taken tells it
-pub first_of_node : {N : Type 0} (pair_of : N → Key × ℕ) (line : Line) (taken : Option N) (node : N) (key : Key) (place : ℕ) → option_map pair_of taken ≡ slice_get line 0 → taken ≡ Some node → pair_of node ≡ (key, place) → slice_get line 0 ≡ Some (key, place)
+pub first_of_node : {N : Type 0} (pair_of : N → Key × ℕ) (line : Line) (taken : Option N) (node : N) (key : Key) (place : ℕ)
+    → option_map pair_of taken ≡ slice_get line 0 → taken ≡ Some node → pair_of node ≡ (key, place) → slice_get line 0 ≡ Some (key, place)
 first_of_node pair_of line taken node key place first is pair = sym first ∙ ap (option_map pair_of) is ∙ ap Some pair
 
 -- who stands first in a queue
-pub stands_first : (lined : Lined) (ws : Waiters) (queue : Queue) (key : Key) (place : ℕ) → AreLinedUp lined ws → IsQueueOf (length lined.own) queue → slice_get (line_at lined queue) 0 ≡ Some (key, place) → (w : Waiter) × WaitsAt ws place w × (w.queue ≡ queue) × (w.key ≡ key)
+pub stands_first : (lined : Lined) (ws : Waiters) (queue : Queue) (key : Key) (place : ℕ) → AreLinedUp lined ws → IsQueueOf (length lined.own) queue
+    → slice_get (line_at lined queue) 0 ≡ Some (key, place) → (w : Waiter) × WaitsAt ws place w × (w.queue ≡ queue) × (w.key ≡ key)
 stands_first lined ws queue key place is within first = by_line (line_at lined queue) refl first
   where
-    by_line : (line : Line) → line_at lined queue ≡ line → slice_get line 0 ≡ Some (key, place) → (w : Waiter) × WaitsAt ws place w × (w.queue ≡ queue) × (w.key ≡ key)
+    by_line : (line : Line) → line_at lined queue ≡ line → slice_get line 0 ≡ Some (key, place)
+        → (w : Waiter) × WaitsAt ws place w × (w.queue ≡ queue) × (w.key ≡ key)
     by_line [] e at = cc
-    by_line (head ∷ rest) e at = line_waits lined ws queue key place is within (subst (λ (l : Line). Contains l (key, place)) (sym e) (subst (Contains (head ∷ rest)) (same_Some head (key, place) at) (Contains-head head rest)))
+    by_line (head ∷ rest) e at =
+        line_waits lined ws queue key place is within
+        (subst (λ (l : Line). Contains l (key, place)) (sym e) (subst (Contains (head ∷ rest)) (same_Some head (key, place) at) (Contains-head head rest)))
 
 -- the first request of a queue is taken
-pub take_kept : (lined next : Lined) (ws new : Waiters) (order after : Order) (p : ℕ) (w : Waiter) (queue : Queue) (key : Key) → AreWaiting lined ws order → lined.moved ≡ [] → IsQueueOf (length lined.own) queue → slice_get (line_at lined queue) 0 ≡ Some (key, p) → WaitsAt ws p w
-    → next ≡ with_line lined queue (drop 1 (line_at lined queue)) → new ≡ set ws p None → after ≡ with_places order (without_place p order.places) → AreWaiting next new after
+pub take_kept : (lined next : Lined) (ws new : Waiters) (order after : Order) (p : ℕ) (w : Waiter) (queue : Queue) (key : Key) → AreWaiting lined ws order
+    → lined.moved ≡ [] → IsQueueOf (length lined.own) queue → slice_get (line_at lined queue) 0 ≡ Some (key, p) → WaitsAt ws p w
+    → next ≡ with_line lined queue (drop 1 (line_at lined queue)) → new ≡ set ws p None → after ≡ with_places order (without_place p order.places)
+    → AreWaiting next new after
 take_kept lined next ws new order after p w queue key is none within first waits line written left =
     let it = (takes lined ws queue key p w is.lined_up within (gathered_whole lined queue none) first waits).0 in
     leave_kept lined next ws new order after p w (drop 1 (line_at lined w.queue)) is none waits it.parts it.rises
     (subst (λ (q : Queue). next ≡ with_line lined q (drop 1 (line_at lined q))) (sym it.first.its) line) written left
 
 -- the first request of a server's queue has left it
-pub shift_left : (lined : Lined) (ws : Waiters) (p s : ℕ) (w : Waiter) → AreLinedUp lined ws → Takes lined ws (Server s) p w → AreLinedUp (with_line lined (Server s) (drop 1 (line_at lined (Server s)))) (set ws p None)
+pub shift_left : (lined : Lined) (ws : Waiters) (p s : ℕ) (w : Waiter) → AreLinedUp lined ws → Takes lined ws (Server s) p w
+    → AreLinedUp (with_line lined (Server s) (drop 1 (line_at lined (Server s)))) (set ws p None)
 shift_left lined ws p s w is take =
     subst (λ (q : Queue). AreLinedUp (with_line lined q (drop 1 (line_at lined q))) (set ws p None)) take.first.its
     (left_up lined ws p w (drop 1 (line_at lined w.queue)) is take.first.waits take.parts take.rises
@@ -265,15 +309,18 @@ pub record Shifts (lined : Lined) (ws : Waiters) (s : ℕ) (key : Key) (p : ℕ)
   pub take : Takes lined ws (Server s) p waiter
   pub named : waiter.key ≡ key
 
-pub shifts : (lined : Lined) (ws : Waiters) (s : ℕ) (key : Key) (p : ℕ) → AreLinedUp lined ws → IsQueueOf (length lined.own) (Server s) → slice_get (line_at lined (Server s)) 0 ≡ Some (key, p) → Shifts lined ws s key p
+pub shifts : (lined : Lined) (ws : Waiters) (s : ℕ) (key : Key) (p : ℕ) → AreLinedUp lined ws → IsQueueOf (length lined.own) (Server s)
+    → slice_get (line_at lined (Server s)) 0 ≡ Some (key, p) → Shifts lined ws s key p
 shifts lined ws s key p is within first =
     let it = stands_first lined ws (Server s) key p is within first in
     let took = takes lined ws (Server s) key p it.0 is within (server_whole lined s) first it.1 in
     record { waiter = it.0; take = took.0; named = took.1 }
 
 -- what is seen once a request was moved
-pub shifted_view : (lined next : Lined) (ws new : Waiters) (order after : Order) (now : Waitlist) (p s joined : ℕ) (w moved : Waiter) (line : Line) → record { waiters = ws; order = order.places; servers = length lined.own } ≡ now
-    → next ≡ with_moved (with_line lined (Server s) line) (inserted key_cmp (w.key, p) lined.moved) → new ≡ set ws p (Some moved) → after ≡ with_places order (without_place p order.places ++ p ∷ []) → moved ≡ moved_waiter w joined
+pub shifted_view : (lined next : Lined) (ws new : Waiters) (order after : Order) (now : Waitlist) (p s joined : ℕ) (w moved : Waiter) (line : Line)
+    → record { waiters = ws; order = order.places; servers = length lined.own } ≡ now
+    → next ≡ with_moved (with_line lined (Server s) line) (inserted key_cmp (w.key, p) lined.moved) → new ≡ set ws p (Some moved)
+    → after ≡ with_places order (without_place p order.places ++ p ∷ []) → moved ≡ moved_waiter w joined
     → record { waiters = new; order = after.places; servers = length next.own } ≡ with_waiter_anew now p (moved_waiter w joined)
 shifted_view lined next ws new order after now p s joined w moved line seen goes written joins is =
     let many : length next.own ≡ length lined.own = ap (λ (l : Lined). length l.own) goes ∙ length-set lined.own s line in

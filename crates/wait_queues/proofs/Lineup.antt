@@ -1,21 +1,22 @@
 -- The queues while one request begins or stops to wait.
-use Rattle.std.proofs.Common.{◌≡◌, ◌≢◌, ℕ, ◌+◌, ◌<◌, ◌≤◌, ◌==◌, ◌&&◌, Bool, true, false, cond, List, [], ◌∷◌, ◌++◌, Option, None, Some, slice_get, length, Contains, refl, ap, sym, ◌∙◌, subst, arith, ◌⊎◌, inl, inr, Ordering, Less, Equal, Greater, IsPermutation}
-use Rattle.std.specs.List.{sum_by, AllByRecursion}
+use Rattle.std.proofs.Common.{◌≡◌, ◌≢◌, ℕ, ◌+◌, ◌<◌, ◌≤◌, ◌==◌, ◌&&◌, Bool, true, false, cond, [], ◌∷◌}
+use Rattle.std.proofs.Common.{◌++◌, Option, None, Some, slice_get, length, Contains, refl, ap, sym, ◌∙◌, subst, arith, inl, inr, Ordering}
+use Rattle.std.proofs.Common.{Less, Equal, Greater, IsPermutation}
+use Rattle.std.specs.List.{sum_by}
 use Rattle.std.specs.Ordering.{is_eq}
 use Rattle.std.proofs.Math.ListN.{set, length-set}
 use Rattle.std.proofs.lemmas.Bool.Decides.{Decides-eqb}
 use Rattle.std.proofs.lemmas.Cmp.{tied_itself}
-use Rattle.std.proofs.lemmas.List.{set-set}
 use Rattle.std.proofs.lemmas.List.Sorted.{sum_by-IsPermutation}
 use Rattle.std.proofs.lemmas.List.Sums.{sum_by-cons, sum_by-append}
-use Rattle.std.proofs.lemmas.Option.{same_Some, slice_get_within}
+use Rattle.std.proofs.lemmas.Option.{same_Some}
 use Rattle.due_key.specs.declared.key.Key.{Key}
 use Rattle.due_key.specs.Order.{key_cmp}
 use Rattle.due_key.proofs.KeyOrder.{key_cmp_total, key_cmp_exact}
 use Rattle.dispatch_log.specs.declared.queue.Queue.{Queue}
 use Rattle.dispatch_log.specs.declared.queue.Queue.TheVariants.{Backend, Server}
 use Rattle.dispatch_log.specs.Rows.{same_queue}
-use Rattle.list_facts.proofs.Places.{get-set_same, get-set_cases}
+use Rattle.list_facts.proofs.Places.{get-set_cases}
 use Rattle.pend_queue.specs.Pairs.{IsAscending, IsAbsent, HaveNoCommonKey, inserted, merged}
 use Rattle.pend_queue.proofs.Ascending.{absent_from_members, least_first}
 use Rattle.pend_queue.proofs.Inserted.{IsAscending-inserted, IsPermutation-inserted, AllByRecursion-inserted}
@@ -29,7 +30,7 @@ use Rattle.wait_queues.specs.Lines.{Line, Lined, line_at, with_line, with_moved,
 use Rattle.wait_queues.specs.Waitlists.{Waiters, WaitsAt, HasNoKey, NoneWaitsIn, IsFirstIn}
 use Rattle.wait_queues.proofs.Lining.{one_or_other, line_own, line_other, lines_kept, room_kept}
 use Rattle.list_facts.proofs.Sums.{sum_has, sum_found, sum_ones}
-use Rattle.wait_queues.proofs.Weights.{Weighs, weight_set, weight_has, weight_found, weight_most}
+use Rattle.wait_queues.proofs.Weights.{weight_set, weight_has, weight_found, weight_most}
 
 -- a weight for one pair alone
 one_pair : Key → ℕ → Key × ℕ → ℕ
@@ -38,7 +39,8 @@ one_pair key place pair = cond {A = ℕ} (is_eq (key_cmp pair.0 key) && (pair.1 
 its_weight : (key : Key) (place : ℕ) → one_pair key place (key, place) ≡ 1
 unfolding one_pair
 its_weight key place =
-    ap (λ (o : Ordering). cond {A = ℕ} (is_eq o && (place == place)) 1 0) (tied_itself key_cmp_total key) ∙ ap (λ (b : Bool). cond {A = ℕ} b 1 0) ((Decides-eqb place place).1 refl)
+    ap (λ (o : Ordering). cond {A = ℕ} (is_eq o && (place == place)) 1 0) (tied_itself key_cmp_total key)
+    ∙ ap (λ (b : Bool). cond {A = ℕ} b 1 0) ((Decides-eqb place place).1 refl)
 
 -- no other pair has a weight
 that_pair : (key : Key) (place : ℕ) (pair : Key × ℕ) → 0 < one_pair key place pair → (pair.0 ≡ key) × (pair.1 ≡ place)
@@ -71,7 +73,8 @@ gathered_whole lined Backend none weight = let light : sum_by weight lined.moved
 gathered_whole lined (Server s) none weight = refl
 
 -- a request whose pair weighs something
-found_there : (ws : Waiters) (queue : Queue) (key : Key) (place : ℕ) → 0 < weight_of (one_pair key place) queue 0 ws → (w : Waiter) × WaitsAt ws place w × (w.queue ≡ queue) × (w.key ≡ key)
+found_there : (ws : Waiters) (queue : Queue) (key : Key) (place : ℕ) → 0 < weight_of (one_pair key place) queue 0 ws
+    → (w : Waiter) × WaitsAt ws place w × (w.queue ≡ queue) × (w.key ≡ key)
 found_there ws queue key place heavy =
     let it = weight_found (one_pair key place) queue 0 ws heavy in
     let is = that_pair key place (it.waiter.key, 0 + it.place) it.heavy in
@@ -79,7 +82,8 @@ found_there ws queue key place heavy =
     (it.waiter, subst (λ n. WaitsAt ws n it.waiter) there it.waits, sym (same_queues queue it.waiter.queue it.its), is.0)
 
 -- who is in a queue waits
-pub line_waits : (lined : Lined) (ws : Waiters) (queue : Queue) (key : Key) (place : ℕ) → AreLinedUp lined ws → IsQueueOf (length lined.own) queue → Contains (line_at lined queue) (key, place)
+pub line_waits : (lined : Lined) (ws : Waiters) (queue : Queue) (key : Key) (place : ℕ) → AreLinedUp lined ws → IsQueueOf (length lined.own) queue
+    → Contains (line_at lined queue) (key, place)
     → (w : Waiter) × WaitsAt ws place w × (w.queue ≡ queue) × (w.key ≡ key)
 line_waits lined ws queue key place is within among =
     let one = its_weight key place in
@@ -88,20 +92,24 @@ line_waits lined ws queue key place is within among =
     let weighs = is.weighs queue within (one_pair key place) in
     found_there ws queue key place (omega arith)
 
-pub moved_waits : (lined : Lined) (ws : Waiters) (key : Key) (place : ℕ) → AreLinedUp lined ws → Contains lined.moved (key, place) → (w : Waiter) × WaitsAt ws place w × (w.queue ≡ Backend) × (w.key ≡ key)
+pub moved_waits : (lined : Lined) (ws : Waiters) (key : Key) (place : ℕ) → AreLinedUp lined ws → Contains lined.moved (key, place)
+    → (w : Waiter) × WaitsAt ws place w × (w.queue ≡ Backend) × (w.key ≡ key)
 moved_waits lined ws key place is among =
     let one = its_weight key place in
     let some = sum_has (one_pair key place) lined.moved (key, place) among in
-    let weighs : sum_by (one_pair key place) lined.backend + sum_by (one_pair key place) lined.moved ≡ weight_of (one_pair key place) Backend 0 ws = is.weighs Backend tt (one_pair key place) in
+    let weighs : sum_by (one_pair key place) lined.backend + sum_by (one_pair key place) lined.moved ≡ weight_of (one_pair key place) Backend 0 ws =
+    is.weighs Backend tt (one_pair key place) in
     found_there ws Backend key place (omega arith)
 
 -- who waits is in its queue
-pub waits_line : (lined : Lined) (ws : Waiters) (place : ℕ) (w : Waiter) → AreLinedUp lined ws → IsWhole lined w.queue → WaitsAt ws place w → Contains (line_at lined w.queue) (w.key, place)
+pub waits_line : (lined : Lined) (ws : Waiters) (place : ℕ) (w : Waiter) → AreLinedUp lined ws → IsWhole lined w.queue → WaitsAt ws place w
+    → Contains (line_at lined w.queue) (w.key, place)
 waits_line lined ws place w is whole waits =
     let f = one_pair w.key place in
     let one = its_weight w.key place in
     let has = weight_has f w.queue 0 ws place (Some w) waits in
-    let here : weight_at f w.queue (0 + place) (Some w) ≡ f (w.key, place) = ap (λ (b : Bool). cond {A = ℕ} b (f (w.key, 0 + place)) 0) (own_queue w.queue) ∙ (let e : 0 + place ≡ place = omega arith in ap (λ n. f (w.key, n)) e) in
+    let here : weight_at f w.queue (0 + place) (Some w) ≡ f (w.key, place) = ap (λ (b : Bool). cond {A = ℕ} b (f (w.key, 0 + place)) 0) (own_queue w.queue)
+    ∙ (let e : 0 + place ≡ place = omega arith in ap (λ n. f (w.key, n)) e) in
     let weighs = is.weighs w.queue (is.within place w waits) f in
     let line = whole f in
     let it = sum_found f (line_at lined w.queue) (omega arith) in
@@ -121,10 +129,12 @@ gathered_up lined ws is = record {
   own_keys = is.own_keys;
 }
   where
-    by_queue : (queue : Queue) → IsQueueOf (length lined.own) queue → (weight : Key × ℕ → ℕ) → line_weight weight (gathered lined) queue ≡ weight_of weight queue 0 ws
+    by_queue : (queue : Queue) → IsQueueOf (length lined.own) queue → (weight : Key × ℕ → ℕ)
+        → line_weight weight (gathered lined) queue ≡ weight_of weight queue 0 ws
     by_queue (Server s) within weight = is.weighs (Server s) within weight
     by_queue Backend within weight =
-        let both = sum_by-IsPermutation weight (lined.backend ++ lined.moved) (merged key_cmp lined.backend lined.moved) (IsPermutation-merged key_cmp_total lined.backend lined.moved is.moved is.apart) in
+        let both = sum_by-IsPermutation weight (lined.backend ++ lined.moved) (merged key_cmp lined.backend lined.moved)
+        (IsPermutation-merged key_cmp_total lined.backend lined.moved is.moved is.apart) in
         let parts = sum_by-append weight lined.backend lined.moved in
         let before : sum_by weight lined.backend + sum_by weight lined.moved ≡ weight_of weight Backend 0 ws = is.weighs Backend within weight in
         let none : sum_by weight [] ≡ 0 = refl in
@@ -137,7 +147,8 @@ gathered_up lined ws is = record {
 -- there is room for that
 pub gather_room : (lined : Lined) (ws : Waiters) → AreLinedUp lined ws → length lined.backend + length lined.moved ≤ lined.room
 gather_room lined ws is =
-    let weighs : sum_by (λ pair. 1) lined.backend + sum_by (λ pair. 1) lined.moved ≡ weight_of (λ pair. 1) Backend 0 ws = is.weighs Backend tt (λ pair. 1) in
+    let weighs : sum_by (λ pair. 1) lined.backend + sum_by (λ pair. 1) lined.moved ≡ weight_of (λ pair. 1) Backend 0 ws =
+    is.weighs Backend tt (λ pair. 1) in
     let most = weight_most Backend 0 ws in
     let one = sum_ones lined.backend in
     let two = sum_ones lined.moved in
@@ -150,7 +161,8 @@ line_changed : (weight : Key × ℕ → ℕ) (lined : Lined) (queue : Queue) (li
 line_changed weight lined Backend line within = omega arith
 line_changed weight lined (Server s) line within = let e = ap (sum_by weight) (line_own lined (Server s) line within) in omega arith
 
-line_unchanged : (weight : Key × ℕ → ℕ) (lined : Lined) (queue other : Queue) (line : Line) → other ≢ queue → line_weight weight (with_line lined queue line) other ≡ line_weight weight lined other
+line_unchanged : (weight : Key × ℕ → ℕ) (lined : Lined) (queue other : Queue) (line : Line) → other ≢ queue
+    → line_weight weight (with_line lined queue line) other ≡ line_weight weight lined other
 line_unchanged weight lined Backend Backend line differs = absurd (differs refl)
 line_unchanged weight lined Backend (Server t) line differs = refl
 line_unchanged weight lined (Server s) Backend line differs = refl
@@ -165,12 +177,16 @@ weight_other weight queue place w differs = by_test (same_queue queue w.queue) r
     by_test false e = ap (λ (b : Bool). cond {A = ℕ} b (weight (w.key, place)) 0) e
 
 weight_own : (weight : Key × ℕ → ℕ) (place : ℕ) (w : Waiter) → weight_at weight w.queue (0 + place) (Some w) ≡ weight (w.key, place)
-weight_own weight place w = ap (λ (b : Bool). cond {A = ℕ} b (weight (w.key, 0 + place)) 0) (own_queue w.queue) ∙ (let e : 0 + place ≡ place = omega arith in ap (λ n. weight (w.key, n)) e)
+weight_own weight place w =
+    ap (λ (b : Bool). cond {A = ℕ} b (weight (w.key, 0 + place)) 0) (own_queue w.queue)
+    ∙ (let e : 0 + place ≡ place = omega arith in ap (λ n. weight (w.key, n)) e)
 
 -- each line ascends once one of them is another one that does
-lines_ascend : (lined : Lined) (queue : Queue) (line : Line) → IsQueueOf (length lined.own) queue → ((q : Queue) → IsAscending key_cmp (line_at lined q)) → IsAscending key_cmp line → (q : Queue) → IsAscending key_cmp (line_at (with_line lined queue line) q)
+lines_ascend : (lined : Lined) (queue : Queue) (line : Line) → IsQueueOf (length lined.own) queue → ((q : Queue) → IsAscending key_cmp (line_at lined q))
+    → IsAscending key_cmp line → (q : Queue) → IsAscending key_cmp (line_at (with_line lined queue line) q)
 lines_ascend lined queue line within all its q = elim (one_or_other q queue) [
-  | inl e ↦ subst (λ (r : Queue). IsAscending key_cmp (line_at (with_line lined queue line) r)) (sym e) (subst (IsAscending key_cmp) (sym (line_own lined queue line within)) its)
+  | inl e ↦ subst (λ (r : Queue). IsAscending key_cmp (line_at (with_line lined queue line) r)) (sym e)
+      (subst (IsAscending key_cmp) (sym (line_own lined queue line within)) its)
   | inr e ↦ subst (IsAscending key_cmp) (sym (line_other lined queue q line e)) (all q)
 ]
 
@@ -196,11 +212,13 @@ module _ (ws : Waiters) (p : ℕ) (old new : Option Waiter) (stood : slice_get w
         ]
       ]
 
-  pub within_kept : (n : ℕ) → ((place : ℕ) (w : Waiter) → WaitsAt ws place w → IsQueueOf n w.queue) → ((w : Waiter) → new ≡ Some w → IsQueueOf n w.queue) → (place : ℕ) (w : Waiter) → WaitsAt (set ws p new) place w → IsQueueOf n w.queue
+  pub within_kept : (n : ℕ) → ((place : ℕ) (w : Waiter) → WaitsAt ws place w → IsQueueOf n w.queue)
+      → ((w : Waiter) → new ≡ Some w → IsQueueOf n w.queue) → (place : ℕ) (w : Waiter) → WaitsAt (set ws p new) place w → IsQueueOf n w.queue
   within_kept n all its place w waits = elim (get-set_cases ws p place old new (Some w) stood waits) [ inl a ↦ its w a.1 | inr a ↦ all place w a.1 ]
 
 -- a key that nobody has is in no queue
-pub absent_line : (lined : Lined) (ws : Waiters) (queue : Queue) (key : Key) → AreLinedUp lined ws → IsQueueOf (length lined.own) queue → HasNoKey ws key → IsAbsent key_cmp key (line_at lined queue)
+pub absent_line : (lined : Lined) (ws : Waiters) (queue : Queue) (key : Key) → AreLinedUp lined ws → IsQueueOf (length lined.own) queue → HasNoKey ws key
+    → IsAbsent key_cmp key (line_at lined queue)
 absent_line lined ws queue key is within none =
     absent_from_members key_cmp key (line_at lined queue) (λ pair among tied.
     let it = line_waits lined ws queue pair.0 pair.1 is within among in
@@ -213,7 +231,8 @@ absent_moved lined ws key is none =
     none pair.1 it.0 it.1 (it.3 ∙ key_cmp_exact pair.0 key tied))
 
 -- a free place is room in each queue
-pub join_room : (lined : Lined) (ws : Waiters) (queue : Queue) (p : ℕ) → AreLinedUp lined ws → IsQueueOf (length lined.own) queue → slice_get ws p ≡ Some None → (key : Key) → length (line_at lined queue) < lined.room
+pub join_room : (lined : Lined) (ws : Waiters) (queue : Queue) (p : ℕ) → AreLinedUp lined ws → IsQueueOf (length lined.own) queue
+    → slice_get ws p ≡ Some None → (key : Key) → length (line_at lined queue) < lined.room
 join_room lined ws queue p is within vacant key =
     let w : Waiter = record { key = key; queue = queue; joined = 0 } in
     let weighs = is.weighs queue within (λ pair. 1) in
@@ -227,10 +246,12 @@ join_room lined ws queue p is within vacant key =
     omega arith
 
 -- and for those that are set aside
-pub aside_room : (lined : Lined) (ws : Waiters) (p : ℕ) → AreLinedUp lined ws → slice_get ws p ≡ Some None → (key : Key) → length lined.moved < lined.room
+pub aside_room : (lined : Lined) (ws : Waiters) (p : ℕ) → AreLinedUp lined ws → slice_get ws p ≡ Some None → (key : Key)
+    → length lined.moved < lined.room
 aside_room lined ws p is vacant key =
     let w : Waiter = record { key = key; queue = Backend; joined = 0 } in
-    let weighs : sum_by (λ pair. 1) lined.backend + sum_by (λ pair. 1) lined.moved ≡ weight_of (λ pair. 1) Backend 0 ws = is.weighs Backend tt (λ pair. 1) in
+    let weighs : sum_by (λ pair. 1) lined.backend + sum_by (λ pair. 1) lined.moved ≡ weight_of (λ pair. 1) Backend 0 ws =
+    is.weighs Backend tt (λ pair. 1) in
     let ones = sum_ones lined.moved in
     let most = weight_most Backend 0 (set ws p (Some w)) in
     let more = weight_set (λ pair. 1) Backend 0 ws p None (Some w) vacant in
@@ -239,27 +260,34 @@ aside_room lined ws p is vacant key =
     omega arith
 
 -- a request begins to wait
-pub joined_up : (lined : Lined) (ws : Waiters) (p : ℕ) (w : Waiter) → AreLinedUp lined ws → lined.moved ≡ [] → IsQueueOf (length lined.own) w.queue → slice_get ws p ≡ Some None → HasNoKey ws w.key
+pub joined_up : (lined : Lined) (ws : Waiters) (p : ℕ) (w : Waiter) → AreLinedUp lined ws → lined.moved ≡ [] → IsQueueOf (length lined.own) w.queue
+    → slice_get ws p ≡ Some None → HasNoKey ws w.key
     → AreLinedUp (with_line lined w.queue (inserted key_cmp (w.key, p) (line_at lined w.queue))) (set ws p (Some w))
 joined_up lined ws p w is none within vacant fresh = record {
   weighs = λ q its weight. by_queue q (subst (λ n. IsQueueOf n q) (lines_kept lined w.queue line) its) weight;
-  ascending = lines_ascend lined w.queue line within is.ascending (IsAscending-inserted key_cmp_total (w.key, p) (line_at lined w.queue) (is.ascending w.queue));
+  ascending =
+      lines_ascend lined w.queue line within is.ascending (IsAscending-inserted key_cmp_total (w.key, p) (line_at lined w.queue) (is.ascending w.queue));
   moved = subst (IsAscending key_cmp) (sym (moved_kept lined w.queue line)) is.moved;
   apart = subst (HaveNoCommonKey key_cmp (with_line lined w.queue line).backend) (sym (moved_kept lined w.queue line ∙ none)) tt;
   room = room_kept lined w.queue line ∙ is.room ∙ sym (length-set ws p (Some w));
   within = subst (λ n. (place : ℕ) (v : Waiter) → WaitsAt (set ws p (Some w)) place v → IsQueueOf n v.queue) (sym (lines_kept lined w.queue line))
-      (within_kept ws p None (Some w) vacant (length lined.own) is.within (λ v e. subst (λ (x : Waiter). IsQueueOf (length lined.own) x.queue) (same_Some w v e) within));
-  own_keys = keys_kept ws p None (Some w) vacant is.own_keys (λ v e other u differs waits same. fresh other u waits (same ∙ ap (λ (x : Waiter). x.key) (sym (same_Some w v e))));
+      (within_kept ws p None (Some w) vacant (length lined.own) is.within
+      (λ v e. subst (λ (x : Waiter). IsQueueOf (length lined.own) x.queue) (same_Some w v e) within));
+  own_keys =
+      keys_kept ws p None (Some w) vacant is.own_keys
+      (λ v e other u differs waits same. fresh other u waits (same ∙ ap (λ (x : Waiter). x.key) (sym (same_Some w v e))));
 }
   where
     line : Line
     line = inserted key_cmp (w.key, p) (line_at lined w.queue)
 
-    by_queue : (q : Queue) → IsQueueOf (length lined.own) q → (weight : Key × ℕ → ℕ) → line_weight weight (with_line lined w.queue (inserted key_cmp (w.key, p) (line_at lined w.queue))) q ≡ weight_of weight q 0 (set ws p (Some w))
+    by_queue : (q : Queue) → IsQueueOf (length lined.own) q → (weight : Key × ℕ → ℕ)
+        → line_weight weight (with_line lined w.queue (inserted key_cmp (w.key, p) (line_at lined w.queue))) q ≡ weight_of weight q 0 (set ws p (Some w))
     by_queue q its weight = elim (one_or_other q w.queue) [
       | inl e ↦
           let new = inserted key_cmp (w.key, p) (line_at lined w.queue) in
-          let more = sum_by-IsPermutation weight ((w.key, p) ∷ line_at lined w.queue) new (IsPermutation-inserted key_cmp (w.key, p) (line_at lined w.queue) (absent_line lined ws w.queue w.key is within fresh)) in
+          let more = sum_by-IsPermutation weight ((w.key, p) ∷ line_at lined w.queue) new
+          (IsPermutation-inserted key_cmp (w.key, p) (line_at lined w.queue) (absent_line lined ws w.queue w.key is within fresh)) in
           let cons = sum_by-cons weight (w.key, p) (line_at lined w.queue) in
           let change = line_changed weight lined w.queue new within in
           let before = is.weighs w.queue within weight in
@@ -275,7 +303,8 @@ joined_up lined ws p w is none within vacant fresh = record {
     ]
 
 -- a request waits no more: its pair is gone from its queue
-pub left_up : (lined : Lined) (ws : Waiters) (p : ℕ) (w : Waiter) (rest : Line) → AreLinedUp lined ws → WaitsAt ws p w → IsPermutation (line_at lined w.queue) ((w.key, p) ∷ rest) → IsAscending key_cmp rest
+pub left_up : (lined : Lined) (ws : Waiters) (p : ℕ) (w : Waiter) (rest : Line) → AreLinedUp lined ws → WaitsAt ws p w
+    → IsPermutation (line_at lined w.queue) ((w.key, p) ∷ rest) → IsAscending key_cmp rest
     → HaveNoCommonKey key_cmp (with_line lined w.queue rest).backend lined.moved → AreLinedUp (with_line lined w.queue rest) (set ws p None)
 left_up lined ws p w rest is waits parts rises apart = record {
   weighs = λ q its weight. by_queue q (subst (λ n. IsQueueOf n q) (lines_kept lined w.queue rest) its) weight;
@@ -288,7 +317,8 @@ left_up lined ws p w rest is waits parts rises apart = record {
   own_keys = keys_kept ws p (Some w) None waits is.own_keys (λ v e. cc);
 }
   where
-    by_queue : (q : Queue) → IsQueueOf (length lined.own) q → (weight : Key × ℕ → ℕ) → line_weight weight (with_line lined w.queue rest) q ≡ weight_of weight q 0 (set ws p None)
+    by_queue : (q : Queue) → IsQueueOf (length lined.own) q → (weight : Key × ℕ → ℕ)
+        → line_weight weight (with_line lined w.queue rest) q ≡ weight_of weight q 0 (set ws p None)
     by_queue q its weight = elim (one_or_other q w.queue) [
       | inl e ↦
           let less = sum_by-IsPermutation weight (line_at lined w.queue) ((w.key, p) ∷ rest) parts in
@@ -307,62 +337,79 @@ left_up lined ws p w rest is waits parts rises apart = record {
     ]
 
 -- a request is set aside that was moved into the backend's queue
-pub aside_up : (lined : Lined) (ws : Waiters) (p : ℕ) (w : Waiter) → AreLinedUp lined ws → w.queue ≡ Backend → slice_get ws p ≡ Some None → HasNoKey ws w.key
+pub aside_up : (lined : Lined) (ws : Waiters) (p : ℕ) (w : Waiter) → AreLinedUp lined ws → w.queue ≡ Backend → slice_get ws p ≡ Some None
+    → HasNoKey ws w.key
     → AreLinedUp (with_moved lined (inserted key_cmp (w.key, p) lined.moved)) (set ws p (Some w))
 aside_up lined ws p w is backend vacant fresh = record {
   weighs = by_queue;
   ascending = by_line;
   moved = IsAscending-inserted key_cmp_total (w.key, p) lined.moved is.moved;
-  apart = AllByRecursion-inserted key_cmp (λ (q : Key × ℕ). IsAbsent key_cmp q.0 lined.backend) (w.key, p) lined.moved (absent_line lined ws Backend w.key is tt fresh) is.apart;
+  apart =
+      AllByRecursion-inserted key_cmp (λ (q : Key × ℕ). IsAbsent key_cmp q.0 lined.backend) (w.key, p) lined.moved
+      (absent_line lined ws Backend w.key is tt fresh) is.apart;
   room = is.room ∙ sym (length-set ws p (Some w));
-  within = within_kept ws p None (Some w) vacant (length lined.own) is.within (λ v e. subst (IsQueueOf (length lined.own)) (sym backend ∙ ap (λ (x : Waiter). x.queue) (same_Some w v e)) tt);
-  own_keys = keys_kept ws p None (Some w) vacant is.own_keys (λ v e other u differs waits same. fresh other u waits (same ∙ ap (λ (x : Waiter). x.key) (sym (same_Some w v e))));
+  within =
+      within_kept ws p None (Some w) vacant (length lined.own) is.within
+      (λ v e. subst (IsQueueOf (length lined.own)) (sym backend ∙ ap (λ (x : Waiter). x.queue) (same_Some w v e)) tt);
+  own_keys =
+      keys_kept ws p None (Some w) vacant is.own_keys
+      (λ v e other u differs waits same. fresh other u waits (same ∙ ap (λ (x : Waiter). x.key) (sym (same_Some w v e))));
 }
   where
     by_line : (q : Queue) → IsAscending key_cmp (line_at (with_moved lined (inserted key_cmp (w.key, p) lined.moved)) q)
     by_line Backend = is.ascending Backend
     by_line (Server s) = is.ascending (Server s)
 
-    by_queue : (q : Queue) → IsQueueOf (length lined.own) q → (weight : Key × ℕ → ℕ) → line_weight weight (with_moved lined (inserted key_cmp (w.key, p) lined.moved)) q ≡ weight_of weight q 0 (set ws p (Some w))
+    by_queue : (q : Queue) → IsQueueOf (length lined.own) q → (weight : Key × ℕ → ℕ)
+        → line_weight weight (with_moved lined (inserted key_cmp (w.key, p) lined.moved)) q ≡ weight_of weight q 0 (set ws p (Some w))
     by_queue (Server s) its weight =
         let before = is.weighs (Server s) its weight in
         let write = weight_set weight (Server s) 0 ws p None (Some w) vacant in
         let light = weight_other weight (Server s) (0 + p) w (λ same. let e : Backend ≡ Server s = sym backend ∙ same in cc) in
         omega arith
     by_queue Backend its weight =
-        let more = sum_by-IsPermutation weight ((w.key, p) ∷ lined.moved) (inserted key_cmp (w.key, p) lined.moved) (IsPermutation-inserted key_cmp (w.key, p) lined.moved (absent_moved lined ws w.key is fresh)) in
+        let more = sum_by-IsPermutation weight ((w.key, p) ∷ lined.moved) (inserted key_cmp (w.key, p) lined.moved)
+        (IsPermutation-inserted key_cmp (w.key, p) lined.moved (absent_moved lined ws w.key is fresh)) in
         let cons = sum_by-cons weight (w.key, p) lined.moved in
         let before : sum_by weight lined.backend + sum_by weight lined.moved ≡ weight_of weight Backend 0 ws = is.weighs Backend tt weight in
         let write = weight_set weight Backend 0 ws p None (Some w) vacant in
-        let own : weight_at weight Backend (0 + p) (Some w) ≡ weight (w.key, p) = subst (λ (q : Queue). weight_at weight q (0 + p) (Some w) ≡ weight (w.key, p)) backend (weight_own weight p w) in
+        let own : weight_at weight Backend (0 + p) (Some w) ≡ weight (w.key, p) =
+        subst (λ (q : Queue). weight_at weight q (0 + p) (Some w) ≡ weight (w.key, p)) backend (weight_own weight p w) in
         omega arith
 
 -- a queue's first pair is that of its first request
-pub first_in : (lined : Lined) (ws : Waiters) (queue : Queue) (key : Key) (place : ℕ) → AreLinedUp lined ws → IsQueueOf (length lined.own) queue → IsWhole lined queue → slice_get (line_at lined queue) 0 ≡ Some (key, place)
+pub first_in : (lined : Lined) (ws : Waiters) (queue : Queue) (key : Key) (place : ℕ) → AreLinedUp lined ws → IsQueueOf (length lined.own) queue
+    → IsWhole lined queue → slice_get (line_at lined queue) 0 ≡ Some (key, place)
     → (w : Waiter) × IsFirstIn queue ws place w × (w.key ≡ key)
 first_in lined ws queue key place is within whole first = by_line (line_at lined queue) refl first
   where
-    by_line : (line : Line) → line_at lined queue ≡ line → slice_get line 0 ≡ Some (key, place) → (w : Waiter) × IsFirstIn queue ws place w × (w.key ≡ key)
+    by_line : (line : Line) → line_at lined queue ≡ line → slice_get line 0 ≡ Some (key, place)
+        → (w : Waiter) × IsFirstIn queue ws place w × (w.key ≡ key)
     by_line [] e at = cc
     by_line (head ∷ rest) e at =
         let same : head ≡ (key, place) = same_Some head (key, place) at in
-        let it = line_waits lined ws queue key place is within (subst (λ (l : Line). Contains l (key, place)) (sym e) (subst (Contains (head ∷ rest)) same (Contains-head head rest))) in
+        let it =
+        line_waits lined ws queue key place is within
+        (subst (λ (l : Line). Contains l (key, place)) (sym e) (subst (Contains (head ∷ rest)) same (Contains-head head rest))) in
         let rises : IsAscending key_cmp (head ∷ rest) = subst (IsAscending key_cmp) e (is.ascending queue) in (
           it.0,
           record {
             waits = it.1;
             its = it.2;
             least = λ other v waits of.
-                let among = subst (λ (q : Queue). Contains (line_at lined q) (v.key, other)) of (waits_line lined ws other v is (subst (IsWhole lined) (sym of) whole) waits) in
+                let among = subst (λ (q : Queue). Contains (line_at lined q) (v.key, other)) of
+                (waits_line lined ws other v is (subst (IsWhole lined) (sym of) whole) waits) in
                 subst (λ (k : Key). key_cmp k v.key ≢ Greater) (ap (λ (x : Key × ℕ). x.0) same ∙ sym it.3)
                 (least_first key_cmp_total head rest (v.key, other) rises (subst (λ (l : Line). Contains l (v.key, other)) e among));
           },
           it.3,
         )
 
-pub none_in : (lined : Lined) (ws : Waiters) (queue : Queue) → AreLinedUp lined ws → IsWhole lined queue → slice_get (line_at lined queue) 0 ≡ None → NoneWaitsIn queue ws
+pub none_in : (lined : Lined) (ws : Waiters) (queue : Queue) → AreLinedUp lined ws → IsWhole lined queue → slice_get (line_at lined queue) 0 ≡ None
+    → NoneWaitsIn queue ws
 none_in lined ws queue is whole first place w waits of =
-    let among = subst (λ (q : Queue). Contains (line_at lined q) (w.key, place)) of (waits_line lined ws place w is (subst (IsWhole lined) (sym of) whole) waits) in
+    let among = subst (λ (q : Queue). Contains (line_at lined q) (w.key, place)) of
+    (waits_line lined ws place w is (subst (IsWhole lined) (sym of) whole) waits) in
     by_line (line_at lined queue) first among
   where
     by_line : (line : Line) → slice_get line 0 ≡ None → Contains line (w.key, place) → ⊥

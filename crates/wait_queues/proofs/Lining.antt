@@ -1,5 +1,6 @@
 -- Queues of which one changes.
-use Rattle.std.proofs.Common.{◌≡◌, ◌≢◌, ℕ, zero, suc, ◌+◌, ◌<◌, Bool, true, false, List, [], ◌∷◌, slice_index_or, replicate, length, refl, ap, subst, arith, ◌⊎◌, inl, inr}
+use Rattle.std.proofs.Common.{◌≡◌, ◌≢◌, ℕ, zero, suc, ◌+◌, ◌<◌, Bool, true, false, List, [], ◌∷◌, slice_index_or, replicate, length}
+use Rattle.std.proofs.Common.{refl, ap, subst, arith, ◌⊎◌, inl, inr}
 use Rattle.std.proofs.Math.ListN.{set, length-set}
 use Rattle.dispatch_log.specs.declared.queue.Queue.{Queue}
 use Rattle.dispatch_log.specs.declared.queue.Queue.TheVariants.{Backend, Server}
@@ -38,7 +39,8 @@ pub line_own : (lined : Lined) (queue : Queue) (waits : Line) → IsQueueOf (len
 line_own lined Backend waits within = refl
 line_own lined (Server s) waits within = index-set_same lined.own s waits [] within
 
-pub line_other : (lined : Lined) (queue other : Queue) (waits : Line) → other ≢ queue → line_at (with_line lined queue waits) other ≡ line_at lined other
+pub line_other : (lined : Lined) (queue other : Queue) (waits : Line) → other ≢ queue
+    → line_at (with_line lined queue waits) other ≡ line_at lined other
 line_other lined Backend Backend waits differs = absurd (differs refl)
 line_other lined Backend (Server t) waits differs = refl
 line_other lined (Server s) Backend waits differs = refl

@@ -2,18 +2,20 @@
 use Rattle.std.proofs.Common.{◌≡◌, ◌≢◌, ℕ, not, cond, List, [], ◌∷◌, ◌++◌, Contains, refl, sym, ap, subst, ◌∙◌}
 use Rattle.std.proofs.lemmas.Bool.{eq-eqb, ne_eqb}
 use Rattle.list_facts.specs.Once.{ComeOnce}
-use Rattle.list_facts.proofs.Members.{Contains-nil, Contains-head, Contains-tail, Contains-middle}
+use Rattle.list_facts.proofs.Members.{Contains-head, Contains-tail, Contains-middle}
 use Rattle.wait_queues.specs.Order.{without}
 
 without_absent : (xs : List ℕ) (x : ℕ) → ¬ (Contains xs x) → without x xs ≡ xs
 without_absent [] x absent = refl
 without_absent (y ∷ xs) x absent =
     let differs : y ≢ x = λ same. absent (subst (Contains (y ∷ xs)) same (Contains-head y xs)) in
-    ap (λ b. cond (not b) (y ∷ without x xs) (without x xs)) (ne_eqb y x differs) ∙ ap (λ l. y ∷ l) (without_absent xs x (λ among. absent (Contains-tail y xs x among)))
+    ap (λ b. cond (not b) (y ∷ without x xs) (without x xs)) (ne_eqb y x differs)
+    ∙ ap (λ l. y ∷ l) (without_absent xs x (λ among. absent (Contains-tail y xs x among)))
 
 pub without_parts : (xs : List ℕ) (x : ℕ) (ys : List ℕ) → ComeOnce (xs ++ x ∷ ys) → without x (xs ++ x ∷ ys) ≡ xs ++ ys
 without_parts [] x ys once =
     ap (λ b. cond (not b) (x ∷ without x ys) (without x ys)) (eq-eqb x x refl) ∙ without_absent ys x once.0
 without_parts (y ∷ xs) x ys once =
     let differs : y ≢ x = λ same. once.0 (subst (λ z. Contains (xs ++ x ∷ ys) z) (sym same) (Contains-middle xs x ys)) in
-    ap (λ b. cond (not b) (y ∷ without x (xs ++ x ∷ ys)) (without x (xs ++ x ∷ ys))) (ne_eqb y x differs) ∙ ap (λ l. y ∷ l) (without_parts xs x ys once.1)
+    ap (λ b. cond (not b) (y ∷ without x (xs ++ x ∷ ys)) (without x (xs ++ x ∷ ys))) (ne_eqb y x differs)
+    ∙ ap (λ l. y ∷ l) (without_parts xs x ys once.1)

@@ -1,5 +1,6 @@
 -- The order in which requests joined while one begins or stops to wait.
-use Rattle.std.proofs.Common.{◌≡◌, ◌≢◌, ℕ, ◌+◌, ◌<◌, ◌==◌, not, Bool, true, false, List, [], ◌∷◌, ◌++◌, Option, None, Some, slice_get, length, Contains, refl, ap, sym, ◌∙◌, subst, arith, ◌⊎◌, inl, inr}
+use Rattle.std.proofs.Common.{◌≡◌, ◌≢◌, ℕ, ◌==◌, not, Bool, true, false, List, [], ◌∷◌, ◌++◌, None, Some}
+use Rattle.std.proofs.Common.{slice_get, Contains, refl, ap, sym, ◌∙◌, subst, inl, inr}
 use Rattle.std.proofs.Math.ListN.{set}
 use Rattle.std.proofs.lemmas.Bool.Decides.{Decides-eqb}
 use Rattle.std.proofs.lemmas.List.Elements.{Contains-append_left, Contains-append_right, Contains-push_cases}
@@ -41,7 +42,8 @@ pub place_gone : (order : List ℕ) (p : ℕ) → ¬ (Contains (without p order)
 place_gone order p among = other_place p p (Contains-filter (λ other. not (other == p)) order p among).1 refl
 
 -- one more begins to wait
-pub ordered_more : (ws : Waiters) (order : List ℕ) (p : ℕ) (w : Waiter) → IsOrderOf ws order → slice_get ws p ≡ Some None → IsOrderOf (set ws p (Some w)) (order ++ p ∷ [])
+pub ordered_more : (ws : Waiters) (order : List ℕ) (p : ℕ) (w : Waiter) → IsOrderOf ws order → slice_get ws p ≡ Some None
+    → IsOrderOf (set ws p (Some w)) (order ++ p ∷ [])
 ordered_more ws order p w is vacant = record {
   once = once_push order p is.once (vacant_absent ws order p is vacant);
   waits = λ place among.
@@ -59,7 +61,8 @@ ordered_more ws order p w is vacant = record {
 }
 
 -- one stops to wait
-pub ordered_less : (ws : Waiters) (order : List ℕ) (p : ℕ) (w : Waiter) → IsOrderOf ws order → WaitsAt ws p w → IsOrderOf (set ws p None) (without p order)
+pub ordered_less : (ws : Waiters) (order : List ℕ) (p : ℕ) (w : Waiter) → IsOrderOf ws order → WaitsAt ws p w
+    → IsOrderOf (set ws p None) (without p order)
 ordered_less ws order p w is waits = record {
   once = once_without order p is.once (is.all p w waits);
   waits = λ place among.

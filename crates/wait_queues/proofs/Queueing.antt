@@ -1,5 +1,6 @@
 -- Queues of a list of queues.
-use Rattle.std.proofs.Common.{◌≡◌, ◌≢◌, ℕ, ◌+◌, ◌<◌, List, [], ◌∷◌, ◌++◌, Option, Some, option_map, get_or, slice_get, slice_index_or, map, replicate, length, refl, ap, sym, ◌∙◌, subst, arith, inl, inr, length-append}
+use Rattle.std.proofs.Common.{◌≡◌, ◌≢◌, ℕ, ◌+◌, ◌<◌, List, [], ◌∷◌, ◌++◌, Option, Some, option_map, get_or, slice_get}
+use Rattle.std.proofs.Common.{slice_index_or, map, replicate, length, refl, ap, sym, ◌∙◌, subst, arith, inl, inr, length-append}
 use Rattle.std.proofs.Math.ListN.{set}
 use Rattle.std.proofs.lemmas.List.{map-set, map-append, length-map, replicate_more}
 use Rattle.std.proofs.lemmas.Option.{slice_get-map, slice_get_read, get_or_from_slice_get}
@@ -19,43 +20,64 @@ first_of lined queue = option_map (λ pair. pair.0) (slice_get (line_at lined qu
 
 module _ {Q : Type 0} (pairs : Q → Line) (room : Q → ℕ) where
   -- what is in one of the servers' queues
-  pub pairs_at : (items : List Q) (server : ℕ) (x : Q) → server < length items → x ≡ get_or items server x → slice_index_or (map pairs items) server [] ≡ pairs x
-  pairs_at items server x within read = get_or_from_slice_get (map pairs items) server (pairs x) [] (slice_get-map pairs items server ∙ ap (option_map pairs) (slice_get_read items (length items) server x refl within read))
+  pub pairs_at : (items : List Q) (server : ℕ) (x : Q) → server < length items → x ≡ get_or items server x
+      → slice_index_or (map pairs items) server [] ≡ pairs x
+  pairs_at items server x within read =
+      get_or_from_slice_get (map pairs items) server (pairs x) []
+      (slice_get-map pairs items server ∙ ap (option_map pairs) (slice_get_read items (length items) server x refl within read))
 
   -- one of the servers' queues changed
   pub own_changed : (f : Line → Line) (items : List Q) (backend moved : Q) (places : ℕ) (now : Lined) (queue : Queue) (server : ℕ) (x new : Q)
-      → record { own = map pairs items; backend = pairs backend; moved = pairs moved; room = places } ≡ now → queue ≡ Server server → server < length items → x ≡ get_or items server x → pairs new ≡ f (pairs x)
-      → record { own = map pairs (set items server new); backend = pairs backend; moved = pairs moved; room = places } ≡ with_line now queue (f (line_at now queue))
+      → record { own = map pairs items; backend = pairs backend; moved = pairs moved; room = places } ≡ now → queue ≡ Server server
+      → server < length items → x ≡ get_or items server x → pairs new ≡ f (pairs x)
+      → record { own = map pairs (set items server new); backend = pairs backend; moved = pairs moved; room = places } ≡ with_line now queue
+      (f (line_at now queue))
   own_changed f items backend moved places now queue server x new same of within read changes =
       let here : Lined = record { own = map pairs items; backend = pairs backend; moved = pairs moved; room = places } in
       let at : pairs new ≡ f (slice_index_or (map pairs items) server []) = changes ∙ ap f (sym (pairs_at items server x within read)) in
-      subst (λ (l : Lined). record { own = map pairs (set items server new); backend = pairs backend; moved = pairs moved; room = places } ≡ with_line l queue (f (line_at l queue))) same
-      (subst (λ (q : Queue). record { own = map pairs (set items server new); backend = pairs backend; moved = pairs moved; room = places } ≡ with_line here q (f (line_at here q))) (sym of)
-      (ap (λ (l : List Line). record { own = l; backend = pairs backend; moved = pairs moved; room = places }) (map-set pairs items server new ∙ ap (λ (w : Line). set (map pairs items) server w) at)))
+      subst (λ (l : Lined). record { own = map pairs (set items server new); backend = pairs backend; moved = pairs moved; room = places }
+      ≡ with_line l queue (f (line_at l queue))) same
+      (subst (λ (q : Queue). record { own = map pairs (set items server new); backend = pairs backend; moved = pairs moved; room = places }
+      ≡ with_line here q (f (line_at here q))) (sym of)
+      (ap (λ (l : List Line). record { own = l; backend = pairs backend; moved = pairs moved; room = places })
+      (map-set pairs items server new ∙ ap (λ (w : Line). set (map pairs items) server w) at)))
 
   -- the backend's queue changed
   pub backend_changed : (f : Line → Line) (items : List Q) (backend new moved : Q) (places : ℕ) (now : Lined) (queue : Queue)
-      → record { own = map pairs items; backend = pairs backend; moved = pairs moved; room = places } ≡ now → queue ≡ Backend → pairs new ≡ f (pairs backend)
+      → record { own = map pairs items; backend = pairs backend; moved = pairs moved; room = places } ≡ now → queue ≡ Backend
+      → pairs new ≡ f (pairs backend)
       → record { own = map pairs items; backend = pairs new; moved = pairs moved; room = places } ≡ with_line now queue (f (line_at now queue))
   backend_changed f items backend new moved places now queue same of changes =
       let here : Lined = record { own = map pairs items; backend = pairs backend; moved = pairs moved; room = places } in
-      subst (λ (l : Lined). record { own = map pairs items; backend = pairs new; moved = pairs moved; room = places } ≡ with_line l queue (f (line_at l queue))) same
-      (subst (λ (q : Queue). record { own = map pairs items; backend = pairs new; moved = pairs moved; room = places } ≡ with_line here q (f (line_at here q))) (sym of)
+      subst (λ (l : Lined). record { own = map pairs items; backend = pairs new; moved = pairs moved; room = places } ≡ with_line l queue
+      (f (line_at l queue))) same
+      (subst (λ (q : Queue). record { own = map pairs items; backend = pairs new; moved = pairs moved; room = places } ≡ with_line here q
+      (f (line_at here q))) (sym of)
       (ap (λ (w : Line). record { own = map pairs items; backend = w; moved = pairs moved; room = places }) changes))
 
   -- what a queue of the servers' holds, as the list of all says
-  pub own_waits : (items : List Q) (backend moved : Q) (places : ℕ) (now : Lined) (queue : Queue) (server : ℕ) (x : Q) → record { own = map pairs items; backend = pairs backend; moved = pairs moved; room = places } ≡ now → queue ≡ Server server → server < length items → x ≡ get_or items server x → line_at now queue ≡ pairs x
+  pub own_waits : (items : List Q) (backend moved : Q) (places : ℕ) (now : Lined) (queue : Queue) (server : ℕ) (x : Q)
+      → record { own = map pairs items; backend = pairs backend; moved = pairs moved; room = places } ≡ now → queue ≡ Server server
+      → server < length items → x ≡ get_or items server x → line_at now queue ≡ pairs x
   own_waits items backend moved places now queue server x same of within read =
-      subst (λ (l : Lined). line_at l queue ≡ pairs x) same (subst (λ (q : Queue). line_at (record { own = map pairs items; backend = pairs backend; moved = pairs moved; room = places }) q ≡ pairs x) (sym of) (pairs_at items server x within read))
+      subst (λ (l : Lined). line_at l queue ≡ pairs x) same
+      (subst (λ (q : Queue). line_at (record { own = map pairs items; backend = pairs backend; moved = pairs moved; room = places }) q ≡ pairs x)
+      (sym of) (pairs_at items server x within read))
 
   -- each queue has its room
-  pub room_at : (items : List Q) (backend moved : Q) (places server : ℕ) (x : Q) → HaveRoom places (map room items) (room backend) (room moved) → server < length items → x ≡ get_or items server x → room x ≡ places
-  room_at items backend moved places server x have within read = have.servers server (room x) (slice_get-map room items server ∙ ap (option_map room) (slice_get_read items (length items) server x refl within read))
+  pub room_at : (items : List Q) (backend moved : Q) (places server : ℕ) (x : Q) → HaveRoom places (map room items) (room backend) (room moved)
+      → server < length items → x ≡ get_or items server x → room x ≡ places
+  room_at items backend moved places server x have within read =
+      have.servers server (room x) (slice_get-map room items server ∙ ap (option_map room) (slice_get_read items (length items) server x refl within read))
 
-  pub rooms_kept : (items : List Q) (backend moved : Q) (places server : ℕ) (x new : Q) → HaveRoom places (map room items) (room backend) (room moved) → server < length items → x ≡ get_or items server x → room new ≡ room x → HaveRoom places (map room (set items server new)) (room backend) (room moved)
+  pub rooms_kept : (items : List Q) (backend moved : Q) (places server : ℕ) (x new : Q) → HaveRoom places (map room items) (room backend) (room moved)
+      → server < length items → x ≡ get_or items server x → room new ≡ room x
+      → HaveRoom places (map room (set items server new)) (room backend) (room moved)
   rooms_kept items backend moved places server x new have within read kept = record {
     servers = λ k its at.
-        elim (get-set_cases (map room items) server k (room x) (room new) its (slice_get-map room items server ∙ ap (option_map room) (slice_get_read items (length items) server x refl within read)) (ap (λ (l : List ℕ). slice_get l k) (sym (map-set room items server new)) ∙ at)) [
+        elim (get-set_cases (map room items) server k (room x) (room new) its
+        (slice_get-map room items server ∙ ap (option_map room) (slice_get_read items (length items) server x refl within read))
+        (ap (λ (l : List ℕ). slice_get l k) (sym (map-set room items server new)) ∙ at)) [
           | inl e ↦ sym e.1 ∙ kept ∙ room_at items backend moved places server x have within read
           | inr e ↦ have.servers k its e.1
         ];
@@ -64,11 +86,14 @@ module _ {Q : Type 0} (pairs : Q → Line) (room : Q → ℕ) where
   }
 
 -- the heads of one queue more
-pub heads_step : (heads next : Held) (first : Queue → Option Key) (server : ℕ) (head : Option Key) → head ≡ first (Server server) → head_at next (Server server) ≡ head → ((other : Queue) → other ≢ Server server → head_at next other ≡ head_at heads other)
-    → ((queue : Queue) → IsQueueOf server queue → head_at heads queue ≡ first queue) → (queue : Queue) → IsQueueOf (server + 1) queue → head_at next queue ≡ first queue
+pub heads_step : (heads next : Held) (first : Queue → Option Key) (server : ℕ) (head : Option Key) → head ≡ first (Server server)
+    → head_at next (Server server) ≡ head → ((other : Queue) → other ≢ Server server → head_at next other ≡ head_at heads other)
+    → ((queue : Queue) → IsQueueOf server queue → head_at heads queue ≡ first queue) → (queue : Queue) → IsQueueOf (server + 1) queue
+    → head_at next queue ≡ first queue
 heads_step heads next first server head is at others before Backend within = others Backend (λ e. cc) ∙ before Backend tt
 heads_step heads next first server head is at others before (Server k) within = elim (below_cases k server within) [
-  | inl e ↦ others (Server k) (λ same. let n : k ≡ server = server_of k server same in let l : k < server = e in absurd (omega arith)) ∙ before (Server k) e
+  | inl e ↦ others (Server k) (λ same. let n : k ≡ server = server_of k server same in let l : k < server = e in absurd (omega arith))
+      ∙ before (Server k) e
   | inr e ↦ subst (λ n. head_at next (Server n) ≡ first (Server n)) (sym e) (at ∙ is)
 ]
   where
@@ -76,14 +101,12 @@ heads_step heads next first server head is at others before (Server k) within = 
     server_of a b e = cc
 
 -- the number of a server's queue is one of them
-pub own_within : {Q : Type 0} (pairs : Q → Line) (items : List Q) (backend moved : Line) (places : ℕ) (now : Lined) (queue : Queue) (server : ℕ) → record { own = map pairs items; backend = backend; moved = moved; room = places } ≡ now → queue ≡ Server server → IsQueueOf (length now.own) queue → server < length items
+pub own_within : {Q : Type 0} (pairs : Q → Line) (items : List Q) (backend moved : Line) (places : ℕ) (now : Lined) (queue : Queue) (server : ℕ)
+    → record { own = map pairs items; backend = backend; moved = moved; room = places } ≡ now → queue ≡ Server server
+    → IsQueueOf (length now.own) queue → server < length items
 own_within pairs items backend moved places now queue server same of within =
     let l : length (map pairs items) ≡ length items = length-map items pairs in
     subst (λ n. server < n) (ap (λ (x : Lined). length x.own) (sym same) ∙ l) (subst (λ (q : Queue). IsQueueOf (length now.own) q) of within)
-
-pub heads_start : (heads next : Held) (first : Queue → Option Key) (head : Option Key) → head ≡ first Backend → head_at next Backend ≡ head → (queue : Queue) → IsQueueOf 0 queue → head_at next queue ≡ first queue
-heads_start heads next first head is at Backend within = at ∙ is
-heads_start heads next first head is at (Server k) within = absurd (omega (arith, within))
 
 -- one empty queue more
 pub record AreNew {Q : Type 0} (pairs : Q → Line) (room : Q → ℕ) (items : List Q) (server places : ℕ) : Type 0 where
@@ -91,9 +114,17 @@ pub record AreNew {Q : Type 0} (pairs : Q → Line) (room : Q → ℕ) (items : 
   pub rooms : (k its : ℕ) → slice_get (map room items) k ≡ Some its → its ≡ places
   pub count : length items ≡ server
 
-pub new_more : (Q : Type 0) (pairs : Q → Line) (room : Q → ℕ) (items next : List Q) (server places : ℕ) (new : Q) → AreNew pairs room items server places → next ≡ items ++ new ∷ [] → pairs new ≡ [] → room new ≡ places → AreNew pairs room next (server + 1) places
-new_more Q pairs room items next server places new are written empty full = subst (λ (l : List Q). AreNew pairs room l (server + 1) places) (sym written) (record {
-  empty = map-append pairs items (new ∷ []) ∙ ap (λ (w : Line). map pairs items ++ w ∷ []) empty ∙ ap (λ (l : List Line). l ++ [] ∷ []) are.empty ∙ replicate_more server [];
-  rooms = λ k its at. elim (get-push_cases (map room items) (room new) k its (ap (λ (l : List ℕ). slice_get l k) (sym (map-append room items (new ∷ []))) ∙ at)) [ inl e ↦ are.rooms k its e | inr e ↦ sym e.1 ∙ full ];
-  count = length-append items (new ∷ []) ∙ ap (λ n. n + 1) are.count;
-})
+pub new_more : (Q : Type 0) (pairs : Q → Line) (room : Q → ℕ) (items next : List Q) (server places : ℕ) (new : Q)
+    → AreNew pairs room items server places → next ≡ items ++ new ∷ [] → pairs new ≡ [] → room new ≡ places
+    → AreNew pairs room next (server + 1) places
+new_more Q pairs room items next server places new are written empty full =
+    subst (λ (l : List Q). AreNew pairs room l (server + 1) places) (sym written) (record {
+      empty =
+          map-append pairs items (new ∷ []) ∙ ap (λ (w : Line). map pairs items ++ w ∷ []) empty ∙ ap (λ (l : List Line). l ++ [] ∷ []) are.empty
+          ∙ replicate_more server [];
+      rooms =
+          λ k its at. elim
+          (get-push_cases (map room items) (room new) k its (ap (λ (l : List ℕ). slice_get l k) (sym (map-append room items (new ∷ [])))
+          ∙ at)) [ inl e ↦ are.rooms k its e | inr e ↦ sym e.1 ∙ full ];
+      count = length-append items (new ∷ []) ∙ ap (λ n. n + 1) are.count;
+    })

@@ -1,13 +1,11 @@
 -- What lists of pairs and of waiting requests weigh.
-use Rattle.std.proofs.Common.{◌≡◌, ◌≢◌, ℕ, zero, suc, ◌+◌, ◌<◌, ◌≤◌, Bool, true, false, cond, List, [], ◌∷◌, Option, None, Some, slice_get, length, Contains, refl, ap, sym, ◌∙◌, subst, arith, ◌⊎◌, inl, inr}
-use Rattle.std.specs.List.{sum_by}
+use Rattle.std.proofs.Common.{◌≡◌, ℕ, zero, suc, ◌+◌, ◌<◌, ◌≤◌, Bool, true, false, cond, [], ◌∷◌, Option, None}
+use Rattle.std.proofs.Common.{Some, slice_get, length, refl, ap, subst, arith}
 use Rattle.std.proofs.Math.ListN.{set}
-use Rattle.std.proofs.lemmas.List.Sums.{sum_by-cons}
 use Rattle.std.proofs.lemmas.Option.{same_Some}
 use Rattle.due_key.specs.declared.key.Key.{Key}
 use Rattle.dispatch_log.specs.declared.queue.Queue.{Queue}
 use Rattle.dispatch_log.specs.Rows.{same_queue}
-use Rattle.list_facts.proofs.Members.{Contains-nil, Contains-head, Contains-tail, Contains-cases}
 use Rattle.wait_queues.specs.declared.waiters.Waiter.{Waiter}
 use Rattle.wait_queues.specs.Kept.{weight_at, weight_of}
 use Rattle.wait_queues.specs.Waitlists.{Waiters, WaitsAt}
@@ -35,7 +33,8 @@ module _ (weight : Key × ℕ → ℕ) (queue : Queue) where
       omega arith
 
   -- none weighs more than all
-  pub weight_has : (at : ℕ) (ws : Waiters) (p : ℕ) (cell : Option Waiter) → slice_get ws p ≡ Some cell → weight_at weight queue (at + p) cell ≤ weight_of weight queue at ws
+  pub weight_has : (at : ℕ) (ws : Waiters) (p : ℕ) (cell : Option Waiter) → slice_get ws p ≡ Some cell
+      → weight_at weight queue (at + p) cell ≤ weight_of weight queue at ws
   weight_has at [] p cell stood = cc
   weight_has at (w ∷ ws) zero cell stood =
       let same : weight_at weight queue at w ≡ weight_at weight queue at cell = ap (weight_at weight queue at) (same_Some w cell stood) in
@@ -70,7 +69,8 @@ module _ (weight : Key × ℕ → ℕ) (queue : Queue) where
             let same : weight (w.key, at + 0) ≡ weight (w.key, at) = ap (λ n. weight (w.key, n)) start in
             omega arith;
       }
-      by_queue false e = let is : weight_at weight queue at (Some w) ≡ 0 = ap (λ (b : Bool). cond {A = ℕ} b (weight (w.key, at)) 0) e in absurd (omega (arith, heavy))
+      by_queue false e =
+          let is : weight_at weight queue at (Some w) ≡ 0 = ap (λ (b : Bool). cond {A = ℕ} b (weight (w.key, at)) 0) e in absurd (omega (arith, heavy))
 
   pub weight_found : (at : ℕ) (ws : Waiters) → 0 < weight_of weight queue at ws → Weighs at ws
   weight_found at [] heavy = absurd (omega (arith, heavy))

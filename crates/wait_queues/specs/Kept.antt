@@ -1,5 +1,5 @@
 -- How the waiting requests are kept in queues.
-use Rattle.std.specs.Prelude.{◌≡◌, ℕ, zero, suc, ◌+◌, ◌<◌, List, [], ◌∷◌, Option, None, Some, length, slice_get, if◌then◌else◌}
+use Rattle.std.specs.Prelude.{◌≡◌, ℕ, suc, ◌+◌, [], ◌∷◌, Option, None, Some, length, if◌then◌else◌}
 use Rattle.std.specs.List.{sum_by}
 use Rattle.due_key.specs.declared.key.Key.{Key}
 use Rattle.due_key.specs.Order.{key_cmp}
@@ -9,7 +9,7 @@ use Rattle.dispatch_log.specs.Rows.{same_queue}
 use Rattle.pend_queue.specs.Pairs.{IsAscending, HaveNoCommonKey}
 use Rattle.slot_ledger.specs.Counts.{IsQueueOf}
 use Rattle.wait_queues.specs.declared.waiters.Waiter.{Waiter}
-use Rattle.wait_queues.specs.Lines.{Line, Lined, line_at}
+use Rattle.wait_queues.specs.Lines.{Lined, line_at}
 use Rattle.wait_queues.specs.Order.{Order}
 use Rattle.wait_queues.specs.Waitlists.{Waiters, WaitsAt, IsOrderOf}
 
@@ -30,13 +30,15 @@ line_weight weight lined (Server server) = sum_by weight (line_at lined (Server 
 
 -- the queues hold the keys of those that wait in them with their places, whatever a pair weighs
 pub record AreLinedUp (lined : Lined) (waiters : Waiters) : Type 0 where
-  pub weighs : (queue : Queue) → IsQueueOf (length lined.own) queue → (weight : Key × ℕ → ℕ) → line_weight weight lined queue ≡ weight_of weight queue 0 waiters
+  pub weighs : (queue : Queue) → IsQueueOf (length lined.own) queue → (weight : Key × ℕ → ℕ)
+      → line_weight weight lined queue ≡ weight_of weight queue 0 waiters
   pub ascending : (queue : Queue) → IsAscending key_cmp (line_at lined queue)
   pub moved : IsAscending key_cmp lined.moved
   pub apart : HaveNoCommonKey key_cmp lined.backend lined.moved
   pub room : lined.room ≡ length waiters
   pub within : (place : ℕ) (waiter : Waiter) → WaitsAt waiters place waiter → IsQueueOf (length lined.own) waiter.queue
-  pub own_keys : (place other : ℕ) (waiter its : Waiter) → WaitsAt waiters place waiter → WaitsAt waiters other its → waiter.key ≡ its.key → place ≡ other
+  pub own_keys : (place other : ℕ) (waiter its : Waiter) → WaitsAt waiters place waiter → WaitsAt waiters other its → waiter.key ≡ its.key
+      → place ≡ other
 
 -- and so is the order in which they joined
 pub record AreWaiting (lined : Lined) (waiters : Waiters) (order : Order) : Type 0 where

@@ -35,7 +35,8 @@ without_waiter list place = record { waiters = slice_set list.waiters place None
 
 -- the request at a place waits anew, as the last that joined
 abbrev pub with_waiter_anew : Waitlist → ℕ → Waiter → Waitlist
-with_waiter_anew list place waiter = record { waiters = slice_set list.waiters place (Some waiter); order = without place list.order ++ place ∷ []; servers = list.servers }
+with_waiter_anew list place waiter =
+    record { waiters = slice_set list.waiters place (Some waiter); order = without place list.order ++ place ∷ []; servers = list.servers }
 
 -- no request that waits has the key
 abbrev pub HasNoKey : Waiters → Key → Type 0
@@ -57,7 +58,8 @@ IsFirstKey queue waiters key = (place : ℕ) × (waiter : Waiter) × IsFirstIn q
 
 -- heads are the keys of the queues' first requests
 abbrev pub AreFirst : Held → Waitlist → Type 0
-AreFirst heads list = (queue : Queue) → IsQueueOf list.servers queue → MatchOption (head_at heads queue) (NoneWaitsIn queue list.waiters) (IsFirstKey queue list.waiters)
+AreFirst heads list =
+    (queue : Queue) → IsQueueOf list.servers queue → MatchOption (head_at heads queue) (NoneWaitsIn queue list.waiters) (IsFirstKey queue list.waiters)
 
 -- the order has just the places of those that wait, each once
 pub record IsOrderOf (waiters : Waiters) (order : List ℕ) : Type 0 where

@@ -1,9 +1,11 @@
 use Rattle.std.proofs.Common.{refl, sym, ◌∙◌, subst}
 use Rattle.dispatch_log.specs.Dispatch.{IsDispatched}
 use Rattle.dispatch_log.proofs.Dispatched.{dispatched}
-use Rattle.dispatch_core.proofs.Calls.{newcomer_put, arrival_places, arrive_settles, added_dispatched}
+use Rattle.dispatch_core.proofs.Calls.{added_dispatched}
+use Rattle.dispatch_trace.proofs.Placing.{newcomer_put, arrival_places, arrival_room}
 use Rattle.dispatch_core.proofs.Checking.{core_kept}
-use Rattle.dispatch_core.proofs.Going.{goes_places, over_granting, may_granting, adds}
+use Rattle.dispatch_core.proofs.Going.{goes_places, adds}
+use Rattle.dispatch_trace.proofs.Placing.{over_granting, may_granting}
 use Rattle.dispatch_core.proofs.dispatcher.Core.arrive.Goals as goal
 
 pub returns-in-Some-clause-dispatched : goal.returns-in-Some-clause-dispatched
@@ -21,8 +23,8 @@ settle-requires-clause-may_grant g c = may_granting c.place.new.self.trace c.pla
 
 pub settle-requires-clause-room : goal.settle-requires-clause-room
 settle-requires-clause-room g c =
-    arrive_settles c.self.inside.events.trace c.arrive.new.self c.place.new.self.trace _ _ c.args.pin (sym c.refuses_arrival.ensures ∙ c.in_default.is)
-    c.in-Ok.ensures.ok c.place.ensures
+    arrival_room c.self.inside.events.trace c.arrive.new.self c.place.new.self.trace _ _ c.args.pin _ (sym c.refuses_arrival.ensures ∙ c.in_default.is)
+    c.in-Ok.ensures.ok c.place.ensures.placed
 
 pub returns-clause-dispatched : goal.returns-clause-dispatched
 returns-clause-dispatched g c =

@@ -11,8 +11,10 @@ index-at-requires c =
 
 pub returns-then-at-self : goal.returns-then-at-self
 returns-then-at-self c =
-    ap (λ b. cond b None (Some c.index-at.result.now)) (sym (eq-eqb _ _ c.if-at-self.true)) ∙ sym (follows _ _ _ _ c.self.view_is c.self.invariant _ c.requires _ c.index-at.ensures)
+    ap (λ b. cond b None (Some c.index-at.result.now)) (sym (eq-eqb _ _ c.if-at-self.true))
+    ∙ sym (follows _ _ _ _ c.self.view_is c.self.invariant _ c.requires _ c.index-at.ensures)
 
 pub returns-else-at-self : goal.returns-else-at-self
 returns-else-at-self c =
-    ap (λ b. cond b None (Some c.index-at.result.now)) (sym (ne_eqb _ _ c.if-at-self.false)) ∙ sym (follows _ _ _ _ c.self.view_is c.self.invariant _ c.requires _ c.index-at.ensures)
+    ap (λ b. cond b None (Some c.index-at.result.now)) (sym (ne_eqb _ _ c.if-at-self.false))
+    ∙ sym (follows _ _ _ _ c.self.view_is c.self.invariant _ c.requires _ c.index-at.ensures)

@@ -11,8 +11,13 @@ link-requires-clause-from c =
 
 pub invariant_of-self : goal.invariant_of-self
 invariant_of-self c =
-    kept _ _ _ _ (addition _ _ _ _ c.self.view_is c.self.invariant c.args.place _ c.index-last.ensures c.requires.room c.requires.absent _ _ _ _ c.link.ensures.next c.link.ensures.previous c.link-2.ensures.next c.link-2.ensures.previous)
+    kept _ _ _ _
+    (addition _ _ _ _ c.self.view_is c.self.invariant c.args.place _ c.index-last.ensures c.requires.room c.requires.absent _ _ _ _ c.link.ensures.next
+    c.link.ensures.previous c.link-2.ensures.next c.link-2.ensures.previous)
 
 pub returns : goal.returns
 returns c =
-    shown _ _ _ _ (addition _ _ _ _ c.self.view_is c.self.invariant c.args.place _ c.index-last.ensures c.requires.room c.requires.absent _ _ _ _ c.link.ensures.next c.link.ensures.previous c.link-2.ensures.next c.link-2.ensures.previous) ∙ ap (λ (order : Order). with_places order (c.args.self.now.places ++ c.args.place ∷ [])) c.self.view_is
+    shown _ _ _ _
+    (addition _ _ _ _ c.self.view_is c.self.invariant c.args.place _ c.index-last.ensures c.requires.room c.requires.absent _ _ _ _ c.link.ensures.next
+    c.link.ensures.previous c.link-2.ensures.next c.link-2.ensures.previous)
+    ∙ ap (λ (order : Order). with_places order (c.args.self.now.places ++ c.args.place ∷ [])) c.self.view_is

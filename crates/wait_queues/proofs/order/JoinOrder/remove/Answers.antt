@@ -36,8 +36,12 @@ index_mut-requires c =
 
 pub invariant_of-self : goal.invariant_of-self
 invariant_of-self c =
-    kept _ _ _ _ (removal _ _ _ _ c.self.view_is c.self.invariant _ c.requires _ _ c.index-before.ensures c.index-after.ensures _ _ c.link.ensures.next c.link.ensures.previous)
+    kept _ _ _ _
+    (removal _ _ _ _ c.self.view_is c.self.invariant _ c.requires _ _ c.index-before.ensures c.index-after.ensures _ _ c.link.ensures.next
+    c.link.ensures.previous)
 
 pub returns : goal.returns
 returns c =
-    shown _ _ _ _ (removal _ _ _ _ c.self.view_is c.self.invariant _ c.requires _ _ c.index-before.ensures c.index-after.ensures _ _ c.link.ensures.next c.link.ensures.previous) ∙ ap (λ (order : Order). with_places order (without c.args.place c.args.self.now.places)) c.self.view_is
+    shown _ _ _ _
+    (removal _ _ _ _ c.self.view_is c.self.invariant _ c.requires _ _ c.index-before.ensures c.index-after.ensures _ _ c.link.ensures.next
+    c.link.ensures.previous) ∙ ap (λ (order : Order). with_places order (without c.args.place c.args.self.now.places)) c.self.view_is

@@ -5,10 +5,15 @@ use Rattle.wait_queues.proofs.queues.Queues.remove.Goals as goal
 
 pub invariant_of-self-in-Server : goal.invariant_of-self-in-Server
 invariant_of-self-in-Server g c =
-    let within = own_within g.Q.PendQueue.pairs c.self.inside.own.items _ _ _ c.args.self.now c.args.queue c.in-Server.server c.self.view_is c.in-Server.is c.requires in
-    rooms_kept g.Q.PendQueue.pairs g.Q.PendQueue.room _ c.self.inside.backend c.self.inside.moved _ c.in-Server.server c.index_mut.result.now _ c.self.invariant within c.index_mut.ensures.value c.remove-in-Server.ensures.room
+    let within =
+    own_within g.Q.PendQueue.pairs c.self.inside.own.items _ _ _ c.args.self.now c.args.queue c.in-Server.server c.self.view_is c.in-Server.is c.requires in
+    rooms_kept g.Q.PendQueue.pairs g.Q.PendQueue.room _ c.self.inside.backend c.self.inside.moved _ c.in-Server.server c.index_mut.result.now _ c.self.invariant
+    within c.index_mut.ensures.value c.remove-in-Server.ensures.room
 
 pub returns-in-Server-clause-rest : goal.returns-in-Server-clause-rest
 returns-in-Server-clause-rest g c =
-    let within = own_within g.Q.PendQueue.pairs c.self.inside.own.items _ _ _ c.args.self.now c.args.queue c.in-Server.server c.self.view_is c.in-Server.is c.requires in
-    own_changed g.Q.PendQueue.pairs g.Q.PendQueue.room (without key_cmp c.args.key.now) c.self.inside.own.items c.self.inside.backend c.self.inside.moved _ c.args.self.now c.args.queue c.in-Server.server c.index_mut.result.now _ c.self.view_is c.in-Server.is within c.index_mut.ensures.value c.remove-in-Server.ensures.pairs
+    let within =
+    own_within g.Q.PendQueue.pairs c.self.inside.own.items _ _ _ c.args.self.now c.args.queue c.in-Server.server c.self.view_is c.in-Server.is c.requires in
+    own_changed g.Q.PendQueue.pairs g.Q.PendQueue.room (without key_cmp c.args.key.now) c.self.inside.own.items c.self.inside.backend c.self.inside.moved _
+    c.args.self.now c.args.queue c.in-Server.server c.index_mut.result.now _ c.self.view_is c.in-Server.is within c.index_mut.ensures.value
+    c.remove-in-Server.ensures.pairs

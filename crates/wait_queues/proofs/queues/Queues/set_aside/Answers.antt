@@ -6,6 +6,14 @@ use Rattle.wait_queues.proofs.queues.Queues.set_aside.Goals as goal
 
 pub returns : goal.returns
 returns g c =
-    let with_it : Line → Lined = λ m. record { own = map g.Q.PendQueue.pairs c.self.inside.own.items; backend = g.Q.PendQueue.pairs c.self.inside.backend; moved = m; room = c.self.inside.places } in
-    subst (λ (l : Lined). with_it (g.Q.PendQueue.pairs c.push.new.self) ≡ with_moved l (inserted key_cmp (g.Q.PendQueue.pair_of c.args.node) l.moved)) c.self.view_is
+    let with_it : Line
+    → Lined = λ m. record {
+      own = map g.Q.PendQueue.pairs c.self.inside.own.items;
+      backend = g.Q.PendQueue.pairs c.self.inside.backend;
+      moved = m;
+      room =
+          c.self.inside.places;
+    } in
+    subst (λ (l : Lined). with_it (g.Q.PendQueue.pairs c.push.new.self) ≡ with_moved l (inserted key_cmp (g.Q.PendQueue.pair_of c.args.node) l.moved))
+    c.self.view_is
     (ap with_it c.push.ensures.pairs)

@@ -1,4 +1,4 @@
-use Rattle.std.proofs.Common.{◌≡◌, ◌<◌, [], None, Some, slice_get, length, Contains, ap, sym, ◌∙◌, subst, arith}
+use Rattle.std.proofs.Common.{◌≡◌, ◌<◌, [], None, Some, slice_get, length, ap, sym, ◌∙◌, subst}
 use Rattle.std.proofs.lemmas.Option.{slice_get_within}
 use Rattle.due_key.specs.declared.key.Key.{Key}
 use Rattle.due_key.specs.Order.{key_cmp}
@@ -17,34 +17,43 @@ gather-requires-clause-room g c = gather_room _ _ c.self.invariant.lined_up
 pub push-requires-clause-room : goal.push-requires-clause-room
 push-requires-clause-room g c =
     let up = (gather_kept _ _ _ _ c.self.invariant c.gather.ensures).lined_up in
-    let servers : length c.gather.new.self.own ≡ c.args.self.now.servers = ap (λ (l : Lined). length l.own) c.gather.ensures ∙ ap (λ (l : Waitlist). l.servers) c.self.view_is in
+    let servers : length c.gather.new.self.own ≡ c.args.self.now.servers = ap (λ (l : Lined). length l.own) c.gather.ensures
+    ∙ ap (λ (l : Waitlist). l.servers) c.self.view_is in
     let vacant = subst (λ (l : Waitlist). slice_get l.waiters c.args.place ≡ Some None) (sym c.self.view_is) c.requires.vacant in
-    join_room c.gather.new.self _ c.args.waiter.queue c.args.place up (subst (λ n. IsQueueOf n c.args.waiter.queue) (sym servers) c.requires.within) vacant c.args.waiter.key
+    join_room c.gather.new.self _ c.args.waiter.queue c.args.place up (subst (λ n. IsQueueOf n c.args.waiter.queue) (sym servers) c.requires.within) vacant
+    c.args.waiter.key
 
 pub push-requires-clause-absent : goal.push-requires-clause-absent
 push-requires-clause-absent g c =
     let up = (gather_kept _ _ _ _ c.self.invariant c.gather.ensures).lined_up in
-    let servers : length c.gather.new.self.own ≡ c.args.self.now.servers = ap (λ (l : Lined). length l.own) c.gather.ensures ∙ ap (λ (l : Waitlist). l.servers) c.self.view_is in
+    let servers : length c.gather.new.self.own ≡ c.args.self.now.servers = ap (λ (l : Lined). length l.own) c.gather.ensures
+    ∙ ap (λ (l : Waitlist). l.servers) c.self.view_is in
     let fresh = subst (λ (l : Waitlist). HasNoKey l.waiters c.args.waiter.key) (sym c.self.view_is) c.requires.own_key in
     subst (λ (k : Key). IsAbsent key_cmp k (line_at c.gather.new.self c.args.waiter.queue)) (sym (ap (λ pair. pair.0) c.requires.pair))
-    (absent_line c.gather.new.self _ c.args.waiter.queue c.args.waiter.key up (subst (λ n. IsQueueOf n c.args.waiter.queue) (sym servers) c.requires.within) fresh)
+    (absent_line c.gather.new.self _ c.args.waiter.queue c.args.waiter.key up
+    (subst (λ n. IsQueueOf n c.args.waiter.queue) (sym servers) c.requires.within) fresh)
 
 pub put-requires : goal.put-requires
 put-requires g c = slice_get_within _ _ _ (subst (λ (l : Waitlist). slice_get l.waiters c.args.place ≡ Some None) (sym c.self.view_is) c.requires.vacant)
 
 pub append-requires-clause-room : goal.append-requires-clause-room
 append-requires-clause-room g c =
-    let within = slice_get_within c.self.inside.waiters.items c.args.place None (subst (λ (l : Waitlist). slice_get l.waiters c.args.place ≡ Some None) (sym c.self.view_is) c.requires.vacant) in
+    let within = slice_get_within c.self.inside.waiters.items c.args.place None
+    (subst (λ (l : Waitlist). slice_get l.waiters c.args.place ≡ Some None) (sym c.self.view_is) c.requires.vacant) in
     subst (λ n. c.args.place < n) (sym c.self.invariant.order_room) within
 
 pub append-requires-clause-absent : goal.append-requires-clause-absent
-append-requires-clause-absent g c = vacant_absent _ _ c.args.place c.self.invariant.in_order (subst (λ (l : Waitlist). slice_get l.waiters c.args.place ≡ Some None) (sym c.self.view_is) c.requires.vacant)
+append-requires-clause-absent g c =
+    vacant_absent _ _ c.args.place c.self.invariant.in_order
+    (subst (λ (l : Waitlist). slice_get l.waiters c.args.place ≡ Some None) (sym c.self.view_is) c.requires.vacant)
 
 pub invariant_of-self : goal.invariant_of-self
 invariant_of-self g c =
     let none : c.gather.new.self.moved ≡ [] = ap (λ (l : Lined). l.moved) c.gather.ensures in
-    let servers : length c.gather.new.self.own ≡ c.args.self.now.servers = ap (λ (l : Lined). length l.own) c.gather.ensures ∙ ap (λ (l : Waitlist). l.servers) c.self.view_is in
+    let servers : length c.gather.new.self.own ≡ c.args.self.now.servers = ap (λ (l : Lined). length l.own) c.gather.ensures
+    ∙ ap (λ (l : Waitlist). l.servers) c.self.view_is in
     let vacant = subst (λ (l : Waitlist). slice_get l.waiters c.args.place ≡ Some None) (sym c.self.view_is) c.requires.vacant in
     let fresh = subst (λ (l : Waitlist). HasNoKey l.waiters c.args.waiter.key) (sym c.self.view_is) c.requires.own_key in
-    join_kept c.gather.new.self _ c.self.inside.waiters.items _ c.self.inside.order _ c.args.place c.args.waiter _ (gather_kept _ _ _ _ c.self.invariant c.gather.ensures) none c.requires.pair
+    join_kept c.gather.new.self _ c.self.inside.waiters.items _ c.self.inside.order _ c.args.place c.args.waiter _
+    (gather_kept _ _ _ _ c.self.invariant c.gather.ensures) none c.requires.pair
     (subst (λ n. IsQueueOf n c.args.waiter.queue) (sym servers) c.requires.within) vacant fresh c.push.ensures c.put.ensures c.append.ensures

@@ -15,17 +15,18 @@ use Rattle.dispatch_log.specs.declared.row.Phase.TheVariants.{Loose, Waiting, Se
 use Rattle.dispatch_log.specs.declared.row.Row.{Row}
 use Rattle.dispatch_log.specs.declared.setup.Setup.{Setup}
 use Rattle.dispatch_log.specs.Dispatch.{IsDispatched}
-use Rattle.dispatch_log.specs.Histories.{History, IsLegal, state_of, begins_event, refuses_done, AddsEvent}
+use Rattle.dispatch_log.specs.Histories.{History, first_window, state_of, begins_event, refuses_done}
+use Rattle.dispatch_log.specs.Legal.{IsLegal, AddsEvent}
 use Rattle.dispatch_log.specs.Judgement.{Stage, returning, ending, granting, MayCome, next_stage, HasSlot, IsTold}
 use Rattle.dispatch_log.specs.Refusals.{first_of, is_waiting, lacks_room}
 use Rattle.dispatch_log.specs.Rows.{Rows, StandsAt, row_of, server_in, has_ticket, phase_is_served_by, phase_is_told}
-use Rattle.dispatch_log.specs.States.{State, after, opening_state}
+use Rattle.dispatch_log.specs.States.{State, after}
 use Rattle.dispatch_log.proofs.Consistency.{IsConsistent}
-use Rattle.dispatch_log.proofs.Dispatched.{dispatched, opening_consistent}
-use Rattle.dispatch_log.proofs.Runs.{empty_legal}
-use Rattle.dispatch_log.proofs.Judged.{after_all-push, stage_after-push, over_none, consistent_all}
+use Rattle.dispatch_log.proofs.Dispatched.{dispatched, base_consistent}
+use Rattle.dispatch_log.proofs.Runs.{first_legal, adds_legally}
+use Rattle.dispatch_log.proofs.Judged.{after_all-push, stage_after-push, over_none, consistent_all, places_all}
 use Rattle.dispatch_core.specs.Steps.{IsReturn, Places, Leaves, Settles}
-use Rattle.dispatch_trace.specs.Histories.{with_entry, stage_of, scene_of, waiting_of, MayComeNext, MayPut, IsFound}
+use Rattle.dispatch_trace.specs.Histories.{with_entry, stage_of, scene_of, waiting_of, HasPlaces, MayComeNext, MayPut, IsFound}
 use Rattle.dispatch_trace.proofs.Placing.{entry_of, placed_stage}
 use Rattle.dispatch_core.proofs.Going.{goes_entry, goes_more, room_left, begun_room, adds}
 use Rattle.dispatch_trace.proofs.Placing.{has_room, over_granting}
@@ -37,7 +38,7 @@ pub may_next : (h : History) (e next : Entry) (t : Stage) → next_stage (stage_
     → MayCome h.setup (after h.setup (state_of h) e) (length (h.log ++ e ∷ [])) t next → MayComeNext (with_entry h e) next
 may_next h e next t stage may =
     subst (λ (s : State). MayCome h.setup s (length (h.log ++ e ∷ [])) (stage_of (with_entry h e)) next)
-    (sym (after_all-push h.setup (opening_state h.setup) h.log e))
+    (sym (after_all-push h.setup h.base h.log e))
     (subst (λ (x : Stage). MayCome h.setup (after h.setup (state_of h) e) (length (h.log ++ e ∷ [])) x next)
     (sym (stage_after-push granting h.log e ∙ stage)) may)
 
@@ -51,12 +52,12 @@ done_tests false false false e = (refl, refl, refl)
 
 -- the states of a legal log are consistent
 pub legal_consistent : (h : History) → IsLegal h → IsConsistent (state_of h).rows (state_of h).ticket (stage_of h)
-legal_consistent h legal = consistent_all h.setup (opening_state h.setup) 0 granting h.log (opening_consistent h.setup) legal.judged
+legal_consistent h legal = consistent_all h.setup h.base 0 granting h.log (base_consistent h.setup h.base legal.begins) legal.lawful.judged
 
 -- no row of a legal log is in no place
 pub none_loose : (h : History) (row : Row) (p : ℕ) → IsLegal h → StandsAt (state_of h).rows p row → row.phase ≡ Loose → ⊥
 none_loose h row p legal stands loose =
-    let no : None ≡ Some row.key.ticket = sym (over_none h.setup (state_of h) (stage_of h) legal.whole)
+    let no : None ≡ Some row.key.ticket = sym (over_none h.setup (state_of h) (stage_of h) legal.lawful.whole)
     ∙ (legal_consistent h legal).loose p row stands loose in
     cc
 
@@ -107,7 +108,7 @@ pub begun_returns : (h one : History) (m t : ℕ) (server : Option ℕ) → one 
     → IsReturn (state_of one).rows t server
 begun_returns h one m t server begun is =
     subst (λ (x : History). IsReturn (state_of x).rows t server) (sym begun)
-    (subst (λ (s : State). IsReturn s.rows t server) (sym (after_all-push h.setup (opening_state h.setup) h.log (Done m t))) is)
+    (subst (λ (s : State). IsReturn s.rows t server) (sym (after_all-push h.setup h.base h.log (Done m t))) is)
 
 pub begun_stage : (h one : History) (m t : ℕ) → one ≡ with_entry h (Done m t) → stage_of one ≡ returning t
 begun_stage h one m t begun = ap stage_of begun ∙ stage_after-push granting h.log (Done m t)
@@ -142,16 +143,17 @@ ends_told one two t ended = record {
 
 -- after it there is room for grants
 module _ (h one two : History) (m t : ℕ) (it : Ticketed) (found : IsFound (state_of h).rows t it) where
-  pub done_settles : refuses_done h t ≡ None → one ≡ with_entry h (Done m it.ticket) → Leaves one two
+  pub done_settles : IsLegal h → refuses_done h t ≡ None → one ≡ with_entry h (Done m it.ticket) → Leaves one two
       → length two.log + waiting_of two ≤ two.setup.log
-  done_settles accepted begun is =
-      let room = begun_room h one (Done m it.ticket) (has_room h (done_tests _ _ _ accepted).0) begun in
-      room_left one two is.goes 2 is.few (omega arith)
+  done_settles legal accepted begun is =
+      let begun_with = begun_room h one (Done m it.ticket) (has_room h (done_tests _ _ _ accepted).0) (legal_places h legal) begun in
+      let room = begun_with.room in
+      room_left one two is.goes 2 is.few (omega arith) begun_with.places
 
   -- and with them the event is whole
   pub done_adds : (now : History) → one ≡ with_entry h (Done m it.ticket) → Leaves one two → Settles two now → AddsEvent h now (Done m t)
   done_adds now begun is settled =
-      adds h one two now (Done m t) (of_ticket h one (λ n. Done m n) t it found begun) is.goes (over_granting two is.over) settled
+      adds h one two now (Done m t) refl (of_ticket h one (λ n. Done m n) t it found begun) is.goes (over_granting two is.over) settled
 
 no_event : (t : ℕ) (p : Placement) → begins_event (entry_of t p) ≡ false
 no_event t (Slot server) = refl
@@ -170,9 +172,13 @@ places h next pin avoid t given p may placed is goes = record {
 }
 
 -- what is legal after an event is dispatched
-pub added_dispatched : (h now : History) (event : Entry) → AddsEvent h now event → IsDispatched now
-added_dispatched h now event added = dispatched now added.legal
+pub added_dispatched : (h now : History) (event : Entry) → IsLegal h → AddsEvent h now event → IsDispatched now
+added_dispatched h now event legal added = dispatched now (adds_legally h now event legal added)
 
 -- a core without an entry is legal
-pub new_legal : (h : History) (setup : Setup) → h ≡ record { setup = setup; log = [] } → IsLegal h
-new_legal h setup new = subst IsLegal (sym new) (empty_legal setup)
+pub new_legal : (h : History) (setup : Setup) → h ≡ first_window setup [] → IsLegal h
+new_legal h setup new = subst IsLegal (sym new) (first_legal setup)
+
+-- a legal log has the places of its setup
+pub legal_places : (h : History) → IsLegal h → HasPlaces h
+legal_places h legal = places_all h.setup h.base h.log ∙ legal.begins.places

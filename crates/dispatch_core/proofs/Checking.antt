@@ -13,10 +13,11 @@ use Rattle.dispatch_log.specs.declared.refusal.Refusal.TheVariants.{LogFull, NoS
 use Rattle.dispatch_log.specs.declared.setup.ServerSet.{ServerSet}
 use Rattle.dispatch_log.specs.declared.setup.Setup.{Setup}
 use Rattle.dispatch_log.specs.Health.{is_up_by, results_of, with_result, without_last}
-use Rattle.dispatch_log.specs.Histories.{History, state_of, begins_event, refuses_check, AddsEvent}
+use Rattle.dispatch_log.specs.Histories.{History, state_of, begins_event, refuses_check}
+use Rattle.dispatch_log.specs.Legal.{AddsEvent}
 use Rattle.dispatch_log.specs.Judgement.{checking, granting, was_up}
 use Rattle.dispatch_log.specs.Refusals.{lacks_room, is_checked}
-use Rattle.dispatch_log.specs.States.{State, after, after_all, opening_state}
+use Rattle.dispatch_log.specs.States.{State, after, after_all}
 use Rattle.dispatch_log.specs.Words.{is_up}
 use Rattle.dispatch_log.proofs.Accepted.{none_refuses}
 use Rattle.dispatch_log.proofs.Judged.{after_all-push, stage_after-push}
@@ -63,9 +64,10 @@ after_both setup s (x ∷ xs) ys = after_both setup (after setup s x) xs ys
 -- the results after an event are those that its first entry left
 results_added : (h now : History) (event : Entry) → AddsEvent h now event → (state_of now).results ≡ (after h.setup (state_of h) event).results
 results_added h now event added =
-    ap (λ (s : Setup). (after_all s (opening_state s) now.log).results) added.setup
-    ∙ ap (λ (l : List Entry). (after_all h.setup (opening_state h.setup) l).results) added.log
-    ∙ ap (λ (s : State). s.results) (after_both h.setup (opening_state h.setup) h.log (event ∷ added.brought))
+    ap (λ (s : Setup). (after_all s now.base now.log).results) added.setup
+    ∙ ap (λ (s : State). (after_all h.setup s now.log).results) added.base
+    ∙ ap (λ (l : List Entry). (after_all h.setup h.base l).results) added.log
+    ∙ ap (λ (s : State). s.results) (after_both h.setup h.base h.log (event ∷ added.brought))
     ∙ no_results h.setup (after h.setup (state_of h) event) added.brought added.one_event
 
 -- a core after an event
@@ -74,7 +76,7 @@ pub core_goes : (h now : History) (event : Entry) (healths next : List (Option S
     → AreHealths h.setup.servers (after h.setup (state_of h) event).results next → ready.pairs ≡ [] → ready.room ≡ expiring.room
     → IsCore now next ready
 core_goes h now event healths next expiring ready is added healthy none kept = record {
-  legal = added.legal;
+  legal = adds_legally h now event is.legal added;
   healthy =
       subst (λ (l : List (List Bool)). AreHealths now.setup.servers l next) (sym (results_added h now event added))
       (subst (λ (s : Setup). AreHealths s.servers (after h.setup (state_of h) event).results next) (sym added.setup) healthy);
@@ -94,7 +96,7 @@ core_kept h now event healths expiring ready is added same none kept =
     (subst (λ (l : List (List Bool)). AreHealths h.setup.servers l healths) (sym same) is.healthy) none kept
 
 -- a core without an entry
-pub core_new : (h : History) (setup : Setup) (healths : List (Option Standing)) (expiring : Held ℕ ℕ) → h ≡ record { setup = setup; log = [] }
+pub core_new : (h : History) (setup : Setup) (healths : List (Option Standing)) (expiring : Held ℕ ℕ) → h ≡ first_window setup []
     → AreHealths setup.servers (replicate (length setup.servers) []) healths → expiring.pairs ≡ [] → expiring.room ≡ setup.places
     → IsCore h healths expiring
 core_new h setup healths expiring new are none places = record {
@@ -151,14 +153,14 @@ without_push [] b = refl
 without_push (x ∷ []) b = refl
 without_push (x ∷ y ∷ l) b = ap (λ (r : List Bool). x ∷ r) (without_push (y ∷ l) b)
 
-module _ (h one : History) (m server : ℕ) (ok : Bool) (accepted : refuses_check h server ≡ None) (begun : one ≡ with_entry h (Check m server ok)) where
+module _ (h one : History) (m server : ℕ) (ok : Bool) (legal : IsLegal h) (accepted : refuses_check h server ≡ None) (begun : one ≡ with_entry h (Check m server ok)) where
   checked_setup : one.setup ≡ h.setup
   checked_setup = same_setup h one (Check m server ok) begun
 
   checked_results : (state_of one).results ≡ with_result server ok (state_of h).results
   checked_results =
       ap (λ (x : History). (state_of x).results) begun
-      ∙ ap (λ (s : State). s.results) (after_all-push h.setup (opening_state h.setup) h.log (Check m server ok))
+      ∙ ap (λ (s : State). s.results) (after_all-push h.setup h.base h.log (Check m server ok))
 
   pub check_stage : stage_of one ≡ checking server
   check_stage = ap stage_of begun ∙ stage_after-push granting h.log (Check m server ok)
@@ -166,7 +168,7 @@ module _ (h one : History) (m server : ℕ) (ok : Bool) (accepted : refuses_chec
   pub was_up_is : was_up one.setup (state_of one) server ≡ is_up_at h.setup.servers (state_of h).results server
   was_up_is =
       let it = check_accepted h server accepted in
-      let long : server < length (state_of h).results = (let a = checked_within h server accepted in let b = many_results h in omega arith) in
+      let long : server < length (state_of h).results = (let a = checked_within h server accepted in let b = many_results h legal.begins in omega arith) in
       ap (λ (s : Setup). was_up s (state_of one) server) checked_setup
       ∙ ap (λ (x : Option ServerSet). option_map_or (λ (y : ServerSet). is_up_by y.rise_fall (without_last (results_of (state_of one).results server))) x
       false) it.stands

@@ -3,17 +3,18 @@ use Rattle.std.proofs.Common.{◌≡◌, ℕ, ◌+◌, ◌≤◌, not, Bool, tru
 use Rattle.dispatch_log.specs.declared.entry.Entry.TheVariants.{Abort, Left}
 use Rattle.verdict.specs.declared.cause.Cause.TheVariants.{Aborted}
 use Rattle.dispatch_log.specs.declared.row.Phase.{Phase}
-use Rattle.dispatch_log.specs.Histories.{History, state_of, refuses_abort, AddsEvent}
+use Rattle.dispatch_log.specs.Histories.{History, state_of, refuses_abort}
+use Rattle.dispatch_log.specs.Legal.{IsLegal, AddsEvent}
 use Rattle.dispatch_log.specs.Judgement.{Stage, aborting, granting, IsInPhase, next_stage}
 use Rattle.dispatch_log.specs.Refusals.{is_waiting, ticket_refusal}
-use Rattle.dispatch_log.specs.States.{State, opening_state}
+use Rattle.dispatch_log.specs.States.{State}
 use Rattle.dispatch_log.proofs.Accepted.{accepted_room, row_of_accepted}
 use Rattle.dispatch_log.proofs.Judged.{after_all-push, stage_after-push}
 use Rattle.dispatch_core.specs.Steps.{Settles}
 use Rattle.dispatch_trace.specs.Histories.{with_entry, stage_of, waiting_of, MayComeNext, MayGrantNext, HasEntryRoom, IsFound}
 use Rattle.dispatch_trace.specs.declared.position.Ticketed.{Ticketed}
 use Rattle.dispatch_core.proofs.Standing.{of_ticket}
-use Rattle.dispatch_core.proofs.Calls.{may_next}
+use Rattle.dispatch_core.proofs.Calls.{may_next, legal_places}
 use Rattle.dispatch_core.proofs.Going.{goes_entry, room_left, begun_room, adds}
 use Rattle.dispatch_trace.proofs.Placing.{has_room, over_granting, may_granting}
 
@@ -43,7 +44,7 @@ module _ (h one : History) (m ticket : ℕ) (it : Ticketed) (found : IsFound (st
   pub aborted_waits : IsInPhase is_waiting (state_of one).rows t
   aborted_waits =
       subst (λ (x : History). IsInPhase is_waiting (state_of x).rows t) (sym begun)
-      (subst (λ (s : State). IsInPhase is_waiting s.rows t) (sym (after_all-push h.setup (opening_state h.setup) h.log (Abort m t)))
+      (subst (λ (s : State). IsInPhase is_waiting s.rows t) (sym (after_all-push h.setup h.base h.log (Abort m t)))
       (abort_waits h t accepted))
 
   -- so that it may be told
@@ -63,12 +64,13 @@ module _ (h one : History) (m ticket : ℕ) (it : Ticketed) (found : IsFound (st
     pub abort_may_grant : MayGrantNext two
     abort_may_grant = may_granting two told_stage
 
-    pub abort_settles : length two.log + waiting_of two ≤ two.setup.log
-    abort_settles =
-        let room = begun_room h one (Abort m t) (ticket_room (λ (p : Phase). not (is_waiting p)) h t accepted) begun in
-        room_left one two (goes_entry one two (Left t Aborted) told refl) 1 (omega arith) (omega arith)
+    pub abort_settles : IsLegal h → length two.log + waiting_of two ≤ two.setup.log
+    abort_settles legal =
+        let begun_with = begun_room h one (Abort m t) (ticket_room (λ (p : Phase). not (is_waiting p)) h t accepted) (legal_places h legal) begun in
+        let room = begun_with.room in
+        room_left one two (goes_entry one two (Left t Aborted) told refl) 1 (omega arith) (omega arith) begun_with.places
 
     pub abort_adds : (now : History) → Settles two now → AddsEvent h now (Abort m ticket)
     abort_adds now settled =
-        adds h one two now (Abort m ticket) (of_ticket h one (λ n. Abort m n) ticket it found begun) (goes_entry one two (Left t Aborted) told refl)
+        adds h one two now (Abort m ticket) refl (of_ticket h one (λ n. Abort m n) ticket it found begun) (goes_entry one two (Left t Aborted) told refl)
         (over_granting two told_stage) settled

@@ -12,7 +12,7 @@ use Rattle.dispatch_log.proofs.Judged.{stage_after-push}
 use Rattle.dispatch_core.specs.Steps.{GoesOn, CarriesOn, MovesAll, HasEventRoom}
 use Rattle.dispatch_trace.specs.Histories.{with_entry, stage_of, scene_of, waiting_of, MayComeNext}
 use Rattle.dispatch_core.proofs.Going.{goes_none, goes_entry, goes_then, room_left, carries}
-use Rattle.dispatch_trace.proofs.Placing.{same_setup, few_wait}
+use Rattle.dispatch_trace.proofs.Placing.{same_setup, places_next, few_wait}
 
 -- what a change says of before and after
 stay_same : (a b : Bool) → Stay ≡ change_between a b → a ≡ b
@@ -48,7 +48,7 @@ module _ (h : History) (server : ℕ) (stage : stage_of h ≡ checking server) w
         goes = goes_none h;
         over = subst (λ (t : Stage). IsOver h.setup (state_of h) t) (sym stage) same;
         may_grant = subst (λ (t : Stage). MayGrant h.setup (state_of h) t) (sym stage) same;
-        room = room_left h h (goes_none h) 0 (omega arith) (omega arith);
+        room = room_left h h (goes_none h) 0 (omega arith) (omega arith) room.places;
       }
 
   -- the server went up
@@ -61,7 +61,7 @@ module _ (h : History) (server : ℕ) (stage : stage_of h ≡ checking server) w
   pub carries_up : (one : History) → one ≡ with_entry h (Health server true) → HasEventRoom h → CarriesOn h one
   carries_up one goes room =
       carries h one (goes_entry h one (Health server true) goes refl) 1 (ap stage_of goes ∙ stage_after-push granting h.log (Health server true))
-      (omega arith) (omega arith)
+      (omega arith) (omega arith) room.places
 
   -- it went down
   pub went_down : (change : Change) → change ≡ change_between was now → change ≡ WentDown → (was ≡ true) × (now ≡ false)
@@ -80,7 +80,7 @@ module _ (h : History) (server : ℕ) (stage : stage_of h ≡ checking server) w
     fallen = goes_entry h one (Health server false) goes refl
 
     pub fallen_room : HasEventRoom h → length one.log + waiting_of one ≤ one.setup.log
-    fallen_room room = room_left h one fallen 1 (omega arith) (omega arith)
+    fallen_room room = room_left h one fallen 1 (omega arith) (omega arith) room.places
 
     pub carries_down : one.setup.redispatch ≡ false → HasEventRoom h → CarriesOn h one
     carries_down stays room =
@@ -101,8 +101,8 @@ module _ (h : History) (server : ℕ) (stage : stage_of h ≡ checking server) w
           may_grant = subst (λ (t : Stage). MayGrant two.setup (state_of two) t) (sym moves.stage) over;
           room =
               let few = moves.few in
-              let waiting = few_wait one in
+              let waiting = few_wait one (places_next h one (Health server false) goes room.places) in
               let places : one.setup.places ≡ h.setup.places = ap (λ (s : Setup). s.places) (same_setup h one (Health server false) goes) in
               let long : length (Health server false ∷ [] ++ moves.goes.entries) ≡ length moves.goes.entries + 1 = omega arith in
-              room_left h two (goes_then h one two fallen moves.goes) (h.setup.places + 1) (omega arith) (omega arith);
+              room_left h two (goes_then h one two fallen moves.goes) (h.setup.places + 1) (omega arith) (omega arith) room.places;
         }

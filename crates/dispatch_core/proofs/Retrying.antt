@@ -11,12 +11,13 @@ use Rattle.dispatch_log.specs.declared.row.Phase.{Phase}
 use Rattle.dispatch_log.specs.declared.row.Phase.TheVariants.{Loose, Waiting, Serving, Told}
 use Rattle.dispatch_log.specs.declared.row.Row.{Row}
 use Rattle.dispatch_log.specs.declared.setup.Setup.{Setup}
-use Rattle.dispatch_log.specs.Histories.{History, IsLegal, state_of, refuses_failure}
+use Rattle.dispatch_log.specs.Histories.{History, state_of, refuses_failure}
+use Rattle.dispatch_log.specs.Legal.{IsLegal}
 use Rattle.dispatch_log.specs.Judgement.{IsPut, Stage, failing, leaving, granting, MayGrant, MayCome, next_stage, HasSlot}
 use Rattle.dispatch_log.specs.Refusals.{has_a_slot}
 use Rattle.dispatch_log.specs.Retries.{are_spent, are_redispatched, failed_row, failed}
 use Rattle.dispatch_log.specs.Rows.{Rows, StandsAt, changed, in_phase, row_of, server_in, phase_is_served_by, pin_of, failures_of}
-use Rattle.dispatch_log.specs.States.{State, opening_state}
+use Rattle.dispatch_log.specs.States.{State}
 use Rattle.std.proofs.lemmas.Option.{same_Some}
 use Rattle.dispatch_log.proofs.Accepted.{Accepted, row_of_accepted}
 use Rattle.dispatch_log.proofs.Judged.{after_all-push, stage_after-push}
@@ -24,10 +25,10 @@ use Rattle.list_facts.proofs.Places.{get-set_same, get-set_cases}
 use Rattle.dispatch_log.proofs.RowLemmas.{HaveOwnTickets, changed_at, row_of_at}
 use Rattle.dispatch_core.specs.Steps.{GoesOn, CarriesOn, Places, Settles, HasEventRoom}
 use Rattle.dispatch_trace.specs.Histories.{scene_of, with_entry, stage_of, waiting_of, MayComeNext, MayGrantNext, MayPut, IsFound}
-use Rattle.dispatch_core.proofs.Calls.{legal_consistent}
+use Rattle.dispatch_core.proofs.Calls.{legal_consistent, legal_places}
 use Rattle.dispatch_core.proofs.Dismissals.{ticket_room}
 use Rattle.dispatch_core.proofs.Going.{goes_entry, goes_then, goes_more, goes_places, goes_long, room_left, begun_room, carries}
-use Rattle.dispatch_trace.proofs.Placing.{same_setup, few_wait}
+use Rattle.dispatch_trace.proofs.Placing.{same_setup, places_next, few_wait}
 use Rattle.dispatch_trace.specs.declared.position.Ticketed.{Ticketed}
 use Rattle.dispatch_core.proofs.Phases.{failures_stay, pins_stay}
 
@@ -36,7 +37,7 @@ pub carries_retry : (h one : History) (t server k : ℕ) → stage_of h ≡ fail
 carries_retry h one t server k stage goes room =
     carries h one (goes_entry h one (Retried t server k) goes refl) 1
     (ap stage_of goes ∙ stage_after-push granting h.log (Retried t server k) ∙ ap (λ (x : Stage). next_stage x (Retried t server k)) stage)
-    (omega arith) (omega arith)
+    (omega arith) (omega arith) room.places
 
 module _ (one two : History) (t server : ℕ) (stage : stage_of one ≡ failing t) (freed : two ≡ with_entry one (Freed t server)) where
   pub freed_stage : stage_of two ≡ leaving t server
@@ -45,7 +46,7 @@ module _ (one two : History) (t server : ℕ) (stage : stage_of one ≡ failing 
   freed_rows : (state_of two).rows ≡ changed t (in_phase Loose) (state_of one).rows
   freed_rows =
       ap (λ (x : History). (state_of x).rows) freed
-      ∙ ap (λ (s : State). s.rows) (after_all-push one.setup (opening_state one.setup) one.log (Freed t server))
+      ∙ ap (λ (s : State). s.rows) (after_all-push one.setup one.base one.log (Freed t server))
 
   pub freed_failures : failures_of t (state_of two).rows ≡ failures_of t (state_of one).rows
   freed_failures = ap (failures_of t) freed_rows ∙ failures_stay t t Loose (state_of one).rows
@@ -69,7 +70,7 @@ module _ (one two : History) (t server : ℕ) (stage : stage_of one ≡ failing 
   carries_spent three told room =
       carries one three (goes_more one two three (Left t Retries) (goes_entry one two (Freed t server) freed refl) told refl) 2
       (ap stage_of told ∙ stage_after-push granting two.log (Left t Retries) ∙ ap (λ (x : Stage). next_stage x (Left t Retries)) freed_stage)
-      (omega arith) (omega arith)
+      (omega arith) (omega arith) room.places
 
   -- it is redispatched: others may take its slot first
   pub may_grant_redispatched : are_redispatched one.setup (failures_of t (state_of one).rows) ≡ true → MayGrantNext two
@@ -79,7 +80,7 @@ module _ (one two : History) (t server : ℕ) (stage : stage_of one ≡ failing 
       (subst (λ n. are_redispatched one.setup n ≡ true) (sym freed_failures) goes))
 
   pub redispatch_room : HasEventRoom one → length two.log + waiting_of two ≤ two.setup.log
-  redispatch_room room = room_left one two (goes_entry one two (Freed t server) freed refl) 1 (omega arith) (omega arith)
+  redispatch_room room = room_left one two (goes_entry one two (Freed t server) freed refl) 1 (omega arith) (omega arith) room.places
 
   module _ (three : History) (settled : Settles two three) where
     settled_stage : stage_of three ≡ leaving t server
@@ -107,27 +108,27 @@ module _ (one two : History) (t server : ℕ) (stage : stage_of one ≡ failing 
     abbrev settled_goes : GoesOn one three
     settled_goes = goes_then one two three (goes_entry one two (Freed t server) freed refl) settled.goes
 
-    settled_few : length settled_goes.entries ≤ one.setup.places + 1
-    settled_few =
+    settled_few : HasEventRoom one → length settled_goes.entries ≤ one.setup.places + 1
+    settled_few room =
         let long : length (Freed t server ∷ [] ++ settled.goes.entries) ≡ length settled.goes.entries + 1 = omega arith in
         let few = settled.few in
-        let waiting = few_wait two in
+        let waiting = few_wait two (places_next one two (Freed t server) freed room.places) in
         let places : two.setup.places ≡ one.setup.places = ap (λ (s : Setup). s.places) freed_setup in
         omega arith
 
     pub place_room : HasEventRoom one → length three.log < three.setup.log
     place_room room =
         let long = goes_long one three settled_goes in
-        let few = settled_few in
+        let few = settled_few room in
         let most : three.setup.log ≡ one.setup.log = ap (λ (s : Setup). s.log) settled_goes.setup in
         omega arith
 
     pub carries_redispatch : (four : History) → Places three four → HasEventRoom one → CarriesOn one four
     carries_redispatch four placed room =
-        let few = settled_few in
+        let few = settled_few room in
         let long : length (settled_goes.entries ++ placed.placement ∷ []) ≡ length settled_goes.entries + 1 =
         length-append settled_goes.entries (placed.placement ∷ []) in
-        carries one four (goes_then one three four settled_goes (goes_places three four placed)) (one.setup.places + 2) placed.over (omega arith) (omega arith)
+        carries one four (goes_then one three four settled_goes (goes_places three four placed)) (one.setup.places + 2) placed.over (omega arith) (omega arith) room.places
 
 -- a row under the same ticket
 pub own_kept : (rows : Rows) (p : ℕ) (r s : Row) → HaveOwnTickets rows → StandsAt rows p r → s.key.ticket ≡ r.key.ticket
@@ -166,7 +167,7 @@ module _ (h one : History) (m ticket : ℕ) (it : Ticketed) (legal : IsLegal h) 
 
   begun_rows : (state_of one).rows ≡ set (state_of h).rows its.place (Some (failed_row h.setup its.row))
   begun_rows =
-      ap (λ (x : History). (state_of x).rows) begun ∙ ap (λ (s : State). s.rows) (after_all-push h.setup (opening_state h.setup) h.log (Fail m t))
+      ap (λ (x : History). (state_of x).rows) begun ∙ ap (λ (s : State). s.rows) (after_all-push h.setup h.base h.log (Fail m t))
       ∙ changed_at (state_of h).rows t its.place its.row (failed h.setup) own its.stands its.named
 
   begun_stands : StandsAt (state_of one).rows its.place (failed_row h.setup its.row)
@@ -211,4 +212,4 @@ module _ (h one : History) (m ticket : ℕ) (it : Ticketed) (legal : IsLegal h) 
       ap (option_and_then (λ (r : Row). r.pin)) begun_row ∙ ap (λ (b : Bool). cond {A = Option ℕ} b None its.row.pin) again
 
   pub failure_room : HasEventRoom one
-  failure_room = begun_room h one (Fail m t) (ticket_room (λ phase. not (has_a_slot phase)) h t accepted) begun
+  failure_room = begun_room h one (Fail m t) (ticket_room (λ phase. not (has_a_slot phase)) h t accepted) (legal_places h legal) begun

@@ -11,7 +11,7 @@ use Rattle.dispatch_log.specs.Histories.{History, state_of}
 use Rattle.dispatch_log.specs.Judgement.{Stage, leaving, telling, checking, falling, granting, IsOver, MayGrant, next_stage}
 use Rattle.dispatch_log.specs.Retries.{are_redispatched}
 use Rattle.dispatch_log.specs.Rows.{pin_of, in_phase}
-use Rattle.dispatch_log.specs.States.{State, after, opening_state}
+use Rattle.dispatch_log.specs.States.{State, after}
 use Rattle.dispatch_log.proofs.Judged.{stage_after-push, after_all-push}
 use Rattle.dispatch_core.proofs.Phases.{failures_stay, pins_stay}
 use Rattle.dispatch_core.proofs.Standing.{at_changed, at_after}
@@ -99,7 +99,7 @@ since_more old now next since grant =
     same_pins ticket =
         let entry : Entry = Granted grant.ticket grant.queue grant.server in
         ap (λ (x : History). pin_of ticket (state_of x).rows) grant.grants
-        ∙ ap (λ (s : State). pin_of ticket s.rows) (after_all-push now.setup (opening_state now.setup) now.log entry)
+        ∙ ap (λ (s : State). pin_of ticket s.rows) (after_all-push now.setup now.base now.log entry)
         ∙ pins_stay ticket grant.ticket (Serving grant.server) (state_of now).rows
 
     goes_on : (P : Setup → State → Stage → Type 0) → P now.setup (after now.setup (state_of now) (Granted grant.ticket grant.queue grant.server))
@@ -107,7 +107,7 @@ since_more old now next since grant =
     goes_on P h =
         let entry : Entry = Granted grant.ticket grant.queue grant.server in
         subst (λ (x : History). P x.setup (state_of x) (stage_of x)) (sym grant.grants)
-        (subst (λ (s : State). P now.setup s (stage_of (with_entry now entry))) (sym (after_all-push now.setup (opening_state now.setup) now.log entry))
+        (subst (λ (s : State). P now.setup s (stage_of (with_entry now entry))) (sym (after_all-push now.setup now.base now.log entry))
         (subst (λ (t : Stage). P now.setup (after now.setup (state_of now) entry) t) (sym (stage_after-push granting now.log entry)) h))
 
 pub settles : (old now last : History) → GrantsSince old now → last ≡ now → IsJudged last → IsSettled (scene_of now) → Settles old last

@@ -9,7 +9,7 @@ use Rattle.dispatch_log.specs.declared.row.Row.{Row}
 use Rattle.dispatch_log.specs.Histories.{History, state_of}
 use Rattle.dispatch_log.specs.Retries.{failed, failed_row}
 use Rattle.dispatch_log.specs.Rows.{Rows, with_change, changed, in_phase}
-use Rattle.dispatch_log.specs.States.{State, after, opening_state}
+use Rattle.dispatch_log.specs.States.{State, after}
 use Rattle.dispatch_log.proofs.Judged.{after_all-push}
 use Rattle.dispatch_trace.specs.declared.position.Ticketed.{Ticketed}
 use Rattle.dispatch_trace.specs.Histories.{with_entry, IsAt, IsFound}
@@ -46,7 +46,7 @@ pub at_after : (h one : History) (e : Entry) (it : Ticketed) → one ≡ with_en
     → (IsAt (state_of h).rows it → IsAt (after h.setup (state_of h) e).rows it) → IsAt (state_of h).rows it → IsAt (state_of one).rows it
 at_after h one e it goes keeps at =
     subst (λ (x : History). IsAt (state_of x).rows it) (sym goes)
-    (subst (λ (s : State). IsAt s.rows it) (sym (after_all-push h.setup (opening_state h.setup) h.log e)) (keeps at))
+    (subst (λ (s : State). IsAt s.rows it) (sym (after_all-push h.setup h.base h.log e)) (keeps at))
 
 pub at_done : (h one : History) (m u : ℕ) (it : Ticketed) → one ≡ with_entry h (Done m u) → IsAt (state_of h).rows it → IsAt (state_of one).rows it
 at_done h one m u it goes at = at_after h one (Done m u) it goes (λ a. a) at

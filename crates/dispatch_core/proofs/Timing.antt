@@ -13,7 +13,8 @@ use Rattle.dispatch_log.specs.declared.row.Phase.TheVariants.{Told}
 use Rattle.dispatch_log.specs.declared.row.Row.{Row}
 use Rattle.dispatch_log.specs.declared.refusal.Refusal.TheVariants.{LogFull}
 use Rattle.dispatch_log.specs.declared.setup.Setup.{Setup}
-use Rattle.dispatch_log.specs.Histories.{History, IsLegal, SomeExpires, state_of, effective, AddsEvent}
+use Rattle.dispatch_log.specs.Histories.{History, SomeExpires, state_of, effective}
+use Rattle.dispatch_log.specs.Legal.{IsLegal, AddsEvent}
 use Rattle.dispatch_log.specs.Judgement.{Stage, telling, granting, has_expired, IsExpired, IsFirstExpired, IsInPhase, IsOver, MayGrant, MayCome, next_stage}
 use Rattle.dispatch_log.specs.Refusals.{is_waiting, lacks_room, tick_refusal}
 use Rattle.dispatch_log.specs.Rows.{Rows, StandsAt, with_change, changed, in_phase}
@@ -30,7 +31,9 @@ use Rattle.dispatch_core.specs.Steps.{GoesOn, CarriesOn}
 use Rattle.dispatch_trace.specs.Histories.{with_entry, stage_of, scene_of, waits, waiting_of, IsJudged, MayComeNext, HasEntryRoom, IsAt}
 use Rattle.dispatch_trace.specs.Timeouts.{AreExpired}
 use Rattle.dispatch_core.proofs.Going.{goes_none, goes_more, room_left, begun_room}
-use Rattle.dispatch_trace.proofs.Placing.{longer, same_setup}
+use Rattle.dispatch_trace.proofs.Placing.{longer, same_setup, same_base}
+use Rattle.dispatch_log.proofs.Runs.{adds_piece}
+use Rattle.dispatch_core.proofs.Calls.{legal_places}
 use Rattle.dispatch_trace.proofs.Expiring.{expired_since}
 
 told_not_expired : (setup : Setup) (now : ℕ) (r : Row) (phase : Phase) → has_expired setup now r.phase → r.phase ≡ phase → is_waiting phase ≡ false
@@ -167,7 +170,7 @@ module _ (old now : History) (tickets : List (ℕ × ℕ)) (t u : ℕ) (since : 
         }) → P (state_of next)
     state_next P h =
         subst (λ (x : History). P (state_of x)) (sym goes)
-        (subst P (sym (after_all-push now.setup (opening_state now.setup) now.log (Left t Timeout))) h)
+        (subst P (sym (after_all-push now.setup now.base now.log (Left t Timeout))) h)
 
     setup_next : next.setup ≡ now.setup
     setup_next = same_setup now next (Left t Timeout) goes
@@ -242,48 +245,35 @@ module _ (h one : History) (m : ℕ) (begun : one ≡ with_entry h (Tick m)) whe
   pub tick_tells : stage_of one ≡ telling
   tick_tells = ap stage_of begun ∙ stage_after-push granting h.log (Tick m)
 
-  pub tick_room : HasEntryRoom h → length one.log + waiting_of one ≤ one.setup.log
-  tick_room room =
-      let room = begun_room h one (Tick m) room begun in
-      room_left one one (goes_none one) 0 (omega arith) (omega arith)
+  pub tick_room : IsLegal h → HasEntryRoom h → length one.log + waiting_of one ≤ one.setup.log
+  tick_room legal room =
+      let begun_with = begun_room h one (Tick m) room (legal_places h legal) begun in
+      let enough = begun_with.room in
+      room_left one one (goes_none one) 0 (omega arith) (omega arith) begun_with.places
 
   -- where no request has expired the event is over, and all is settled as it was
-  pub quiet_adds : (moment : ℕ) → m ≡ effective h moment → IsLegal h → HasEntryRoom h → (expired : Bool) → expired ≡ false
+  pub quiet_adds : (moment : ℕ) → m ≡ effective h moment → IsLegal h → IsJudged one → (expired : Bool) → expired ≡ false
       → (SomeExpires one moment → IsTrue expired) → AddsEvent h one (Tick m)
-  quiet_adds moment later legal room expired is tells = record {
+  quiet_adds moment later legal judged expired is tells = record {
     brought = [];
     log = ap (λ (x : History). x.log) begun;
     one_event = (goes_none h).one_event;
     setup = same_setup h one (Tick m) begun;
-    legal = record {
-      judged = subst IsJudged (sym begun) (judged_push h.setup (opening_state h.setup) 0 granting h.log (Tick m) legal.judged (record {
-        over =
-            legal.whole;
-        settled = legal.settled;
-        accepted = accepted;
-        later = later_than;
-      }));
+    base = same_base h one (Tick m) begun;
+    lawful = adds_piece h one (Tick m) [] refl (same_setup h one (Tick m) begun) (same_base h one (Tick m) begun) (ap (λ (x : History). x.log) begun) (record {
+      judged = judged.judged;
       whole =
           subst (λ (x : Stage). IsOver one.setup (state_of one) x) (sym tick_tells)
           (λ row expired. none (row, expired.0, subst (λ n. has_expired one.setup n row.phase) (sym same_moment) expired.1));
-      settled = subst (λ (x : Scene). IsSettled x) (sym same_scene) legal.settled;
-    };
+      settled = subst (λ (x : Scene). IsSettled x) (sym same_scene) legal.lawful.settled;
+    });
   }
     where
       none : SomeExpires one moment → ⊥
       none some = let it : IsTrue expired = tells some in cc
 
-      accepted : tick_refusal h.setup (0 + length h.log) ≡ None
-      accepted =
-          let count : 0 + length h.log ≡ length h.log = omega arith in
-          let fits : lacks_room h.setup (length h.log) ≡ false = grind (arith, nat_tests) in
-          ap (tick_refusal h.setup) count ∙ ap (λ (b : Bool). if b then Some LogFull else None) fits
-
-      later_than : (state_of h).moment ≤ m
-      later_than = let same = later in let bound : (state_of h).moment ≤ max (state_of h).moment moment = omega arith in omega arith
-
       left : state_of one ≡ record (state_of h) { moment = m }
-      left = ap state_of begun ∙ after_all-push h.setup (opening_state h.setup) h.log (Tick m)
+      left = ap state_of begun ∙ after_all-push h.setup h.base h.log (Tick m)
 
       same_moment : effective one moment ≡ (state_of one).moment
       same_moment =

@@ -3,7 +3,8 @@ use Rattle.std.specs.Prelude.{◌≡◌, ℕ, ◌≤◌, Bool, List, [], Option,
 use Rattle.check_state.specs.Standing.{Standing, IsHealthOf}
 use Rattle.dispatch_log.specs.declared.setup.ServerSet.{ServerSet}
 use Rattle.dispatch_log.specs.Health.{results_of}
-use Rattle.dispatch_log.specs.Histories.{History, IsLegal, state_of}
+use Rattle.dispatch_log.specs.Histories.{History, state_of}
+use Rattle.dispatch_log.specs.Legal.{IsLegal}
 use Rattle.pend_queue.specs.Held.{Held}
 
 -- the health of a server that is checked by rise and fall is that of its results; one that isn't checked has none

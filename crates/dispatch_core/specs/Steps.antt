@@ -9,21 +9,23 @@ use Rattle.dispatch_log.specs.Histories.{History, state_of, begins_event}
 use Rattle.dispatch_log.specs.Judgement.{HasSlot, IsTold, granting, leaving, falling}
 use Rattle.dispatch_log.specs.Rows.{Rows, IsRow, pin_of, phase_waits_in}
 use Rattle.dispatch_trace.specs.declared.position.Ticketed.{Ticketed}
-use Rattle.dispatch_trace.specs.Histories.{with_entry, stage_of, scene_of, waiting_of, IsAt, IsJudged, IsOverNext, MayGrantNext}
+use Rattle.dispatch_trace.specs.Histories.{with_entry, stage_of, scene_of, waiting_of, HasPlaces, IsAt, IsJudged, IsOverNext, MayGrantNext}
 
 -- room enough for all that follows the first entry of an event: each place's request moves or is granted once and is granted
 -- once more, and three entries for the request or server that the event is about
 abbrev pub event_room : Setup → ℕ
 event_room setup = 2 * setup.places + 3
 
-abbrev pub HasEventRoom : History → Type 0
-HasEventRoom history = length history.log + event_room history.setup ≤ history.setup.log
+pub record HasEventRoom (history : History) : Type 0 where
+  pub room : length history.log + event_room history.setup ≤ history.setup.log
+  pub places : HasPlaces history
 
 -- a history goes on inside an event
 pub record GoesOn (old new : History) : Type 0 where
   pub entries : List Entry
   pub log : new.log ≡ old.log ++ entries
   pub setup : new.setup ≡ old.setup
+  pub base : new.base ≡ old.base
   pub one_event : All (λ entry. begins_event entry ≡ false) entries
 
 -- a history goes on by grants until all is settled; what the event owed beside them is what it owes then

@@ -1,7 +1,8 @@
 ghost use Rattle.std.specs.Prelude.{◌≡◌, ◌≤◌, ◌↔◌, [], length, IfOk, IfErr, OnOk, OnErr, IsTrue, MatchOption, Some, None, option_map, pos, ◌+ℤ◌};
 ghost use Rattle.dispatch_log.specs.declared.entry.Entry.TheVariants.{Arrive, Done, Fail, Abort, Tick, Check};
 ghost use Rattle.dispatch_log.specs.Dispatch.{IsDispatched};
-ghost use Rattle.dispatch_log.specs.Histories.{History, IsLegal, state_of, effective, refuses_arrival, refuses_done, refuses_failure, refuses_abort, refuses_tick, refuses_check, SomeExpires, AddsEvent, RefusedOrNoMemory};
+ghost use Rattle.dispatch_log.specs.Histories.{History, first_window, state_of, effective, refuses_arrival, refuses_done, refuses_failure, refuses_abort, refuses_tick, refuses_check, SomeExpires, RefusedOrNoMemory};
+ghost use Rattle.dispatch_log.specs.Legal.{IsLegal, AddsEvent};
 ghost use Rattle.dispatch_log.specs.Words.{is_up};
 ghost use Rattle.dispatch_log.specs.Rows.{row_of, served, queued};
 ghost use Rattle.dispatch_log.specs.Setups.{IsSound};
@@ -44,7 +45,7 @@ impl<Q: PendQueue<Key, usize>> Core<Q> {
     /// only where memory is refused; the setup is gone then.
     pub fn new(alloc: Global, setup: Setup) -> Result<Core<Q>, AllocError>
         requires { IsSound setup }
-        ensures { IfOk result (λ core. core ≡ record { setup = setup; log = [] }) }
+        ensures { IfOk result (λ core. core ≡ first_window setup []) }
     {
         let healths = Healths::new(alloc, setup.servers.as_slice())?;
         let expiring = ListQueue::with_room(alloc, setup.places)?;

@@ -66,6 +66,64 @@ pub stage_on : (t : Stage) (es fs : List Entry) → stage_after t (es ++ fs) ≡
 stage_on t [] fs = refl
 stage_on t (e ∷ es) fs = stage_on (next_stage t e) es fs
 
+-- what is lawful at the end of entries is lawful from there on
+pub judged_off : (setup : Setup) (s : State) (n : ℕ) (t : Stage) (es fs : List Entry) → AllMayCome setup s n t (es ++ fs) → AllMayCome setup (after_all setup s es) (n + length es) (stage_after t es) fs
+judged_off setup s n t [] fs all = subst (λ k. AllMayCome setup s k t fs) (omega arith) all
+judged_off setup s n t (e ∷ es) fs all =
+    let longer : (n + 1) + length es ≡ n + length (e ∷ es) = omega arith in
+    subst (λ k. AllMayCome setup (after_all setup s (e ∷ es)) k (stage_after t (e ∷ es)) fs) longer (judged_off setup (after setup s e) (n + 1) (next_stage t e) es fs all.1)
+
+-- an event that may come may come where nothing is owed
+comes_anew : (setup : Setup) (s : State) (n : ℕ) (t : Stage) (e : Entry) → begins_event e ≡ true → MayCome setup s n t e → MayCome setup s n granting e
+comes_anew setup s n t (Arrive m a) begins may = (at_stage may.0 tt, may.1)
+comes_anew setup s n t (Done m u) begins may = at_stage may tt
+comes_anew setup s n t (Fail m u) begins may = at_stage may tt
+comes_anew setup s n t (Abort m u) begins may = at_stage may tt
+comes_anew setup s n t (Tick m) begins may = at_stage may tt
+comes_anew setup s n t (Check m v ok) begins may = at_stage may tt
+comes_anew setup s n t (Limit m v k) begins may = at_stage may tt
+comes_anew setup s n t e begins may = false_true begins
+
+-- a history's entries are judged, its last event is over, and all is settled
+pub record IsWhole (h : History) : Type 0 where
+  pub judged : AllMayCome h.setup h.base 0 granting h.log
+  pub whole : IsOver h.setup (state_of h) (stage_after granting h.log)
+  pub settled : IsSettled (scene h.setup (state_of h))
+
+-- the piece that an event and what it brings are, where the whole is lawful
+pub adds_piece : (old new : History) (e : Entry) (brought : List Entry) → begins_event e ≡ true → new.setup ≡ old.setup → new.base ≡ old.base → new.log ≡ old.log ++ e ∷ brought → IsWhole new
+    → AreLawful old.setup (state_of old) (length old.log) (e ∷ brought)
+adds_piece old new e brought begins same_setup same_base same_log is =
+    record {
+      judged = (
+        comes_anew setup (state_of old) (length old.log) t e begins later.0,
+        subst (λ stage. AllMayCome setup (after setup (state_of old) e) (length old.log + 1) stage brought) (sym (same_stage t e begins)) later.1,
+      );
+      whole = subst (IsOver setup (after_all setup (state_of old) piece)) (sym same_end)
+          (subst (λ (s : State). IsOver setup s (stage_after granting (old.log ++ piece))) (after_on setup old.base old.log piece) there.whole);
+      settled = subst (λ (s : State). IsSettled (scene setup s)) (after_on setup old.base old.log piece) there.settled;
+    }
+  where
+    setup : Setup
+    setup = old.setup
+
+    piece : List Entry
+    piece = e ∷ brought
+
+    t : Stage
+    t = stage_after granting old.log
+
+    there : IsWhole (record { setup = setup; base = old.base; log = old.log ++ piece })
+    there =
+        subst (λ x. IsWhole (record { setup = setup; base = old.base; log = x })) same_log
+        (subst (λ x. IsWhole (record { setup = setup; base = x; log = new.log })) same_base (subst (λ x. IsWhole (record { setup = x; base = new.base; log = new.log })) same_setup is))
+
+    later : AllMayCome setup (state_of old) (length old.log) t piece
+    later = subst (λ k. AllMayCome setup (state_of old) k t piece) (omega arith) (judged_off setup old.base 0 granting old.log piece there.judged)
+
+    same_end : stage_after granting piece ≡ stage_after granting (old.log ++ piece)
+    same_end = ap (λ stage. stage_after stage brought) (same_stage t e begins) ∙ sym (stage_on granting old.log piece)
+
 -- an event that is added to a legal log
 pub adds_legally : (old new : History) (e : Entry) → IsLegal old → AddsEvent old new e → IsLegal new
 adds_legally old new e legal adds = rebuilt new adds.setup adds.base adds.log

@@ -1,7 +1,6 @@
 -- A history that goes on by an entry, and the entry of a request's placement.
 use Rattle.std.proofs.Common.{◌≡◌, ℕ, ◌+◌, ◌≤◌, Bool, true, false, [], ◌∷◌, Option, None, length}
 use Rattle.std.proofs.Common.{refl, ap, sym, ◌∙◌, subst, arith, length-append}
-use Rattle.std.proofs.Math.ListN.{length-replicate}
 use Rattle.std.proofs.lemmas.Bool.Decides.{nat_tests}
 use Rattle.std.proofs.lemmas.List.Sums.{count_by-le-length}
 use Rattle.verdict.specs.declared.cause.Cause.TheVariants.{NoServer}
@@ -15,12 +14,12 @@ use Rattle.dispatch_log.specs.Histories.{History, state_of, refuses_arrival}
 use Rattle.dispatch_log.specs.Judgement.{Stage, placing, granting, IsOver, MayGrant, IsPut, MayCome, next_stage}
 use Rattle.dispatch_log.specs.Refusals.{first_of, lacks_room}
 use Rattle.dispatch_log.specs.Rows.{pin_of}
-use Rattle.dispatch_log.specs.States.{opening_state}
+use Rattle.dispatch_log.specs.States.{State}
 use Rattle.dispatch_log.proofs.Judged.{stage_after-push, places_all}
 use Rattle.server_pick.specs.declared.placement.Placement.{Placement}
 use Rattle.server_pick.specs.declared.placement.Placement.TheVariants.{Slot, OwnQueue, BackendQueue, Nowhere}
 use Rattle.server_pick.specs.Picked.{IsPlacement}
-use Rattle.dispatch_trace.specs.Histories.{with_entry, stage_of, scene_of, waits, waiting_of, IsOverNext, HasEntryRoom, MayGrantNext, MayComeNext, MayPut}
+use Rattle.dispatch_trace.specs.Histories.{with_entry, stage_of, scene_of, HasPlaces, waits, waiting_of, IsOverNext, HasEntryRoom, MayGrantNext, MayComeNext, MayPut}
 
 pub same_setup : (h next : History) (e : Entry) → next ≡ with_entry h e → next.setup ≡ h.setup
 same_setup h next e goes = ap (λ (x : History). x.setup) goes
@@ -28,12 +27,21 @@ same_setup h next e goes = ap (λ (x : History). x.setup) goes
 pub longer : (h next : History) (e : Entry) → next ≡ with_entry h e → length next.log ≡ length h.log + 1
 longer h next e goes = ap (λ (x : History). length x.log) goes ∙ length-append h.log (e ∷ [])
 
+pub same_base : (h next : History) (e : Entry) → next ≡ with_entry h e → next.base ≡ h.base
+same_base h next e goes = ap (λ (x : History). x.base) goes
+
+-- a history has the places of its setup, and goes on with them
+pub places_on : (h next : History) → next.setup ≡ h.setup → next.base ≡ h.base → HasPlaces h → HasPlaces next
+places_on h next setup base has =
+    places_all next.setup next.base next.log ∙ ap (λ (s : State). length s.rows) base ∙ sym (places_all h.setup h.base h.log) ∙ has
+    ∙ ap (λ (s : Setup). s.places) (sym setup)
+
+pub places_next : (h next : History) (e : Entry) → next ≡ with_entry h e → HasPlaces h → HasPlaces next
+places_next h next e goes = places_on h next (same_setup h next e goes) (same_base h next e goes)
+
 -- no more requests wait than there are places
-pub few_wait : (h : History) → waiting_of h ≤ h.setup.places
-few_wait h =
-    let few = count_by-le-length waits (state_of h).rows in
-    let places : length (state_of h).rows ≡ h.setup.places = places_all h.setup (opening_state h.setup) h.log ∙ length-replicate h.setup.places None in
-    omega arith
+pub few_wait : (h : History) → HasPlaces h → waiting_of h ≤ h.setup.places
+few_wait h has = let few = count_by-le-length waits (state_of h).rows in omega (arith, few, has)
 
 -- between events nothing is owed but grants, which may come
 pub over_granting : (h : History) → stage_of h ≡ granting → IsOverNext h
@@ -51,13 +59,13 @@ first_fits true b c d e = cc
 first_fits false b c d e = refl
 
 -- and for a newcomer's placement and grants after it
-pub arrival_room : (h one two : History) (m : ℕ) (a : Arrival) (pin : Option ℕ) (e : Entry) → refuses_arrival h pin ≡ None
+pub arrival_room : (h one two : History) (m : ℕ) (a : Arrival) (pin : Option ℕ) (e : Entry) → HasPlaces h → refuses_arrival h pin ≡ None
     → one ≡ with_entry h (Arrive m a) → two ≡ with_entry one e → length two.log + waiting_of two ≤ two.setup.log
-arrival_room h one two m a pin e accepted begun placed =
+arrival_room h one two m a pin e has accepted begun placed =
     let room = has_room h (first_fits _ _ _ _ accepted) in
     let first = longer h one (Arrive m a) begun in
     let second = longer one two e placed in
-    let few = few_wait two in
+    let few = few_wait two (places_next one two e placed (places_next h one (Arrive m a) begun has)) in
     let setup = same_setup one two e placed ∙ same_setup h one (Arrive m a) begun in
     let places : two.setup.places ≡ h.setup.places = ap (λ (s : Setup). s.places) setup in
     let most : two.setup.log ≡ h.setup.log = ap (λ (s : Setup). s.log) setup in

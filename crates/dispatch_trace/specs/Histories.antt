@@ -64,6 +64,10 @@ waits (Some row) = is_waiting row.phase
 abbrev pub waiting_of : History → ℕ
 waiting_of history = count_by waits (state_of history).rows
 
+-- a history has as many places as its setup says
+abbrev pub HasPlaces : History → Type 0
+HasPlaces history = length (state_of history).rows ≡ history.setup.places
+
 -- what a decision at a history's end looks at
 abbrev pub scene_of : History → Scene
 scene_of history = scene history.setup (state_of history)

@@ -5,7 +5,7 @@ ghost use Rattle.dispatch_log.specs.declared.entry.Entry.TheVariants.{Tick};
 ghost use Rattle.dispatch_log.specs.Histories.{effective, refuses_tick, SomeExpires};
 ghost use Rattle.dispatch_log.specs.Judgement.{has_expired};
 ghost use Rattle.pend_queue.specs.Pairs.{IsAscending};
-ghost use Rattle.dispatch_trace.specs.Histories.{with_entry, MayAccept};
+ghost use Rattle.dispatch_trace.specs.Histories.{with_entry, MayAccept, IsJudged};
 ghost use Rattle.dispatch_trace.specs.Timeouts.{HasRowAt, ExpiresAt, AreExpired};
 
 use crate::trace::Trace;
@@ -19,7 +19,8 @@ impl<Q: PendQueue<Key, usize>> Trace<Q> {
     pub fn tick(&mut self, moment: Moment)
         requires begins { MayAccept self.old (refuses_tick self.old) }
         requires room { length self.old.log < self.old.setup.log }
-        ensures { self.new ≡ with_entry self.old (Tick (effective self.old moment)) }
+        ensures goes { self.new ≡ with_entry self.old (Tick (effective self.old moment)) }
+        ensures judged { IsJudged self.new }
     {
         let now = self.position.last.later(moment);
         self.log.note(Entry::Tick(now));

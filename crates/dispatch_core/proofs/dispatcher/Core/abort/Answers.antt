@@ -1,7 +1,8 @@
 use Rattle.std.proofs.Common.{refl, subst}
 use Rattle.dispatch_log.specs.Dispatch.{IsDispatched}
 use Rattle.dispatch_log.specs.declared.entry.Entry.TheVariants.{Abort}
-use Rattle.dispatch_log.specs.Histories.{History, effective, AddsEvent}
+use Rattle.dispatch_log.specs.Histories.{History, effective}
+use Rattle.dispatch_log.specs.Legal.{AddsEvent}
 use Rattle.dispatch_log.proofs.Dispatched.{dispatched}
 use Rattle.dispatch_core.proofs.Calls.{added_dispatched}
 use Rattle.dispatch_core.proofs.Dismissals.{aborted_waits, may_abort, abort_may_grant, abort_settles, abort_adds}
@@ -48,4 +49,4 @@ returns-clause-ok g c =
 pub returns-clause-dispatched : goal.returns-clause-dispatched
 returns-clause-dispatched g c =
     let h = c.self.inside.events.trace in
-    added_dispatched _ _ _ (abort_adds h _ _ _ _ c.in-Ok.ensures.found c.in-Ok.ensures.accepted c.abort.ensures _ c.dismiss.ensures.left _ c.settle.ensures)
+    added_dispatched _ _ _ c.self.invariant.legal (abort_adds h _ _ _ _ c.in-Ok.ensures.found c.in-Ok.ensures.accepted c.abort.ensures _ c.dismiss.ensures.left _ c.settle.ensures)

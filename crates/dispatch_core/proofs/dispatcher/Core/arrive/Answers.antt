@@ -1,7 +1,7 @@
 use Rattle.std.proofs.Common.{refl, sym, ◌∙◌, subst}
 use Rattle.dispatch_log.specs.Dispatch.{IsDispatched}
 use Rattle.dispatch_log.proofs.Dispatched.{dispatched}
-use Rattle.dispatch_core.proofs.Calls.{added_dispatched}
+use Rattle.dispatch_core.proofs.Calls.{added_dispatched, legal_places}
 use Rattle.dispatch_trace.proofs.Placing.{newcomer_put, arrival_places, arrival_room}
 use Rattle.dispatch_core.proofs.Checking.{core_kept}
 use Rattle.dispatch_core.proofs.Going.{goes_places, adds}
@@ -23,19 +23,19 @@ settle-requires-clause-may_grant g c = may_granting c.place.new.self.trace c.pla
 
 pub settle-requires-clause-room : goal.settle-requires-clause-room
 settle-requires-clause-room g c =
-    arrival_room c.self.inside.events.trace c.arrive.new.self c.place.new.self.trace _ _ c.args.pin _ (sym c.refuses_arrival.ensures ∙ c.in_default.is)
+    arrival_room c.self.inside.events.trace c.arrive.new.self c.place.new.self.trace _ _ c.args.pin _ (legal_places _ c.self.invariant.legal) (sym c.refuses_arrival.ensures ∙ c.in_default.is)
     c.in-Ok.ensures.ok c.place.ensures.placed
 
 pub returns-clause-dispatched : goal.returns-clause-dispatched
 returns-clause-dispatched g c =
     let over = over_granting c.place.new.self.trace c.place.ensures.over in
-    added_dispatched c.self.inside.events.trace c.settle.new.self.trace _
-    (adds c.self.inside.events.trace c.arrive.new.self c.place.new.self.trace c.settle.new.self.trace _ c.in-Ok.ensures.ok
+    added_dispatched c.self.inside.events.trace c.settle.new.self.trace _ c.self.invariant.legal
+    (adds c.self.inside.events.trace c.arrive.new.self c.place.new.self.trace c.settle.new.self.trace _ refl c.in-Ok.ensures.ok
     (goes_places c.arrive.new.self c.place.new.self.trace c.place.ensures) over c.settle.ensures)
 
 pub invariant_of-self-2 : goal.invariant_of-self-2
 invariant_of-self-2 g c =
     let over = over_granting c.place.new.self.trace c.place.ensures.over in
-    let added = adds c.self.inside.events.trace c.arrive.new.self c.place.new.self.trace c.settle.new.self.trace _ c.in-Ok.ensures.ok
+    let added = adds c.self.inside.events.trace c.arrive.new.self c.place.new.self.trace c.settle.new.self.trace _ refl c.in-Ok.ensures.ok
     (goes_places c.arrive.new.self c.place.new.self.trace c.place.ensures) over c.settle.ensures in
     core_kept c.self.inside.events.trace c.settle.new.self.trace _ _ _ _ c.self.invariant added refl c.self.invariant.none refl

@@ -1,7 +1,8 @@
 use Rattle.std.proofs.Common.{sym, ◌∙◌, refl, subst}
 use Rattle.dispatch_log.specs.Dispatch.{IsDispatched}
 use Rattle.dispatch_log.specs.declared.entry.Entry.TheVariants.{Check}
-use Rattle.dispatch_log.specs.Histories.{History, effective, AddsEvent}
+use Rattle.dispatch_log.specs.Histories.{History, effective}
+use Rattle.dispatch_log.specs.Legal.{AddsEvent}
 use Rattle.dispatch_log.proofs.Dispatched.{dispatched}
 use Rattle.dispatch_core.proofs.Calls.{added_dispatched}
 use Rattle.dispatch_core.proofs.Checking.{has_health, check_stage, check_change, check_within, check_room, core_goes}
@@ -23,35 +24,35 @@ up-up-requires g c =
 pub follow-requires-clause-checking : goal.follow-requires-clause-checking
 follow-requires-clause-checking g c =
     let accepted = sym c.refuses_check.ensures ∙ c.in_default.is in
-    check_stage c.self.inside.events.trace c.check.new.self _ c.args.server c.args.ok accepted c.check.ensures
+    check_stage c.self.inside.events.trace c.check.new.self _ c.args.server c.args.ok c.self.invariant.legal accepted c.check.ensures
 
 pub follow-requires-clause-change : goal.follow-requires-clause-change
 follow-requires-clause-change g c =
     let accepted = sym c.refuses_check.ensures ∙ c.in_default.is in
-    check_change c.self.inside.events.trace c.check.new.self _ c.args.server c.args.ok accepted c.check.ensures c.result-change.result
+    check_change c.self.inside.events.trace c.check.new.self _ c.args.server c.args.ok c.self.invariant.legal accepted c.check.ensures c.result-change.result
     (c.result-change.ensures.change _ _ c.self.invariant.healthy)
 
 pub follow-requires-clause-within : goal.follow-requires-clause-within
 follow-requires-clause-within g c =
     let accepted = sym c.refuses_check.ensures ∙ c.in_default.is in
-    check_within c.self.inside.events.trace c.check.new.self _ c.args.server c.args.ok accepted c.check.ensures
+    check_within c.self.inside.events.trace c.check.new.self _ c.args.server c.args.ok c.self.invariant.legal accepted c.check.ensures
 
 pub follow-requires-clause-room : goal.follow-requires-clause-room
 follow-requires-clause-room g c =
     let accepted = sym c.refuses_check.ensures ∙ c.in_default.is in
-    check_room c.self.inside.events.trace c.check.new.self _ c.args.server c.args.ok accepted c.check.ensures
+    check_room c.self.inside.events.trace c.check.new.self _ c.args.server c.args.ok c.self.invariant.legal accepted c.check.ensures
 
 pub invariant_of-self : goal.invariant_of-self
 invariant_of-self g c =
     core_goes _ _ _ c.self.inside.healths c.result-change.new.self _ c.self.inside.expiring c.self.invariant
-    (carried_adds c.self.inside.events.trace _ _ _ _ c.check.ensures c.follow.ensures c.settle.ensures)
+    (carried_adds c.self.inside.events.trace _ _ _ _ refl c.check.ensures c.follow.ensures c.settle.ensures)
     (c.result-change.ensures.healths _ _ c.self.invariant.healthy) c.self.invariant.none refl
 
 pub returns-clause-ok : goal.returns-clause-ok
 returns-clause-ok g c =
     subst (λ (h : History). AddsEvent h c.settle.new.self.trace (Check (effective h c.args.moment) c.args.server c.args.ok)) c.self.view_is
-    (carried_adds c.self.inside.events.trace _ _ _ _ c.check.ensures c.follow.ensures c.settle.ensures)
+    (carried_adds c.self.inside.events.trace _ _ _ _ refl c.check.ensures c.follow.ensures c.settle.ensures)
 
 pub returns-clause-dispatched : goal.returns-clause-dispatched
 returns-clause-dispatched g c =
-    added_dispatched _ _ _ (carried_adds c.self.inside.events.trace _ _ _ _ c.check.ensures c.follow.ensures c.settle.ensures)
+    added_dispatched _ _ _ c.self.invariant.legal (carried_adds c.self.inside.events.trace _ _ _ _ refl c.check.ensures c.follow.ensures c.settle.ensures)

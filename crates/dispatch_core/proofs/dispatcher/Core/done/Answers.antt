@@ -3,7 +3,8 @@ use Rattle.std.specs.Option.{option_and_then}
 use Rattle.dispatch_log.specs.Rows.{server_in}
 use Rattle.dispatch_log.specs.Dispatch.{IsDispatched}
 use Rattle.dispatch_log.specs.declared.entry.Entry.TheVariants.{Done}
-use Rattle.dispatch_log.specs.Histories.{History, refuses_done, state_of, effective, AddsEvent}
+use Rattle.dispatch_log.specs.Histories.{History, refuses_done, state_of, effective}
+use Rattle.dispatch_log.specs.Legal.{AddsEvent}
 use Rattle.dispatch_log.proofs.Dispatched.{dispatched}
 use Rattle.dispatch_core.specs.Steps.{IsReturn}
 use Rattle.dispatch_core.proofs.Calls.{begun_stage, begun_returns, done_returns, done_settles, done_adds, added_dispatched}
@@ -30,7 +31,7 @@ leave-requires-clause-at g c = at_done c.self.inside.events.trace c.done.new.sel
 
 pub settle-requires-clause-room : goal.settle-requires-clause-room
 settle-requires-clause-room g c =
-    done_settles c.self.inside.events.trace c.done.new.self c.leave.new.self.trace _ _ _ c.in-Ok.ensures.found c.in-Ok.ensures.accepted c.done.ensures
+    done_settles c.self.inside.events.trace c.done.new.self c.leave.new.self.trace _ _ _ c.in-Ok.ensures.found c.self.invariant.legal c.in-Ok.ensures.accepted c.done.ensures
     c.leave.ensures
 
 pub returns-clause-ok : goal.returns-clause-ok
@@ -40,7 +41,7 @@ returns-clause-ok g c =
 
 pub returns-clause-dispatched : goal.returns-clause-dispatched
 returns-clause-dispatched g c =
-    added_dispatched _ _ _ (done_adds c.self.inside.events.trace _ _ _ _ _ c.in-Ok.ensures.found _ c.done.ensures c.leave.ensures c.settle.ensures)
+    added_dispatched _ _ _ c.self.invariant.legal (done_adds c.self.inside.events.trace _ _ _ _ _ c.in-Ok.ensures.found _ c.done.ensures c.leave.ensures c.settle.ensures)
 
 pub invariant_of-self : goal.invariant_of-self
 invariant_of-self g c =

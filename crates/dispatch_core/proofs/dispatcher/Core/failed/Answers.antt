@@ -3,7 +3,8 @@ use Rattle.std.specs.Option.{option_and_then}
 use Rattle.dispatch_log.specs.Rows.{server_in}
 use Rattle.dispatch_log.specs.Dispatch.{IsDispatched}
 use Rattle.dispatch_log.specs.declared.entry.Entry.TheVariants.{Fail}
-use Rattle.dispatch_log.specs.Histories.{History, effective, AddsEvent}
+use Rattle.dispatch_log.specs.Histories.{History, effective}
+use Rattle.dispatch_log.specs.Legal.{AddsEvent}
 use Rattle.dispatch_log.proofs.Dispatched.{dispatched}
 use Rattle.dispatch_core.proofs.Calls.{added_dispatched}
 use Rattle.dispatch_core.proofs.Going.{carried_adds}
@@ -46,13 +47,13 @@ pub returns-clause-ok : goal.returns-clause-ok
 returns-clause-ok g c =
     let begun = of_ticket _ _ (λ n. Fail (effective c.self.inside.events.trace c.args.moment) n) _ _ c.in-Ok.ensures.found c.fail-failures.ensures.fails in
     subst (λ (h : History). AddsEvent h c.settle.new.self.trace (Fail (effective h c.args.moment) c.args.ticket)) c.self.view_is
-    (carried_adds c.self.inside.events.trace _ _ _ _ begun c.carry_on.ensures c.settle.ensures)
+    (carried_adds c.self.inside.events.trace _ _ _ _ refl begun c.carry_on.ensures c.settle.ensures)
 
 pub returns-clause-dispatched : goal.returns-clause-dispatched
 returns-clause-dispatched g c =
-    added_dispatched _ _ _ (carried_adds c.self.inside.events.trace _ _ _ _ c.fail-failures.ensures.fails c.carry_on.ensures c.settle.ensures)
+    added_dispatched _ _ _ c.self.invariant.legal (carried_adds c.self.inside.events.trace _ _ _ _ refl c.fail-failures.ensures.fails c.carry_on.ensures c.settle.ensures)
 
 pub invariant_of-self : goal.invariant_of-self
 invariant_of-self g c =
-    let added = carried_adds c.self.inside.events.trace _ _ _ _ c.fail-failures.ensures.fails c.carry_on.ensures c.settle.ensures in
+    let added = carried_adds c.self.inside.events.trace _ _ _ _ refl c.fail-failures.ensures.fails c.carry_on.ensures c.settle.ensures in
     core_kept _ _ _ _ _ _ c.self.invariant added refl c.self.invariant.none refl

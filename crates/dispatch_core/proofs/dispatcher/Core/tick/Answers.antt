@@ -1,7 +1,8 @@
 use Rattle.std.proofs.Common.{refl, subst}
 use Rattle.dispatch_log.specs.Dispatch.{IsDispatched}
 use Rattle.dispatch_log.specs.declared.entry.Entry.TheVariants.{Tick}
-use Rattle.dispatch_log.specs.Histories.{History, effective, AddsEvent}
+use Rattle.dispatch_log.specs.Histories.{History, effective}
+use Rattle.dispatch_log.specs.Legal.{AddsEvent}
 use Rattle.dispatch_log.proofs.Dispatched.{dispatched}
 use Rattle.dispatch_core.proofs.Calls.{added_dispatched}
 use Rattle.dispatch_core.proofs.Checking.{core_kept}
@@ -13,32 +14,32 @@ pub returns-then-not-has_room-clause-dispatched : goal.returns-then-not-has_room
 returns-then-not-has_room-clause-dispatched g c = subst IsDispatched c.self.view_is (dispatched _ c.self.invariant.legal)
 
 pub time_out-requires-clause-telling : goal.time_out-requires-clause-telling
-time_out-requires-clause-telling g c = tick_tells c.self.inside.events.trace c.tick.new.self _ c.tick.ensures
+time_out-requires-clause-telling g c = tick_tells c.self.inside.events.trace c.tick.new.self _ c.tick.ensures.goes
 
 pub time_out-requires-clause-room : goal.time_out-requires-clause-room
-time_out-requires-clause-room g c = tick_room c.self.inside.events.trace c.tick.new.self _ c.tick.ensures (c.has_room.ensures.0 c.if-not-has_room.false)
+time_out-requires-clause-room g c = tick_room c.self.inside.events.trace c.tick.new.self _ c.tick.ensures.goes (c.has_room.ensures.0 c.if-not-has_room.false)
 
 pub invariant_of-self-2 : goal.invariant_of-self-2
 invariant_of-self-2 g c =
     core_kept _ _ _ _ _ _ c.self.invariant
-    (carried_adds c.self.inside.events.trace _ _ _ _ c.tick.ensures c.time_out.ensures.told c.settle.ensures)
+    (carried_adds c.self.inside.events.trace _ _ _ _ refl c.tick.ensures.goes c.time_out.ensures.told c.settle.ensures)
     refl c.time_out.ensures.none c.time_out.ensures.kept
 
 pub returns-clause-ok : goal.returns-clause-ok
 returns-clause-ok g c =
     subst (λ (h : History). AddsEvent h c.settle.new.self.trace (Tick (effective h c.args.moment))) c.self.view_is
-    (carried_adds c.self.inside.events.trace _ _ _ _ c.tick.ensures c.time_out.ensures.told c.settle.ensures)
+    (carried_adds c.self.inside.events.trace _ _ _ _ refl c.tick.ensures.goes c.time_out.ensures.told c.settle.ensures)
 
 pub returns-clause-dispatched : goal.returns-clause-dispatched
 returns-clause-dispatched g c =
-    added_dispatched _ _ _
-    (carried_adds c.self.inside.events.trace _ _ _ _ c.tick.ensures c.time_out.ensures.told c.settle.ensures)
+    added_dispatched _ _ _ c.self.invariant.legal
+    (carried_adds c.self.inside.events.trace _ _ _ _ refl c.tick.ensures.goes c.time_out.ensures.told c.settle.ensures)
 
 pub invariant_of-self : goal.invariant_of-self
 invariant_of-self g c =
     let room = c.has_room.ensures.0 c.if-not-has_room.false in
     core_kept c.self.inside.events.trace c.tick.new.self _ _ _ _ c.self.invariant
-    (quiet_adds c.self.inside.events.trace c.tick.new.self _ c.tick.ensures c.args.moment refl c.self.invariant.legal room _ c.if-not-expired.true
+    (quiet_adds c.self.inside.events.trace c.tick.new.self _ c.tick.ensures.goes c.args.moment refl c.self.invariant.legal c.tick.ensures.judged _ c.if-not-expired.true
     c.expired.ensures.1)
     refl c.self.invariant.none refl
 
@@ -46,12 +47,12 @@ pub returns-then-not-expired-clause-ok : goal.returns-then-not-expired-clause-ok
 returns-then-not-expired-clause-ok g c =
     let room = c.has_room.ensures.0 c.if-not-has_room.false in
     subst (λ (h : History). AddsEvent h c.tick.new.self (Tick (effective h c.args.moment))) c.self.view_is
-    (quiet_adds c.self.inside.events.trace c.tick.new.self _ c.tick.ensures c.args.moment refl c.self.invariant.legal room _ c.if-not-expired.true
+    (quiet_adds c.self.inside.events.trace c.tick.new.self _ c.tick.ensures.goes c.args.moment refl c.self.invariant.legal c.tick.ensures.judged _ c.if-not-expired.true
     c.expired.ensures.1)
 
 pub returns-then-not-expired-clause-dispatched : goal.returns-then-not-expired-clause-dispatched
 returns-then-not-expired-clause-dispatched g c =
     let room = c.has_room.ensures.0 c.if-not-has_room.false in
-    added_dispatched c.self.inside.events.trace c.tick.new.self _
-    (quiet_adds c.self.inside.events.trace c.tick.new.self _ c.tick.ensures c.args.moment refl c.self.invariant.legal room _ c.if-not-expired.true
+    added_dispatched c.self.inside.events.trace c.tick.new.self _ c.self.invariant.legal
+    (quiet_adds c.self.inside.events.trace c.tick.new.self _ c.tick.ensures.goes c.args.moment refl c.self.invariant.legal c.tick.ensures.judged _ c.if-not-expired.true
     c.expired.ensures.1)

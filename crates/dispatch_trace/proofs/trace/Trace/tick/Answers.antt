@@ -19,3 +19,10 @@ invariant_of-self g c =
     c.later-now.ensures.range in
     closed _ _ _ _ _ _ _ _ refl c.note.ensures refl
     (begun_kept _ _ (λ n. Tick n) c.args.moment c.later-now.result c.self.invariant refl c.later-now.ensures.later begins refl)
+
+pub returns-clause-judged : goal.returns-clause-judged
+returns-clause-judged g c =
+    let begins = here_begins _ _ _ c.args.moment c.later-now.result refuses_tick c.self.invariant c.self.view_is c.requires.begins c.later-now.ensures.later
+    c.later-now.ensures.range in
+    (closed _ _ _ _ _ _ _ _ refl c.note.ensures refl
+    (begun_kept _ _ (λ n. Tick n) c.args.moment c.later-now.result c.self.invariant refl c.later-now.ensures.later begins refl)).judged

@@ -41,7 +41,7 @@ fn save_rows<N: Drop>(ledger: &Ledger<N>, base: &mut Base)
     requires { length base.old.rows ≡ length ledger.now.slots }
     ensures { base.new ≡ record base.old { rows = rows_in ledger.now.slots } }
 {
-    for place in 0..ledger.len() {
+    for place in 0..ledger.places() {
         base.set_row(place, ledger.cell(place));
     }
 }

@@ -2,6 +2,7 @@ ghost use Rattle.std.specs.Prelude.{◌≡◌, length, map};
 ghost use Rattle.dispatch_log.specs.Health.{shortened_all};
 ghost use Rattle.dispatch_log.specs.Histories.{state_of, next_window};
 ghost use Rattle.dispatch_log.specs.Legal.{IsLegal};
+ghost use Rattle.dispatch_log.specs.Setups.{IsSound};
 ghost use Rattle.readable_log.specs.Bases.{results_by};
 ghost use Rattle.slot_ledger.specs.Slots.{rows_in};
 
@@ -25,6 +26,7 @@ impl<Q: PendQueue<Key, usize>> Trace<Q> {
         requires limits { length spare.old.limits ≡ length self.old.setup.servers }
         ensures window { self.new ≡ next_window self.old }
         ensures spare { spare.new ≡ self.old.base }
+        ensures sound { IsSound self.new.setup }
     {
         save_rows(&self.ledger, spare);
         spare.set_healths(healths);

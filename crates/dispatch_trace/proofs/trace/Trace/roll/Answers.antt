@@ -66,3 +66,6 @@ returns-clause-window g c =
 
 pub returns-clause-spare : goal.returns-clause-spare
 returns-clause-spare g c = c.begin.ensures.back ∙ ap (λ (h : History). h.base) c.self.view_is
+
+pub returns-clause-sound : goal.returns-clause-sound
+returns-clause-sound g c = c.self.invariant.sound

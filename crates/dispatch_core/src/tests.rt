@@ -479,3 +479,41 @@ fn a_lowered_limit_stops_nobody(rt: HostRuntime) -> Result<(), Fail> {
     ends_with(&rt, &core, &[Entry::Granted(3, Queue::Backend, 0)]);
     Ok(())
 }
+
+#[test]
+fn a_roll_keeps_who_waits_and_is_served(rt: HostRuntime) -> Result<(), Fail> {
+    let alloc = rt.alloc();
+    let calls = [(0, arrive(0, 0)), (1, arrive(0, 0)), (2, arrive(0, -5))];
+    let mut core = after(&rt, alloc, alone(alloc)?, &calls)?;
+    core.roll();
+    assert!(rt; core.log().is_empty());
+    assert_eq!(rt; core.served(0), 1);
+    assert_eq!(rt; core.queued(Queue::Backend), 2);
+    go_on(&rt, alloc, &mut core, &[(10, Call::Done(1))]);
+    let expected = [
+        Entry::Done(moment(10), 1),
+        Entry::Freed(1, 0),
+        Entry::Ended(1),
+        Entry::Granted(3, Queue::Backend, 0),
+    ];
+    goes_on_with(&rt, &core, 0, &expected);
+    let grant = core.log().grants().first().copied();
+    assert_eq!(rt; grant.map(|it| it.stay.joined), Some(0));
+    assert_eq!(rt; grant.map(|it| it.stay.slot), Some(4));
+    Ok(())
+}
+
+#[test]
+fn a_full_log_has_room_after_a_roll(rt: HostRuntime) -> Result<(), Fail> {
+    let alloc = rt.alloc();
+    let mut setup = alone(alloc)?;
+    (setup.places, setup.log) = (2, 16);
+    let mut core = after(&rt, alloc, setup, &[(0, arrive(0, 0)), (0, arrive(0, 0))])?;
+    go_on(&rt, alloc, &mut core, &[(0, Call::Done(1))]);
+    is_refused(&rt, alloc, &mut core, 0, Call::Tick, Refusal::LogFull);
+    core.roll();
+    assert!(rt; core.has_room());
+    go_on(&rt, alloc, &mut core, &[(0, Call::Tick)]);
+    assert_eq!(rt; core.log().base().rows().len(), 2);
+    Ok(())
+}

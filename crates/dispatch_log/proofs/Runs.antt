@@ -26,7 +26,7 @@ is_event setup s n (Limit m v k) settled may = refl
 is_event setup s n (Granted u q v) settled may = absurd (settled v may.1.next.takes)
 is_event setup s n e settled may = absurd may
 
-at_stage : {setup : Setup} {s : State} {t : Stage} {m : ℕ} {refused : Option Refusal} → MayBegin setup s granting m refused → IsOver setup s t → MayBegin setup s t m refused
+at_stage : {setup : Setup} {s : State} {before t : Stage} {m : ℕ} {refused : Option Refusal} → MayBegin setup s before m refused → IsOver setup s t → MayBegin setup s t m refused
 at_stage may over = record { over = over; settled = may.settled; accepted = may.accepted; later = may.later; within = may.within }
 
 -- an event may come at another stage where the one before is over

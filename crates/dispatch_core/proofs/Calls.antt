@@ -141,6 +141,10 @@ ends_told one two t ended = record {
   over = ap stage_of ended ∙ stage_after-push granting one.log (Ended t);
 }
 
+-- a legal log has the places of its setup
+pub legal_places : (h : History) → IsLegal h → HasPlaces h
+legal_places h legal = places_all h.setup h.base h.log ∙ legal.begins.places
+
 -- after it there is room for grants
 module _ (h one two : History) (m t : ℕ) (it : Ticketed) (found : IsFound (state_of h).rows t it) where
   pub done_settles : IsLegal h → refuses_done h t ≡ None → one ≡ with_entry h (Done m it.ticket) → Leaves one two
@@ -178,7 +182,3 @@ added_dispatched h now event legal added = dispatched now (adds_legally h now ev
 -- a core without an entry is legal
 pub new_legal : (h : History) (setup : Setup) → h ≡ first_window setup [] → IsLegal h
 new_legal h setup new = subst IsLegal (sym new) (first_legal setup)
-
--- a legal log has the places of its setup
-pub legal_places : (h : History) → IsLegal h → HasPlaces h
-legal_places h legal = places_all h.setup h.base h.log ∙ legal.begins.places

@@ -7,14 +7,15 @@ use Rattle.std.proofs.lemmas.Option.{slice_get_within, slice_get-get_or}
 use Rattle.check_state.specs.declared.health.Change.{Change}
 use Rattle.check_state.specs.Standing.{Standing, change_between}
 use Rattle.dispatch_log.specs.declared.entry.Entry.{Entry}
-use Rattle.dispatch_log.specs.declared.entry.Entry.TheVariants.{Arrive, Done, Fail, Abort, Tick, Check, Direct, Joined, Granted, Moved, Freed, Retried, Left}
+use Rattle.dispatch_log.specs.declared.entry.Entry.TheVariants.{Arrive, Done, Fail, Abort, Tick, Check, Limit, Direct, Joined, Granted, Moved, Freed, Retried, Left}
 use Rattle.dispatch_log.specs.declared.entry.Entry.TheVariants.{Health, Ended}
 use Rattle.dispatch_log.specs.declared.refusal.Refusal.TheVariants.{LogFull, NoSuchServer, WrongPhase}
 use Rattle.dispatch_log.specs.declared.setup.ServerSet.{ServerSet}
 use Rattle.dispatch_log.specs.declared.setup.Setup.{Setup}
 use Rattle.dispatch_log.specs.Health.{is_up_by, results_of, with_result, without_last}
-use Rattle.dispatch_log.specs.Histories.{History, state_of, begins_event, refuses_check}
-use Rattle.dispatch_log.specs.Legal.{AddsEvent}
+use Rattle.dispatch_log.proofs.Runs.{adds_legally}
+use Rattle.dispatch_log.specs.Histories.{History, first_window, state_of, begins_event, refuses_check}
+use Rattle.dispatch_log.specs.Legal.{IsLegal, AddsEvent}
 use Rattle.dispatch_log.specs.Judgement.{checking, granting, was_up}
 use Rattle.dispatch_log.specs.Refusals.{lacks_room, is_checked}
 use Rattle.dispatch_log.specs.States.{State, after, after_all}
@@ -26,7 +27,7 @@ use Rattle.dispatch_core.specs.Checks.{AreHealths, IsHealthBy, IsCore}
 use Rattle.dispatch_core.specs.Steps.{HasEventRoom}
 use Rattle.dispatch_trace.specs.Traces.{is_up_at}
 use Rattle.dispatch_trace.specs.Histories.{with_entry, stage_of, scene_of}
-use Rattle.dispatch_core.proofs.Calls.{new_legal}
+use Rattle.dispatch_core.proofs.Calls.{new_legal, legal_places}
 use Rattle.dispatch_core.proofs.Going.{begun_room}
 use Rattle.dispatch_trace.proofs.Placing.{has_room}
 use Rattle.dispatch_trace.proofs.Placing.{same_setup}
@@ -41,6 +42,7 @@ no_result setup s (Fail m u) inside = cc
 no_result setup s (Abort m u) inside = cc
 no_result setup s (Tick m) inside = cc
 no_result setup s (Check m v ok) inside = cc
+no_result setup s (Limit m v k) inside = cc
 no_result setup s (Direct u v) inside = refl
 no_result setup s (Joined u q) inside = refl
 no_result setup s (Granted u q v) inside = refl
@@ -194,4 +196,4 @@ module _ (h one : History) (m server : ℕ) (ok : Bool) (legal : IsLegal h) (acc
   check_within = subst (λ (s : Setup). server < length s.servers) (sym checked_setup) (checked_within h server accepted)
 
   pub check_room : HasEventRoom one
-  check_room = begun_room h one (Check m server ok) (has_room h (check_accepted h server accepted).room) begun
+  check_room = begun_room h one (Check m server ok) (has_room h (check_accepted h server accepted).room) (legal_places h legal) begun

@@ -1,6 +1,7 @@
 pub mod Phases
 pub mod Standing
 pub mod Going
+pub mod Limits
 pub mod Settling
 pub mod Calls
 pub mod Retrying

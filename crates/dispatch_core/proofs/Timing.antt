@@ -163,6 +163,7 @@ module _ (old now : History) (tickets : List (ℕ × ℕ)) (t u : ℕ) (since : 
         → P (record {
           rows = changed t (in_phase (Told Timeout)) (state_of now).rows;
           results = (state_of now).results;
+          limits = (state_of now).limits;
           moment =
               (state_of now).moment;
           ticket = (state_of now).ticket;

@@ -1,7 +1,7 @@
 ghost use Rattle.std.specs.Prelude.{◌≡◌, ◌≤◌, ◌↔◌, [], length, IfOk, IfErr, OnOk, OnErr, IsTrue, MatchOption, Some, None, option_map, pos, ◌+ℤ◌};
-ghost use Rattle.dispatch_log.specs.declared.entry.Entry.TheVariants.{Arrive, Done, Fail, Abort, Tick, Check};
+ghost use Rattle.dispatch_log.specs.declared.entry.Entry.TheVariants.{Arrive, Done, Fail, Abort, Tick, Check, Limit};
 ghost use Rattle.dispatch_log.specs.Dispatch.{IsDispatched};
-ghost use Rattle.dispatch_log.specs.Histories.{History, first_window, state_of, effective, refuses_arrival, refuses_done, refuses_failure, refuses_abort, refuses_tick, refuses_check, SomeExpires, RefusedOrNoMemory};
+ghost use Rattle.dispatch_log.specs.Histories.{History, first_window, state_of, effective, refuses_arrival, refuses_done, refuses_failure, refuses_abort, refuses_tick, refuses_check, refuses_limit, SomeExpires, RefusedOrNoMemory};
 ghost use Rattle.dispatch_log.specs.Legal.{IsLegal, AddsEvent};
 ghost use Rattle.dispatch_log.specs.Words.{is_up};
 ghost use Rattle.dispatch_log.specs.Rows.{row_of, served, queued};
@@ -197,6 +197,26 @@ impl<Q: PendQueue<Key, usize>> Core<Q> {
         Ok(())
     }
 
+    /// A server serves at most so many requests at once from now on (`maxconn`); 0: no limit. A request
+    /// that it serves is never stopped: it takes no other until fewer than the limit are left. Where the
+    /// limit rose, requests that wait take what came free. Refused, in this order, where the log is full
+    /// or no server has the number. Takes no memory; `O(s)` in the servers, and `O(log n)` for each
+    /// request that takes a slot.
+    pub fn limit(&mut self, moment: Moment, server: usize, limit: u32) -> Result<(), Refusal>
+        ensures ok { OnOk result (AddsEvent self.old self.new (Limit (effective self.old moment) server limit)) }
+        ensures err { IfErr result (λ refusal. refuses_limit self.old server ≡ Some refusal) }
+        ensures accepted { OnOk result (refuses_limit self.old server ≡ None) }
+        ensures unchanged { OnErr result (self.new ≡ self.old) }
+        ensures dispatched { IsDispatched self.new }
+    {
+        if let Some(refusal) = self.events.trace.refuses_limit(server) {
+            return Err(refusal);
+        }
+        self.events.trace.limit(moment, server, limit);
+        self.events.settle();
+        Ok(())
+    }
+
     /// Whether a tick at this moment would tell a timeout. `O(1)`.
     pub fn expired(&self, moment: Moment) -> bool
         ensures { IsTrue result ↔ SomeExpires self.now moment }
@@ -204,8 +224,9 @@ impl<Q: PendQueue<Key, usize>> Core<Q> {
         self.events.trace.expired(moment)
     }
 
-    /// What was decided so far.
+    /// What was decided since the base, and the base.
     pub fn log(&self) -> &Log
+        ensures base { result.now.base ≡ self.now.base }
         ensures entries { result.now.entries ≡ self.now.log }
         ensures legal { IsLegal self.now }
         ensures dispatched { IsDispatched self.now }

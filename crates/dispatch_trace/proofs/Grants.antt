@@ -7,7 +7,7 @@ use Rattle.due_key.proofs.KeyOrder.{key_cmp_total, key_cmp_exact}
 use Rattle.dispatch_log.specs.declared.entry.Entry.TheVariants.{Granted}
 use Rattle.dispatch_log.specs.declared.queue.Queue.{Queue}
 use Rattle.dispatch_log.specs.declared.row.Phase.TheVariants.{Waiting, Serving}
-use Rattle.dispatch_log.specs.Grants.{IsLawfulGrant}
+use Rattle.dispatch_log.specs.Grants.{IsLawfulGrant, IsSettled}
 use Rattle.dispatch_log.specs.Histories.{History, state_of}
 use Rattle.dispatch_log.specs.Refusals.{is_waiting}
 use Rattle.dispatch_log.specs.Rows.{Rows, in_phase}

@@ -32,7 +32,7 @@ settle-requires-clause-may_grant g c =
 pub settle-requires-clause-room : goal.settle-requires-clause-room
 settle-requires-clause-room g c =
     abort_settles c.self.inside.events.trace c.abort.new.self _ _ _ c.in-Ok.ensures.found c.in-Ok.ensures.accepted c.abort.ensures
-    c.dismiss.new.self c.dismiss.ensures.left
+    c.dismiss.new.self c.dismiss.ensures.left c.self.invariant.legal
 
 pub invariant_of-self : goal.invariant_of-self
 invariant_of-self g c =

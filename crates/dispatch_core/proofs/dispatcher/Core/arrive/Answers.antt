@@ -1,5 +1,8 @@
-use Rattle.std.proofs.Common.{refl, sym, ◌∙◌, subst}
+use Rattle.std.proofs.Common.{refl, sym, ◌∙◌, subst, pos, ◌+ℤ◌}
+use Rattle.dispatch_log.specs.declared.entry.Entry.TheVariants.{Arrive}
 use Rattle.dispatch_log.specs.Dispatch.{IsDispatched}
+use Rattle.dispatch_log.specs.Histories.{History, effective}
+use Rattle.dispatch_log.specs.Legal.{AddsEvent}
 use Rattle.dispatch_log.proofs.Dispatched.{dispatched}
 use Rattle.dispatch_core.proofs.Calls.{added_dispatched, legal_places}
 use Rattle.dispatch_trace.proofs.Placing.{newcomer_put, arrival_places, arrival_room}
@@ -25,6 +28,16 @@ pub settle-requires-clause-room : goal.settle-requires-clause-room
 settle-requires-clause-room g c =
     arrival_room c.self.inside.events.trace c.arrive.new.self c.place.new.self.trace _ _ c.args.pin _ (legal_places _ c.self.invariant.legal) (sym c.refuses_arrival.ensures ∙ c.in_default.is)
     c.in-Ok.ensures.ok c.place.ensures.placed
+
+pub returns-clause-ok : goal.returns-clause-ok
+returns-clause-ok g c =
+    subst
+    (λ (h : History). AddsEvent h c.settle.new.self.trace
+    (Arrive (effective h c.args.moment) record { ticket = c.in-Ok.it.ticket; class = c.args.class; due = pos (effective h c.args.moment) +ℤ c.args.offset;
+      pin = c.args.pin; place = c.in-Ok.it.place }))
+    c.self.view_is
+    (adds c.self.inside.events.trace c.arrive.new.self c.place.new.self.trace c.settle.new.self.trace _ refl c.in-Ok.ensures.ok
+    (goes_places c.arrive.new.self c.place.new.self.trace c.place.ensures) (over_granting c.place.new.self.trace c.place.ensures.over) c.settle.ensures)
 
 pub returns-clause-dispatched : goal.returns-clause-dispatched
 returns-clause-dispatched g c =

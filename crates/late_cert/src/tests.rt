@@ -1,7 +1,9 @@
+ghost use Rattle.std.specs.Prelude.{◌≡◌, IfOk, length};
+
 use crate::{Report, Reports, Stays, audit, certify};
-use dispatch_log::{Arrival, Entry, Queue};
-use due_key::{Class, Due, Moment, Offset};
-use readable_log::{Grant, Log, Stay};
+use dispatch_log::{Arrival, Entry, Phase, Queue, Row, ServerSet, Servers, Setup};
+use due_key::{Class, Due, Key, Moment, Offset};
+use readable_log::{Base, Grant, Log, Stay};
 use std::alloc::{AllocError, Global};
 use std::test::Fail;
 
@@ -29,6 +31,61 @@ fn done(at: u64, ticket: u64) -> Result<Entry, Fail> {
     Ok(Entry::Done(moment(at)?, ticket))
 }
 
+/// The base of a first window, with one server and two places.
+fn opening(alloc: Global) -> Result<Base, Fail>
+    ensures { IfOk result (λ base. length base.rows ≡ 2) }
+{
+    let server = ServerSet {
+        limit: 1,
+        maxqueue: 0,
+        weight: 1,
+        rise_fall: None,
+    };
+    let setup = Setup {
+        servers: Servers::from_vec(vec![in alloc; server]?),
+        places: 2,
+        log: 64,
+        retries: 3,
+        redispatch: false,
+        queue_timeout: 0,
+    };
+    Ok(Base::opening(alloc, &setup)?)
+}
+
+/// Of class 0, waiting in the backend's queue since this moment.
+fn waiting(ticket: u64, since: u64, offset: i64) -> Result<Row, Fail> {
+    let since = moment(since)?;
+    let key = Key {
+        class: Class::clamp(0),
+        due: Due::of(since, Offset::clamp(offset)),
+        ticket,
+    };
+    Ok(Row {
+        key,
+        pin: None,
+        failures: 0,
+        phase: Phase::Waiting(BACKEND, since),
+    })
+}
+
+/// A window in whose base tickets 2 and 3 wait.
+fn both_wait_in_the_base(alloc: Global) -> Result<Log, Fail> {
+    let mut base = opening(alloc)?;
+    base.set_row(0, Some(waiting(2, 1, 0)?));
+    base.set_row(1, Some(waiting(3, 2, -5)?));
+    let entries = [
+        done(10, 1)?,
+        Entry::Freed(1, 0),
+        Entry::Ended(1),
+        Entry::Granted(3, BACKEND, 0),
+        done(20, 3)?,
+        Entry::Freed(3, 0),
+        Entry::Ended(3),
+        Entry::Granted(2, BACKEND, 0),
+    ];
+    Ok(Log::read(alloc, base, entries.as_slice())?)
+}
+
 /// Ticket 3 overtakes ticket 2 by its offset.
 fn overtaking(alloc: Global) -> Result<Log, Fail> {
     let entries = [
@@ -47,7 +104,7 @@ fn overtaking(alloc: Global) -> Result<Log, Fail> {
         Entry::Ended(3),
         Entry::Granted(2, BACKEND, 0),
     ];
-    Ok(Log::read(alloc, entries.as_slice())?)
+    Ok(Log::read(alloc, opening(alloc)?, entries.as_slice())?)
 }
 
 /// Ticket 2 has its slot before ticket 3, which is due earlier, arrives.
@@ -68,7 +125,7 @@ fn granted_before_the_next_came(alloc: Global) -> Result<Log, Fail> {
         Entry::Ended(2),
         Entry::Granted(3, BACKEND, 0),
     ];
-    Ok(Log::read(alloc, entries.as_slice())?)
+    Ok(Log::read(alloc, opening(alloc)?, entries.as_slice())?)
 }
 
 /// Tickets 2 and 3 are due together.
@@ -89,7 +146,7 @@ fn equal_due_dates(alloc: Global) -> Result<Log, Fail> {
         Entry::Ended(2),
         Entry::Granted(3, BACKEND, 0),
     ];
-    Ok(Log::read(alloc, entries.as_slice())?)
+    Ok(Log::read(alloc, opening(alloc)?, entries.as_slice())?)
 }
 
 /// Grants from three queues, of four classes.
@@ -110,7 +167,7 @@ fn four_queues_and_classes(alloc: Global) -> Result<Log, Fail> {
         Entry::Joined(2, BACKEND),
         Entry::Granted(2, BACKEND, 1),
     ];
-    Ok(Log::read(alloc, entries.as_slice())?)
+    Ok(Log::read(alloc, opening(alloc)?, entries.as_slice())?)
 }
 
 /// A stay of the backend's queue, due at `offset` after `at`.
@@ -177,6 +234,19 @@ fn overtaking_by_offset(rt: HostRuntime) -> Result<(), Fail> {
 }
 
 #[test]
+fn stays_of_the_base_joined_at_its_end(rt: HostRuntime) -> Result<(), Fail> {
+    let alloc = rt.alloc();
+    let log = both_wait_in_the_base(alloc)?;
+    let critical = [stay(3, 0, 4, 2, -5)?, stay(2, 0, 8, 1, 0)?];
+    let expected = report(alloc, 2, 19, 1, 0, 8, critical.as_slice())?;
+    assert!(rt; is_certified(alloc, &log, &expected)?);
+    let second = [stay(2, 0, 8, 1, 0)?];
+    let joined_before_the_cut = report(alloc, 2, 19, 1, 4, 8, second.as_slice())?;
+    assert!(rt; !audit(&log, &joined_before_the_cut));
+    Ok(())
+}
+
+#[test]
 fn a_cut_after_an_earlier_grant(rt: HostRuntime) -> Result<(), Fail> {
     let alloc = rt.alloc();
     let log = granted_before_the_next_came(alloc)?;
@@ -219,7 +289,7 @@ fn reports_go_by_queue_and_class(rt: HostRuntime) -> Result<(), Fail> {
 fn a_log_without_a_grant_has_no_report(rt: HostRuntime) -> Result<(), Fail> {
     let alloc = rt.alloc();
     let entries = [arrive(0, 1, 0, 0)?, Entry::Direct(1, 0)];
-    let log = Log::read(alloc, entries.as_slice())?;
+    let log = Log::read(alloc, opening(alloc)?, entries.as_slice())?;
     assert!(rt; certify(alloc, &log)?.as_slice().is_empty());
     Ok(())
 }

@@ -8,7 +8,7 @@ use Rattle.std.proofs.lemmas.List.Folds.{list_any-append}
 use Rattle.list_facts.proofs.Found.{last_or-append}
 use Rattle.script.specs.declared.setting.Setting.{Setting}
 use Rattle.script.specs.Headers.{Settings, all_of, settings_of, setting_of, name_in, server_in, places_in, log_in, retries_in, is_redispatch, timeout_in}
-use Rattle.script.specs.Faults.{is_event, is_faulty, fault_behind}
+use Rattle.script.specs.Faults.{is_step, is_faulty, fault_behind}
 use Rattle.script.specs.Reading.{with_last, with_setting, with_line}
 
 append-option : {X : Type 0} (xs : List X) (x : Option X) → xs ++ cons_option x [] ≡ with_last xs x
@@ -53,7 +53,7 @@ settings_more before line = ap all_of (filter_map-append setting_of before (line
 pub record AreRead (all before left : List (List ℕ)) (header : Settings) (begun : Bool) (number : ℕ) : Type 0 where
   pub cut : all ≡ before ++ left
   pub settings : header ≡ settings_of before
-  pub events : begun ≡ list_any is_event before
+  pub events : begun ≡ list_any is_step before
   pub count : number ≡ length before
   pub faultless : fault_behind [] all ≡ fault_behind before left
 
@@ -63,17 +63,17 @@ IsReadTo all left header begun number = (before : List (List ℕ)) × AreRead al
 pub none_read : (all : List (List ℕ)) (header : Settings) → header ≡ all_of [] → IsReadTo all all header false 0
 none_read all header is = ([], record { cut = refl; settings = is; events = refl; count = refl; faultless = refl })
 
-test_of : (all before left : List (List ℕ)) (line : List ℕ) (header : Settings) (begun : Bool) (number : ℕ) → AreRead all before left header begun number → is_faulty header begun line ≡ is_faulty (settings_of before) (list_any is_event before) line
+test_of : (all before left : List (List ℕ)) (line : List ℕ) (header : Settings) (begun : Bool) (number : ℕ) → AreRead all before left header begun number → is_faulty header begun line ≡ is_faulty (settings_of before) (list_any is_step before) line
 test_of all before left line header begun number are = ap (λ h. is_faulty h begun line) are.settings ∙ ap (λ b. is_faulty (settings_of before) b line) are.events
 
 pub one_more : (all left rest : List (List ℕ)) (line : List ℕ) (header next : Settings) (begun then' : Bool) (number : ℕ) → IsReadTo all left header begun number → left ≡ line ∷ rest
-    → is_faulty header begun line ≡ false → next ≡ with_line header line → then' ≡ (begun || is_event line) → IsReadTo all rest next then' (number + 1)
+    → is_faulty header begun line ≡ false → next ≡ with_line header line → then' ≡ (begun || is_step line) → IsReadTo all rest next then' (number + 1)
 one_more all left rest line header next begun then' number (before, are) cut good taken now = (
   before ++ line ∷ [],
   record {
     cut = are.cut ∙ ap (λ l. before ++ l) cut ∙ sym (append_assoc before (line ∷ []) rest);
     settings = taken ∙ ap (λ h. with_line h line) are.settings ∙ sym (settings_more before line);
-    events = now ∙ ap (λ b. b || is_event line) are.events ∙ sym (list_any-append is_event before (line ∷ []) ∙ ap (λ b. list_any is_event before || b) (or-false (is_event line)));
+    events = now ∙ ap (λ b. b || is_step line) are.events ∙ sym (list_any-append is_step before (line ∷ []) ∙ ap (λ b. list_any is_step before || b) (or-false (is_step line)));
     count = ap (λ n. n + 1) are.count ∙ sym (length-append before (line ∷ []));
     faultless = are.faultless ∙ ap (fault_behind before) cut
         ∙ ap (λ b. if b then Some (length before + 1) else fault_behind (before ++ line ∷ []) rest) (sym (test_of all before left line header begun number are) ∙ good);

@@ -4,7 +4,7 @@ use Rattle.std.specs.Fmt.{digits}
 use Rattle.dispatch_log.specs.declared.entry.Entry.TheVariants as entries
 use Rattle.dispatch_log.specs.declared.queue.Queue.TheVariants as queues
 use Rattle.dispatch_log.specs.declared.refusal.Refusal.TheVariants.{PlacesFull, TicketsSpent}
-use Rattle.script.specs.declared.step.Step.TheVariants.{Arrive, Done, Fail, Abort, Tick, Check}
+use Rattle.script.specs.declared.step.Step.TheVariants.{Arrive, Done, Fail, Abort, Tick, Check, Limit, Roll}
 use Rattle.script.specs.Steps.{step_of, is_skipped, steps_of}
 use Rattle.script.specs.Headers.{setting_of, settings_of}
 use Rattle.script.specs.Faults.{fault_of}
@@ -13,7 +13,7 @@ use Rattle.readable_log.specs.declared.grant.Stay.{Stay}
 use Rattle.script.specs.declared.setting.Setting.TheVariants.{Retries, Redispatch, QueueTimeout, Server}
 use Rattle.verdict.specs.declared.cause.Cause.TheVariants.{Aborted, Timeout, Retries as NoMoreRetries, NoServer}
 use Rattle.script.specs.Traces.{entry_text, refusal_text}
-use Rattle.script.specs.Reports.{report_text, reports_text}
+use Rattle.script.specs.Reports.{report_text, reports_text, roll_text}
 
 -- a class and an offset out of their ranges are the nearer ends
 arrival_row : step_of (codes "7 arrive 5000 -600000") ≡ Some (Arrive 7 (pos 2047) (negsuc 524286) None)
@@ -76,6 +76,28 @@ check_of_no_name = refl
 
 check_with_another_word : step_of (codes "4 check a on") ≡ None
 check_with_another_word = refl
+
+limit_row : step_of (codes "3 limit a 1") ≡ Some (Limit 3 (codes "a") 1)
+limit_row = refl
+
+limit_without_a_number : step_of (codes "3 limit a") ≡ None
+limit_without_a_number = refl
+
+limit_of_no_name : step_of (codes "3 limit * 1") ≡ None
+limit_of_no_name = refl
+
+limit_of_ten_digits : step_of (codes "3 limit a 1000000000") ≡ None
+limit_of_ten_digits = refl
+
+roll_row : step_of (codes " roll") ≡ Some Roll
+roll_row = refl
+
+-- a roll has no moment
+roll_at_a_moment : step_of (codes "3 roll") ≡ None
+roll_at_a_moment = refl
+
+roll_of_a_number : step_of (codes "roll 3") ≡ None
+roll_of_a_number = refl
 
 blanks_are_skipped : is_skipped (codes " \t") ≡ true
 blanks_are_skipped = refl
@@ -150,6 +172,9 @@ events_settings_row = refl
 
 late_header : fault_of (codes "places 1\n7 done 1\nlog 9") ≡ Some 3
 late_header = refl
+
+header_behind_a_roll : fault_of (codes "places 1\nroll\nlog 9") ≡ Some 3
+header_behind_a_roll = refl
 
 late_redispatch : fault_of (codes "retries 1\n7 tick\nredispatch") ≡ Some 3
 late_redispatch = refl
@@ -228,6 +253,10 @@ check_text : entry_text names (entries.Check 7 1 true) ++ entry_text names (entr
 unfolding digits
 check_text = refl
 
+limit_text : entry_text names (entries.Limit 7 1 3) ++ entry_text names (entries.Limit 8 0 0) ≡ codes "7 limit b 3\n8 limit a 0\n"
+unfolding digits
+limit_text = refl
+
 move_text : entry_text names (entries.Moved 2 1) ≡ codes "  move 2 b\n"
 unfolding digits
 move_text = refl
@@ -252,3 +281,11 @@ report_row = refl
 -- nothing of a log without a grant
 no_report : reports_text names [] ≡ []
 no_report = refl
+
+-- a roll is told also where the window that it ends has no report
+roll_alone : roll_text names [] ≡ codes "roll\n"
+roll_alone = refl
+
+report_behind_a_roll : roll_text names (record { queue = queues.Backend; class = pos 0; granted = 1; worst = negsuc 89; due = pos 100; after = 0; to = 8; critical = stay 2 ∷ [] } ∷ []) ≡ codes "roll\nqueue * class 0 granted 1 worst -90 due 100 after 0 to 8 critical 2\n"
+unfolding digits
+report_behind_a_roll = refl

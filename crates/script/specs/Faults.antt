@@ -10,8 +10,9 @@ use Rattle.script.specs.declared.setting.Setting.TheVariants.{Server}
 use Rattle.script.specs.Steps.{step_of, is_skipped}
 use Rattle.script.specs.Headers.{Settings, setting_of, settings_of}
 
-abbrev pub is_event : List ℕ → Bool
-is_event line = is_some (step_of line)
+-- whether a line asks for a step: for an event, or for the next window
+abbrev pub is_step : List ℕ → Bool
+is_step line = is_some (step_of line)
 
 -- whether one of the servers has a name
 abbrev pub has_name : List (List ℕ) → List ℕ → Bool
@@ -22,16 +23,16 @@ abbrev pub clashes : Settings → Setting → Bool
 clashes settings (Server name server) = nat_le 64 (length settings.names) || has_name settings.names name
 clashes settings other = false
 
--- a faulty line, behind lines with these settings and with an event or none: a header line behind an event, or one that
--- clashes; or what is no header line, no event, and not skipped
+-- a faulty line, behind lines with these settings and with a step or none: a header line behind a step, or one that
+-- clashes; or what is no header line, no step, and not skipped
 abbrev pub is_faulty : Settings → Bool → List ℕ → Bool
-is_faulty settings begun line = option_map_or (λ setting. begun || clashes settings setting) (setting_of line) (not (is_event line || is_skipped line))
+is_faulty settings begun line = option_map_or (λ setting. begun || clashes settings setting) (setting_of line) (not (is_step line || is_skipped line))
 
 -- the number of the first line that is faulty behind those before it, of which the first ones are known not to be
 abbrev pub fault_behind : List (List ℕ) → List (List ℕ) → Option ℕ
 fault_behind before [] = None
 fault_behind before (line ∷ rest) =
-    if is_faulty (settings_of before) (list_any is_event before) line then Some (length before + 1)
+    if is_faulty (settings_of before) (list_any is_step before) line then Some (length before + 1)
     else fault_behind (before ++ line ∷ []) rest
 
 -- the number of a script's first faulty line; 0 where the script is too long

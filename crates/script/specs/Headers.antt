@@ -127,4 +127,5 @@ pub record AreWithin (settings : Settings) : Type 0 where
   pub within : All (λ server. IsTrue (is_within server)) settings.servers
   pub places : IfSome settings.places (λ places. (0 < places) × (places ≤ 4096))
   pub log : IfSome settings.log (λ room. (0 < room) × (room ≤ 262144))
+  pub retries : IfSome settings.retries (λ retries. retries ≤ 999999999)
   pub timeout : IfSome settings.queue_timeout (λ timeout. timeout < 2 ^ 62)

@@ -4,4 +4,5 @@ pub mod Faults
 pub mod Reading
 pub mod Traces
 pub mod Reports
+pub mod Certificates
 pub mod ScriptTexts

@@ -3,13 +3,14 @@ use Rattle.std.specs.Prelude.{ℕ, ◌<◌, ◌≤◌, ◌^◌, ◌||◌, IsTrue
 use Rattle.std.specs.Option.{option_map_or, option_or}
 use Rattle.dispatch_log.specs.Setups.{is_within}
 use Rattle.script.specs.declared.setting.Setting.{Setting}
-use Rattle.script.specs.declared.setting.Setting.TheVariants.{Places, LogRoom, QueueTimeout, Server}
+use Rattle.script.specs.declared.setting.Setting.TheVariants.{Places, LogRoom, Retries, QueueTimeout, Server}
 use Rattle.script.specs.Headers.{Settings, setting_of, name_in, server_in, places_in, log_in, retries_in, is_redispatch, timeout_in}
 
 -- a setting within the limits of a dispatcher
 abbrev pub IsWithin : Setting → Type 0
 IsWithin (Places places) = (0 < places) × (places ≤ 4096)
 IsWithin (LogRoom room) = (0 < room) × (room ≤ 262144)
+IsWithin (Retries retries) = retries ≤ 999999999
 IsWithin (QueueTimeout timeout) = timeout < 2 ^ 62
 IsWithin (Server name server) = IsTrue (is_within server)
 IsWithin other = Unit

@@ -28,3 +28,7 @@ report_text names report = group_text names report ++ worst_text report ++ codes
 
 abbrev pub reports_text : List (List ℕ) → List Report → List ℕ
 reports_text names reports = flat_map (report_text names) reports
+
+-- the line of a roll, and those of the reports of the window that it ends
+abbrev pub roll_text : List (List ℕ) → List Report → List ℕ
+roll_text names reports = codes "roll\n" ++ reports_text names reports

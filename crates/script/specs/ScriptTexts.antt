@@ -1,13 +1,17 @@
 -- The text that a dispatcher's answers to a script are written as.
-use Rattle.std.specs.Prelude.{◌≡◌, ◌⊎◌, ℕ, pos, ◌+ℤ◌, List, [], ◌∷◌, ◌++◌, length, position, Option, Some, option_map}
+use Rattle.std.specs.Prelude.{◌≡◌, ◌⊎◌, ℕ, pos, ◌+ℤ◌, List, [], ◌∷◌, ◌++◌, length, position, Option, Some, None, option_map}
 use Rattle.std.specs.Option.{unwrap_or}
 use Rattle.std.specs.Str.{bytes_eq}
 use Rattle.dispatch_log.specs.declared.entry.Entry.{Entry}
 use Rattle.dispatch_log.specs.declared.entry.Entry.TheVariants as entries
 use Rattle.dispatch_log.specs.declared.refusal.Refusal.{Refusal}
-use Rattle.dispatch_log.specs.Histories.{History, AddsEvent, effective, refuses_arrival, refuses_done, refuses_failure, refuses_abort, refuses_tick, refuses_check}
+use Rattle.dispatch_log.specs.Histories.{History, next_window, effective, refuses_arrival, refuses_done, refuses_failure, refuses_abort, refuses_tick, refuses_check, refuses_limit}
+use Rattle.dispatch_log.specs.Legal.{AddsEvent}
+use Rattle.late_cert.specs.declared.report.Report.{Report}
+use Rattle.script.specs.Certificates.{IsCertified}
+use Rattle.script.specs.Reports.{roll_text}
 use Rattle.script.specs.declared.step.Step.{Step}
-use Rattle.script.specs.declared.step.Step.TheVariants.{Arrive, Done, Fail, Abort, Tick, Check}
+use Rattle.script.specs.declared.step.Step.TheVariants.{Arrive, Done, Fail, Abort, Tick, Check, Limit, Roll}
 use Rattle.script.specs.Traces.{entries_text, refusal_text}
 
 -- the number of the server that has a name; where none has it the number of servers, which is no server's
@@ -18,7 +22,7 @@ number_of names name = unwrap_or (position (bytes_eq name) names) (length names)
 abbrev pub pin_of : List (List ℕ) → Option (List ℕ) → Option ℕ
 pin_of names pin = option_map (number_of names) pin
 
--- what refuses a step now
+-- what refuses a step now; nothing refuses the next window
 abbrev pub refuses : List (List ℕ) → History → Step → Option Refusal
 refuses names history (Arrive moment class offset pin) = refuses_arrival history (pin_of names pin)
 refuses names history (Done moment ticket) = refuses_done history ticket
@@ -26,9 +30,11 @@ refuses names history (Fail moment ticket) = refuses_failure history ticket
 refuses names history (Abort moment ticket) = refuses_abort history ticket
 refuses names history (Tick moment) = refuses_tick history
 refuses names history (Check moment server answered) = refuses_check history (number_of names server)
+refuses names history (Limit moment server limit) = refuses_limit history (number_of names server)
+refuses names history Roll = None
 
 -- an entry is the event that a step asks for, at the step's effective moment: an arrival is due by its offset from
--- then, and has the pin that its name stands for; a check is of the server that its name stands for
+-- then, and has the pin that its name stands for; a check and a limit are of the server that its name stands for
 abbrev pub IsEventOf : List (List ℕ) → History → Step → Entry → Type 0
 IsEventOf names history (Arrive moment class offset pin) (entries.Arrive at arrival) =
     (at ≡ effective history moment) × (arrival.class ≡ class) × (arrival.due ≡ (pos at +ℤ offset)) × (arrival.pin ≡ pin_of names pin)
@@ -37,6 +43,7 @@ IsEventOf names history (Fail moment ticket) (entries.Fail at failed) = (at ≡ 
 IsEventOf names history (Abort moment ticket) (entries.Abort at leaver) = (at ≡ effective history moment) × (leaver ≡ ticket)
 IsEventOf names history (Tick moment) (entries.Tick at) = at ≡ effective history moment
 IsEventOf names history (Check moment name answered) (entries.Check at server ok) = (at ≡ effective history moment) × (server ≡ number_of names name) × (ok ≡ answered)
+IsEventOf names history (Limit moment name limit) (entries.Limit at server most) = (at ≡ effective history moment) × (server ≡ number_of names name) × (most ≡ limit)
 IsEventOf names history step entry = ⊥
 
 -- a step that is refused leaves the history as it was, and the line of its refusal
@@ -46,14 +53,22 @@ pub record IsRefused (names : List (List ℕ)) (old new : History) (step : Step)
   pub unchanged : new ≡ old
   pub written : text ≡ refusal_text refusal
 
--- a step that is accepted adds its event to the legal log, and leaves the lines of the entries that are new
+-- a step that is accepted adds its event to the log, and leaves the lines of the entries that are new
 pub record IsAccepted (names : List (List ℕ)) (old new : History) (step : Step) (text : List ℕ) : Type 0 where
   pub event : Entry
   pub asked : IsEventOf names old step event
   pub adds : AddsEvent old new event
   pub written : text ≡ entries_text names (event ∷ adds.brought)
 
+-- a roll begins the next window, and leaves its line and those of the reports that certify the window that it ends
+pub record IsRolled (names : List (List ℕ)) (old new : History) (text : List ℕ) : Type 0 where
+  pub reports : List Report
+  pub begins : new ≡ next_window old
+  pub certified : IsCertified old reports
+  pub written : text ≡ roll_text names reports
+
 abbrev pub Answers : List (List ℕ) → History → History → Step → List ℕ → Type 0
+Answers names old new Roll text = IsRolled names old new text
 Answers names old new step text = IsRefused names old new step text ⊎ IsAccepted names old new step text
 
 -- script text: what is written for each step in order, where each step finds the history that those before it left, and

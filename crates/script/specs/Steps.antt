@@ -1,4 +1,4 @@
--- What the event lines of a script ask.
+-- What the lines of a script ask, its header lines aside.
 use Rattle.std.specs.Prelude.{ℕ, Bool, true, false, ◌==◌, ◌||◌, List, [], ◌∷◌, length, filter_map, Option, Some, None, option_map, option_and_then, slice_index, if◌then◌else◌, codes}
 use Rattle.std.specs.Str.{bytes_eq}
 use Rattle.std.specs.Str.Lines.{lines}
@@ -9,7 +9,7 @@ use Rattle.proxy_words.specs.Text.{words}
 use Rattle.proxy_words.specs.Names.{is_name}
 use Rattle.proxy_words.specs.Numerals.{numeral, signed_numeral}
 use Rattle.script.specs.declared.step.Step.{Step}
-use Rattle.script.specs.declared.step.Step.TheVariants.{Arrive, Done, Fail, Abort, Tick, Check}
+use Rattle.script.specs.declared.step.Step.TheVariants.{Arrive, Done, Fail, Abort, Tick, Check, Limit, Roll}
 
 -- the word that stands alone
 abbrev pub only : List (List ℕ) → Option (List ℕ)
@@ -61,26 +61,37 @@ abbrev pub check_of : List ℕ → List (List ℕ) → Option Step
 check_of moment (server ∷ result ∷ []) = option_and_then (λ at. option_and_then (λ name. option_map (λ answered. Check at name answered) (result_of result)) (named server)) (numeral 18 moment)
 check_of moment others = None
 
--- the event of a line's words
-abbrev pub event_of : List (List ℕ) → Option Step
-event_of (moment ∷ name ∷ others) =
+-- a new limit at a moment, by the words behind `limit`: the server's name, and how many requests it may serve
+abbrev pub limit_of : List ℕ → List (List ℕ) → Option Step
+limit_of moment (server ∷ limit ∷ []) = option_and_then (λ at. option_and_then (λ name. option_map (λ most. Limit at name most) (numeral 9 limit)) (named server)) (numeral 18 moment)
+limit_of moment others = None
+
+-- the next window, by the one word of the line
+abbrev pub roll_of : List ℕ → Option Step
+roll_of word = if bytes_eq word (codes "roll") then Some Roll else None
+
+-- the step of a line's words: an event, or the next window
+abbrev pub asked_by : List (List ℕ) → Option Step
+asked_by (word ∷ []) = roll_of word
+asked_by (moment ∷ name ∷ others) =
     if bytes_eq name (codes "arrive") then arrival_line moment others
     else if bytes_eq name (codes "done") then return_of moment others
     else if bytes_eq name (codes "fail") then failure_of moment others
     else if bytes_eq name (codes "abort") then abort_of moment others
     else if bytes_eq name (codes "tick") then tick_of moment others
     else if bytes_eq name (codes "check") then check_of moment others
+    else if bytes_eq name (codes "limit") then limit_of moment others
     else None
-event_of others = None
+asked_by others = None
 
--- the event that a line asks for, if it asks for one
+-- the step that a line asks for, if it asks for one
 abbrev pub step_of : List ℕ → Option Step
-step_of line = event_of (words line)
+step_of line = asked_by (words line)
 
 -- a line that says nothing: it has no word, or its first byte is a number sign
 abbrev pub is_skipped : List ℕ → Bool
 is_skipped line = (length (words line) == 0) || (slice_index line 0 == 35)
 
--- the events that a script asks for, in order
+-- the steps that a script asks for, in order
 abbrev pub steps_of : List ℕ → List Step
 steps_of script = filter_map step_of (lines script)

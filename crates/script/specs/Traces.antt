@@ -4,7 +4,7 @@ use Rattle.std.specs.List.{flat_map}
 use Rattle.std.specs.Fmt.{decimal, signed_decimal}
 use Rattle.dispatch_log.specs.declared.entry.Arrival.{Arrival}
 use Rattle.dispatch_log.specs.declared.entry.Entry.{Entry}
-use Rattle.dispatch_log.specs.declared.entry.Entry.TheVariants.{Arrive, Done, Fail, Abort, Tick, Check, Direct, Joined, Granted, Moved, Freed, Retried, Left, Health, Ended}
+use Rattle.dispatch_log.specs.declared.entry.Entry.TheVariants.{Arrive, Done, Fail, Abort, Tick, Check, Limit, Direct, Joined, Granted, Moved, Freed, Retried, Left, Health, Ended}
 use Rattle.dispatch_log.specs.declared.queue.Queue.{Queue}
 use Rattle.dispatch_log.specs.declared.queue.Queue.TheVariants.{Backend, Server}
 use Rattle.dispatch_log.specs.declared.refusal.Refusal.{Refusal}
@@ -41,6 +41,7 @@ entry_text names (Fail moment ticket) = decimal moment ++ codes " fail " ++ deci
 entry_text names (Abort moment ticket) = decimal moment ++ codes " abort " ++ decimal ticket ++ codes "\n"
 entry_text names (Tick moment) = decimal moment ++ codes " tick\n"
 entry_text names (Check moment server answered) = decimal moment ++ codes " check " ++ name_of names server ++ codes " " ++ health_word answered ++ codes "\n"
+entry_text names (Limit moment server limit) = decimal moment ++ codes " limit " ++ name_of names server ++ codes " " ++ decimal limit ++ codes "\n"
 entry_text names (Direct ticket server) = codes "  direct " ++ decimal ticket ++ codes " " ++ name_of names server ++ codes "\n"
 entry_text names (Joined ticket queue) = codes "  join " ++ decimal ticket ++ codes " " ++ queue_name names queue ++ codes "\n"
 entry_text names (Granted ticket queue server) = codes "  grant " ++ decimal ticket ++ codes " " ++ queue_name names queue ++ codes " " ++ name_of names server ++ codes "\n"

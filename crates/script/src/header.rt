@@ -3,7 +3,7 @@ ghost use Rattle.dispatch_log.specs.Setups.{is_within};
 ghost use Rattle.std.specs.Str.Lines.{lines};
 ghost use Rattle.script.specs.Steps.{is_skipped};
 ghost use Rattle.script.specs.Headers.{settings_of, all_of, AreWithin};
-ghost use Rattle.script.specs.Faults.{fault_of, fault_behind, clashes, is_event, is_faulty};
+ghost use Rattle.script.specs.Faults.{fault_of, fault_behind, clashes, is_step, is_faulty};
 ghost use Rattle.script.specs.Reading.{IsWithin, with_setting, with_line};
 
 use crate::name::Name;
@@ -62,8 +62,8 @@ enum LineError {
     Faulty,
 }
 
-/// Reads the header lines of a script, and looks for its first faulty line: one that is neither a header line nor an
-/// event nor empty nor a comment, a header line behind an event, a server's name again, or a 65th server. A script of
+/// Reads the header lines of a script, and looks for its first faulty line: one that is neither a header line nor a
+/// step nor empty nor a comment, a header line behind a step, a server's name again, or a 65th server. A script of
 /// more than [`MOST_BYTES`] bytes is at fault as a whole: line 0. One pass over the bytes; memory is taken for the servers.
 pub fn read(alloc: Global, script: &[u8]) -> Result<Header, ScriptError>
     ensures faultless { OnOk result (fault_of script.now ≡ None) }
@@ -87,9 +87,9 @@ fn read_lines(alloc: Global, script: &[u8]) -> Result<Header, ScriptError>
     let mut lines = Lines::new(script);
     'lines: while let Some(line) = lines.next() {
         number += 1;
-        let event = is_event(line);
-        match header.take(alloc, begun, event, line) {
-            Ok(()) => begun |= event,
+        let step = is_step(line);
+        match header.take(alloc, begun, step, line) {
+            Ok(()) => begun |= step,
             Err(LineError::NoMemory) => return Err(ScriptError::NoMemory),
             Err(LineError::Faulty) => return Err(ScriptError::Fault { line: number }),
         }
@@ -130,7 +130,8 @@ impl Header {
 
     /// How many further tries a line sets; None where none does.
     pub fn retries(&self) -> Option<u32>
-        ensures { result ≡ self.now.retries }
+        ensures value { result ≡ self.now.retries }
+        ensures within { AreWithin self.now }
     {
         self.retries
     }
@@ -167,22 +168,16 @@ impl Header {
         (names, Servers::from_vec(servers))
     }
 
-    // Takes a line in, behind an event or not, that is one itself or not.
-    fn take(
-        &mut self,
-        alloc: Global,
-        begun: bool,
-        event: bool,
-        line: &[u8],
-    ) -> Result<(), LineError>
-        requires { event ≡ is_event line.now }
+    // Takes a line in, behind a step or not, that is one itself or not.
+    fn take(&mut self, alloc: Global, begun: bool, step: bool, line: &[u8]) -> Result<(), LineError>
+        requires { step ≡ is_step line.now }
         ensures ok { OnOk result ((is_faulty self.old begun line.now ≡ false) × (self.new ≡ with_line self.old line.now)) }
         ensures err { IfErr result (λ error. error ≡ LineError.Faulty → is_faulty self.old begun line.now ≡ true) }
     {
         match setting_of(line) {
             Some(setting) => self.set(alloc, begun, setting),
             None => {
-                if event || is_skipped(line) {
+                if step || is_skipped(line) {
                     Ok(())
                 } else {
                     Err(LineError::Faulty)
@@ -250,8 +245,8 @@ impl Header {
     }
 }
 
-fn is_event(line: &[u8]) -> bool
-    ensures { result ≡ is_event line.now }
+fn is_step(line: &[u8]) -> bool
+    ensures { result ≡ is_step line.now }
 {
     step_of(line).is_some()
 }

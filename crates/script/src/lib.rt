@@ -1,4 +1,4 @@
-//! Scripts of events for a dispatcher, and the trace that a dispatcher's answers to them and its reports are written as.
+//! Scripts of steps for a dispatcher, and the trace that a dispatcher's answers to them and its reports are written as.
 #![tactic(auto)]
 
 mod header;
@@ -12,7 +12,7 @@ mod trace;
 pub use header::{Header, MOST_BYTES, ScriptError, read};
 pub use name::Name;
 pub use names::Names;
-pub use report::push_reports;
+pub use report::{push_reports, push_roll};
 pub use step::{Step, step_of};
 pub use trace::{push_entries, push_refusal};
 

@@ -1,5 +1,5 @@
 ghost use Rattle.std.specs.Prelude.{◌≡◌, ◌++◌, OnOk, string_bytes, codes};
-ghost use Rattle.script.specs.Reports.{tickets_text, group_text, worst_text, report_text, reports_text};
+ghost use Rattle.script.specs.Reports.{tickets_text, group_text, worst_text, report_text, reports_text, roll_text};
 
 use crate::names::Names;
 use crate::trace::name_of;
@@ -14,6 +14,15 @@ pub fn push_reports(text: &mut String, names: &Names, reports: &[Report]) -> Res
         push_report(text, names, report)?;
     }
     Ok(())
+}
+
+/// Writes the line of a roll at the end, and those of the reports of the window that it ends. After an `Err` a part of
+/// them may stand there.
+pub fn push_roll(text: &mut String, names: &Names, reports: &[Report]) -> Result<(), AllocError>
+    ensures { OnOk result (string_bytes text.new ≡ string_bytes text.old ++ roll_text names.now reports.now) }
+{
+    writeln!(text, "roll")?;
+    push_reports(text, names, reports)
 }
 
 fn push_report(text: &mut String, names: &Names, report: &Report) -> Result<(), AllocError>

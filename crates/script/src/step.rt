@@ -1,11 +1,11 @@
 ghost use Rattle.std.specs.Prelude.{◌≡◌};
 ghost use Rattle.std.specs.Option.{option_copied};
 ghost use Rattle.proxy_words.specs.Numerals.{numeral};
-ghost use Rattle.script.specs.Steps.{only, ticketed, arrival_line, arrival_of, return_of, failure_of, abort_of, tick_of, check_of, result_of, step_of as step_of_line};
+ghost use Rattle.script.specs.Steps.{only, ticketed, arrival_line, arrival_of, return_of, failure_of, abort_of, tick_of, check_of, result_of, limit_of, roll_of, step_of as step_of_line};
 
 use crate::name::Name;
 use due_key::{Class, Moment, Offset};
-use proxy_words::{Words, long_number, signed_long_number};
+use proxy_words::{Words, long_number, number, signed_long_number};
 
 /// What a line of a script asks of a dispatcher.
 #[derive(Debug, Drop)]
@@ -43,15 +43,25 @@ pub enum Step<'a> {
         server: Name<'a>,
         answered: bool,
     },
+    /// `M limit NAME N`: from this moment the server with this name serves at most so many requests at a time; 0 is no limit.
+    Limit {
+        moment: Moment,
+        server: Name<'a>,
+        limit: u32,
+    },
+    /// `roll`: the next window of the log begins. It is no event, and has no moment.
+    Roll,
 }
 
-/// The event of a line.
+/// The step that a line asks for.
 pub fn step_of(line: &[u8]) -> Option<Step>
     ensures { result ≡ step_of_line line.now }
 {
     let mut words = Words::new(line);
     let moment = words.next()?;
-    let name = words.next()?;
+    let Some(name) = words.next() else {
+        return roll_of(moment);
+    };
     if name == b"arrive".as_slice() {
         arrival_line(moment, words)
     } else if name == b"done".as_slice() {
@@ -64,6 +74,8 @@ pub fn step_of(line: &[u8]) -> Option<Step>
         tick_of(moment, words)
     } else if name == b"check".as_slice() {
         check_of(moment, words)
+    } else if name == b"limit".as_slice() {
+        limit_of(moment, words)
     } else {
         None
     }
@@ -156,6 +168,36 @@ fn check_of<'a>(moment: &[u8], mut words: Words<'a>) -> Option<Step<'a>>
         server,
         answered,
     })
+}
+
+// `NAME N`, behind `M limit`.
+fn limit_of<'a>(moment: &[u8], mut words: Words<'a>) -> Option<Step<'a>>
+    ensures { result ≡ limit_of moment.now words.entry }
+{
+    let server = words.next()?;
+    let limit = words.next()?;
+    if words.next().is_some() {
+        return None;
+    }
+    let moment = moment_of(moment)?;
+    let server = Name::new(server)?;
+    let limit = number(limit)?;
+    Some(Step::Limit {
+        moment,
+        server,
+        limit,
+    })
+}
+
+// `roll`, the only word.
+fn roll_of<'a>(word: &[u8]) -> Option<Step<'a>>
+    ensures { result ≡ roll_of word.now }
+{
+    if word == b"roll".as_slice() {
+        Some(Step::Roll)
+    } else {
+        None
+    }
 }
 
 fn result_of(word: &[u8]) -> Option<bool>

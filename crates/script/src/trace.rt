@@ -41,6 +41,9 @@ fn push_entry(text: &mut String, names: &Names, entry: &Entry) -> Result<(), All
                 health_word(answered)
             )
         }
+        Entry::Limit(moment, server, limit) => {
+            writeln!(text, "{moment} limit {} {limit}", names.of(server))
+        }
         Entry::Direct(ticket, server) => writeln!(text, "  direct {ticket} {}", names.of(server)),
         Entry::Joined(ticket, queue) => {
             let name = name_of(names, queue);

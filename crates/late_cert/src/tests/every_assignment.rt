@@ -1,6 +1,6 @@
 //! Reports compared with a plain program that tries every assignment.
 
-use super::moment;
+use super::{moment, opening};
 use crate::{Report, audit, certify};
 use dispatch_log::{Arrival, Entry, Queue};
 use due_key::{Class, Due, Key, Offset};
@@ -53,7 +53,7 @@ fn random_log(alloc: Global, seed: u64, in_order: bool) -> Result<Log, Fail> {
     for ticket in 1..32 {
         step(&mut course, ticket, in_order)?;
     }
-    Ok(Log::read(alloc, course.entries.as_slice())?)
+    Ok(Log::read(alloc, opening(alloc)?, course.entries.as_slice())?)
 }
 
 /// A request comes, or one that waits has a slot.

@@ -27,7 +27,7 @@ fn of_ticket(line: &[u8]) -> Option<(&'static str, u64, u64)> {
         Step::Done { moment, ticket } => Some(("done", moment.get(), ticket)),
         Step::Fail { moment, ticket } => Some(("fail", moment.get(), ticket)),
         Step::Abort { moment, ticket } => Some(("abort", moment.get(), ticket)),
-        Step::Arrive { .. } | Step::Tick { .. } | Step::Check { .. } => None,
+        _ => None,
     }
 }
 
@@ -48,6 +48,22 @@ fn check(line: &[u8]) -> Option<(u64, &str, bool)> {
         } => Some((moment.get(), server.text(), answered)),
         _ => None,
     }
+}
+
+// The moment of a limit, the server and the number.
+fn limit(line: &[u8]) -> Option<(u64, &str, u32)> {
+    match step_of(line)? {
+        Step::Limit {
+            moment,
+            server,
+            limit,
+        } => Some((moment.get(), server.text(), limit)),
+        _ => None,
+    }
+}
+
+fn is_roll(line: &[u8]) -> bool {
+    matches!(step_of(line), Some(Step::Roll))
 }
 
 #[test]
@@ -83,6 +99,43 @@ fn lines_ask_for_ticks_and_checks(rt: HostRuntime) {
     assert_eq!(rt; check(b"4 check a down"), Some((4, "a", false)));
     assert_eq!(rt; check(b"00  check\ts-1.x up "), Some((0, "s-1.x", true)));
     assert_eq!(rt; check(b"5 check up down"), Some((5, "up", false)));
+}
+
+#[test]
+fn lines_ask_for_limits_and_rolls(rt: HostRuntime) {
+    assert_eq!(rt; limit(b"3 limit a 1"), Some((3, "a", 1)));
+    assert_eq!(rt;
+        limit(b"\t00 limit  limit 999999999 "),
+        Some((0, "limit", 999_999_999))
+    );
+    assert_eq!(rt; limit(b"6 limit a 0"), Some((6, "a", 0)));
+    assert!(rt; is_roll(b"roll") && is_roll(b" \troll "));
+}
+
+#[test]
+fn lines_like_limits_and_rolls_ask_for_nothing(rt: HostRuntime) {
+    let lines = [
+        b"1 limit".as_slice(),
+        b"1 limit s1",
+        b"1 limit 1",
+        b"1 limit s1 1 1",
+        b"1 limit s1 -1",
+        b"1 limit s1 1000000000",
+        b"1 limit 1 s1",
+        b"1 limit * 1",
+        b"-1 limit s1 1",
+        b"1000000000000000000 limit s1 1",
+        b"limit s1 1",
+        b"1 limits s1 1",
+        b"1 roll",
+        b"roll 1",
+        b"roll roll",
+        b"Roll",
+        b"rolls",
+    ];
+    for line in lines {
+        assert!(rt; step_of(line).is_none());
+    }
 }
 
 #[test]

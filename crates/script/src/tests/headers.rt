@@ -32,6 +32,8 @@ fn the_first_fault_has_its_line(rt: HostRuntime) {
         (b"server a/b 0 0 1", Some(1)),
         (b"server a 0 0 1\nserver a 0 0 2\n", Some(2)),
         (b"server a 0 0 1\n0 done 1\nlog 9\n", Some(3)),
+        (b"log 9\nroll\nroll\n0 tick", None),
+        (b"roll\nlog 9\n", Some(2)),
     ];
     for (script, line) in rows {
         assert_eq!(rt; fault(rt.alloc(), script), line);

@@ -58,7 +58,7 @@ fn entries_are_written_line_by_line(rt: HostRuntime) -> Result<(), Fail> {
 }
 
 #[test]
-fn failures_ticks_and_checks_are_written_line_by_line(rt: HostRuntime) -> Result<(), Fail> {
+fn failures_ticks_checks_and_limits_are_written_line_by_line(rt: HostRuntime) -> Result<(), Fail> {
     let names = a_and_b(rt.alloc())?;
     let entries = [
         Entry::Fail(moment(3)?, 1),
@@ -73,6 +73,8 @@ fn failures_ticks_and_checks_are_written_line_by_line(rt: HostRuntime) -> Result
         Entry::Health(0, false),
         Entry::Moved(4, 0),
         Entry::Left(1, Cause::Retries),
+        Entry::Limit(moment(18)?, 1, 7),
+        Entry::Limit(moment(19)?, 0, 0),
     ];
     let mut text = String::new(rt.alloc());
     push_entries(&mut text, &names, &entries)?;
@@ -89,6 +91,8 @@ fn failures_ticks_and_checks_are_written_line_by_line(rt: HostRuntime) -> Result
   health a down
   move 4 a
   left 1 retries
+18 limit b 7
+19 limit a 0
 ";
     assert_eq!(rt; text.as_str(), expected);
     Ok(())

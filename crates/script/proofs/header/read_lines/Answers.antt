@@ -8,5 +8,5 @@ pub lines-preserved : goal.lines-preserved
 lines-preserved c = (
   c.lines.invariant.0,
   one_more (lines c.args.script.now) c.lines.lines c.next.new.self c.in-Some.line.now c.lines.header c.take.new.self c.lines.begun _ c.lines.number c.lines.invariant.1 c.in-Some.ensures.steps c.in-Ok.ensures.ok.0 c.in-Ok.ensures.ok.1
-      (ap (λ event. c.lines.begun || event) c.is_event-event.ensures),
+      (ap (λ step. c.lines.begun || step) c.is_step-step.ensures),
 )

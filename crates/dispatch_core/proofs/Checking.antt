@@ -14,16 +14,17 @@ use Rattle.dispatch_log.specs.declared.setup.ServerSet.{ServerSet}
 use Rattle.dispatch_log.specs.declared.setup.Setup.{Setup}
 use Rattle.dispatch_log.specs.Health.{is_up_by, results_of, with_result, without_last}
 use Rattle.dispatch_log.proofs.Runs.{adds_legally}
+use Rattle.dispatch_log.proofs.Windows.{opening_base}
 use Rattle.dispatch_log.specs.Histories.{History, first_window, state_of, begins_event, refuses_check}
-use Rattle.dispatch_log.specs.Legal.{IsLegal, AddsEvent}
+use Rattle.dispatch_log.specs.Legal.{IsBase, IsLegal, AddsEvent}
 use Rattle.dispatch_log.specs.Judgement.{checking, granting, was_up}
 use Rattle.dispatch_log.specs.Refusals.{lacks_room, is_checked}
-use Rattle.dispatch_log.specs.States.{State, after, after_all}
+use Rattle.dispatch_log.specs.States.{State, after, after_all, opening_state}
 use Rattle.dispatch_log.specs.Words.{is_up}
 use Rattle.dispatch_log.proofs.Accepted.{none_refuses}
 use Rattle.dispatch_log.proofs.Judged.{after_all-push, stage_after-push}
 use Rattle.pend_queue.specs.Held.{Held}
-use Rattle.dispatch_core.specs.Checks.{AreHealths, IsHealthBy, IsCore}
+use Rattle.dispatch_core.specs.Checks.{AreHealths, IsHealthBy, IsCore, IsSpare}
 use Rattle.dispatch_core.specs.Steps.{HasEventRoom}
 use Rattle.dispatch_trace.specs.Traces.{is_up_at}
 use Rattle.dispatch_trace.specs.Histories.{with_entry, stage_of, scene_of}
@@ -72,12 +73,16 @@ results_added h now event added =
     ∙ ap (λ (s : State). s.results) (after_both h.setup h.base h.log (event ∷ added.brought))
     ∙ no_results h.setup (after h.setup (state_of h) event) added.brought added.one_event
 
+-- a base of a setup is as long as one
+pub spare_base : (setup : Setup) (base : State) → IsBase setup base → IsSpare setup base
+spare_base setup base is = record { rows = is.places; results = is.checked; limits = is.limited }
+
 -- a core after an event
-pub core_goes : (h now : History) (event : Entry) (healths next : List (Option Standing)) (expiring ready : Held ℕ ℕ) → IsCore h healths expiring
+pub core_goes : (h now : History) (event : Entry) (healths next : List (Option Standing)) (expiring ready : Held ℕ ℕ) {spare : State} → IsCore h healths expiring spare
     → AddsEvent h now event
     → AreHealths h.setup.servers (after h.setup (state_of h) event).results next → ready.pairs ≡ [] → ready.room ≡ expiring.room
-    → IsCore now next ready
-core_goes h now event healths next expiring ready is added healthy none kept = record {
+    → IsCore now next ready spare
+core_goes h now event healths next expiring ready {spare} is added healthy none kept = record {
   legal = adds_legally h now event is.legal added;
   healthy =
       subst (λ (l : List (List Bool)). AreHealths now.setup.servers l next) (sym (results_added h now event added))
@@ -87,27 +92,30 @@ core_goes h now event healths next expiring ready is added healthy none kept = r
       let places : now.setup.places ≡ h.setup.places = ap (λ (s : Setup). s.places) added.setup in
       let enough = is.places in
       omega arith;
+  spared = subst (λ (s : Setup). IsSpare s spare) (sym added.setup) is.spared;
 }
 
 -- where the event is no check, the healths stay
-pub core_kept : (h now : History) (event : Entry) (healths : List (Option Standing)) (expiring ready : Held ℕ ℕ) → IsCore h healths expiring
+pub core_kept : (h now : History) (event : Entry) (healths : List (Option Standing)) (expiring ready : Held ℕ ℕ) {spare : State} → IsCore h healths expiring spare
     → AddsEvent h now event
-    → (after h.setup (state_of h) event).results ≡ (state_of h).results → ready.pairs ≡ [] → ready.room ≡ expiring.room → IsCore now healths ready
-core_kept h now event healths expiring ready is added same none kept =
+    → (after h.setup (state_of h) event).results ≡ (state_of h).results → ready.pairs ≡ [] → ready.room ≡ expiring.room → IsCore now healths ready spare
+core_kept h now event healths expiring ready {spare} is added same none kept =
     core_goes h now event healths healths expiring ready is added
     (subst (λ (l : List (List Bool)). AreHealths h.setup.servers l healths) (sym same) is.healthy) none kept
 
 -- a core without an entry
-pub core_new : (h : History) (setup : Setup) (healths : List (Option Standing)) (expiring : Held ℕ ℕ) → h ≡ first_window setup []
+pub core_new : (h : History) (setup : Setup) (healths : List (Option Standing)) (expiring : Held ℕ ℕ) (spare : State) → h ≡ first_window setup []
     → AreHealths setup.servers (replicate (length setup.servers) []) healths → expiring.pairs ≡ [] → expiring.room ≡ setup.places
-    → IsCore h healths expiring
-core_new h setup healths expiring new are none places = record {
+    → spare ≡ opening_state setup → IsCore h healths expiring spare
+core_new h setup healths expiring spare new are none places spared = record {
   legal = new_legal h setup new;
   healthy = subst (λ (x : History). AreHealths x.setup.servers (state_of x).results healths) (sym new) are;
   none = none;
   places =
       let made : h.setup.places ≡ setup.places = ap (λ (x : History). x.setup.places) new in
       omega arith;
+  spared = subst (λ (x : History). IsSpare x.setup spare) (sym new)
+      (subst (IsSpare setup) (sym spared) (spare_base setup (opening_state setup) (opening_base setup)));
 }
 
 -- what a check that nothing refuses may count on

@@ -11,3 +11,4 @@ pub mod Checking
 pub mod Emptying
 pub mod Following
 pub mod Timing
+pub mod Rolling

@@ -2,9 +2,11 @@
 use Rattle.std.specs.Prelude.{◌≡◌, ℕ, ◌≤◌, Bool, List, [], Option, None, Some, MatchOption, length, slice_get, slice_index_or}
 use Rattle.check_state.specs.Standing.{Standing, IsHealthOf}
 use Rattle.dispatch_log.specs.declared.setup.ServerSet.{ServerSet}
+use Rattle.dispatch_log.specs.declared.setup.Setup.{Setup}
 use Rattle.dispatch_log.specs.Health.{results_of}
 use Rattle.dispatch_log.specs.Histories.{History, state_of}
 use Rattle.dispatch_log.specs.Legal.{IsLegal}
+use Rattle.dispatch_log.specs.States.{State}
 use Rattle.pend_queue.specs.Held.{Held}
 
 -- the health of a server that is checked by rise and fall is that of its results; one that isn't checked has none
@@ -19,9 +21,17 @@ pub record AreHealths (servers : List ServerSet) (results : List (List Bool)) (h
   pub each : (server : ℕ) (it : ServerSet) → slice_get servers server ≡ Some it
       → IsHealthBy it.rise_fall (results_of results server) (slice_index_or healths server None)
 
--- a core's log is legal, it keeps the servers' healths, and its queue of expired requests is empty and has room for all
-pub record IsCore (history : History) (healths : List (Option Standing)) (expiring : Held ℕ ℕ) : Type 0 where
+-- a base that is kept for a later window is as long as a setup's
+pub record IsSpare (setup : Setup) (spare : State) : Type 0 where
+  pub rows : length spare.rows ≡ setup.places
+  pub results : length spare.results ≡ length setup.servers
+  pub limits : length spare.limits ≡ length setup.servers
+
+-- a core's log is legal, it keeps the servers' healths, its queue of expired requests is empty and has room for all, and it has
+-- a base for a later window
+pub record IsCore (history : History) (healths : List (Option Standing)) (expiring : Held ℕ ℕ) (spare : State) : Type 0 where
   pub legal : IsLegal history
   pub healthy : AreHealths history.setup.servers (state_of history).results healths
   pub none : expiring.pairs ≡ []
   pub places : history.setup.places ≤ expiring.room
+  pub spared : IsSpare history.setup spare

@@ -1,7 +1,7 @@
 ghost use Rattle.std.specs.Prelude.{◌≡◌, ◌≤◌, ◌↔◌, [], length, IfOk, IfErr, OnOk, OnErr, IsTrue, MatchOption, Some, None, option_map, pos, ◌+ℤ◌};
 ghost use Rattle.dispatch_log.specs.declared.entry.Entry.TheVariants.{Arrive, Done, Fail, Abort, Tick, Check, Limit};
 ghost use Rattle.dispatch_log.specs.Dispatch.{IsDispatched};
-ghost use Rattle.dispatch_log.specs.Histories.{History, first_window, state_of, effective, refuses_arrival, refuses_done, refuses_failure, refuses_abort, refuses_tick, refuses_check, refuses_limit, SomeExpires, RefusedOrNoMemory};
+ghost use Rattle.dispatch_log.specs.Histories.{History, first_window, next_window, state_of, effective, refuses_arrival, refuses_done, refuses_failure, refuses_abort, refuses_tick, refuses_check, refuses_limit, SomeExpires, RefusedOrNoMemory};
 ghost use Rattle.dispatch_log.specs.Legal.{IsLegal, AddsEvent};
 ghost use Rattle.dispatch_log.specs.Words.{is_up};
 ghost use Rattle.dispatch_log.specs.Rows.{row_of, served, queued};
@@ -14,7 +14,7 @@ use dispatch_log::{Phase, Queue, Refusal, Setup};
 use dispatch_trace::{Ticketed, Trace};
 use due_key::{Class, Key, Moment, Offset};
 use pend_queue::{ListQueue, PendQueue};
-use readable_log::Log;
+use readable_log::{Base, Log};
 use std::alloc::{AllocError, Global};
 use std::marker::Model;
 use verdict::Cause;
@@ -27,6 +27,8 @@ pub struct Core<Q: PendQueue<Key, usize>> {
     healths: Healths,
     // The requests that a tick times out, by ticket with their places; empty between calls.
     expiring: ListQueue<u64, usize>,
+    // What the base of the next window is made of.
+    spare: Base,
 }
 
 impl<Q: PendQueue<Key, usize>> Model for Core<Q> {
@@ -37,7 +39,7 @@ impl<Q: PendQueue<Key, usize>> Model for Core<Q> {
 
     ghost view = { λ core. core.events.trace };
 
-    ghost invariant = { λ core. IsCore core.events.trace core.healths core.expiring };
+    ghost invariant = { λ core. IsCore core.events.trace core.healths core.expiring core.spare };
 }
 
 impl<Q: PendQueue<Key, usize>> Core<Q> {
@@ -49,12 +51,14 @@ impl<Q: PendQueue<Key, usize>> Core<Q> {
     {
         let healths = Healths::new(alloc, setup.servers.as_slice())?;
         let expiring = ListQueue::with_room(alloc, setup.places)?;
+        let spare = Base::opening(alloc, &setup)?;
         Ok(Core {
             events: Events {
                 trace: Trace::new(alloc, setup)?,
             },
             healths,
             expiring,
+            spare,
         })
     }
 
@@ -215,6 +219,16 @@ impl<Q: PendQueue<Key, usize>> Core<Q> {
         self.events.trace.limit(moment, server, limit);
         self.events.settle();
         Ok(())
+    }
+
+    /// Begins the next window of the log: what the log left becomes its base, and its entries are gone, so
+    /// that there is room again. Whoever wants a window's reports asks for them before. Never refused, takes no
+    /// memory; `O(n + s)` in the places and servers.
+    pub fn roll(&mut self)
+        ensures window { self.new ≡ next_window self.old }
+        ensures dispatched { IsDispatched self.new }
+    {
+        self.events.trace.roll(self.healths.all(), &mut self.spare);
     }
 
     /// Whether a tick at this moment would tell a timeout. `O(1)`.

@@ -39,6 +39,13 @@ impl Healths {
         Ok(Healths { list })
     }
 
+    /// By server; none of one that isn't checked.
+    pub(crate) fn all(&self) -> &[Option<Health>]
+        ensures { result.now ≡ self.now }
+    {
+        self.list.as_slice()
+    }
+
     /// Takes a result of a check of a server that is checked. `O(1)`.
     pub(crate) fn result(&mut self, server: usize, ok: bool) -> Change
         requires { (standing : Standing) × (slice_get self.old server ≡ Some (Some standing)) }

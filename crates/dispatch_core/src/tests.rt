@@ -412,3 +412,70 @@ fn a_server_without_checks_has_no_results(rt: HostRuntime) -> Result<(), Fail> {
     );
     Ok(())
 }
+
+#[test]
+fn a_risen_limit_grants(rt: HostRuntime) -> Result<(), Fail> {
+    let alloc = rt.alloc();
+    let calls = [
+        (0, arrive(0, 0)),
+        (1, arrive(0, 0)),
+        (2, arrive(0, -5)),
+        (3, Call::Limit(0, 2)),
+    ];
+    let mut core = after(&rt, alloc, alone(alloc)?, &calls)?;
+    ends_with(
+        &rt,
+        &core,
+        &[
+            Entry::Limit(moment(3), 0, 2),
+            Entry::Granted(3, Queue::Backend, 0),
+        ],
+    );
+    go_on(&rt, alloc, &mut core, &[(4, Call::Limit(0, 0))]);
+    ends_with(
+        &rt,
+        &core,
+        &[
+            Entry::Limit(moment(4), 0, 0),
+            Entry::Granted(2, Queue::Backend, 0),
+        ],
+    );
+    is_refused(
+        &rt,
+        alloc,
+        &mut core,
+        5,
+        Call::Limit(1, 1),
+        Refusal::NoSuchServer,
+    );
+    Ok(())
+}
+
+#[test]
+fn a_lowered_limit_stops_nobody(rt: HostRuntime) -> Result<(), Fail> {
+    let alloc = rt.alloc();
+    let calls = [
+        (0, arrive(0, 0)),
+        (0, arrive(0, 0)),
+        (1, Call::Limit(0, 1)),
+        (2, arrive(0, 0)),
+        (3, Call::Done(1)),
+    ];
+    let mut core = after(&rt, alloc, of_servers(alloc, &[server(2, 0, 1)])?, &calls)?;
+    ends_with(
+        &rt,
+        &core,
+        &[
+            Entry::Limit(moment(1), 0, 1),
+            arrived(2, 3, 0, 2),
+            Entry::Joined(3, Queue::Backend),
+            Entry::Done(moment(3), 1),
+            Entry::Freed(1, 0),
+            Entry::Ended(1),
+        ],
+    );
+    assert_eq!(rt; core.served(0), 1);
+    go_on(&rt, alloc, &mut core, &[(4, Call::Done(2))]);
+    ends_with(&rt, &core, &[Entry::Granted(3, Queue::Backend, 0)]);
+    Ok(())
+}

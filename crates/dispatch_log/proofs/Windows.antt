@@ -125,12 +125,12 @@ shortened_up server within results = by_checks server.rise_fall (and_parts (nat_
         let fall : 0 < it.1 = grind (arith, nat_tests) in
         same_up it.0 it.1 rise fall results
 
-shortened_ups : (servers : List ServerSet) (results : List (List Bool)) → All (λ (it : ServerSet). IsTrue (is_within it)) servers → ups_of servers (shortened_all servers results) ≡ ups_of servers results
+pub shortened_ups : (servers : List ServerSet) (results : List (List Bool)) → All (λ (it : ServerSet). IsTrue (is_within it)) servers → ups_of servers (shortened_all servers results) ≡ ups_of servers results
 shortened_ups [] results within = refl
 shortened_ups (server ∷ servers) [] within = rw (shortened_up server (within 0 server (omega arith)) []) (ap (λ l. is_up_by server.rise_fall [] ∷ l) (shortened_ups servers [] (λ k d few. within (suc k) d (omega arith))))
 shortened_ups (server ∷ servers) (of_it ∷ results) within = rw (shortened_up server (within 0 server (omega arith)) of_it) (ap (λ l. is_up_by server.rise_fall of_it ∷ l) (shortened_ups servers results (λ k d few. within (suc k) d (omega arith))))
 
-shortened_length : (servers : List ServerSet) (results : List (List Bool)) → length (shortened_all servers results) ≡ length servers
+pub shortened_length : (servers : List ServerSet) (results : List (List Bool)) → length (shortened_all servers results) ≡ length servers
 shortened_length [] results = refl
 shortened_length (server ∷ servers) [] = ap suc (shortened_length servers [])
 shortened_length (server ∷ servers) (of_it ∷ results) = ap suc (shortened_length servers results)

@@ -15,3 +15,4 @@ pub mod Grants
 pub mod Joining
 pub mod Moves
 pub mod Placing
+pub mod Rolling

@@ -13,6 +13,7 @@ mod moving;
 mod position;
 mod serving;
 mod trace;
+mod windows;
 
 pub use failing::Fate;
 pub use position::{Position, Ticketed};

@@ -10,3 +10,4 @@ pub mod Sums
 pub mod Totals
 pub mod Ones
 pub mod Each
+pub mod Front

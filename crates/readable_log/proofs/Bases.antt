@@ -1,7 +1,5 @@
 -- Bases, as they are kept.
 use Rattle.std.proofs.Common.{◌≡◌, ℕ, zero, suc, ◌+◌, ◌-◌, ◌<◌, ◌≤◌, List, [], ◌∷◌, ◌++◌, Option, None, Some, map, take, length, replicate, slice_index_or, length-take-le, refl, ap, sym, ◌∙◌, arith}
-use Rattle.std.proofs.lemmas.List.{map-set}
-use Rattle.std.proofs.Math.ListN.{set}
 use Rattle.std.proofs.Math.Seq.{take-suc}
 use Rattle.dispatch_log.specs.declared.row.Row.{Row}
 use Rattle.readable_log.specs.Windows.{base_row, base_rows}
@@ -32,10 +30,6 @@ opened setup rows healths limits moment cursor by_rows by_healths by_limits by_m
     ∙ ap (λ x. base_of vacant none (opening_limits setup.servers) x 0 cursor) by_moment
     ∙ ap (λ x. base_of vacant none (opening_limits setup.servers) 0 0 x) by_cursor
     ∙ ap (λ x. record { rows = vacant; results = x; limits = opening_limits setup.servers; moment = 0; ticket = 0; cursor = length setup.servers - 1 }) (no_results (length setup.servers))
-
-pub one_health : (rows : Rows) (healths : List (Option Standing)) (limits : List Allowance) (moment ticket cursor server : ℕ) (health : Option Standing)
-    → base_of rows (set healths server health) limits moment ticket cursor ≡ record { rows = rows; results = set (map results_by healths) server (results_by health); limits = limits; moment = moment; ticket = ticket; cursor = cursor }
-one_health rows healths limits moment ticket cursor server health = ap (λ x. record { rows = rows; results = x; limits = limits; moment = moment; ticket = ticket; cursor = cursor }) (map-set results_by healths server health)
 
 -- the live requests of the places so far
 abbrev pub listed_row : Option Row → List BaseRow

@@ -1,4 +1,4 @@
-ghost use Rattle.std.specs.Prelude.{◌≡◌, ◌<◌, IfOk, None, length, replicate, slice_set};
+ghost use Rattle.std.specs.Prelude.{◌≡◌, ◌<◌, IfOk, None, length, map, replicate, slice_set};
 ghost use Rattle.dispatch_log.specs.States.{opening_state};
 ghost use Rattle.readable_log.specs.Bases.{results_by};
 
@@ -72,20 +72,20 @@ impl Base {
         self.rows[place] = row;
     }
 
-    /// A server that is checked has this health; one that isn't has none.
-    pub fn set_health(&mut self, server: usize, health: Option<Health>)
-        requires { server < length self.old.results }
-        ensures { self.new ≡ record self.old { results = slice_set self.old.results server (results_by health) } }
+    /// The servers that are checked have these healths; one that isn't has none.
+    pub fn set_healths(&mut self, healths: &[Option<Health>])
+        requires { length self.old.results ≡ length healths.now }
+        ensures { self.new ≡ record self.old { results = map results_by healths.now } }
     {
-        self.healths[server] = health;
+        self.healths.copy_from_slice(healths);
     }
 
-    /// A server may serve so much.
-    pub fn set_limit(&mut self, server: usize, limit: Allowance)
-        requires { server < length self.old.limits }
-        ensures { self.new ≡ record self.old { limits = slice_set self.old.limits server limit } }
+    /// The servers may serve so much.
+    pub fn set_limits(&mut self, limits: &[Allowance])
+        requires { length self.old.limits ≡ length limits.now }
+        ensures { self.new ≡ record self.old { limits = limits.now } }
     {
-        self.limits[server] = limit;
+        self.limits.copy_from_slice(limits);
     }
 
     /// The moment of the last event, the last ticket, and the server that balancing picked last.

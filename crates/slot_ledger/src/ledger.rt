@@ -179,6 +179,14 @@ impl<H: Drop> Ledger<H> {
         self.places.row(place)
     }
 
+    /// The row at a place, where one is.
+    pub fn cell(&self, place: usize) -> Option<Row>
+        requires { place < length self.now.slots }
+        ensures { slice_get (rows_in self.now.slots) place ≡ Some result }
+    {
+        self.places.cell(place)
+    }
+
     /// The row has a slot of a server from now on.
     pub fn serve(&mut self, place: usize, server: usize)
         requires row { HasRow self.old.slots place }

@@ -38,7 +38,7 @@ impl<H> Model for Places<H> {
 
 impl<H: Drop> Places<H> {
     ghost use Rattle.slot_ledger.specs.declared.places.Slot.{Slot};
-    ghost use Rattle.slot_ledger.specs.Slots.{HasRow, HasCountable, HasNode, HasTicketAt, HasNoTicket, AreBelow, with_phase, with_failure, unpinned, waiting, loosened};
+    ghost use Rattle.slot_ledger.specs.Slots.{rows_in, HasRow, HasCountable, HasNode, HasTicketAt, HasNoTicket, AreBelow, with_phase, with_failure, unpinned, waiting, loosened};
 
     /// So many places, all free. `O(n)`.
     pub(crate) fn new(alloc: Global, places: usize) -> Result<Places<H>, AllocError>
@@ -102,6 +102,17 @@ impl<H: Drop> Places<H> {
         match &self.slots[place] {
             Some(slot) => slot.row,
             None => unreachable!(),
+        }
+    }
+
+    /// The row at a place, where one is.
+    pub(crate) fn cell(&self, place: usize) -> Option<Row>
+        requires { place < length self.now }
+        ensures { slice_get (rows_in self.now) place ≡ Some result }
+    {
+        match &self.slots[place] {
+            Some(slot) => Some(slot.row),
+            None => None,
         }
     }
 

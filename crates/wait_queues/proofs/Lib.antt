@@ -7,3 +7,4 @@ pub mod Weights
 pub mod Lineup
 pub mod Orders
 pub mod Changes
+pub mod Windows

@@ -1,5 +1,5 @@
 -- The requests that wait, as contracts see them.
-use Rattle.std.specs.Prelude.{◌≡◌, ◌≢◌, ℕ, ◌++◌, ◌∷◌, [], List, Option, None, Some, MatchOption, Contains, slice_get, slice_set}
+use Rattle.std.specs.Prelude.{◌≡◌, ◌≢◌, ℕ, ◌++◌, ◌∷◌, [], List, Option, None, Some, MatchOption, Contains, map, slice_get, slice_set}
 use Rattle.std.specs.declared.cmp.Ordering.TheVariants.{Greater}
 use Rattle.due_key.specs.declared.key.Key.{Key}
 use Rattle.due_key.specs.Order.{key_cmp}
@@ -70,3 +70,12 @@ pub record IsOrderOf (waiters : Waiters) (order : List ℕ) : Type 0 where
 -- the waiter that was moved into the backend's queue, by the entry at a position
 abbrev pub moved_waiter : Waiter → ℕ → Waiter
 moved_waiter waiter joined = record { key = waiter.key; queue = Backend; joined = joined }
+
+-- who waits at a place joined before the first entry of the log
+abbrev pub since_before : Option Waiter → Option Waiter
+since_before None = None
+since_before (Some waiter) = Some (record waiter { joined = 0 })
+
+-- the same of all that wait
+abbrev pub in_next_window : Waitlist → Waitlist
+in_next_window list = record list { waiters = map since_before list.waiters }

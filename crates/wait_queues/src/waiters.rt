@@ -8,6 +8,7 @@ pub struct Waiter {
     pub key: Key,
     /// The queue that it waits in.
     pub queue: Queue,
-    /// The position in the log of the entry by which it joined that queue; the first entry's is 1.
+    /// The position in the log of the entry by which it joined that queue; the first entry's is 1, and 0
+    /// where it joined before.
     pub joined: usize,
 }

@@ -1,8 +1,8 @@
-ghost use Rattle.std.specs.Prelude.{◌≡◌, ◌<◌, ◌≤◌, [], None, Some, IfOk, MatchOption, Contains, replicate, slice_get};
+ghost use Rattle.std.specs.Prelude.{◌≡◌, ◌<◌, ◌≤◌, [], map, None, Some, IfOk, MatchOption, Contains, replicate, slice_get};
 ghost use Rattle.dispatch_log.specs.declared.queue.Queue.TheVariants.{Server};
 ghost use Rattle.slot_ledger.specs.Counts.{IsQueueOf};
 ghost use Rattle.wait_queues.specs.Order.{next_after};
-ghost use Rattle.wait_queues.specs.Waitlists.{WaitsAt, HasNoKey, NoneWaitsIn, IsFirstIn, AreFirst, IsOrderOf, with_waiter, without_waiter, with_waiter_anew, moved_waiter};
+ghost use Rattle.wait_queues.specs.Waitlists.{WaitsAt, HasNoKey, NoneWaitsIn, IsFirstIn, AreFirst, IsOrderOf, with_waiter, without_waiter, with_waiter_anew, moved_waiter, since_before, in_next_window};
 
 use crate::by_place::{empty, put, take};
 use crate::order::JoinOrder;
@@ -143,6 +143,13 @@ impl<Q: PendQueue<Key, usize>> WaitQueues<Q> {
         Some(place)
     }
 
+    /// The log begins anew: all that wait joined before its first entry. `O(n)` in the places.
+    pub fn begin_window(&mut self)
+        ensures { self.new ≡ in_next_window self.old }
+    {
+        forget_joinings(&mut self.waiters);
+    }
+
     /// The place of the request that joined first, of all queues. `O(1)`.
     pub fn oldest(&self) -> Option<usize>
         ensures oldest { result ≡ slice_get self.now.order 0 }
@@ -168,5 +175,27 @@ fn moved(key: Key, joined: usize) -> Waiter
         key,
         queue: Queue::Backend,
         joined,
+    }
+}
+
+/// All that wait joined before the first entry of the log.
+fn forget_joinings(waiters: &mut Vec<Option<Waiter>>)
+    ensures { waiters.new.items ≡ map since_before waiters.old.items }
+{
+    for place in 0..waiters.len() {
+        waiters[place] = joined_before(waiters[place]);
+    }
+}
+
+/// Who waits at a place joined before the first entry of the log.
+fn joined_before(cell: Option<Waiter>) -> Option<Waiter>
+    ensures { result ≡ since_before cell }
+{
+    match cell {
+        None => None,
+        Some(waiter) => Some(Waiter {
+            joined: 0,
+            ..waiter
+        }),
     }
 }

@@ -1,0 +1,49 @@
+ghost use Rattle.std.specs.Prelude.{◌≡◌, length, map};
+ghost use Rattle.dispatch_log.specs.Health.{shortened_all};
+ghost use Rattle.dispatch_log.specs.Histories.{state_of, next_window};
+ghost use Rattle.dispatch_log.specs.Legal.{IsLegal};
+ghost use Rattle.dispatch_log.specs.Setups.{IsSound};
+ghost use Rattle.readable_log.specs.Bases.{results_by};
+ghost use Rattle.slot_ledger.specs.Slots.{rows_in};
+
+use crate::trace::Trace;
+use check_state::Health;
+use due_key::Key;
+use pend_queue::PendQueue;
+use readable_log::Base;
+use slot_ledger::Ledger;
+
+/// Windows.
+impl<Q: PendQueue<Key, usize>> Trace<Q> {
+    /// The next window begins with what the log leaves, where the servers that are checked have these
+    /// healths; the entries are gone. What was the base is left in `spare`. Takes no memory; `O(n + s)`
+    /// in the places and servers.
+    pub fn roll(&mut self, healths: &[Option<Health>], spare: &mut Base)
+        requires legal { IsLegal self.old }
+        requires healths { map results_by healths.now ≡ shortened_all self.old.setup.servers (state_of self.old).results }
+        requires rows { length spare.old.rows ≡ self.old.setup.places }
+        requires results { length spare.old.results ≡ length self.old.setup.servers }
+        requires limits { length spare.old.limits ≡ length self.old.setup.servers }
+        ensures window { self.new ≡ next_window self.old }
+        ensures spare { spare.new ≡ self.old.base }
+        ensures sound { IsSound self.new.setup }
+    {
+        save_rows(&self.ledger, spare);
+        spare.set_healths(healths);
+        spare.set_limits(self.ledger.limits());
+        let position = &self.position;
+        spare.set_position(position.last, position.ticket, position.cursor.server());
+        self.log.begin(spare);
+        self.waiting.begin_window();
+    }
+}
+
+/// The base has the ledger's rows.
+fn save_rows<N: Drop>(ledger: &Ledger<N>, base: &mut Base)
+    requires { length base.old.rows ≡ length ledger.now.slots }
+    ensures { base.new ≡ record base.old { rows = rows_in ledger.now.slots } }
+{
+    for place in 0..ledger.places() {
+        base.set_row(place, ledger.cell(place));
+    }
+}

@@ -1,0 +1,59 @@
+-- The queues where those that wait joined before the log's first entry.
+use Rattle.std.proofs.Common.{◌≡◌, ℕ, zero, suc, ◌+◌, [], ◌∷◌, Option, None, Some, slice_get, option_map, map, length, refl, ap, sym, ◌∙◌, subst}
+use Rattle.std.proofs.lemmas.List.{length-map}
+use Rattle.std.proofs.lemmas.Option.{same_Some}
+use Rattle.due_key.specs.declared.key.Key.{Key}
+use Rattle.dispatch_log.specs.declared.queue.Queue.{Queue}
+use Rattle.slot_ledger.specs.Counts.{IsQueueOf}
+use Rattle.wait_queues.specs.declared.waiters.Waiter.{Waiter}
+use Rattle.wait_queues.specs.Kept.{weight_at, weight_of, AreLinedUp, AreWaiting}
+use Rattle.wait_queues.specs.Lines.{Lined}
+use Rattle.wait_queues.specs.Order.{Order}
+use Rattle.wait_queues.specs.Waitlists.{Waiters, WaitsAt, since_before}
+
+abbrev from_start : Waiter → Waiter
+from_start waiter = record { key = waiter.key; queue = waiter.queue; joined = 0 }
+
+-- they weigh the same
+same_weight : (weight : Key × ℕ → ℕ) (queue : Queue) (at : ℕ) (ws : Waiters) → weight_of weight queue at (map since_before ws) ≡ weight_of weight queue at ws
+same_weight weight queue at [] = refl
+same_weight weight queue at (None ∷ ws) = ap (λ n. 0 + n) (same_weight weight queue (suc at) ws)
+same_weight weight queue at (Some w ∷ ws) = ap (λ n. weight_at weight queue at (Some w) + n) (same_weight weight queue (suc at) ws)
+
+-- and wait at the same places
+still_waits : (ws : Waiters) (place : ℕ) (w : Waiter) → WaitsAt ws place w → WaitsAt (map since_before ws) place (from_start w)
+still_waits [] place w stood = cc
+still_waits (x ∷ ws) zero w stood = ap (option_map since_before) stood
+still_waits (x ∷ ws) (suc place) w stood = still_waits ws place w stood
+
+waited : (ws : Waiters) (place : ℕ) (v : Waiter) → WaitsAt (map since_before ws) place v → (w : Waiter) × WaitsAt ws place w × (v ≡ from_start w)
+waited [] place v stood = cc
+waited (None ∷ ws) zero v stood = cc
+waited (Some w ∷ ws) zero v stood = (w, refl, same_Some v (from_start w) (same_Some (Some v) (Some (from_start w)) (sym stood)))
+waited (x ∷ ws) (suc place) v stood = waited ws place v stood
+
+lined_before : (lined : Lined) (ws : Waiters) → AreLinedUp lined ws → AreLinedUp lined (map since_before ws)
+lined_before lined ws is = record {
+  weighs = λ queue within weight. is.weighs queue within weight ∙ sym (same_weight weight queue 0 ws);
+  ascending = is.ascending;
+  moved = is.moved;
+  apart = is.apart;
+  room = is.room ∙ sym (length-map ws since_before);
+  within = λ place v stood.
+      let it = waited ws place v stood in subst (λ (x : Waiter). IsQueueOf (length lined.own) x.queue) (sym it.2) (is.within place it.0 it.1);
+  own_keys = λ place other v its stood others same.
+      let one = waited ws place v stood in
+      let two = waited ws other its others in
+      is.own_keys place other one.0 two.0 one.1 two.1 (ap (λ (x : Waiter). x.key) (sym one.2) ∙ same ∙ ap (λ (x : Waiter). x.key) two.2);
+}
+
+pub waiting_before : (lined : Lined) (ws after : Waiters) (order : Order) → AreWaiting lined ws order → after ≡ map since_before ws → AreWaiting lined after order
+waiting_before lined ws after order is are = subst (λ l. AreWaiting lined l order) (sym are) record {
+  lined_up = lined_before lined ws is.lined_up;
+  order_room = is.order_room ∙ sym (length-map ws since_before);
+  in_order = record {
+    once = is.in_order.once;
+    waits = λ place among. let it = is.in_order.waits place among in (from_start it.0, still_waits ws place it.0 it.1);
+    all = λ place v stood. let it = waited ws place v stood in is.in_order.all place it.0 it.1;
+  };
+}

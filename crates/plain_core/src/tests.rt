@@ -46,14 +46,14 @@ fn many_checks(alloc: Global) -> Result<Setup, Fail> {
     Ok(Setup {
         servers: Servers::from_vec(servers),
         places: 24,
-        log: 262_144,
+        log: 3000,
         retries: 2,
         redispatch: true,
         queue_timeout: 60,
     })
 }
 
-// A server has no limit, one isn't checked, what waits stays where it is, and the log ends early.
+// A server has no limit at first, one isn't checked, and what waits stays where it is.
 fn few_checks(alloc: Global) -> Result<Setup, Fail> {
     let list = [
         probed(0, 4, 1, 3, 1),
@@ -65,7 +65,7 @@ fn few_checks(alloc: Global) -> Result<Setup, Fail> {
     Ok(Setup {
         servers: Servers::from_vec(servers),
         places: 20,
-        log: 4000,
+        log: 1500,
         retries: 1,
         redispatch: false,
         queue_timeout: 0,
@@ -113,22 +113,66 @@ fn agree(
     }
 }
 
-// So many calls are, and before each of them it is told whether a stay has expired.
+// Whether the log's base has the requests that are there.
+fn has_base(core: &OfLists, plain: &Plain) -> bool {
+    let base = core.log().base();
+    let rows = plain.rows.iter().flatten();
+    let same = plain.rows.iter().flatten().zip(base).all(|(row, it)| {
+        row.key.ticket == it.ticket
+            && row.key.class == it.class
+            && row.key.due == it.due
+            && row.phase.queue() == it.queue
+    });
+    same && rows.count() == base.len()
+}
+
+// The windows that have ended: their entries, and how many of them were full.
+#[derive(Drop)]
+struct Course {
+    entries: Vec<Entry>,
+    windows: u32,
+    full: u32,
+}
+
+impl Course {
+    // The window ends here, and the next one begins with what it leaves.
+    fn roll(&mut self, rt: &impl Abort, core: &mut OfLists, plain: &mut Plain) -> Result<(), Fail> {
+        self.entries.extend_from_slice(core.log().entries())?;
+        self.windows = self.windows.saturating_add(1);
+        if !core.has_room() {
+            self.full = self.full.saturating_add(1);
+        }
+        core.roll();
+        plain.roll()?;
+        assert!(rt; core.log().is_empty() && has_base(core, plain));
+        Ok(())
+    }
+}
+
+// So many calls are, and before each of them it is told whether a stay has expired. Now and then the next window begins.
 fn agree_on_all(
     rt: &impl Abort,
     alloc: Global,
     core: &mut OfLists,
     plain: &mut Plain,
     calls: u32,
-) -> Result<(), Fail> {
+) -> Result<Course, Fail> {
     let mut chance = Chance::new(20_260_101);
+    let mut course = Course {
+        entries: Vec::new(alloc),
+        windows: 0,
+        full: 0,
+    };
     for _ in 0..calls {
         let moment = chance.moment();
         assert_eq!(rt; core.expired(moment), plain.some_expire(moment));
         let call = chance.call(plain);
         agree(rt, alloc, core, plain, moment, &call)?;
+        if chance.rolls() {
+            course.roll(rt, core, plain)?;
+        }
     }
-    Ok(())
+    Ok(course)
 }
 
 // So many calls are answered by a dispatcher of a setup, which is given twice, as the definitions say.
@@ -138,11 +182,10 @@ fn both_agree(
     setup: Setup,
     same: Setup,
     calls: u32,
-) -> Result<OfLists, Fail> {
+) -> Result<Course, Fail> {
     let mut core = made(alloc, setup)?;
     let mut plain = Plain::new(alloc, same)?;
-    agree_on_all(rt, alloc, &mut core, &mut plain, calls)?;
-    Ok(core)
+    agree_on_all(rt, alloc, &mut core, &mut plain, calls)
 }
 
 // The log has decisions of every kind.
@@ -169,8 +212,8 @@ fn has_left_for(rt: &impl Abort, log: &[Entry], cause: Cause) {
 #[test]
 fn the_log_is_that_of_the_definitions(rt: HostRuntime) -> Result<(), Fail> {
     let alloc = rt.alloc();
-    let core = both_agree(&rt, alloc, many_checks(alloc)?, many_checks(alloc)?, 20_000)?;
-    let log = core.log().entries();
+    let course = both_agree(&rt, alloc, many_checks(alloc)?, many_checks(alloc)?, 20_000)?;
+    let log = course.entries.as_slice();
     has_every_kind(&rt, log);
     for cause in [
         Cause::Aborted,
@@ -180,13 +223,15 @@ fn the_log_is_that_of_the_definitions(rt: HostRuntime) -> Result<(), Fail> {
     ] {
         has_left_for(&rt, log, cause);
     }
+    assert!(rt; course.windows > 8);
+    assert!(rt; course.full > 0 && course.full < course.windows);
     Ok(())
 }
 
 #[test]
-fn a_full_log_is_that_of_the_definitions(rt: HostRuntime) -> Result<(), Fail> {
+fn full_logs_are_those_of_the_definitions(rt: HostRuntime) -> Result<(), Fail> {
     let alloc = rt.alloc();
-    let core = both_agree(&rt, alloc, few_checks(alloc)?, few_checks(alloc)?, 3000)?;
-    assert_eq!(rt; core.has_room(), false);
+    let course = both_agree(&rt, alloc, few_checks(alloc)?, few_checks(alloc)?, 5000)?;
+    assert!(rt; course.full > 1);
     Ok(())
 }

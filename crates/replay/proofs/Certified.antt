@@ -1,16 +1,22 @@
--- The reports of a legal log certify it.
+-- The reports of a legal window certify it.
 use Rattle.std.proofs.Common.{◌≡◌, List, subst}
-use Rattle.dispatch_log.specs.declared.entry.Entry.{Entry}
 use Rattle.dispatch_log.specs.Dispatch.{IsDispatched}
-use Rattle.dispatch_log.specs.Histories.{History, IsLegal}
+use Rattle.dispatch_log.specs.Histories.{History}
+use Rattle.dispatch_log.specs.Legal.{IsLegal}
+use Rattle.dispatch_log.specs.Logs.{Recorded}
 use Rattle.late_cert.specs.Reports.{AreReports}
 use Rattle.late_cert.specs.declared.report.Report.{Report}
 use Rattle.late_cert.proofs.Legal.{legal_reports_sound, legal_reports_least}
-use Rattle.replay.specs.Certificates.{IsCertified}
+use Rattle.readable_log.specs.Windows.{Window, window_in, window_of}
+use Rattle.script.specs.Certificates.{IsCertified}
 
-pub certified : (history : History) (log : List Entry) (reports : List Report) → log ≡ history.log → IsLegal history → IsDispatched history → AreReports log reports → IsCertified history reports
-certified history log reports logged legal dispatched are =
-    let chosen : AreReports history.log reports = subst (λ (l : List Entry). AreReports l reports) logged are in
+-- a log with a history's base and entries records its window
+pub same_window : (history : History) (log : Recorded) → log.base ≡ history.base → log.entries ≡ history.log → window_of log ≡ window_in history
+same_window history log based logged = cc
+
+pub certified : (history : History) (window : Window) (reports : List Report) → window ≡ window_in history → IsLegal history → IsDispatched history → AreReports window reports → IsCertified history reports
+certified history window reports same legal dispatched are =
+    let chosen : AreReports (window_in history) reports = subst (λ (w : Window). AreReports w reports) same are in
     record {
       legal = legal;
       dispatched = dispatched;

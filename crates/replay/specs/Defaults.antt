@@ -3,7 +3,7 @@ use Rattle.std.specs.Prelude.{ℕ, List, [], ◌∷◌, None, codes}
 use Rattle.std.specs.Option.{unwrap_or}
 use Rattle.dispatch_log.specs.declared.setup.ServerSet.{ServerSet}
 use Rattle.dispatch_log.specs.declared.setup.Setup.{Setup}
-use Rattle.dispatch_log.specs.Histories.{History}
+use Rattle.dispatch_log.specs.Histories.{History, first_window}
 use Rattle.script.specs.Headers.{Settings}
 
 -- one server, which takes one request at a time
@@ -33,6 +33,6 @@ setup_of settings = record {
   queue_timeout = unwrap_or settings.queue_timeout 0;
 }
 
--- no event yet
+-- the first window, without an event yet
 abbrev pub opening : Settings → History
-opening settings = record { setup = setup_of settings; log = [] }
+opening settings = first_window (setup_of settings) []

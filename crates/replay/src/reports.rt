@@ -1,7 +1,8 @@
-ghost use Rattle.std.specs.Prelude.{◌≡◌, ◌++◌, List, IfOk, IfErr, OnOk, string_bytes};
+ghost use Rattle.std.specs.Prelude.{◌≡◌, ◌++◌, ℕ, List, IfOk, IfErr, OnOk, string_bytes};
 ghost use Rattle.late_cert.specs.declared.report.Report.{Report};
 ghost use Rattle.script.specs.Reports.{reports_text};
-ghost use Rattle.replay.specs.Certificates.{IsCertified};
+ghost use Rattle.script.specs.Certificates.{IsCertified};
+ghost use Rattle.script.specs.ScriptTexts.{IsRolled};
 
 use crate::fault::Fault;
 use crate::run::kept;
@@ -9,10 +10,10 @@ use dispatch_core::Core;
 use due_key::Key;
 use late_cert::{Reports, certify};
 use pend_queue::PendQueue;
-use script::{Names, push_reports};
+use script::{Names, push_reports, push_roll};
 use std::alloc::{AllocError, Global};
 
-/// The reports of all that a dispatcher decided so far: for each queue and class that has a grant, the least
+/// The reports of all that a dispatcher decided since the present window began: for each queue and class that has a grant, the least
 /// greatest lateness that any assignment of the same slots has, and the tickets that show it. `O(n log n)` in
 /// the grants; fails only where memory is refused.
 pub fn reports_of<Q: PendQueue<Key, usize>>(
@@ -39,4 +40,23 @@ pub(crate) fn report<Q: PendQueue<Key, usize>>(
         return Err(Fault::NoMemory);
     };
     kept(push_reports(text, names, reports.as_slice()))
+}
+
+// Writes the line of a roll at the end and those of the reports of the window that it ends, and begins the next.
+pub(crate) fn roll<Q: PendQueue<Key, usize>>(
+    alloc: Global,
+    core: &mut Core<Q>,
+    names: &Names,
+    text: &mut String,
+) -> Result<(), Fault>
+    ensures ok { OnOk result ((front : List ℕ) × IsRolled names.now core.old core.new front
+        × (string_bytes text.new ≡ string_bytes text.old ++ front)) }
+    ensures err { IfErr result (λ fault. fault ≡ Fault.NoMemory) }
+{
+    let Ok(ended) = reports_of(alloc, core) else {
+        return Err(Fault::NoMemory);
+    };
+    kept(push_roll(text, names, ended.as_slice()))?;
+    core.roll();
+    Ok(())
 }

@@ -1,10 +1,13 @@
-ghost use Rattle.std.specs.Prelude.{◌≡◌, ◌++◌, ℕ, List, IfOk, IfErr, OnOk, OnErr, IsOk, string_bytes};
+ghost use Rattle.std.specs.Prelude.{◌≡◌, ◌≢◌, ◌++◌, ℕ, List, IfOk, IfErr, OnOk, OnErr, IsOk, string_bytes};
 ghost use Rattle.dispatch_log.specs.declared.entry.Entry.{Entry};
-ghost use Rattle.dispatch_log.specs.Histories.{AddsEvent, RefusedOrNoMemory};
+ghost use Rattle.dispatch_log.specs.Histories.{RefusedOrNoMemory};
+ghost use Rattle.dispatch_log.specs.Legal.{AddsEvent};
+ghost use Rattle.script.specs.declared.step.Step.TheVariants.{Roll};
 ghost use Rattle.script.specs.Steps.{steps_of};
 ghost use Rattle.script.specs.ScriptTexts.{Answers, IsEventOf, IsScriptText, refuses};
 
 use crate::fault::Fault;
+use crate::reports::roll;
 use dispatch_core::Core;
 use dispatch_log::Refusal;
 use due_key::Key;
@@ -13,7 +16,7 @@ use proxy_words::Lines;
 use script::{Names, Step, push_entries, push_refusal, step_of};
 use std::alloc::{AllocError, Global};
 
-/// Runs the events of a script in order, and answers their lines.
+/// Runs the steps of a script in order, and answers their lines.
 pub(crate) fn run<Q: PendQueue<Key, usize>>(
     alloc: Global,
     core: &mut Core<Q>,
@@ -33,7 +36,7 @@ pub(crate) fn run<Q: PendQueue<Key, usize>>(
     Ok(text)
 }
 
-// Runs one event, and writes its lines at the end.
+// Runs one step, and writes its lines at the end.
 fn take_step<Q: PendQueue<Key, usize>>(
     alloc: Global,
     core: &mut Core<Q>,
@@ -41,6 +44,25 @@ fn take_step<Q: PendQueue<Key, usize>>(
     step: Step,
     text: &mut String,
 ) -> Result<(), Fault>
+    ensures ok { OnOk result ((front : List ℕ) × Answers names.now core.old core.new step.entry front
+        × (string_bytes text.new ≡ string_bytes text.old ++ front)) }
+    ensures err { IfErr result (λ fault. fault ≡ Fault.NoMemory) }
+{
+    match step {
+        Step::Roll => roll(alloc, core, names, text),
+        step => answer(alloc, core, names, step, text),
+    }
+}
+
+// Runs one event, and writes its lines at the end.
+fn answer<Q: PendQueue<Key, usize>>(
+    alloc: Global,
+    core: &mut Core<Q>,
+    names: &Names,
+    step: Step,
+    text: &mut String,
+) -> Result<(), Fault>
+    requires { step ≢ Roll }
     ensures ok { OnOk result ((front : List ℕ) × Answers names.now core.old core.new step.entry front
         × (string_bytes text.new ≡ string_bytes text.old ++ front)) }
     ensures err { IfErr result (λ fault. fault ≡ Fault.NoMemory) }
@@ -73,6 +95,7 @@ fn ask<Q: PendQueue<Key, usize>>(
     names: &Names,
     step: Step,
 ) -> Result<(), Refusal>
+    requires { step ≢ Roll }
     ensures ok { OnOk result ((event : Entry) × IsEventOf names.now core.old step.entry event × AddsEvent core.old core.new event) }
     ensures err { IfErr result (RefusedOrNoMemory (refuses names.now core.old step.entry)) }
     ensures unchanged { OnErr result (core.new ≡ core.old) }
@@ -97,5 +120,11 @@ fn ask<Q: PendQueue<Key, usize>>(
             server,
             answered,
         } => core.check(moment, names.number(&server), answered),
+        Step::Limit {
+            moment,
+            server,
+            limit,
+        } => core.limit(moment, names.number(&server), limit),
+        Step::Roll => unreachable!(),
     }
 }

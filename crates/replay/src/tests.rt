@@ -1,10 +1,12 @@
 mod ends;
 mod failures;
 mod health;
+mod limits;
 mod reports;
 mod rows;
 mod servers;
 mod waiting;
+mod windows;
 
 use crate::{Fault, replay};
 use std::alloc::Global;

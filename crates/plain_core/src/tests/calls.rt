@@ -15,6 +15,7 @@ pub enum Call {
     Abort(u64),
     Tick,
     Check(usize, bool),
+    Limit(usize, u32),
 }
 
 /// Asks a call of the dispatcher, and tells the place of an arrival.
@@ -34,6 +35,7 @@ pub fn ask(
         Call::Abort(ticket) => core.abort(moment, ticket)?,
         Call::Tick => core.tick(moment)?,
         Call::Check(server, ok) => core.check(moment, server, ok)?,
+        Call::Limit(server, limit) => core.limit(moment, server, limit)?,
     }
     Ok(0)
 }

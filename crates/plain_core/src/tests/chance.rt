@@ -71,11 +71,20 @@ impl Chance {
             10..=11 => Call::Fail(self.ticket(plain, false)),
             12 => Call::Abort(self.ticket(plain, true)),
             13 => Call::Tick,
+            14 if self.below(4) == 0 => {
+                let server = self.server(plain);
+                Call::Limit(server, self.below(4) as u32)
+            }
             _ => {
                 let server = self.server(plain);
                 Call::Check(server, self.below(5) > 1)
             }
         }
+    }
+
+    /// Whether the next window begins, now and then.
+    pub fn rolls(&mut self) -> bool {
+        self.below(1024) == 0
     }
 
     fn arrival(&mut self, plain: &Plain) -> Call {

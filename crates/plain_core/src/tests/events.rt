@@ -59,6 +59,8 @@ impl Plain {
             Call::Arrive(_, _, pin) => self.refuses_arrival(pin),
             Call::Tick => None,
             Call::Check(server, _) => self.refuses_check(server),
+            Call::Limit(server, _) if self.servers() <= server => Some(Refusal::NoSuchServer),
+            Call::Limit(_, _) => None,
             Call::Done(ticket) | Call::Fail(ticket) | Call::Abort(ticket) => {
                 match self.row_of(ticket) {
                     None => Some(Refusal::NoSuchTicket),
@@ -108,6 +110,7 @@ impl Plain {
             Call::Abort(ticket) => Entry::Abort(moment, ticket),
             Call::Tick => Entry::Tick(moment),
             Call::Check(server, ok) => Entry::Check(moment, server, ok),
+            Call::Limit(server, limit) => Entry::Limit(moment, server, limit),
         }
     }
 
@@ -181,6 +184,6 @@ fn suits(call: Call, phase: Phase) -> bool {
         Call::Done(_) => !waits,
         Call::Fail(_) => phase.server().is_some(),
         Call::Abort(_) => waits,
-        Call::Arrive(_, _, _) | Call::Tick | Call::Check(_, _) => true,
+        Call::Arrive(_, _, _) | Call::Tick | Call::Check(_, _) | Call::Limit(_, _) => true,
     }
 }

@@ -2,7 +2,8 @@ use dispatch_log::{Arrival, Entry, Phase, Queue, Row, Setup};
 use due_key::{Key, Moment};
 use std::alloc::{AllocError, Global};
 
-/// What a log leaves: the rows in a list and the results of the checks in lists, with no count, heap or index beside them.
+/// What a log leaves of its base: the rows in a list and the results of the checks in lists, with no count, heap or index
+/// beside them.
 #[derive(Drop)]
 pub struct Plain {
     pub setup: Setup,
@@ -10,11 +11,13 @@ pub struct Plain {
     pub results: Vec<Vec<bool>>,
     /// Which servers are up, by their results.
     pub ups: Vec<bool>,
+    /// How many requests each server may serve at present; 0: no limit.
+    pub limits: Vec<u32>,
     pub moment: Moment,
     pub ticket: u64,
     /// The server that balancing picked last.
     pub cursor: usize,
-    /// How many entries the log has.
+    /// How many entries the window has.
     pub used: usize,
 }
 
@@ -22,13 +25,16 @@ impl Plain {
     pub fn new(alloc: Global, setup: Setup) -> Result<Plain, AllocError> {
         let servers = setup.servers.len();
         let mut results = Vec::new(alloc);
-        for _ in 0..servers {
+        let mut limits = Vec::new(alloc);
+        for server in setup.servers.as_slice() {
             results.push(Vec::new(alloc))?;
+            limits.push(server.limit)?;
         }
         Ok(Plain {
             rows: vacant(alloc, setup.places)?,
             results,
             ups: vec![in alloc; true; servers]?,
+            limits,
             moment: Moment::zero(),
             ticket: 0,
             cursor: servers.saturating_sub(1),
@@ -64,6 +70,10 @@ impl Plain {
                 self.moment = moment;
                 self.add_result(server, ok)?;
             }
+            Entry::Limit(moment, server, limit) => {
+                self.moment = moment;
+                self.set_limit(server, limit);
+            }
             Entry::Direct(ticket, server) => {
                 self.put_on(ticket, server);
                 self.enter(ticket, Phase::Serving(server));
@@ -88,6 +98,36 @@ impl Plain {
             Entry::Left(ticket, cause) => self.enter(ticket, Phase::Told(cause)),
             Entry::Ended(ticket) => self.set(ticket, None),
             Entry::Retried(_, _, _) | Entry::Health(_, _) => {}
+        }
+        Ok(())
+    }
+
+    /// Begins the next window: what is left is its base.
+    pub fn roll(&mut self) -> Result<(), AllocError> {
+        self.used = 0;
+        for server in 0..self.servers() {
+            self.shorten(server)?;
+        }
+        Ok(())
+    }
+
+    // Of a server's results those stand that its health goes by: where it is up the failures since the last success, and
+    // where it is down so many failures as let it fall, and the successes since the last failure.
+    fn shorten(&mut self, server: usize) -> Result<(), AllocError> {
+        let up = self.is_up(server);
+        let fall = match self.server(server).and_then(|it| it.rise_fall) {
+            Some((_, fall)) if !up => fall as usize,
+            _ => 0,
+        };
+        if let Some(results) = self.results.get_mut(server) {
+            let against = results.iter().rev().take_while(|&&ok| ok != up).count();
+            results.clear();
+            for _ in 0..fall {
+                results.push(false)?;
+            }
+            for _ in 0..against {
+                results.push(!up)?;
+            }
         }
         Ok(())
     }
@@ -130,6 +170,12 @@ impl Plain {
     fn fill(&mut self, place: usize, row: Option<Row>) {
         if let Some(cell) = self.rows.get_mut(place) {
             *cell = row;
+        }
+    }
+
+    fn set_limit(&mut self, server: usize, limit: u32) {
+        if let Some(cell) = self.limits.get_mut(server) {
+            *cell = limit;
         }
     }
 

@@ -10,6 +10,11 @@ impl Plain {
         self.setup.servers.as_slice().get(server).copied()
     }
 
+    /// How many requests a server may serve at present; 0: no limit.
+    pub fn limit(&self, server: usize) -> Option<u32> {
+        self.limits.get(server).copied()
+    }
+
     pub fn served(&self, server: usize) -> usize {
         let mut count: usize = 0;
         for row in self.rows.iter().flatten() {
@@ -56,15 +61,15 @@ impl Plain {
     }
 
     pub fn is_free(&self, server: usize) -> bool {
-        self.server(server).is_some_and(|it| it.limit == 0
-            || self.served(server) < it.limit as usize)
+        self.limit(server)
+            .is_some_and(|limit| limit == 0 || self.served(server) < limit as usize)
     }
 
     /// Whether a balanced request may be put on the server.
     pub fn has_room(&self, server: usize) -> bool {
         self.server(server).is_some_and(|it| {
-            it.limit == 0
-                || self.load(server) < (it.limit as usize).saturating_add(it.maxqueue as usize)
+            let limit = self.limit(server).unwrap_or(0) as usize;
+            limit == 0 || self.load(server) < limit.saturating_add(it.maxqueue as usize)
         }) && self.is_usable(server)
     }
 

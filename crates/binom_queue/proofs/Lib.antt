@@ -1,0 +1,9 @@
+mod Digits
+mod Floors
+mod Heaps
+mod Keyed
+mod Queued
+mod Raised
+mod Rows
+mod Shuffles
+mod Walks

@@ -1,5 +1,6 @@
 -- The trees of a row and the binary digits of its number of pairs.
-use Rattle.std.proofs.Common.{◌≡◌, ℕ, zero, suc, ◌+◌, ◌-◌, ◌*◌, ◌^◌, ◌<◌, ◌≤◌, ◌++◌, length, count_ones, sym, ap, ◌∙◌, Ordering, add-one, add-zero, arith, length-append}
+use Rattle.std.proofs.Common.{◌≡◌, ℕ, zero, suc, ◌+◌, ◌-◌, ◌*◌, ◌^◌, ◌<◌, ◌≤◌, ◌++◌, length, count_ones, sym, ap, ◌∙◌, Ordering, add-one, add-zero}
+use Rattle.std.proofs.Common.{arith, length-append}
 use Rattle.std.proofs.Math.Nat.{pow-suc, mul_assoc, mul_comm, suc-mul}
 use Rattle.std.proofs.lemmas.Nat.{pow-add, pow_pos, ones_cat, ones_le_self}
 use Rattle.std.specs.Int.Count.{ones-ones}
@@ -16,7 +17,8 @@ one_one = ones-ones 1
 
 -- zeros behind a number, and a one behind it
 ones_shifted : (n k : ℕ) → count_ones (n * 2 ^ k) ≡ count_ones n
-ones_shifted n k = let all = ones_cat k n 0 (pow_pos k) in let none = no_ones in ap count_ones (sym (add-zero (n * 2 ^ k))) ∙ all ∙ ap (λ m. count_ones n + m) none ∙ add-zero (count_ones n)
+ones_shifted n k = let all = ones_cat k n 0 (pow_pos k) in let none = no_ones in ap count_ones (sym (add-zero (n * 2 ^ k))) ∙ all ∙ ap
+    (λ m. count_ones n + m) none ∙ add-zero (count_ones n)
 
 ones_next : (n : ℕ) → count_ones (n * 2 + 1) ≡ count_ones n + 1
 ones_next n = let all = ones_cat 1 n 1 (omega arith) in all ∙ ap (λ m. count_ones n + m) one_one
@@ -42,7 +44,8 @@ module _ {K V : Type 0} (cmp : K → K → Ordering) where
       )
 
   pub trees_are_ones : (roots : Forest K V) → AreRoots cmp 0 roots → trees roots ≡ count_ones (length (items roots))
-  trees_are_ones roots are = let all = digits_of 0 roots are in let same : length (items roots) ≡ all.0 = omega (arith, all.1) in all.2 ∙ ap count_ones (sym same)
+  trees_are_ones roots are = let all = digits_of 0 roots are in let same : length (items roots) ≡ all.0 = omega (arith, all.1) in all.2 ∙ ap
+      count_ones (sym same)
 
   -- no walk from a root of order n downwards passes more than n nodes
   depth_of_children : (key : K) (n : ℕ) (below : Forest K V) → AreChildren cmp key n below → depth below ≤ n
@@ -68,7 +71,8 @@ module _ {K V : Type 0} (cmp : K → K → Ordering) where
   shallow roots are digits fits = let all = depth_from 0 digits roots are fits in omega arith
 
   -- Each link leaves one tree fewer, so the links that make one row of two are told by the lengths.
-  pub links_told : (left right whole : Forest K V) (n m before after : ℕ) → AreRoots cmp 0 left → AreRoots cmp 0 right → AreRoots cmp 0 whole → n ≡ length (items left) → m ≡ length (items right) → length (items whole) ≡ length (items left) + length (items right)
+  pub links_told : (left right whole : Forest K V) (n m before after : ℕ) → AreRoots cmp 0 left → AreRoots cmp 0 right → AreRoots cmp 0 whole
+      → n ≡ length (items left) → m ≡ length (items right) → length (items whole) ≡ length (items left) + length (items right)
       → after + trees whole ≡ before + (trees left + trees right) → after + count_ones (n + m) ≡ before + (count_ones n + count_ones m)
   links_told left right whole n m before after first second third many more all links =
       let lefts : trees left ≡ count_ones n = trees_are_ones left first ∙ ap count_ones (sym many) in

@@ -30,8 +30,10 @@ module _ {K : Type 0} {cmp : K → K → Ordering} (order : IsTotalOrder cmp) wh
 
 module _ {K V : Type 0} {cmp : K → K → Ordering} (order : IsTotalOrder cmp) where
   -- what is above no key of a list is so by way of another key
-  pub floor_through : (a b : K) (ps : List (K × V)) → cmp a b ≢ Greater → AllByRecursion (λ p. cmp b p.0 ≢ Greater) ps → AllByRecursion (λ p. cmp a p.0 ≢ Greater) ps
-  floor_through a b ps first all = all_weaker (λ p. cmp b p.0 ≢ Greater) (λ p. cmp a p.0 ≢ Greater) (λ p second. not_above_trans order a b p.0 first second) ps all
+  pub floor_through : (a b : K) (ps : List (K × V)) → cmp a b ≢ Greater → AllByRecursion (λ p. cmp b p.0 ≢ Greater) ps
+      → AllByRecursion (λ p. cmp a p.0 ≢ Greater) ps
+  floor_through a b ps first all = all_weaker (λ p. cmp b p.0 ≢ Greater) (λ p. cmp a p.0 ≢ Greater)
+      (λ p second. not_above_trans order a b p.0 first second) ps all
 
   pub floor_of_children : (key : K) (n : ℕ) (below : Forest K V) → AreChildren cmp key n below → AllByRecursion (λ p. cmp key p.0 ≢ Greater) (items below)
   floor_of_children key zero Empty are = tt
@@ -39,20 +41,29 @@ module _ {K V : Type 0} {cmp : K → K → Ordering} (order : IsTotalOrder cmp) 
   floor_of_children key (suc n) Empty are = absurd are
   floor_of_children key (suc n) (Of' box pair own child next) are = (
     are.1,
-    all_append (λ p. cmp key p.0 ≢ Greater) (items child) (items next) (floor_through key pair.0 (items child) are.1 (floor_of_children pair.0 n child are.2)) (floor_of_children key n next are.3),
+    all_append (λ p. cmp key p.0 ≢ Greater) (items child) (items next)
+        (floor_through key pair.0 (items child) are.1 (floor_of_children pair.0 n child are.2)) (floor_of_children key n next are.3),
   )
 
   -- the key of a tree's root, or one that isn't above it, and the rest of the row
-  pub floor_of_roots : (key : K) (pair : K × V) (n : ℕ) (child next : Forest K V) → cmp key pair.0 ≢ Greater → AreChildren cmp pair.0 n child → AllByRecursion (λ p. cmp key p.0 ≢ Greater) (items next) → AllByRecursion (λ p. cmp key p.0 ≢ Greater) (pair ∷ (items child ++ items next))
-  floor_of_roots key pair n child next first are rest = (first, all_append (λ p. cmp key p.0 ≢ Greater) (items child) (items next) (floor_through key pair.0 (items child) first (floor_of_children pair.0 n child are)) rest)
+  pub floor_of_roots : (key : K) (pair : K × V) (n : ℕ) (child next : Forest K V) → cmp key pair.0 ≢ Greater → AreChildren cmp pair.0 n child
+      → AllByRecursion (λ p. cmp key p.0 ≢ Greater) (items next) → AllByRecursion (λ p. cmp key p.0 ≢ Greater) (pair ∷ (items child ++ items next))
+  floor_of_roots key pair n child next first are rest = (
+    first,
+    all_append (λ p. cmp key p.0 ≢ Greater) (items child) (items next)
+        (floor_through key pair.0 (items child) first (floor_of_children pair.0 n child are)) rest,
+  )
 
   -- a key that is below a floor is absent above it
   pub absent_under_floor : (floor key : K) (ps : List (K × V)) → cmp key floor ≡ Less → AllByRecursion (λ p. cmp floor p.0 ≢ Greater) ps → IsAbsent cmp key ps
-  absent_under_floor floor key ps below all = all_weaker (λ p. cmp floor p.0 ≢ Greater) (λ p. cmp p.0 key ≢ Equal) (λ p first tied. not_above_trans order floor p.0 key first (λ above. let no : cmp p.0 key ≡ Equal = tied in cc) (greater_from_less order key floor below)) ps all
+  absent_under_floor floor key ps below all = all_weaker (λ p. cmp floor p.0 ≢ Greater) (λ p. cmp p.0 key ≢ Equal)
+      (λ p first tied. not_above_trans order floor p.0 key first (λ above. let no : cmp p.0 key ≡ Equal = tied in cc)
+      (greater_from_less order key floor below)) ps all
 
   -- children of a root fit below a key that isn't above the root's
   pub children_through : (a b : K) → cmp a b ≢ Greater → (n : ℕ) (below : Forest K V) → AreChildren cmp b n below → AreChildren cmp a n below
   children_through a b first zero Empty are = tt
   children_through a b first zero (Of' box pair own child next) are = absurd are
   children_through a b first (suc n) Empty are = absurd are
-  children_through a b first (suc n) (Of' box pair own child next) are = (are.0, not_above_trans order a b pair.0 first are.1, are.2, children_through a b first n next are.3)
+  children_through a b first (suc n) (Of' box pair own child next) are =
+      (are.0, not_above_trans order a b pair.0 first are.1, are.2, children_through a b first n next are.3)

@@ -2,6 +2,7 @@ mod Digits
 mod Floors
 mod Heaps
 mod Keyed
+mod Orders
 mod Queued
 mod Raised
 mod Rows

@@ -1,5 +1,6 @@
 -- What each operation makes of the pairs by key, from what it makes of the pairs of the trees.
-use Rattle.std.proofs.Common.{◌≡◌, ◌≢◌, List, [], ◌∷◌, ◌++◌, length, drop, slice_get, IsPermutation, Contains, Some, None, sym, ap, subst, ◌∙◌, inl, inr, Ordering, Equal, Greater}
+use Rattle.std.proofs.Common.{◌≡◌, ◌≢◌, List, [], ◌∷◌, ◌++◌, length, drop, slice_get, IsPermutation, Contains, Some, None, sym, ap, subst, ◌∙◌, inl}
+use Rattle.std.proofs.Common.{inr, Ordering, Equal, Greater}
 use Rattle.std.specs.Cmp.{IsTotalOrder}
 use Rattle.std.specs.List.{AllByRecursion}
 use Rattle.std.proofs.lemmas.Cmp.{tied_itself}
@@ -28,7 +29,8 @@ module _ {K V : Type 0} {cmp : K → K → Ordering} (order : IsTotalOrder cmp) 
   become ps qs moved up = record { are = by_key_is order ps qs moved up; all = none_lost order ps qs moved up }
 
   -- the head of an ascending list is its least pair
-  head_is : (whole : List (K × V)) (p : K × V) → IsAscending cmp whole → Contains whole p → ((q : K × V) → Contains whole q → cmp p.0 q.0 ≢ Greater) → (rest : List (K × V)) × (whole ≡ p ∷ rest)
+  head_is : (whole : List (K × V)) (p : K × V) → IsAscending cmp whole → Contains whole p → ((q : K × V) → Contains whole q → cmp p.0 q.0 ≢ Greater)
+      → (rest : List (K × V)) × (whole ≡ p ∷ rest)
   head_is [] p up among least = absurd (Contains-nil p among)
   head_is (q ∷ rest) p up among least = elim (head_or_above cmp q rest p up among) [
     | inl same ↦ (rest, ap (λ (x : K × V). x ∷ rest) same)
@@ -43,15 +45,20 @@ module _ {K V : Type 0} {cmp : K → K → Ordering} (order : IsTotalOrder cmp) 
     same = IsPermutation-by_key cmp ps kept
 
     -- one pair more
-    pub pushed : (new : K × V) (qs : List (K × V)) → IsPermutation (new ∷ ps) qs → IsAbsent cmp new.0 (by_key cmp ps) → Become qs (inserted cmp new (by_key cmp ps))
+    pub pushed : (new : K × V) (qs : List (K × V)) → IsPermutation (new ∷ ps) qs → IsAbsent cmp new.0 (by_key cmp ps)
+        → Become qs (inserted cmp new (by_key cmp ps))
     pushed new qs moved absent = become qs _
-        (IsPermutation-trans _ _ _ (IsPermutation-sym _ _ moved) (IsPermutation-trans _ _ _ (IsPermutation-cons new _ _ same) (IsPermutation-inserted cmp new (by_key cmp ps) absent)))
+        (IsPermutation-trans _ _ _ (IsPermutation-sym _ _ moved)
+        (IsPermutation-trans _ _ _ (IsPermutation-cons new _ _ same) (IsPermutation-inserted cmp new (by_key cmp ps) absent)))
         (IsAscending-inserted order new (by_key cmp ps) up)
 
     -- the pairs of another list too
-    pub met : (qs rs : List (K × V)) → length (by_key cmp qs) ≡ length qs → IsPermutation (ps ++ qs) rs → HaveNoCommonKey cmp (by_key cmp ps) (by_key cmp qs) → Become rs (merged cmp (by_key cmp ps) (by_key cmp qs))
+    pub met : (qs rs : List (K × V)) → length (by_key cmp qs) ≡ length qs → IsPermutation (ps ++ qs) rs
+        → HaveNoCommonKey cmp (by_key cmp ps) (by_key cmp qs) → Become rs (merged cmp (by_key cmp ps) (by_key cmp qs))
     met qs rs too moved apart = become rs _
-        (IsPermutation-trans _ _ _ (IsPermutation-sym _ _ moved) (IsPermutation-trans _ _ _ (IsPermutation-append _ _ _ _ same (IsPermutation-by_key cmp qs too)) (IsPermutation-merged order (by_key cmp ps) (by_key cmp qs) (IsAscending-by_key order qs) apart)))
+        (IsPermutation-trans _ _ _ (IsPermutation-sym _ _ moved)
+        (IsPermutation-trans _ _ _ (IsPermutation-append _ _ _ _ same (IsPermutation-by_key cmp qs too))
+        (IsPermutation-merged order (by_key cmp ps) (by_key cmp qs) (IsAscending-by_key order qs) apart)))
         (IsAscending-merged order (by_key cmp ps) (by_key cmp qs) up)
 
     -- no pair of a key
@@ -79,12 +86,17 @@ module _ {K V : Type 0} {cmp : K → K → Ordering} (order : IsTotalOrder cmp) 
       pub popped : AllByRecursion (λ q. cmp p.0 q.0 ≢ Greater) ps → (slice_get (by_key cmp ps) 0 ≡ Some p) × (by_key cmp qs ≡ drop 1 (by_key cmp ps))
       popped least =
           let head = first_is p (Contains-permutation _ _ p (IsPermutation-sym _ _ parted) (Contains-head p qs)) least in
-          let rest : without cmp p.0 (by_key cmp ps) ≡ head.0 = ap (without cmp p.0) head.1 ∙ without-head order p head.0 (subst (IsAscending cmp) head.1 up) in
-          (ap (λ (l : List (K × V)). slice_get l 0) head.1, rest_by_key order (by_key cmp ps) p qs up by_key_parted p.0 (tied_itself order p.0) ∙ rest ∙ sym (ap (drop 1) head.1))
+          let rest : without cmp p.0 (by_key cmp ps) ≡ head.0 = ap (without cmp p.0) head.1 ∙ without-head order p head.0
+          (subst (IsAscending cmp) head.1 up) in (
+            ap (λ (l : List (K × V)). slice_get l 0) head.1,
+            rest_by_key order (by_key cmp ps) p qs up by_key_parted p.0 (tied_itself order p.0) ∙ rest
+                ∙ sym (ap (drop 1) head.1),
+          )
 
 module _ {K V : Type 0} where
   -- a tree of one node put among others
-  pub lone : (root : Node K V) (pair : K × V) (taken roots : Forest K V) (qs : List (K × V)) → root.child ≡ Empty → root.pair ≡ pair → taken ≡ roots → IsPermutation (tree_items root ++ items taken) qs → IsPermutation (pair ∷ items roots) qs
+  pub lone : (root : Node K V) (pair : K × V) (taken roots : Forest K V) (qs : List (K × V)) → root.child ≡ Empty → root.pair ≡ pair → taken ≡ roots
+      → IsPermutation (tree_items root ++ items taken) qs → IsPermutation (pair ∷ items roots) qs
   lone root pair taken roots qs none is same moved =
       subst (λ (f : Forest K V). IsPermutation (pair ∷ items f) qs) same
       (subst (λ (p : K × V). IsPermutation (p ∷ items taken) qs) is

@@ -1,47 +1,68 @@
--- Trees found in a row by their order.
-use Rattle.std.proofs.Common.{◌≡◌, ◌≢◌, ℕ, suc, ◌≤◌, Bool, true, false, if◌then◌else◌, nat_eq, Some, ◌∷◌, ◌++◌, Contains, refl, ap, subst, ◌∙◌, Ordering, arith}
-use Rattle.list_facts.proofs.Members.{Contains-head, Contains-tail}
-use Rattle.std.proofs.lemmas.List.Elements.{Contains-append_right}
-use Rattle.std.proofs.lemmas.Bool.{eqb-true, eq-eqb}
+-- The definitions at worked examples: what must hold, and wrong trees that must not be taken.
+use Rattle.std.proofs.Common.{◌≡◌, ◌≢◌, ℕ, ◌≤◌, [], ◌∷◌, Some, None, refl, arith, nat_cmp, Box, Global}
 use Rattle.binom_queue.specs.declared.forest.Forest.{Forest}
 use Rattle.binom_queue.specs.declared.forest.Forest.TheVariants.{Empty, Of'}
-use Rattle.binom_queue.specs.Trees.{items, root_of, AreRoots}
+use Rattle.binom_queue.specs.Queue.{by_key}
+use Rattle.binom_queue.specs.Trees.{items, trees, depth, root_of, AreChildren, AreRoots}
 
-test_of_other : (m n : ℕ) → m ≢ n → nat_eq m n ≡ false
-test_of_other m n differs = at (nat_eq m n) refl
-  where
-    at : (b : Bool) → nat_eq m n ≡ b → nat_eq m n ≡ false
-    at true is = absurd (differs (eqb-true m n is))
-    at false is = is
+-- a tree of four pairs behind a tree of one, whose five pairs are 101 in binary
+module _ (box : Box (Unit {0}) Global) where
+  abbrev leaf : ℕ → ℕ → Forest ℕ ℕ → Forest ℕ ℕ
+  leaf key order next = Of' box (key, 10) order Empty next
 
-module _ {K V : Type 0} (cmp : K → K → Ordering) where
-  -- a root of trees from an order on has no smaller order
-  pub root_of_above : (low n : ℕ) (roots : Forest K V) (p : K × V) → AreRoots cmp low roots → root_of n roots ≡ Some p → low ≤ n
-  root_of_above low n Empty p are found = cc
-  root_of_above low n (Of' box pair order child next) p are found = at (nat_eq order n) refl found (root_of_above (suc order) n next p are.2)
-    where
-      at : (b : Bool) → nat_eq order n ≡ b → (if b then Some pair else root_of n next) ≡ Some p → (root_of n next ≡ Some p → suc order ≤ n) → low ≤ n
-      at true is here rest = let same : order ≡ n = eqb-true order n is in let least = are.0 in omega arith
-      at false is later rest = let above : suc order ≤ n = rest later in let least = are.0 in omega arith
+  abbrev below_two : Forest ℕ ℕ
+  below_two = Of' box (5, 10) 1 (leaf 9 0 Empty) (leaf 4 0 Empty)
 
-  module _ (pair : K × V) (order : ℕ) (next : Forest K V) where
-    -- the root of a row's first order is its first
-    pub root_of_first : (if nat_eq order order then Some pair else root_of order next) ≡ Some pair
-    root_of_first = ap (λ (b : Bool). if b then Some pair else root_of order next) (eq-eqb order order refl)
+  abbrev row : Forest ℕ ℕ
+  row = leaf 7 0 (Of' box (3, 10) 2 below_two Empty)
 
-    -- a root after the first one
-    pub root_of_later : (n : ℕ) (p : K × V) → AreRoots cmp (suc order) next → root_of n next ≡ Some p → (if nat_eq order n then Some pair else root_of n next) ≡ Some p
-    root_of_later n p are found =
-        let above : suc order ≤ n = root_of_above (suc order) n next p are found in
-        let differs : nat_eq order n ≡ false = test_of_other order n (λ same. omega arith) in
-        ap (λ (b : Bool). if b then Some pair else root_of n next) differs ∙ found
+  row_items : items row ≡ (7, 10) ∷ (3, 10) ∷ (5, 10) ∷ (9, 10) ∷ (4, 10) ∷ []
+  row_items = refl
 
--- a root is among the pairs
-module _ {K V : Type 0} where
-  pub root_of_among : (n : ℕ) (roots : Forest K V) (p : K × V) → root_of n roots ≡ Some p → Contains (items roots) p
-  root_of_among n Empty p found = cc
-  root_of_among n (Of' box pair order child next) p found = at (nat_eq order n) found (root_of_among n next p)
-    where
-      at : (b : Bool) → (if b then Some pair else root_of n next) ≡ Some p → (root_of n next ≡ Some p → Contains (items next) p) → Contains (pair ∷ (items child ++ items next)) p
-      at true here rest = let same : pair ≡ p = cc in subst (Contains (pair ∷ (items child ++ items next))) same (Contains-head pair (items child ++ items next))
-      at false later rest = Contains-tail pair (items child ++ items next) p (Contains-append_right (items child) (items next) p (rest later))
+  row_trees : trees row ≡ 2
+  row_trees = refl
+
+  -- 7, 3, 5, 9
+  row_depth : depth row ≡ 4
+  row_depth = refl
+
+  row_root : root_of 2 row ≡ Some (3, 10)
+  row_root = refl
+
+  row_no_root : root_of 1 row ≡ None
+  row_no_root = refl
+
+  row_is : AreRoots nat_cmp 0 row
+  row_is =
+      let fits : AreChildren nat_cmp 3 2 below_two = (refl, λ above. cc above, (refl, λ above. cc above, tt, tt), (refl, λ above. cc above, tt, tt)) in
+      (omega arith, tt, (omega arith, fits, tt))
+
+  -- from order 1 on, the first tree is too small
+  not_from_one : AreRoots nat_cmp 1 row → ⊥
+  not_from_one are = let no : 1 ≤ 0 = are.0 in omega arith
+
+  -- two trees of one order
+  no_order_twice : AreRoots nat_cmp 0 (leaf 7 0 (leaf 8 0 Empty)) → ⊥
+  no_order_twice are = let no : 1 ≤ 0 = are.2.0 in omega arith
+
+  -- a key below its root's
+  no_key_below_root : AreRoots nat_cmp 0 (Of' box (6, 10) 2 below_two Empty) → ⊥
+  no_key_below_root are = are.1.1 refl
+
+  -- the smaller tree first
+  no_rising_children : AreChildren nat_cmp 3 2 (leaf 4 0 (Of' box (5, 10) 1 (leaf 9 0 Empty) Empty)) → ⊥
+  no_rising_children are = cc are.0
+
+  -- a tree is missing
+  no_gap : AreChildren nat_cmp 3 2 (Of' box (5, 10) 1 (leaf 9 0 Empty) Empty) → ⊥
+  no_gap are = are.3
+
+sorted_row : by_key {V = ℕ} nat_cmp ((7, 70) ∷ (3, 30) ∷ (5, 50) ∷ []) ≡ (3, 30) ∷ (5, 50) ∷ (7, 70) ∷ []
+sorted_row = refl
+
+-- of a key that comes twice one pair is lost
+lost_row : by_key {V = ℕ} nat_cmp ((7, 70) ∷ (3, 30) ∷ (7, 71) ∷ []) ≡ (3, 30) ∷ (7, 70) ∷ []
+lost_row = refl
+
+not_as_they_come : by_key {V = ℕ} nat_cmp ((7, 70) ∷ (3, 30) ∷ []) ≢ (7, 70) ∷ (3, 30) ∷ []
+not_as_they_come same = cc same

@@ -1,7 +1,8 @@
 -- The same items in another order: parts of a list that change places.
 use Rattle.std.proofs.Common.{List, ◌++◌, IsPermutation, sym, subst}
 use Rattle.std.proofs.lemmas.List.{append_assoc}
-use Rattle.std.proofs.lemmas.List.Sorted.{IsPermutation-trans, IsPermutation-append_left, IsPermutation-append_right, IsPermutation-append, IsPermutation-append_comm}
+use Rattle.std.proofs.lemmas.List.Sorted.{IsPermutation-trans, IsPermutation-append_left, IsPermutation-append_right, IsPermutation-append}
+use Rattle.std.proofs.lemmas.List.Sorted.{IsPermutation-append_comm}
 
 module _ {X : Type 0} where
   -- one part past another
@@ -31,7 +32,8 @@ module _ {X : Type 0} where
   second_kept xs ys zs us made = IsPermutation-trans _ _ _ (past ys xs zs) (IsPermutation-append_right xs _ _ made)
 
   -- the first parts made one, and the second parts
-  pub made_pairwise : (xs ys us vs ps qs : List X) → IsPermutation (xs ++ us) ps → IsPermutation (ys ++ vs) qs → IsPermutation ((xs ++ ys) ++ (us ++ vs)) (ps ++ qs)
+  pub made_pairwise : (xs ys us vs ps qs : List X) → IsPermutation (xs ++ us) ps → IsPermutation (ys ++ vs) qs
+      → IsPermutation ((xs ++ ys) ++ (us ++ vs)) (ps ++ qs)
   made_pairwise xs ys us vs ps qs first second = IsPermutation-trans _ _ _ (pairwise xs ys us vs) (IsPermutation-append _ _ _ _ first second)
 
   -- one part that went to the second list before both became one

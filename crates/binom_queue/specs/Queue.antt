@@ -3,7 +3,7 @@ use Rattle.std.specs.Prelude.{◌≡◌, ℕ, ◌≤◌, List, [], length}
 use Rattle.std.specs.declared.cmp.Ordering.{Ordering}
 use Rattle.pend_queue.specs.Pairs.{merged}
 use Rattle.binom_queue.specs.declared.forest.Forest.{Forest}
-use Rattle.binom_queue.specs.Trees.{items, AreRoots}
+use Rattle.binom_queue.specs.Trees.{items, trees, depth, AreRoots}
 
 pub record Binomial (K V : Type 0) : Type 0 where
   -- its pairs by rising key, and how many it may hold
@@ -18,6 +18,10 @@ pub record Binomial (K V : Type 0) : Type 0 where
 -- pairs in any order, each put in its place by key; of pairs of one key the first is left
 abbrev pub by_key : {K V : Type 0} → (K → K → Ordering) → List (K × V) → List (K × V)
 by_key cmp ps = merged cmp [] ps
+
+-- what contracts see of trees with a room and a number of links
+abbrev pub seen : {K V : Type 0} → (K → K → Ordering) → Forest K V → ℕ → ℕ → Binomial K V
+seen cmp roots room links = record { pairs = by_key cmp (items roots); room = room; links = links; trees = trees roots; depth = depth roots }
 
 -- Binomial heaps of rising orders. By key none of their pairs is lost, so no key comes twice. Their number is counted, and there is room.
 pub record IsBinomial {K V : Type 0} (cmp : K → K → Ordering) (roots : Forest K V) (len room : ℕ) : Type 0 where

@@ -15,6 +15,9 @@ use std::mem;
 
 /// A queue as a row of binomial trees: heap-ordered, of rising orders, one for each one among the binary digits of the
 /// length.
+///
+/// Adding, removing and merging take no memory, and free none but with the nodes that they hand out. They are recursive, no
+/// deeper than twice the binary digits of the length.
 #[derive(Drop)]
 pub struct BinomQueue<K: Ord, V> {
     roots: Forest<K, V>,
@@ -24,18 +27,18 @@ pub struct BinomQueue<K: Ord, V> {
 }
 
 impl<K: Ord, V> Model for BinomQueue<K, V> {
-    ghost use Rattle.binom_queue.specs.Queue.{Binomial, IsBinomial, by_key};
-    ghost use Rattle.binom_queue.specs.Trees.{items, trees, depth};
+    ghost use Rattle.binom_queue.specs.Queue.{Binomial, IsBinomial, seen};
 
     ghost Value = { Binomial K V };
 
-    ghost view = { λ queue. record { pairs = by_key K.cmp (items queue.roots); room = queue.room; links = queue.links.count; trees = trees queue.roots; depth = depth queue.roots } };
+    ghost view = { λ queue. seen K.cmp queue.roots queue.room queue.links.count };
 
     ghost invariant = { λ queue. IsBinomial K.cmp queue.roots queue.len queue.room };
 }
 
 impl<K: Ord + Drop, V: Drop> BinomQueue<K, V> {
-    /// Moves all pairs of `other` over as [`merge`](PendQueue::merge) does, and answers how often it linked two trees for it.
+    /// Moves all pairs of `other` over as [`merge`](PendQueue::merge) does, and answers how often it linked two trees for
+    /// that: once for each carry where the two lengths are added in binary. `O(log n)` for `n` pairs in both.
     pub fn merge_counted(&mut self, other: &mut Self) -> u64
         requires room { length self.old.pairs + length other.old.pairs ≤ self.old.room }
         requires apart { HaveNoCommonKey K.cmp self.old.pairs other.old.pairs }
@@ -44,11 +47,12 @@ impl<K: Ord + Drop, V: Drop> BinomQueue<K, V> {
         ensures emptied { other.new.pairs ≡ [] }
         ensures other_room { other.new.room ≡ other.old.room }
 
-        // What was answered: the ones of both lengths, less those of their sum.
-        ensures answer { result ≡ count_ones (length self.old.pairs) + count_ones (length other.old.pairs) - count_ones (length self.old.pairs + length other.old.pairs) }
+        // The ones of both lengths, less those of their sum, and that many links more.
+        ensures answer { let n = length self.old.pairs in let m = length other.old.pairs in result ≡ count_ones n + count_ones m - count_ones (n + m) }
         ensures links { self.new.links ≡ self.old.links + result }
         ensures other_links { other.new.links ≡ other.old.links }
 
+        // What `pairs` means: the pairs of both, by rising key.
         ensures ascending { IsAscending K.cmp self.new.pairs }
         ensures permutation { IsPermutation (self.old.pairs ++ other.old.pairs) self.new.pairs }
     {
@@ -115,6 +119,7 @@ impl<K: Ord + Drop, V: Drop> PendQueue<K, V> for BinomQueue<K, V> {
         self.len == 0
     }
 
+    /// `O(log n)`: looks at the root of each tree.
     fn first(&self) -> Option<&K> {
         match least(&self.roots) {
             Some(root) => Some(&root.pair.0),
@@ -122,12 +127,14 @@ impl<K: Ord + Drop, V: Drop> PendQueue<K, V> for BinomQueue<K, V> {
         }
     }
 
+    /// `O(1)` on average over the pushes in a row, `O(log n)` at most: a link for each carry of the length.
     fn push(&mut self, node: Single<K, V>) {
         let roots = mem::replace(&mut self.roots, Forest::Empty);
         self.roots = add(roots, node.root, &mut self.links);
         self.len += 1;
     }
 
+    /// `O(log n)`.
     fn pop(&mut self) -> Option<Single<K, V>> {
         let order = least(&self.roots)?.order;
         let root = detach(&mut self.roots, order)?;
@@ -135,12 +142,14 @@ impl<K: Ord + Drop, V: Drop> PendQueue<K, V> for BinomQueue<K, V> {
         Some(part(&mut self.roots, root, &mut self.links))
     }
 
+    /// Looks below a root only where its key is smaller, at all of the `n` pairs at most. Taking the pair out is `O(log n)`.
     fn remove(&mut self, key: &K) -> Option<Single<K, V>> {
         let root = detach_key(&mut self.roots, key)?;
         self.len -= 1;
         Some(part(&mut self.roots, root, &mut self.links))
     }
 
+    /// `O(log n)` for `n` pairs in both.
     fn merge(&mut self, other: &mut Self) {
         self.merge_counted(other);
     }

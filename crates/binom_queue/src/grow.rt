@@ -1,4 +1,4 @@
-//! Trees linked to larger ones.
+//! Trees linked to larger ones. Each recursion goes on to a next tree in each call, so it is no deeper than there are trees.
 ghost use Rattle.std.specs.Prelude.{◌≡◌, ◌≢◌, ℕ, ◌+◌, ◌^◌, ◌<◌, ◌≤◌, ◌∷◌, ◌++◌, length, IsPermutation};
 ghost use Rattle.std.specs.declared.cmp.Ordering.TheVariants.{Greater};
 ghost use Rattle.binom_queue.specs.declared.forest.Forest.TheVariants.{Empty};
@@ -103,10 +103,10 @@ pub(crate) fn union<K: Ord + Drop, V: Drop>(
                 let (second, rest) = cut(second);
                 before(second, union(Forest::Of(first), rest, links))
             } else {
-                let (first, left) = cut(first);
-                let (second, right) = cut(second);
+                let (root, left) = cut(first);
+                let (other, right) = cut(second);
                 let rest = union(left, right, links);
-                add(rest, link(first, second, links), links)
+                add(rest, link(root, other, links), links)
             }
         }
     }

@@ -1,5 +1,5 @@
-//! Roots found by their order, and pairs found by their key.
-ghost use Rattle.std.specs.Prelude.{◌≡◌, ◌≢◌, ℕ, ◌+◌, Some, None, IfNone, IfSome, IsPermutation, ◌∷◌, option_map, true, false};
+//! Roots found by their order, and pairs found by their key. Each recursion goes on to a child or a next tree in each call.
+ghost use Rattle.std.specs.Prelude.{◌≡◌, ◌≢◌, ◌⊎◌, ℕ, ◌+◌, Some, None, IfNone, IfSome, IsPermutation, ◌∷◌, option_map, true, false};
 ghost use Rattle.std.specs.List.{AllByRecursion};
 ghost use Rattle.std.specs.declared.cmp.Ordering.TheVariants.{Equal, Greater};
 ghost use Rattle.pend_queue.specs.Pairs.{IsAbsent};
@@ -21,12 +21,23 @@ pub(crate) fn least<K: Ord, V>(roots: &Forest<K, V>) -> Option<&Node<K, V>>
         return None;
     };
     let root: &Node<K, V> = root;
-    match least(&root.next) {
-        None => Some(root),
-        Some(other) => match root.pair.0.cmp(&other.pair.0) {
-            Ordering::Greater => Some(other),
-            _ => Some(root),
-        },
+    Some(least_with(root, &root.next))
+}
+
+// The root of the least key among one root and the ones of a row.
+fn least_with<'a, K: Ord, V>(first: &'a Node<K, V>, roots: &'a Forest<K, V>) -> &'a Node<K, V>
+    requires { AreRoots K.cmp 0 roots.now }
+    ensures found { (result.now ≡ first.now) ⊎ (root_of result.now.order roots.now ≡ Some result.now.pair) }
+    ensures not_above { K.cmp result.now.pair.0 first.now.pair.0 ≢ Greater }
+    ensures least { AllByRecursion (λ p. K.cmp result.now.pair.0 p.0 ≢ Greater) (items roots.now) }
+{
+    let Forest::Of(root) = roots else {
+        return first;
+    };
+    let root: &Node<K, V> = root;
+    match first.pair.0.cmp(&root.pair.0) {
+        Ordering::Greater => least_with(root, &root.next),
+        _ => least_with(first, &root.next),
     }
 }
 

@@ -25,7 +25,8 @@ returns-then-holds-clause-some g t c =
     let own = c.deref_mut.ensures.value ∙ ap (λ b. b.value) c.cut-root.ensures.tree in
     let below = raised.fits before.order (subst (λ n. AreChildren g.K.Ord.cmp n.pair.0 n.order n.child) (sym own) parts.1) in
     taken_first g.K.Ord.cmp roots root c.cut-root.result.0 c.cut-root.result.1 after before.pair.0 is c.cut-root.ensures.tree c.cut-root.ensures.rest
-    (subst (λ n. AreChildren g.K.Ord.cmp before.pair.0 n after.child) (sym c.holds.ensures.rest.0) below) (c.holds.ensures.rest.1 ∙ ap (λ n. n.next) own) (subst (λ n. IsPermutation (tree_items n) (tree_items after)) c.deref_mut.ensures.value raised.pairs)
+    (subst (λ n. AreChildren g.K.Ord.cmp before.pair.0 n after.child) (sym c.holds.ensures.rest.0) below)
+    (c.holds.ensures.rest.1 ∙ ap (λ n. n.next) own) (subst (λ n. IsPermutation (tree_items n) (tree_items after)) c.deref_mut.ensures.value raised.pairs)
 
 -- no tree
 pub returns-else-holds-clause-none : goal.returns-else-holds-clause-none
@@ -38,8 +39,10 @@ returns-else-holds-clause-none g t c =
     let first = subst (λ n. IsAbsent g.K.Ord.cmp c.args.key.now (tree_items n)) c.deref_mut.ensures.value missed.1 in
     let parts = items_cut c.args.roots.now c.in-Of.root own rest is c.cut-root.ensures.tree c.cut-root.ensures.rest in
     IfNone_then c.detach_key-found.result c.detach_key-found.ensures.none (λ none. (
-      put_back c.args.roots.now c.in-Of.root own _ rest c.detach_key-found.new.roots c.before-else-holds.result is c.cut-root.ensures.tree c.cut-root.ensures.rest again none.0 c.before-else-holds.ensures,
-      subst (IsAbsent g.K.Ord.cmp c.args.key.now) (sym parts) (all_append (λ p. g.K.Ord.cmp p.0 c.args.key.now ≢ Equal) (tree_items own.value) (items rest) first none.1),
+      put_back c.args.roots.now c.in-Of.root own _ rest c.detach_key-found.new.roots c.before-else-holds.result is c.cut-root.ensures.tree
+          c.cut-root.ensures.rest again none.0 c.before-else-holds.ensures,
+      subst (IsAbsent g.K.Ord.cmp c.args.key.now) (sym parts)
+          (all_append (λ p. g.K.Ord.cmp p.0 c.args.key.now ≢ Equal) (tree_items own.value) (items rest) first none.1),
     ))
 
 -- a tree of the rest
@@ -49,5 +52,7 @@ returns-else-holds-clause-some g t c =
     let is : c.args.roots.now ≡ Of c.in-Of.root = sym c.replace.ensures.value ∙ c.in-Of.is in
     let missed = c.if-holds.ensures.missed refl in
     let again = ap (with_value own) (missed.0 ∙ c.deref_mut.ensures.value) in
-    IfSome_then c.detach_key-found.result c.detach_key-found.ensures.some (λ root out. taken_from_rest g.K.Ord.cmp c.args.roots.now c.in-Of.root (with_value own c.holds.new.root) c.cut-root.result.1 c.detach_key-found.new.roots c.before-else-holds.result root.value is
+    IfSome_then c.detach_key-found.result c.detach_key-found.ensures.some
+    (λ root out. taken_from_rest g.K.Ord.cmp c.args.roots.now c.in-Of.root (with_value own c.holds.new.root) c.cut-root.result.1
+    c.detach_key-found.new.roots c.before-else-holds.result root.value is
     (again ∙ c.cut-root.ensures.tree) c.cut-root.ensures.rest c.before-else-holds.ensures out)

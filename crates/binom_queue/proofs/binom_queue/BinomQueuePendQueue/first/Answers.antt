@@ -1,7 +1,7 @@
 use Rattle.std.proofs.Common.{sym, ap, option_map, slice_get}
 use Rattle.binom_queue.specs.Trees.{items}
 use Rattle.binom_queue.proofs.Queued.{first_is}
-use Rattle.binom_queue.proofs.Rows.{root_of_among}
+use Rattle.binom_queue.proofs.Orders.{root_of_among}
 use Rattle.binom_queue.proofs.binom_queue.BinomQueuePendQueue.first.Goals as goal
 
 -- the least root is the least pair

@@ -12,7 +12,8 @@ use Rattle.binom_queue.proofs.binom_queue.BinomQueuePendQueue.push.Goals as goal
 pub invariant_of-self : goal.invariant_of-self
 invariant_of-self g c =
     let root = c.node.inside.root.value in
-    let moved = lone root c.args.node c.replace-roots.result c.self.inside.roots (items c.add.result) c.node.invariant.child c.node.view_is c.replace-roots.ensures.value c.add.ensures.pairs in
+    let moved = lone root c.args.node c.replace-roots.result c.self.inside.roots (items c.add.result) c.node.invariant.child c.node.view_is
+    c.replace-roots.ensures.value c.add.ensures.pairs in
     let absent = subst (IsAbsent g.K.Ord.cmp c.args.node.0) (sym (ap (λ q. q.pairs) c.self.view_is)) c.requires.absent in
     let become = pushed g.met.K.Ord.total (items c.self.inside.roots) c.self.invariant.distinct c.args.node (items c.add.result) moved absent in
     let long = length_permutation _ _ moved in
@@ -28,7 +29,8 @@ invariant_of-self g c =
 pub returns-clause-pairs : goal.returns-clause-pairs
 returns-clause-pairs g c =
     let root = c.node.inside.root.value in
-    let moved = lone root c.args.node c.replace-roots.result c.self.inside.roots (items c.add.result) c.node.invariant.child c.node.view_is c.replace-roots.ensures.value c.add.ensures.pairs in
+    let moved = lone root c.args.node c.replace-roots.result c.self.inside.roots (items c.add.result) c.node.invariant.child c.node.view_is
+    c.replace-roots.ensures.value c.add.ensures.pairs in
     let is = ap (λ q. q.pairs) c.self.view_is in
     let absent = subst (IsAbsent g.K.Ord.cmp c.args.node.0) (sym is) c.requires.absent in
     let become = pushed g.met.K.Ord.total (items c.self.inside.roots) c.self.invariant.distinct c.args.node (items c.add.result) moved absent in
@@ -38,4 +40,5 @@ pub returns-clause-ascending : goal.returns-clause-ascending
 returns-clause-ascending g c = IsAscending-by_key g.met.K.Ord.total (items c.add.result)
 
 pub returns-clause-permutation : goal.returns-clause-permutation
-returns-clause-permutation g c = subst (λ l. IsPermutation (c.args.node ∷ c.args.self.now.pairs) l) (sym (returns-clause-pairs g c)) (IsPermutation-inserted g.K.Ord.cmp c.args.node c.args.self.now.pairs c.requires.absent)
+returns-clause-permutation g c = subst (λ l. IsPermutation (c.args.node ∷ c.args.self.now.pairs) l) (sym (returns-clause-pairs g c))
+    (IsPermutation-inserted g.K.Ord.cmp c.args.node c.args.self.now.pairs c.requires.absent)

@@ -50,14 +50,16 @@ pub returns-clause-value : goal.returns-clause-value
 returns-clause-value g c =
     let root = c.in_ok-root.root.value in
     let parted = IsPermutation-trans _ _ _ c.in_ok-root.ensures.some.pairs (IsPermutation-cons root.pair _ _ c.part.ensures.rest) in
-    let gone = removed g.met.K.Ord.total (items c.self.inside.roots) c.self.invariant.distinct root.pair (items c.part.new.roots) parted c.args.key.now c.in_ok-root.ensures.key in
+    let gone = removed g.met.K.Ord.total (items c.self.inside.roots) c.self.invariant.distinct root.pair (items c.part.new.roots) parted
+    c.args.key.now c.in_ok-root.ensures.key in
     rw (← c.self.view_is) (ap Some c.part.ensures.pair ∙ sym gone.0)
 
 pub returns-clause-pairs : goal.returns-clause-pairs
 returns-clause-pairs g c =
     let root = c.in_ok-root.root.value in
     let parted = IsPermutation-trans _ _ _ c.in_ok-root.ensures.some.pairs (IsPermutation-cons root.pair _ _ c.part.ensures.rest) in
-    let gone = removed g.met.K.Ord.total (items c.self.inside.roots) c.self.invariant.distinct root.pair (items c.part.new.roots) parted c.args.key.now c.in_ok-root.ensures.key in
+    let gone = removed g.met.K.Ord.total (items c.self.inside.roots) c.self.invariant.distinct root.pair (items c.part.new.roots) parted
+    c.args.key.now c.in_ok-root.ensures.key in
     rw (← c.self.view_is) gone.1
 
 pub returns-clause-ascending : goal.returns-clause-ascending
@@ -68,4 +70,6 @@ returns-clause-permutation g c =
     let is = ap (λ q. q.pairs) c.self.view_is in
     let up = subst (IsAscending g.K.Ord.cmp) is (IsAscending-by_key g.met.K.Ord.total (items c.self.inside.roots)) in
     let whole = IsPermutation-without g.met.K.Ord.total c.args.key.now c.args.self.now.pairs up in
-    subst (λ l. IsPermutation c.args.self.now.pairs (c.part.result ∷ l)) (sym (returns-clause-pairs g c)) (subst (λ o. IsPermutation c.args.self.now.pairs (option_to_list o ++ without g.K.Ord.cmp c.args.key.now c.args.self.now.pairs)) (sym (returns-clause-value g c)) whole)
+    subst (λ l. IsPermutation c.args.self.now.pairs (c.part.result ∷ l)) (sym (returns-clause-pairs g c))
+    (subst (λ o. IsPermutation c.args.self.now.pairs (option_to_list o ++ without g.K.Ord.cmp c.args.key.now c.args.self.now.pairs))
+    (sym (returns-clause-value g c)) whole)

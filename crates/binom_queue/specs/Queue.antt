@@ -1,10 +1,11 @@
--- A binomial queue as contracts see it, and what its type keeps.
+-- Binomial queues: their pairs by key, and what their type keeps.
 use Rattle.std.specs.Prelude.{◌≡◌, ℕ, ◌≤◌, List, [], length}
 use Rattle.std.specs.declared.cmp.Ordering.{Ordering}
 use Rattle.pend_queue.specs.Pairs.{merged}
 use Rattle.binom_queue.specs.declared.forest.Forest.{Forest}
 use Rattle.binom_queue.specs.Trees.{items, trees, depth, AreRoots}
 
+-- what contracts see of a binomial queue
 pub record Binomial (K V : Type 0) : Type 0 where
   -- its pairs by rising key, and how many it may hold
   pub pairs : List (K × V)

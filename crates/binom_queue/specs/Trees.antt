@@ -35,8 +35,8 @@ abbrev pub AreChildren : {K V : Type 0} → (K → K → Ordering) → K → ℕ
 AreChildren cmp key zero Empty = Unit {0}
 AreChildren cmp key zero (Of' box pair order child next) = ⊥
 AreChildren cmp key (suc n) Empty = ⊥
-AreChildren cmp key (suc n) (Of' box pair order child next) = (order ≡ n) × (cmp key pair.0 ≢ Greater) × AreChildren cmp pair.0 n child × AreChildren
-    cmp key n next
+AreChildren cmp key (suc n) (Of' box pair order child next) =
+    (order ≡ n) × (cmp key pair.0 ≢ Greater) × AreChildren cmp pair.0 n child × AreChildren cmp key n next
 
 -- a root with what belongs below it, and no tree after it
 pub record IsTree {K V : Type 0} (cmp : K → K → Ordering) (root : Node K V) : Type 0 where

@@ -1,0 +1,10 @@
+mod Digits
+mod Floors
+mod Heaps
+mod Keyed
+mod Orders
+mod Queued
+mod Raised
+mod Rows
+mod Shuffles
+mod Walks

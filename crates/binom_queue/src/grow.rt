@@ -1,0 +1,131 @@
+//! Trees linked to larger ones. Each recursion goes on to a next tree in each call, so it is no deeper than there are trees.
+ghost use Rattle.std.specs.Prelude.{◌≡◌, ◌≢◌, ℕ, ◌+◌, ◌^◌, ◌<◌, ◌≤◌, ◌∷◌, ◌++◌, length, IsPermutation};
+ghost use Rattle.std.specs.declared.cmp.Ordering.TheVariants.{Greater};
+ghost use Rattle.binom_queue.specs.declared.forest.Forest.TheVariants.{Empty};
+ghost use Rattle.binom_queue.specs.Trees.{items, tree_items, trees, AreChildren, IsTree, AreRoots};
+
+use crate::forest::{Forest, Node, before, cut};
+use crate::links::Links;
+use std::cmp::Ordering;
+use std::mem;
+
+// The tree of two trees of one order.
+fn link<K: Ord + Drop, V: Drop>(
+    first: Box<Node<K, V>>,
+    second: Box<Node<K, V>>,
+    links: &mut Links,
+) -> Box<Node<K, V>>
+    requires first { IsTree K.cmp first.value }
+    requires second { IsTree K.cmp second.value }
+    requires order { second.value.order ≡ first.value.order }
+    requires small { first.value.order < 64 }
+    ensures tree { IsTree K.cmp result.value }
+    ensures order { result.value.order ≡ first.value.order + 1 }
+    ensures pairs { IsPermutation (tree_items first.value ++ tree_items second.value) (tree_items result.value) }
+    ensures links { links.new.count ≡ links.old.count + 1 }
+{
+    *links = links.and_one();
+    match first.pair.0.cmp(&second.pair.0) {
+        Ordering::Greater => under(second, first),
+        _ => under(first, second),
+    }
+}
+
+// The second tree as the first child of the first one.
+fn under<K: Ord + Drop, V: Drop>(
+    mut root: Box<Node<K, V>>,
+    mut child: Box<Node<K, V>>,
+) -> Box<Node<K, V>>
+    requires root { IsTree K.cmp root.value }
+    requires child { IsTree K.cmp child.value }
+    requires order { child.value.order ≡ root.value.order }
+    requires heap { K.cmp root.value.pair.0 child.value.pair.0 ≢ Greater }
+    requires small { root.value.order < 64 }
+    ensures tree { IsTree K.cmp result.value }
+    ensures order { result.value.order ≡ root.value.order + 1 }
+    ensures pairs { tree_items result.value ≡ root.value.pair ∷ (tree_items child.value ++ items root.value.child) }
+{
+    child.next = mem::replace(&mut root.child, Forest::Empty);
+    root.child = Forest::Of(child);
+    root.order += 1;
+    root
+}
+
+// Puts a tree before trees of no smaller order.
+pub(crate) fn add<K: Ord + Drop, V: Drop>(
+    roots: Forest<K, V>,
+    tree: Box<Node<K, V>>,
+    links: &mut Links,
+) -> Forest<K, V>
+    requires tree { IsTree K.cmp tree.value }
+    requires roots { AreRoots K.cmp tree.value.order roots }
+    requires fits { length (tree_items tree.value) + length (items roots) < 2 ^ 64 }
+    ensures roots { AreRoots K.cmp tree.value.order result }
+    ensures pairs { IsPermutation (tree_items tree.value ++ items roots) (items result) }
+    ensures links { links.new.count + trees result ≡ links.old.count + trees roots + 1 }
+    ensures no_fewer { links.old.count ≤ links.new.count }
+{
+    match roots {
+        Forest::Empty => Forest::Of(tree),
+        Forest::Of(first) => {
+            if first.order == tree.order {
+                let (first, rest) = cut(first);
+                add(rest, link(tree, first, links), links)
+            } else {
+                before(tree, Forest::Of(first))
+            }
+        }
+    }
+}
+
+// The trees of two rows as one row.
+pub(crate) fn union<K: Ord + Drop, V: Drop>(
+    left: Forest<K, V>,
+    right: Forest<K, V>,
+    links: &mut Links,
+) -> Forest<K, V>
+    requires left { AreRoots K.cmp 0 left }
+    requires right { AreRoots K.cmp 0 right }
+    requires fits { length (items left) + length (items right) < 2 ^ 64 }
+    ensures roots { (n : ℕ) → AreRoots K.cmp n left → AreRoots K.cmp n right → AreRoots K.cmp n result }
+    ensures pairs { IsPermutation (items left ++ items right) (items result) }
+    ensures links { links.new.count + trees result ≡ links.old.count + (trees left + trees right) }
+    ensures no_fewer { links.old.count ≤ links.new.count }
+{
+    match (left, right) {
+        (Forest::Empty, right) => right,
+        (left, Forest::Empty) => left,
+        (Forest::Of(first), Forest::Of(second)) => {
+            if first.order < second.order {
+                let (first, rest) = cut(first);
+                before(first, union(rest, Forest::Of(second), links))
+            } else if second.order < first.order {
+                let (second, rest) = cut(second);
+                before(second, union(Forest::Of(first), rest, links))
+            } else {
+                let (root, left) = cut(first);
+                let (other, right) = cut(second);
+                let rest = union(left, right, links);
+                add(rest, link(root, other, links), links)
+            }
+        }
+    }
+}
+
+// The children of a root before trees of no smaller orders than its own.
+pub(crate) fn raised<K: Ord + Drop, V: Drop>(
+    children: Forest<K, V>,
+    greater: Forest<K, V>,
+) -> Forest<K, V>
+    requires { (key : K) × (n : ℕ) × AreChildren K.cmp key n children × AreRoots K.cmp n greater }
+    ensures roots { AreRoots K.cmp 0 result }
+    ensures pairs { IsPermutation (items children ++ items greater) (items result) }
+{
+    match children {
+        Forest::Empty => greater,
+        Forest::Of(child) => {
+            let (child, rest) = cut(child);
+            raised(rest, before(child, greater))
+        }
+    }
+}

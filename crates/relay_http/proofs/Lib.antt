@@ -1,3 +1,5 @@
+pub mod Keeping
 pub mod Lengths
 pub mod Planning
+pub mod Putting
 pub mod Rows

@@ -1,6 +1,6 @@
 -- The definitions at worked examples: what must hold, and what must not.
 use Rattle.std.proofs.Common.{◌≡◌, ℕ, List, [], ◌∷◌, Some, None, true, false, codes, refl}
-use Rattle.http1.specs.Text.{numeral}
+use Rattle.std.specs.Fmt.{digits}
 use Rattle.relay_body.specs.declared.framing.Framing.TheVariants.{Empty, Length, Chunked, ToEnd}
 use Rattle.relay_http.specs.Framings.{request_framing, answer_plan, bare}
 use Rattle.relay_http.specs.Texts.{request_text, answer_text, interim_text}
@@ -36,7 +36,7 @@ naming_a_field_framing = refl
 
 -- the field that Connection names isn't handed on
 naming_a_field_text : request_text naming_a_field (Length 3) ≡ codes "POST /a HTTP/1.1\r\nHost: h\r\nContent-Length: 3\r\nConnection: close\r\n\r\n"
-unfolding naming_a_field post host length_is numeral
+unfolding naming_a_field post host length_is digits
 naming_a_field_text = refl
 
 two_lengths : request_framing (post (length_is (codes "3") ∷ length_is (codes "4") ∷ [])) ≡ None
@@ -126,7 +126,7 @@ not_modified = refl
 
 not_modified_text : answer_text true (answer 304 Http11 (length_is (codes "5") ∷ [])) (record { body = Empty; stated = Length 5 })
     ≡ codes "HTTP/1.1 304 OK\r\nContent-Length: 5\r\nConnection: close\r\n\r\n"
-unfolding answer length_is numeral
+unfolding answer length_is digits
 not_modified_text = refl
 
 head_of_chunked : answer_plan (codes "HEAD") (answer 200 Http11 (chunked ∷ [])) ≡ Some bare
@@ -153,3 +153,13 @@ coding_of_an_old_server = refl
 hints : interim_text true (answer 103 Http11 ((codes "Link", codes "x") ∷ length_is (codes "3") ∷ [])) ≡ codes "HTTP/1.1 103 OK\r\nLink: x\r\n\r\n"
 unfolding answer length_is
 hints = refl
+
+-- which no old client gets
+no_hints : interim_text false (answer 103 Http11 []) ≡ []
+unfolding answer
+no_hints = refl
+
+-- a 100 is for the proxy alone
+no_continue : interim_text true (answer 100 Http11 []) ≡ []
+unfolding answer
+no_continue = refl

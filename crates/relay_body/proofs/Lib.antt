@@ -8,3 +8,4 @@ pub mod Rows
 pub mod Stepping
 pub mod Wholes
 pub mod Windows
+pub mod Writing

@@ -11,7 +11,7 @@ use Rattle.relay_body.proofs.Writing.{Wrote-nil, Wrote-trans}
 use Rattle.relay_body.specs.Steps.{Ends, ends, Countable, Reads, Moves, Blames, Breaks, LacksNothing}
 
 -- a list whose front is taken off, twice
-joined : (a b c d e f g : List ℕ) → a ++ b ≡ c ++ d → d ++ e ≡ f ++ g → a ++ (b ++ e) ≡ (c ++ f) ++ g
+pub joined : (a b c d e f g : List ℕ) → a ++ b ≡ c ++ d → d ++ e ≡ f ++ g → a ++ (b ++ e) ≡ (c ++ f) ++ g
 joined a b c d e f g p q =
     sym (append_assoc a b e) ∙ ap (λ l. l ++ e) p ∙ append_assoc c d e ∙ ap (λ l. c ++ l) q ∙ sym (append_assoc c f g)
 

@@ -1,5 +1,7 @@
+pub mod Failing
 pub mod Keeping
 pub mod Lengths
 pub mod Planning
 pub mod Putting
 pub mod Rows
+pub mod Standing

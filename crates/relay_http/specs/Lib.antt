@@ -1,6 +1,9 @@
 pub mod Emissions
+pub mod Failures
+pub mod Faults
 pub mod Fields
 pub mod Framings
+pub mod Heads
 pub mod Lines
 pub mod Summaries
 pub mod Texts

@@ -1,15 +1,18 @@
 //! Messages handed on: from the bytes of a client to those of a server, and back.
 #![tactic(auto)]
 
+mod fault;
 mod fields;
 mod framings;
 mod heads;
 mod lines;
 mod plans;
+mod reading;
 
+pub use fault::Fault;
 pub use framings::request_framing;
 pub use plans::{Plan, answer_plan};
-pub use relay_body::{Fault, Framing};
+pub use relay_body::Framing;
 
 #[cfg(test)]
 mod tests;

@@ -27,9 +27,9 @@ returns-in_err-put_kept-clause-err g c =
     let rest = fields_text (filter keep (drop (n + 1) fields)) in
     let whole : fields_text (filter keep (take n fields)) ++ (line ++ rest) ≡ fields_text (filter keep fields) =
     sym (
-      text_front keep field_text fields (n + 1)
-          ∙ ap (λ l. l ++ rest) (text_more keep field_text fields n none below)
-          ∙ append_assoc (fields_text (filter keep (take n fields))) line rest
+    text_front keep field_text fields (n + 1)
+    ∙ ap (λ l. l ++ rest) (text_more keep field_text fields n none below)
+    ∙ append_assoc (fields_text (filter keep (take n fields))) line rest
     ) in
     at_exit _ _ _ c.from_residual.ensures.1
     (halts_as whole (puts_halts c.fields.invariant (halts_front rest (c.in_err-put_kept.ensures.err at.0 at.1 (slice_get-get_or fields n none below)))))

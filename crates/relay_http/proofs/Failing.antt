@@ -1,0 +1,137 @@
+-- Steps, and then a fault.
+use Rattle.std.proofs.Common.{◌≡◌, ◌∙◌, ℕ, ◌+◌, List, [], ◌++◌, refl, sym, ap, append_assoc, subst, inl, inr}
+use Rattle.std.specs.Io.KnownBytes.{IsAtEnd}
+use Rattle.counted_io.specs.Streams.{Stream}
+use Rattle.relay_body.specs.declared.fault.Fault as Body
+use Rattle.relay_body.specs.declared.fault.Fault.TheVariants as OfBody
+use Rattle.relay_body.specs.declared.pipe.Pipe.{Pipe}
+use Rattle.relay_body.specs.Steps.{Ends, ends, Reads, Moves, Breaks, LacksNothing}
+use Rattle.relay_body.specs.Steps as Body_steps
+use Rattle.relay_body.proofs.Stepping.{joined, Reads-trans, moves_emit, breaks_emit}
+use Rattle.relay_body.proofs.Writing.{Wrote-trans}
+use Rattle.relay_http.specs.Emissions.{Puts, Halts}
+use Rattle.relay_http.specs.Failures.{Fine, Blames, Fails}
+use Rattle.relay_http.specs.Faults.{relayed}
+use Rattle.relay_http.specs.declared.fault.Fault.{Fault}
+use Rattle.relay_http.specs.declared.fault.Fault.TheVariants.{NoMemory, Head, Framing, Read, Write, Turns, Closed}
+
+-- whose the fault is doesn't depend on where one begins to look, as long as no call failed before
+blames_earlier : (fault : Fault) (a b c : Ends) (Why Whole : Fault → List ℕ → Type 0) (used input whole : List ℕ)
+    → b.source.failures ≡ a.source.failures → b.sink.failures ≡ a.sink.failures
+    → ((l : List ℕ) → Why fault l → Whole fault (used ++ l)) → whole ≡ used ++ input
+    → Blames b c Why input fault → Blames a c Whole whole fault
+blames_earlier NoMemory a b c Why Whole used input whole r w step e blame = record { reads = blame.reads ∙ r; writes = blame.writes ∙ w }
+blames_earlier Head a b c Why Whole used input whole r w step e blame =
+    (record { reads = blame.0.reads ∙ r; writes = blame.0.writes ∙ w }, subst (Whole Head) (sym e) (step input blame.1))
+blames_earlier Framing a b c Why Whole used input whole r w step e blame =
+    (record { reads = blame.0.reads ∙ r; writes = blame.0.writes ∙ w }, subst (Whole Framing) (sym e) (step input blame.1))
+blames_earlier Read a b c Why Whole used input whole r w step e blame = (
+  blame.0 ∙ w,
+  elim blame.1 [
+    | inl failed ↦ inl (failed ∙ ap (λ n. n + 1) r)
+    | inr ended ↦ inr (ended.0 ∙ r, ended.1, subst (Whole Read) (sym e) (step input ended.2))
+  ],
+)
+blames_earlier Write a b c Why Whole used input whole r w step e blame = (blame.0 ∙ r, blame.1 ∙ ap (λ n. n + 1) w)
+blames_earlier Turns a b c Why Whole used input whole r w step e blame =
+    (record { reads = blame.0.reads ∙ r; writes = blame.0.writes ∙ w }, blame.1)
+blames_earlier Closed a b c Why Whole used input whole r w step e blame = blame
+
+-- a step, and then a fault
+pub moves_fails : {a b c : Ends} {used text more_used more_text : List ℕ} {fault : Fault} (Why Whole : Fault → List ℕ → Type 0)
+    → ((l : List ℕ) → Why fault l → Whole fault (used ++ l)) → Moves a b used text → Fails b c more_used more_text Why fault
+    → Fails a c (used ++ more_used) (text ++ more_text) Whole fault
+moves_fails {a} {b} {c} {used} {text} {more_used} {more_text} {fault} Why Whole step p q =
+    let front : a.pipe.inbox ++ (p.taken ++ q.taken) ≡ used ++ (b.pipe.inbox ++ q.taken) =
+    sym (append_assoc a.pipe.inbox p.taken q.taken) ∙ ap (λ l. l ++ q.taken) p.held ∙ append_assoc used b.pipe.inbox q.taken in record {
+      taken = p.taken ++ q.taken;
+      reads = Reads-trans p.reads q.reads;
+      rest = q.rest;
+      held = joined a.pipe.inbox p.taken used b.pipe.inbox q.taken more_used q.rest p.held q.held;
+      writes = record {
+        front = p.front ++ q.writes.front;
+        rest = q.writes.rest;
+        wrote = Wrote-trans p.writes q.writes.wrote;
+        all = joined a.pipe.outbox text p.front b.pipe.outbox more_text q.writes.front q.writes.rest p.waiting q.writes.all;
+      };
+      blames = blames_earlier fault a b c Why Whole used (b.pipe.inbox ++ q.taken) (a.pipe.inbox ++ (p.taken ++ q.taken)) p.good_reads p.good_writes step front q.blames;
+    }
+
+blames_of : (fault : Body.Fault) (a b : Ends) (Lacks : List ℕ → Type 0) (Why : Fault → List ℕ → Type 0) (input : List ℕ)
+    → ((l : List ℕ) → Lacks l → Why Read l) → ((l : List ℕ) → ((more : List ℕ) → Lacks (l ++ more)) → Why Framing l)
+    → Body_steps.Blames a b Lacks input fault → Blames a b Why input (relayed fault)
+blames_of OfBody.Read a b Lacks Why input early bad blame =
+    (blame.0, elim blame.1 [ inl failed ↦ inl failed | inr ended ↦ inr (ended.0, ended.1, early input ended.2) ])
+blames_of OfBody.Write a b Lacks Why input early bad blame = blame
+blames_of OfBody.Turns a b Lacks Why input early bad blame = (record { reads = blame.0; writes = blame.1 }, blame.2)
+blames_of OfBody.Framing a b Lacks Why input early bad blame = (record { reads = blame.0; writes = blame.1 }, bad input blame.2)
+
+-- a fault of a body
+pub fails_of : {a b : Ends} {used text : List ℕ} {fault : Body.Fault} (Lacks : List ℕ → Type 0) (Why : Fault → List ℕ → Type 0)
+    → ((l : List ℕ) → Lacks l → Why Read l) → ((l : List ℕ) → ((more : List ℕ) → Lacks (l ++ more)) → Why Framing l)
+    → Breaks a b used text Lacks fault → Fails a b used text Why (relayed fault)
+fails_of {a} {b} {fault = fault} Lacks Why early bad p = record {
+  taken = p.taken;
+  reads = p.reads;
+  rest = p.rest;
+  held = p.held;
+  writes = p.writes;
+  blames = blames_of fault a b Lacks Why (a.pipe.inbox ++ p.taken) early bad p.blames;
+}
+
+-- one after which nothing lacks
+pub fails_plainly : {a b : Ends} {used text : List ℕ} {fault : Body.Fault} (Why : Fault → List ℕ → Type 0) → Breaks a b used text LacksNothing fault
+    → Fails a b used text Why (relayed fault)
+fails_plainly Why p = fails_of LacksNothing Why (λ l none. absurd none) (λ l none. absurd (none [])) p
+
+-- steps, and what they read is bad
+pub fails_head : {a b : Ends} {used text : List ℕ} (Why : Fault → List ℕ → Type 0) → Moves a b used text → Why Head (used ++ b.pipe.inbox) → Fails a b used text Why Head
+fails_head {a} {b} Why p why = record {
+  taken = p.taken;
+  reads = p.reads;
+  rest = b.pipe.inbox;
+  held = p.held;
+  writes = record { front = p.front; rest = b.pipe.outbox; wrote = p.writes; all = p.waiting };
+  blames = (record { reads = p.good_reads; writes = p.good_writes }, subst (Why Head) (sym p.held) why);
+}
+
+pub fails_framing : {a b : Ends} {used text : List ℕ} (Why : Fault → List ℕ → Type 0) → Moves a b used text → Why Framing (used ++ b.pipe.inbox) → Fails a b used text Why Framing
+fails_framing {a} {b} Why p why = record {
+  taken = p.taken;
+  reads = p.reads;
+  rest = b.pipe.inbox;
+  held = p.held;
+  writes = record { front = p.front; rest = b.pipe.outbox; wrote = p.writes; all = p.waiting };
+  blames = (record { reads = p.good_reads; writes = p.good_writes }, subst (Why Framing) (sym p.held) why);
+}
+
+-- or memory is wanting
+pub fails_memory : {a b : Ends} {used text : List ℕ} (Why : Fault → List ℕ → Type 0) → Moves a b used text → Fails a b used text Why NoMemory
+fails_memory {a} {b} Why p = record {
+  taken = p.taken;
+  reads = p.reads;
+  rest = b.pipe.inbox;
+  held = p.held;
+  writes = record { front = p.front; rest = b.pipe.outbox; wrote = p.writes; all = p.waiting };
+  blames = record { reads = p.good_reads; writes = p.good_writes };
+}
+
+-- or the input ended
+pub fails_end : {a b : Ends} {used text : List ℕ} (Why : Fault → List ℕ → Type 0) → Moves a b used text → IsAtEnd b.source.bytes → Why Read (used ++ b.pipe.inbox)
+    → Fails a b used text Why Read
+fails_end {a} {b} Why p end why = record {
+  taken = p.taken;
+  reads = p.reads;
+  rest = b.pipe.inbox;
+  held = p.held;
+  writes = record { front = p.front; rest = b.pipe.outbox; wrote = p.writes; all = p.waiting };
+  blames = (p.good_writes, inr (p.good_reads, end, subst (Why Read) (sym p.held) why));
+}
+
+-- what was put, as a step
+pub moves_put : {p q : Pipe} {a b : Stream} {text : List ℕ} (s : Stream) → Puts p q a b text → Moves (ends p s a) (ends q s b) [] text
+moves_put s x = moves_emit s [] x.emits (sym x.inbox)
+
+pub fails_put : {p q : Pipe} {a b : Stream} {text : List ℕ} {fault : Body.Fault} (s : Stream) (Why : Fault → List ℕ → Type 0) → Halts p q a b text fault
+    → Fails (ends p s a) (ends q s b) [] text Why (relayed fault)
+fails_put {p} s Why x = fails_plainly Why (breaks_emit s [] p.inbox x.stops refl)

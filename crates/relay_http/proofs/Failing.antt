@@ -1,5 +1,5 @@
 -- Steps, and then a fault.
-use Rattle.std.proofs.Common.{◌≡◌, ◌∙◌, ℕ, ◌+◌, List, [], ◌++◌, refl, sym, ap, append_assoc, subst, inl, inr}
+use Rattle.std.proofs.Common.{◌≡◌, ◌∙◌, ℕ, ◌+◌, List, [], ◌++◌, refl, sym, ap, append_assoc, append-nil, subst, inl, inr}
 use Rattle.std.specs.Io.KnownBytes.{IsAtEnd}
 use Rattle.counted_io.specs.Streams.{Stream}
 use Rattle.relay_body.specs.declared.fault.Fault as Body
@@ -135,3 +135,26 @@ moves_put s x = moves_emit s [] x.emits (sym x.inbox)
 pub fails_put : {p q : Pipe} {a b : Stream} {text : List ℕ} {fault : Body.Fault} (s : Stream) (Why : Fault → List ℕ → Type 0) → Halts p q a b text fault
     → Fails (ends p s a) (ends q s b) [] text Why (relayed fault)
 fails_put {p} s Why x = fails_plainly Why (breaks_emit s [] p.inbox x.stops refl)
+
+pub fails_as : {a b : Ends} {used text same_used same_text : List ℕ} {fault : Fault} (Why : Fault → List ℕ → Type 0) → used ≡ same_used → text ≡ same_text
+    → Fails a b used text Why fault → Fails a b same_used same_text Why fault
+fails_as {a} {b} {used} {text} {same_used} {fault = fault} Why e f p =
+    subst (λ (l : List ℕ). Fails a b same_used l Why fault) f (subst (λ (l : List ℕ). Fails a b l text Why fault) e p)
+
+-- less is claimed to be used
+pub fails_less : {a b : Ends} {text : List ℕ} {fault : Fault} (Why : Fault → List ℕ → Type 0) (used tail : List ℕ) → Fails a b (used ++ tail) text Why fault
+    → Fails a b used text Why fault
+fails_less Why used tail p = record {
+  taken = p.taken;
+  reads = p.reads;
+  rest = tail ++ p.rest;
+  held = p.held ∙ append_assoc used tail p.rest;
+  writes = p.writes;
+  blames = p.blames;
+}
+
+-- a step, and then a text that stopped on its way
+pub moves_halts : {a : Ends} {p q : Pipe} {s w v : Stream} {used text more : List ℕ} {fault : Body.Fault} (Why : Fault → List ℕ → Type 0)
+    → Moves a (ends p s w) used text → Halts p q w v more fault → Fails a (ends q s v) used (text ++ more) Why (relayed fault)
+moves_halts {s = s} {used = used} Why so_far x =
+    fails_as Why (append-nil used) refl (moves_fails (λ f l. ⊥) Why (λ l none. absurd none) so_far (fails_put s (λ f l. ⊥) x))

@@ -5,5 +5,6 @@ pub mod Fields
 pub mod Framings
 pub mod Heads
 pub mod Lines
+pub mod Messages
 pub mod Summaries
 pub mod Texts

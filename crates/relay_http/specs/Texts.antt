@@ -1,5 +1,5 @@
 -- The texts of heads that are handed on.
-use Rattle.std.specs.Prelude.{ℕ, ◌+◌, ◌/◌, ◌%◌, ◌==◌, ◌&&◌, not, Bool, List, [], ◌∷◌, ◌++◌, if◌then◌else◌, codes, decimal}
+use Rattle.std.specs.Prelude.{ℕ, ◌+◌, ◌/◌, ◌%◌, ◌==◌, ◌&&◌, not, Bool, true, false, List, [], ◌∷◌, ◌++◌, if◌then◌else◌, codes, decimal}
 use Rattle.std.specs.List.{flat_map, list_any}
 use Rattle.httparse.specs.Ascii.{crlf_bytes, space}
 use Rattle.relay_body.specs.declared.framing.Framing.{Framing}
@@ -8,6 +8,8 @@ use Rattle.relay_http.specs.Fields.{kept, of_connection, of_request}
 use Rattle.relay_http.specs.declared.plans.Plan.{Plan}
 use Rattle.req_view.specs.Answer.{Answer}
 use Rattle.req_view.specs.Request.{NamedValue, Request, is_named}
+use Rattle.req_view.specs.declared.version.Version.{Version}
+use Rattle.req_view.specs.declared.version.Version.TheVariants.{Http10, Http11}
 
 -- a field's line: its name as it came, and its value
 abbrev pub field_text : NamedValue → List ℕ
@@ -60,6 +62,11 @@ answer_lines a = status_line a ++ fields_text (kept of_connection a.fields)
 abbrev pub stated : Bool → Framing → Framing
 stated framed Chunked = if framed then Chunked else Empty
 stated framed framing = framing
+
+-- whether a client of this version is told how a body in chunks is framed
+abbrev pub framed_for : Version → Bool
+framed_for Http10 = false
+framed_for Http11 = true
 
 -- an answer's head; `framed` is false for a client of version 1.0
 abbrev pub answer_text : Bool → Answer → Plan → List ℕ

@@ -3,7 +3,7 @@ ghost use Rattle.relay_http.specs.Emissions.{Puts, Halts};
 ghost use Rattle.relay_http.specs.Texts as texts;
 
 use crate::fields::Way;
-use crate::lines::{put, put_end, put_fields, put_host, put_three};
+use crate::lines::{put, put_end, put_fields, put_host, put_three, send};
 use crate::plans::Plan;
 use counted_io::Sink;
 use relay_body::{Fault, Framing, Pipe};
@@ -82,6 +82,22 @@ pub(crate) fn put_interim<K: Sink>(
     }
     put_answer_lines(pipe, sink, head)?;
     put(pipe, sink, b"\r\n")?;
+    Ok(())
+}
+
+/// Puts such a head and writes it, since the server may take its time for the next.
+pub(crate) fn pass_interim<K: Sink>(
+    pipe: &mut Pipe,
+    sink: &mut K,
+    head: &AnswerHead,
+    framed: bool,
+) -> Result<(), Fault>
+    requires { (K.stream sink.old).calls + pipe.old.turns < 2 ^ 64 }
+    ensures ok { OnOk result (Puts pipe.old pipe.new (K.stream sink.old) (K.stream sink.new) (texts.interim_text framed head.now)) }
+    ensures err { IfErr result (Halts pipe.old pipe.new (K.stream sink.old) (K.stream sink.new) (texts.interim_text framed head.now)) }
+{
+    put_interim(pipe, sink, head, framed)?;
+    send(pipe, sink)?;
     Ok(())
 }
 

@@ -6,11 +6,13 @@ mod fields;
 mod framings;
 mod heads;
 mod lines;
+mod messages;
 mod plans;
 mod reading;
 
 pub use fault::Fault;
 pub use framings::request_framing;
+pub use messages::MOST_INTERIMS;
 pub use plans::{Plan, answer_plan};
 pub use relay_body::Framing;
 

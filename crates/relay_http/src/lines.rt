@@ -1,4 +1,4 @@
-ghost use Rattle.std.specs.Prelude.{◌≡◌, ◌+◌, ◌^◌, ◌<◌, ◌++◌, ◌∷◌, ℕ, List, Some, slice_get, OnOk, IfErr};
+ghost use Rattle.std.specs.Prelude.{◌≡◌, ◌+◌, ◌^◌, ◌<◌, ◌++◌, ◌∷◌, [], ℕ, List, Some, slice_get, OnOk, IfErr};
 ghost use Rattle.httparse.specs.Ascii.{space};
 ghost use Rattle.relay_http.specs.Emissions.{Puts, Halts};
 ghost use Rattle.relay_http.specs.Fields.{dropped, kept};
@@ -18,6 +18,17 @@ pub(crate) fn put<K: Sink>(pipe: &mut Pipe, sink: &mut K, text: &[u8]) -> Result
     ensures err { IfErr result (Halts pipe.old pipe.new (K.stream sink.old) (K.stream sink.new) (text.now)) }
 {
     pipe.emit(sink, text)?;
+    Ok(())
+}
+
+/// Writes all that waits.
+pub(crate) fn send<K: Sink>(pipe: &mut Pipe, sink: &mut K) -> Result<(), Fault>
+    requires { (K.stream sink.old).calls + pipe.old.turns < 2 ^ 64 }
+    ensures ok { OnOk result (Puts pipe.old pipe.new (K.stream sink.old) (K.stream sink.new) []) }
+    ensures empty { OnOk result (pipe.new.outbox ≡ []) }
+    ensures err { IfErr result (Halts pipe.old pipe.new (K.stream sink.old) (K.stream sink.new) []) }
+{
+    pipe.flush(sink)?;
     Ok(())
 }
 

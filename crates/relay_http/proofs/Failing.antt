@@ -1,5 +1,5 @@
 -- Steps, and then a fault.
-use Rattle.std.proofs.Common.{◌≡◌, ◌∙◌, ℕ, ◌+◌, List, [], ◌++◌, refl, sym, ap, append_assoc, append-nil, subst, inl, inr}
+use Rattle.std.proofs.Common.{◌≡◌, ◌∙◌, ℕ, ◌+◌, List, [], ◌++◌, refl, sym, ap, arith, append_assoc, append-nil, subst, inl, inr}
 use Rattle.std.specs.Io.KnownBytes.{IsAtEnd}
 use Rattle.counted_io.specs.Streams.{Stream}
 use Rattle.relay_body.specs.declared.fault.Fault as Body
@@ -158,3 +158,33 @@ pub moves_halts : {a : Ends} {p q : Pipe} {s w v : Stream} {used text more : Lis
     → Moves a (ends p s w) used text → Halts p q w v more fault → Fails a (ends q s v) used (text ++ more) Why (relayed fault)
 moves_halts {s = s} {used = used} Why so_far x =
     fails_as Why (append-nil used) refl (moves_fails (λ f l. ⊥) Why (λ l none. absurd none) so_far (fails_put s (λ f l. ⊥) x))
+
+turns_same : (fault : Fault) (a : Ends) (p q : Pipe) (s w : Stream) (Why : Fault → List ℕ → Type 0) (input : List ℕ) → q.turns ≡ p.turns
+    → Blames a (ends p s w) Why input fault → Blames a (ends q s w) Why input fault
+turns_same NoMemory a p q s w Why input e blame = record { reads = blame.reads; writes = blame.writes }
+turns_same Head a p q s w Why input e blame = (record { reads = blame.0.reads; writes = blame.0.writes }, blame.1)
+turns_same Framing a p q s w Why input e blame = (record { reads = blame.0.reads; writes = blame.0.writes }, blame.1)
+turns_same Read a p q s w Why input e blame = blame
+turns_same Write a p q s w Why input e blame = blame
+turns_same Turns a p q s w Why input e blame = (record { reads = blame.0.reads; writes = blame.0.writes }, e ∙ blame.1)
+turns_same Closed a p q s w Why input e blame = blame
+
+-- what a pipe does with its bytes after a fault doesn't matter
+pub fails_after : {a : Ends} {p : Pipe} {s w : Stream} {used text : List ℕ} {fault : Fault} (Why : Fault → List ℕ → Type 0) (q : Pipe) → q.turns ≡ p.turns
+    → Fails a (ends p s w) used text Why fault → Fails a (ends q s w) used text Why fault
+fails_after {a} {p} {s} {w} {fault = fault} Why q e x = record {
+  taken = x.taken;
+  reads = record {
+    same_source = x.reads.same_source;
+    same_sink = x.reads.same_sink;
+    bytes = x.reads.bytes;
+    few = x.reads.few;
+    reads = x.reads.reads;
+    writes = x.reads.writes;
+    spent = omega (arith, x.reads.spent, e);
+  };
+  rest = x.rest;
+  held = x.held;
+  writes = x.writes;
+  blames = turns_same fault a p q s w Why (a.pipe.inbox ++ x.taken) e x.blames;
+}

@@ -1,6 +1,7 @@
 pub mod Failing
 pub mod Keeping
 pub mod Lengths
+pub mod Marking
 pub mod Passing
 pub mod Planning
 pub mod Putting

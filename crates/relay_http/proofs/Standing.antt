@@ -8,8 +8,9 @@ use Rattle.relay_body.proofs.Lists.{behind}
 use Rattle.relay_body.proofs.Stepping.{moves_trans, moves_use}
 use Rattle.relay_http.specs.Failures.{Fails}
 use Rattle.relay_http.specs.Faults.{of_refusal}
-use Rattle.relay_http.specs.Heads.{IsRequest, IsAnswer, NoRequest, NoAnswer}
+use Rattle.relay_http.specs.Heads.{IsRequest, IsAnswer, NoRequest, NoAnswer, LacksRequest}
 use Rattle.relay_http.specs.declared.fault.Fault.{Fault}
+use Rattle.relay_http.specs.declared.fault.Fault.TheVariants as Faulty
 use Rattle.relay_http.proofs.Failing.{fails_head, fails_memory}
 use Rattle.req_view.specs.Answer.{Answer}
 use Rattle.req_view.specs.AnswerHeads.{HasAnswer, NeverHasAnswer, TellsAnswer}
@@ -51,3 +52,12 @@ answer_refused {a} p s w held HeadFault fault so_far same told is =
     subst (λ (f : Fault). Fails a (ends p s w) [] [] NoAnswer f) (sym is) (fails_head NoAnswer so_far (subst (λ (l : List ℕ). NeverHasAnswer l) same told))
 answer_refused {a} p s w held NoMemory fault so_far same told is =
     subst (λ (f : Fault). Fails a (ends p s w) [] [] NoAnswer f) (sym is) (fails_memory NoAnswer so_far)
+
+pub request_lacks : (fault : Fault) (l : List ℕ) → NoRequest fault l → LacksRequest fault l
+request_lacks Faulty.Read l why = why
+request_lacks Faulty.Head l why = why
+request_lacks Faulty.Framing l why = absurd why
+request_lacks Faulty.NoMemory l why = absurd why
+request_lacks Faulty.Write l why = absurd why
+request_lacks Faulty.Turns l why = absurd why
+request_lacks Faulty.Closed l why = absurd why

@@ -6,5 +6,6 @@ pub mod Framings
 pub mod Heads
 pub mod Lines
 pub mod Messages
+pub mod States
 pub mod Summaries
 pub mod Texts

@@ -1,6 +1,7 @@
 //! Messages handed on: from the bytes of a client to those of a server, and back.
 #![tactic(auto)]
 
+mod exchange;
 mod fault;
 mod fields;
 mod framings;
@@ -9,7 +10,9 @@ mod lines;
 mod messages;
 mod plans;
 mod reading;
+mod steps;
 
+pub use exchange::{Exchange, Stage};
 pub use fault::Fault;
 pub use framings::request_framing;
 pub use messages::MOST_INTERIMS;

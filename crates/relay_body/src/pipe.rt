@@ -44,6 +44,13 @@ impl Pipe {
         self.turns = turns;
     }
 
+    /// How many reads and writes it may still make.
+    pub fn turns(&self) -> u64
+        ensures { result ≡ self.now.turns }
+    {
+        self.turns
+    }
+
     /// The bytes that were read and aren't used yet.
     pub fn held(&self) -> &[u8]
         ensures value { result.now ≡ self.now.inbox }

@@ -1,16 +1,17 @@
 -- Steps, and then a fault.
 use Rattle.std.proofs.Common.{◌≡◌, ◌∙◌, ℕ, ◌+◌, List, [], ◌++◌, refl, sym, ap, arith, append_assoc, append-nil, subst, inl, inr}
-use Rattle.std.specs.Io.KnownBytes.{IsAtEnd}
+use Rattle.std.specs.Io.KnownBytes.{Appends, IsAtEnd}
 use Rattle.counted_io.specs.Streams.{Stream}
 use Rattle.relay_body.specs.declared.fault.Fault as Body
 use Rattle.relay_body.specs.declared.fault.Fault.TheVariants as OfBody
 use Rattle.relay_body.specs.declared.pipe.Pipe.{Pipe}
+use Rattle.relay_body.specs.Texts.{Wrote}
 use Rattle.relay_body.specs.Steps.{Ends, ends, Reads, Moves, Breaks, LacksNothing}
 use Rattle.relay_body.specs.Steps as Body_steps
 use Rattle.relay_body.proofs.Stepping.{joined, Reads-trans, moves_emit, breaks_emit}
 use Rattle.relay_body.proofs.Writing.{Wrote-trans}
 use Rattle.relay_http.specs.Emissions.{Puts, Halts}
-use Rattle.relay_http.specs.Failures.{Fine, Blames, Fails}
+use Rattle.relay_http.specs.Failures.{Fine, Blames, Fails, Explains, Passes, Misses}
 use Rattle.relay_http.specs.Faults.{relayed}
 use Rattle.relay_http.specs.declared.fault.Fault.{Fault}
 use Rattle.relay_http.specs.declared.fault.Fault.TheVariants.{NoMemory, Head, Framing, Read, Write, Turns, Closed}
@@ -187,4 +188,38 @@ fails_after {a} {p} {s} {w} {fault = fault} Why q e x = record {
   held = x.held;
   writes = x.writes;
   blames = turns_same fault a p q s w Why (a.pipe.inbox ++ x.taken) e x.blames;
+}
+
+explains : (fault : Fault) (a b : Ends) (Why : Fault → List ℕ → Type 0) (input : List ℕ) → Blames a b Why input fault → Explains Why fault input
+explains NoMemory a b Why input blame = tt
+explains Head a b Why input blame = blame.1
+explains Framing a b Why input blame = blame.1
+explains Read a b Why input blame = tt
+explains Write a b Why input blame = tt
+explains Turns a b Why input blame = tt
+explains Closed a b Why input blame = blame
+
+-- where nothing waits, what was put was written
+pub passes_of : {a b : Ends} {used text : List ℕ} → a.pipe.outbox ≡ [] → b.pipe.outbox ≡ [] → Moves a b used text
+    → Passes a.pipe.inbox b.pipe.inbox a.source.bytes b.source.bytes a.sink.bytes b.sink.bytes used text
+passes_of {a} {b} {used} {text} none left x =
+    let whole : x.front ≡ text = sym (ap (λ l. l ++ text) (sym none) ∙ x.waiting ∙ ap (λ l. x.front ++ l) left ∙ append-nil x.front) in record {
+      taken = x.taken;
+      reads = x.reads.bytes;
+      all = x.held;
+      writes = subst (λ (l : List ℕ). Appends a.sink.bytes b.sink.bytes l) whole x.writes.bytes;
+    }
+
+pub misses_of : {a b : Ends} {used text : List ℕ} {fault : Fault} (Why : Fault → List ℕ → Type 0) → a.pipe.outbox ≡ [] → Fails a b used text Why fault
+    → Misses a.pipe.inbox a.source.bytes b.source.bytes a.sink.bytes b.sink.bytes used text Why fault
+misses_of {a} {b} {used} {text} {fault} Why none x = record {
+  taken = x.taken;
+  reads = x.reads.bytes;
+  rest = x.rest;
+  all = x.held;
+  front = x.writes.front;
+  left = x.writes.rest;
+  writes = x.writes.wrote.bytes;
+  text_is = ap (λ l. l ++ text) (sym none) ∙ x.writes.all;
+  why = explains fault a b Why (a.pipe.inbox ++ x.taken) x.blames;
 }

@@ -7,3 +7,4 @@ pub mod Planning
 pub mod Putting
 pub mod Rows
 pub mod Standing
+pub mod Thinning

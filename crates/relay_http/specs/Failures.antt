@@ -1,6 +1,6 @@
 -- Steps of a pipe that end in a fault, and whose it is.
-use Rattle.std.specs.Prelude.{◌≡◌, ℕ, ◌+◌, ◌⊎◌, List, ◌++◌}
-use Rattle.std.specs.Io.KnownBytes.{IsAtEnd}
+use Rattle.std.specs.Prelude.{◌≡◌, ℕ, ◌+◌, ◌⊎◌, List, ◌++◌, Option}
+use Rattle.std.specs.Io.KnownBytes.{Appends, Consumes, IsAtEnd}
 use Rattle.relay_body.specs.Steps.{Ends, Reads}
 use Rattle.relay_body.specs.Texts.{WritesFront}
 use Rattle.relay_http.specs.declared.fault.Fault.{Fault}
@@ -23,6 +23,10 @@ Blames old new Why input Write = (new.source.failures ≡ old.source.failures) �
 Blames old new Why input Turns = Fine old new × (new.pipe.turns ≡ 0)
 Blames old new Why input Closed = ⊥
 
+-- nothing is wrong with the input
+abbrev pub NoCause : Fault → List ℕ → Type 0
+NoCause fault input = ⊥
+
 -- A fault was met. `used` stands at the front of what was held and read, and of what waited and of the text that is
 -- given for it a front was written.
 pub record Fails (old new : Ends) (used text : List ℕ) (Why : Fault → List ℕ → Type 0) (fault : Fault) : Type 0 where
@@ -32,3 +36,39 @@ pub record Fails (old new : Ends) (used text : List ℕ) (Why : Fault → List �
   pub held : old.pipe.inbox ++ taken ≡ used ++ rest
   pub writes : WritesFront old.sink new.sink (old.pipe.outbox ++ text)
   pub blames : Blames old new Why (old.pipe.inbox ++ taken) fault
+
+-- what is wrong with the input, where the fault is that of the bytes
+abbrev pub Explains : (Fault → List ℕ → Type 0) → Fault → List ℕ → Type 0
+Explains Why Head input = Why Head input
+Explains Why Framing input = Why Framing input
+Explains Why NoMemory input = Unit {0}
+Explains Why Read input = Unit {0}
+Explains Why Write input = Unit {0}
+Explains Why Turns input = Unit {0}
+Explains Why Closed input = ⊥
+
+-- Of what was held and read `used` is gone, and the whole text was written: of a reader and a writer, by their bytes.
+pub record Passes (held rest : List ℕ) (r0 r w0 w : Option (List ℕ)) (used text : List ℕ) : Type 0 where
+  pub taken : List ℕ
+  pub reads : Consumes r0 r taken
+  pub all : held ++ taken ≡ used ++ rest
+  pub writes : Appends w0 w text
+
+-- A fault was met: `used` stands at the front of what was held and read, and a front of the text was written.
+pub record Misses (held : List ℕ) (r0 r w0 w : Option (List ℕ)) (used text : List ℕ) (Why : Fault → List ℕ → Type 0) (fault : Fault) : Type 0 where
+  pub taken : List ℕ
+  pub reads : Consumes r0 r taken
+  pub rest : List ℕ
+  pub all : held ++ taken ≡ used ++ rest
+  pub front : List ℕ
+  pub left : List ℕ
+  pub writes : Appends w0 w front
+  pub text_is : text ≡ front ++ left
+  pub why : Explains Why fault (held ++ taken)
+
+-- a front of the text was written
+pub record WrotePrefix (w0 w : Option (List ℕ)) (text : List ℕ) : Type 0 where
+  pub front : List ℕ
+  pub left : List ℕ
+  pub writes : Appends w0 w front
+  pub text_is : text ≡ front ++ left

@@ -6,6 +6,7 @@ pub mod Framings
 pub mod Heads
 pub mod Lines
 pub mod Messages
+pub mod Replies
 pub mod States
 pub mod Summaries
 pub mod Texts

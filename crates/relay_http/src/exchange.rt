@@ -91,6 +91,13 @@ impl Exchange {
         self.stage
     }
 
+    /// How many reads and writes it may still make.
+    pub fn turns(&self) -> u64
+        ensures { result ≡ self.now.pipe.turns }
+    {
+        self.pipe.turns()
+    }
+
     pub(crate) fn is_closed(&self) -> bool
         ensures { IsTrue result ↔ (self.now.stage ≡ Stage.Failed) }
     {

@@ -1,15 +1,18 @@
 //! Messages handed on: from the bytes of a client to those of a server, and back.
 #![tactic(auto)]
 
+mod calls;
 mod exchange;
 mod fault;
 mod fields;
 mod framings;
 mod heads;
+mod leave;
 mod lines;
 mod messages;
 mod plans;
 mod reading;
+mod refusing;
 mod steps;
 
 pub use exchange::{Exchange, Stage};
@@ -17,6 +20,7 @@ pub use fault::Fault;
 pub use framings::request_framing;
 pub use messages::MOST_INTERIMS;
 pub use plans::{Plan, answer_plan};
+pub use refusing::Code;
 pub use relay_body::Framing;
 
 #[cfg(test)]

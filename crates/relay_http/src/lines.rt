@@ -32,6 +32,18 @@ pub(crate) fn send<K: Sink>(pipe: &mut Pipe, sink: &mut K) -> Result<(), Fault>
     Ok(())
 }
 
+/// Writes what waits and the text.
+pub(crate) fn send_text<K: Sink>(pipe: &mut Pipe, sink: &mut K, text: &[u8]) -> Result<(), Fault>
+    requires { (K.stream sink.old).calls + pipe.old.turns < 2 ^ 64 }
+    ensures ok { OnOk result (Puts pipe.old pipe.new (K.stream sink.old) (K.stream sink.new) text.now) }
+    ensures empty { OnOk result (pipe.new.outbox ≡ []) }
+    ensures err { IfErr result (Halts pipe.old pipe.new (K.stream sink.old) (K.stream sink.new) text.now) }
+{
+    put(pipe, sink, text)?;
+    send(pipe, sink)?;
+    Ok(())
+}
+
 /// Puts three texts, one behind the other.
 pub(crate) fn put_three<K: Sink>(
     pipe: &mut Pipe,

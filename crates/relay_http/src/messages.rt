@@ -113,7 +113,7 @@ fn read_answer<S: Source, K: Sink>(
     }
 }
 
-fn is_framed(version: Version) -> bool
+pub(crate) fn is_framed(version: Version) -> bool
     ensures { result ≡ framed_for version }
 {
     match version {

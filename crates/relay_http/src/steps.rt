@@ -3,16 +3,18 @@ ghost use Rattle.std.specs.Io.KnownBytes.{IsAtEnd};
 ghost use Rattle.counted_io.specs.Streams.{Stream};
 ghost use Rattle.httparse.specs.Grammar.{RequestHead, print_request};
 ghost use Rattle.relay_body.specs.Steps.{ends, Countable, Moves};
-ghost use Rattle.relay_http.specs.Failures.{Fails};
+ghost use Rattle.relay_http.specs.Failures.{Fails, NoCause};
 ghost use Rattle.relay_http.specs.Framings as framings;
 ghost use Rattle.relay_http.specs.Heads.{IsRequest, LacksRequest};
 ghost use Rattle.relay_http.specs.Messages as messages;
+ghost use Rattle.relay_http.specs.Replies.{leave_text};
 ghost use Rattle.relay_http.specs.States.{IsAt, emptied, Marks};
 ghost use Rattle.relay_http.specs.Texts.{framed_for};
 ghost use Rattle.req_view.specs.Request.{request_of};
 
 use crate::exchange::{Exchange, Stage};
 use crate::fault::Fault;
+use crate::leave::give_leave;
 use crate::messages::{pass_answer, pass_request};
 use crate::reading::read_request;
 use counted_io::{Sink, Source};
@@ -35,6 +37,7 @@ impl Exchange {
         ensures closed { self.old.stage ≡ Stage.Failed → result ≡ Err Fault.Closed }
         ensures err { self.old.stage ≢ Stage.Failed → (w : Stream) → IfErr result (Fails (ends self.old.pipe (S.stream source.old) w) (ends self.new.pipe (S.stream source.new) w) [] [] LacksRequest) }
         ensures failed { OnErr result (self.new.stage ≡ Stage.Failed) }
+        ensures same_source { (S.stream source.new).name ≡ (S.stream source.old).name }
         ensures most { self.new.most ≡ self.old.most }
         ensures begun { self.new.begun ≡ self.old.begun }
     {
@@ -46,6 +49,32 @@ impl Exchange {
                 self.stage = Stage::Asked;
                 Ok(view)
             }
+            Err(fault) => {
+                self.pipe.forget_waiting();
+                self.stage = Stage::Failed;
+                Err(fault)
+            }
+        }
+    }
+
+    /// `go_on` to a sink that counts.
+    pub fn go_on_to<K: Sink>(&mut self, view: &View, sink: &mut K) -> Result<(), Fault>
+        requires ready { IsAt Stage.Asked self.old }
+        requires countable { (K.stream sink.old).calls + self.old.pipe.turns < 2 ^ 64 }
+        ensures ok { (s : Stream) → OnOk result (Moves (ends self.old.pipe s (K.stream sink.old)) (ends self.new.pipe s (K.stream sink.new)) [] (leave_text view.now)) }
+        ensures asked { OnOk result (self.new.stage ≡ Stage.Asked) }
+        ensures closed { self.old.stage ≡ Stage.Failed → result ≡ Err Fault.Closed }
+        ensures err { self.old.stage ≢ Stage.Failed → (s : Stream) → IfErr result (Fails (ends self.old.pipe s (K.stream sink.old)) (ends self.new.pipe s (K.stream sink.new)) [] (leave_text view.now) NoCause) }
+        ensures failed { OnErr result (self.new.stage ≡ Stage.Failed) }
+        ensures same_sink { (K.stream sink.new).name ≡ (K.stream sink.old).name }
+        ensures most { self.new.most ≡ self.old.most }
+        ensures begun { self.new.begun ≡ self.old.begun }
+    {
+        if self.is_closed() {
+            return Err(Fault::Closed);
+        }
+        match give_leave(&mut self.pipe, view, sink) {
+            Ok(()) => Ok(()),
             Err(fault) => {
                 self.pipe.forget_waiting();
                 self.stage = Stage::Failed;
@@ -70,6 +99,8 @@ impl Exchange {
         ensures err { self.old.stage ≢ Stage.Failed → IfErr result (λ fault. (used : List ℕ) × (text : List ℕ) × messages.PartOfForwarded view.now used text
             × Fails (ends self.old.pipe (S.stream source.old) (K.stream sink.old)) (ends self.new.pipe (S.stream source.new) (K.stream sink.new)) used text (messages.LacksForwarded view.now) fault) }
         ensures failed { OnErr result (self.new.stage ≡ Stage.Failed) }
+        ensures same_source { (S.stream source.new).name ≡ (S.stream source.old).name }
+        ensures same_sink { (K.stream sink.new).name ≡ (K.stream sink.old).name }
         ensures most { self.new.most ≡ self.old.most }
         ensures begun { self.new.begun ≡ self.old.begun }
     {
@@ -109,9 +140,12 @@ impl Exchange {
             × messages.PartOfAnswered view.now.method (framed_for view.now.version) used text
             × Fails (ends (emptied self.old.pipe) (S.stream source.old) (K.stream sink.old)) (ends self.new.pipe (S.stream source.new) (K.stream sink.new)) used text (messages.LacksAnswer view.now.method) fault) }
         ensures failed { OnErr result (self.new.stage ≡ Stage.Failed) }
+        ensures same_source { (S.stream source.new).name ≡ (S.stream source.old).name }
+        ensures same_sink { (K.stream sink.new).name ≡ (K.stream sink.old).name }
         ensures most { self.new.most ≡ self.old.most }
         ensures marks { self.old.stage ≢ Stage.Failed → Marks (K.stream sink.old) (K.stream sink.new) self.old.begun self.new.begun }
         ensures begun { OnOk result (IsTrue self.new.begun) }
+        ensures stays { IsTrue self.old.begun → IsTrue self.new.begun }
     {
         if self.is_closed() {
             return Err(Fault::Closed);

@@ -57,3 +57,15 @@ pub returns-in-Err-clause-marks : goal.returns-in-Err-clause-marks
 returns-in-Err-clause-marks g c = λ open_still.
     marks c.args.self.now.begun c.has_begun-self.result c.successes-before.result c.successes.result c.successes-before.ensures c.successes.ensures
     c.in-Err.ensures.err.3.writes.wrote c.has_begun-self.ensures
+
+pub returns-in-Ok-clause-same_source : goal.returns-in-Ok-clause-same_source
+returns-in-Ok-clause-same_source g c = c.in-Ok.ensures.ok.3.reads.same_source
+
+pub returns-in-Ok-clause-same_sink : goal.returns-in-Ok-clause-same_sink
+returns-in-Ok-clause-same_sink g c = c.in-Ok.ensures.ok.3.reads.same_sink
+
+pub returns-in-Err-clause-same_source : goal.returns-in-Err-clause-same_source
+returns-in-Err-clause-same_source g c = c.in-Err.ensures.err.3.reads.same_source
+
+pub returns-in-Err-clause-same_sink : goal.returns-in-Err-clause-same_sink
+returns-in-Err-clause-same_sink g c = c.in-Err.ensures.err.3.reads.same_sink

@@ -1,4 +1,5 @@
 pub mod Chunking
+pub mod Comparing
 pub mod Emitting
 pub mod Exits
 pub mod Fronts

@@ -5,13 +5,12 @@ use Rattle.counted_io.specs.Streams.{Stream}
 use Rattle.relay_body.specs.declared.fault.Fault as Body
 use Rattle.relay_body.specs.declared.fault.Fault.TheVariants as OfBody
 use Rattle.relay_body.specs.declared.pipe.Pipe.{Pipe}
-use Rattle.relay_body.specs.Texts.{Wrote}
 use Rattle.relay_body.specs.Steps.{Ends, ends, Reads, Moves, Breaks, LacksNothing}
 use Rattle.relay_body.specs.Steps as Body_steps
 use Rattle.relay_body.proofs.Stepping.{joined, Reads-trans, moves_emit, breaks_emit}
 use Rattle.relay_body.proofs.Writing.{Wrote-trans}
 use Rattle.relay_http.specs.Emissions.{Puts, Halts}
-use Rattle.relay_http.specs.Failures.{Fine, Blames, Fails, Explains, Passes, Misses}
+use Rattle.relay_http.specs.Failures.{Blames, Fails, Explains, Passes, Misses}
 use Rattle.relay_http.specs.Faults.{relayed}
 use Rattle.relay_http.specs.declared.fault.Fault.{Fault}
 use Rattle.relay_http.specs.declared.fault.Fault.TheVariants.{NoMemory, Head, Framing, Read, Write, Turns, Closed}
@@ -55,7 +54,8 @@ moves_fails {a} {b} {c} {used} {text} {more_used} {more_text} {fault} Why Whole 
         wrote = Wrote-trans p.writes q.writes.wrote;
         all = joined a.pipe.outbox text p.front b.pipe.outbox more_text q.writes.front q.writes.rest p.waiting q.writes.all;
       };
-      blames = blames_earlier fault a b c Why Whole used (b.pipe.inbox ++ q.taken) (a.pipe.inbox ++ (p.taken ++ q.taken)) p.good_reads p.good_writes step front q.blames;
+      blames = blames_earlier fault a b c Why Whole used (b.pipe.inbox ++ q.taken)
+          (a.pipe.inbox ++ (p.taken ++ q.taken)) p.good_reads p.good_writes step front q.blames;
     }
 
 blames_of : (fault : Body.Fault) (a b : Ends) (Lacks : List ℕ → Type 0) (Why : Fault → List ℕ → Type 0) (input : List ℕ)
@@ -86,7 +86,8 @@ pub fails_plainly : {a b : Ends} {used text : List ℕ} {fault : Body.Fault} (Wh
 fails_plainly Why p = fails_of LacksNothing Why (λ l none. absurd none) (λ l none. absurd (none [])) p
 
 -- steps, and what they read is bad
-pub fails_head : {a b : Ends} {used text : List ℕ} (Why : Fault → List ℕ → Type 0) → Moves a b used text → Why Head (used ++ b.pipe.inbox) → Fails a b used text Why Head
+pub fails_head : {a b : Ends} {used text : List ℕ} (Why : Fault → List ℕ → Type 0) → Moves a b used text → Why Head (used ++ b.pipe.inbox)
+    → Fails a b used text Why Head
 fails_head {a} {b} Why p why = record {
   taken = p.taken;
   reads = p.reads;
@@ -96,7 +97,8 @@ fails_head {a} {b} Why p why = record {
   blames = (record { reads = p.good_reads; writes = p.good_writes }, subst (Why Head) (sym p.held) why);
 }
 
-pub fails_framing : {a b : Ends} {used text : List ℕ} (Why : Fault → List ℕ → Type 0) → Moves a b used text → Why Framing (used ++ b.pipe.inbox) → Fails a b used text Why Framing
+pub fails_framing : {a b : Ends} {used text : List ℕ} (Why : Fault → List ℕ → Type 0) → Moves a b used text → Why Framing (used ++ b.pipe.inbox)
+    → Fails a b used text Why Framing
 fails_framing {a} {b} Why p why = record {
   taken = p.taken;
   reads = p.reads;
@@ -118,7 +120,8 @@ fails_memory {a} {b} Why p = record {
 }
 
 -- or the input ended
-pub fails_end : {a b : Ends} {used text : List ℕ} (Why : Fault → List ℕ → Type 0) → Moves a b used text → IsAtEnd b.source.bytes → Why Read (used ++ b.pipe.inbox)
+pub fails_end : {a b : Ends} {used text : List ℕ} (Why : Fault → List ℕ → Type 0) → Moves a b used text → IsAtEnd b.source.bytes
+    → Why Read (used ++ b.pipe.inbox)
     → Fails a b used text Why Read
 fails_end {a} {b} Why p end why = record {
   taken = p.taken;

@@ -1,3 +1,4 @@
+pub mod Agreeing
 pub mod Failing
 pub mod Keeping
 pub mod Lengths

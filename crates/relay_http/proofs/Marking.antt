@@ -1,6 +1,7 @@
 -- Whether something was written, by how many writes succeeded.
-use Rattle.std.proofs.Common.{◌≡◌, ◌∙◌, ℕ, ◌+◌, ◌<◌, ◌≤◌, Bool, true, false, List, [], ◌∷◌, ◌++◌, length, Option, Some, None, refl, sym, ap, arith, append-nil, length-append, subst}
-use Rattle.std.specs.Prelude.{◌||◌, nat_lt, IsTrue, IsFalse}
+use Rattle.std.proofs.Common.{◌≡◌, ◌∙◌, ℕ, ◌+◌, ◌<◌, ◌≤◌, Bool, true, false, List, [], ◌∷◌}
+use Rattle.std.proofs.Common.{◌++◌, length, Option, Some, None, refl, sym, ap, arith, append-nil, length-append, subst}
+use Rattle.std.specs.Prelude.{◌||◌, nat_lt}
 use Rattle.std.specs.Io.KnownBytes.{Appends, Keeps}
 use Rattle.std.proofs.lemmas.Bool.Decides.{nat_tests}
 use Rattle.counted_io.specs.Streams.{Stream}
@@ -29,7 +30,8 @@ none_taken : {w0 w : Stream} {front : List ℕ} (before after : ℕ) → before 
     → after ≤ before → front ≡ []
 none_taken before after b a wrote few = wrote.none (omega (arith, b, a, few, wrote.more))
 
-marks_by : {w0 w : Stream} {front : List ℕ} (begun now : Bool) (before after : ℕ) → before + w0.failures ≡ w0.calls → after + w.failures ≡ w.calls → Wrote w0 w front
+marks_by : {w0 w : Stream} {front : List ℕ} (begun now : Bool) (before after : ℕ) → before + w0.failures ≡ w0.calls → after + w.failures ≡ w.calls
+    → Wrote w0 w front
     → now ≡ nat_lt before after → Marks w0 w begun (begun || now)
 marks_by {w0} {w} {front} true now before after b a wrote is = record {
   stays = λ yes. yes;

@@ -1,18 +1,19 @@
 -- Messages that are handed on, part by part.
-use Rattle.std.proofs.Common.{◌≡◌, ◌∙◌, ℕ, ◌+◌, ◌<◌, ◌≤◌, Bool, true, false, List, [], ◌∷◌, ◌++◌, length, Option, Some, None, refl, sym, ap, arith, append_assoc, append-nil, length-append, subst}
+use Rattle.std.proofs.Common.{◌≡◌, ◌∙◌, ℕ, ◌<◌, ◌≤◌, Bool, true, List, [], ◌∷◌}
+use Rattle.std.proofs.Common.{◌++◌, length, Option, Some, refl, sym, ap, arith, append_assoc, append-nil, length-append, subst}
 use Rattle.std.specs.Prelude.{IsSome}
 use Rattle.std.specs.List.{AllByRecursion}
 use Rattle.httparse.specs.Grammar.{ResponseHead, print_response}
 use Rattle.relay_body.specs.Bodies.{print_chunked}
 use Rattle.relay_body.specs.Bodies.PartOfChunked.{some_chunks, all_of_it}
 use Rattle.relay_body.specs.Chunks.PartOfChunk.{nothing}
-use Rattle.relay_body.specs.Framings.{IsBody, PartOfBody, LacksBody}
+use Rattle.relay_body.specs.Framings.{IsBody, PartOfBody}
 use Rattle.relay_body.specs.declared.framing.Framing as Framed
 use Rattle.relay_body.specs.declared.framing.Framing.TheVariants.{Empty, Length, Chunked, ToEnd}
 use Rattle.relay_body.proofs.Lists.{all_more, map_more}
 use Rattle.relay_http.specs.Framings.{answer_plan, is_interim}
 use Rattle.relay_http.specs.Heads.{IsAnswer, NoAnswer}
-use Rattle.relay_http.specs.Messages.{NoBody, IsInterim, IsFinal, AreInterims, print_heads, interims_text, EndsEarly, BadlyFramed, LacksAnswer}
+use Rattle.relay_http.specs.Messages.{NoBody, IsInterim, IsFinal, AreInterims, print_heads, interims_text, BadlyFramed, LacksAnswer}
 use Rattle.relay_http.specs.Messages.EndsEarly.{no_head, no_body}
 use Rattle.relay_http.specs.Messages.BadlyFramed.{ninth, bad_body}
 use Rattle.relay_http.specs.Texts.{interim_text}
@@ -33,7 +34,8 @@ pub body_part : (framing : Framed.Framing) (framed : Bool) (used text : List ℕ
 body_part Empty framed used text is = is
 body_part (Length count) framed used text is = (omega (arith, is.0), is.1)
 body_part Chunked framed used text is =
-    subst (λ (l : List ℕ). PartOfBody Chunked framed l text) (sym is.2) (subst (λ (l : List ℕ). PartOfBody Chunked framed (print_chunked is.0) l) (sym is.3) (all_of_it is.0 is.1))
+    subst (λ (l : List ℕ). PartOfBody Chunked framed l text) (sym is.2) (subst (λ (l : List ℕ). PartOfBody Chunked framed (print_chunked is.0) l) (sym is.3)
+    (all_of_it is.0 is.1))
 body_part ToEnd framed used text is = is
 
 -- what is wrong behind heads before an answer
@@ -84,7 +86,8 @@ interims_more method hs h all few is = record {
   few = omega (arith, few, length-append hs (h ∷ []));
 }
 
-pub interim_is : (method : List ℕ) (h : ResponseHead) (plan : Plan) → IsAnswer h → answer_plan method (answer_of h) ≡ Some plan → is_interim (answer_of h).status ≡ true
+pub interim_is : (method : List ℕ) (h : ResponseHead) (plan : Plan) → IsAnswer h → answer_plan method (answer_of h) ≡ Some plan
+    → is_interim (answer_of h).status ≡ true
     → IsInterim method h
 interim_is method h plan is planned interim = record {
   head = is;

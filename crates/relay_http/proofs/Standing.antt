@@ -12,13 +12,10 @@ use Rattle.relay_http.specs.Heads.{IsRequest, IsAnswer, NoRequest, NoAnswer, Lac
 use Rattle.relay_http.specs.declared.fault.Fault.{Fault}
 use Rattle.relay_http.specs.declared.fault.Fault.TheVariants as Faulty
 use Rattle.relay_http.proofs.Failing.{fails_head, fails_memory}
-use Rattle.req_view.specs.Answer.{Answer}
 use Rattle.req_view.specs.AnswerHeads.{HasAnswer, NeverHasAnswer, TellsAnswer}
 use Rattle.req_view.specs.Heads.{HasHead, NeverHasHead, Tells}
-use Rattle.req_view.specs.Request.{Request}
 use Rattle.req_view.specs.declared.refusal.Refusal.{Refusal}
 use Rattle.req_view.specs.declared.refusal.Refusal.TheVariants.{HeadFault, NoMemory}
-use Rattle.req_view.specs.declared.viewing.Viewed.{Viewed}
 use Rattle.req_view.specs.declared.viewing.Viewed.TheVariants.{Refused}
 
 pub request_alone : {bytes rest : List ℕ} (h : RequestHead) → HasHead bytes h rest → IsRequest h

@@ -1,5 +1,5 @@
 -- What is known of streams that count, as what is known of their readers and writers.
-use Rattle.std.proofs.Common.{◌≡◌, ℕ, Bool, List, [], ◌++◌, Option, Result, Ok, Err, ◌+◌, refl, subst}
+use Rattle.std.proofs.Common.{◌≡◌, ℕ, Bool, List, [], Option, Result, Ok, Err, ◌+◌, refl, subst}
 use Rattle.std.specs.Prelude.{IfErr, IfOk, OnOk, IsSome}
 use Rattle.std.specs.Io.KnownBytes.{Appends, Consumes, Keeps, IsAtEnd}
 use Rattle.counted_io.specs.Streams.{Stream}
@@ -37,9 +37,15 @@ pub thin : {a b : Ends} {r0 r w0 w : Option (List ℕ)} {used text : List ℕ} �
     → Passes a.pipe.inbox b.pipe.inbox r0 r w0 w used text
 thin {text = text} same none left x =
     let p = passes_of none left x in
-    record { taken = p.taken; reads = consumes_as p.taken same.reader0 same.reader p.reads; all = p.all; writes = appends_as text same.writer0 same.writer p.writes }
+    record {
+      taken = p.taken;
+      reads = consumes_as p.taken same.reader0 same.reader p.reads;
+      all = p.all;
+      writes = appends_as text same.writer0 same.writer p.writes;
+    }
 
-pub thin_fault : {a b : Ends} {r0 r w0 w : Option (List ℕ)} {used text : List ℕ} {fault : Fault} (Why : Fault → List ℕ → Type 0) → Same a b r0 r w0 w → a.pipe.outbox ≡ []
+pub thin_fault : {a b : Ends} {r0 r w0 w : Option (List ℕ)} {used text : List ℕ} {fault : Fault} (Why : Fault → List ℕ → Type 0) → Same a b r0 r w0 w
+    → a.pipe.outbox ≡ []
     → Fails a b used text Why fault → Misses a.pipe.inbox r0 r w0 w used text Why fault
 thin_fault Why same none x =
     let p = misses_of Why none x in record {
@@ -58,8 +64,10 @@ thin_fault Why same none x =
 abbrev pub silent : Stream → Option (List ℕ) → Stream
 silent s bytes = record { name = s.name; bytes = bytes; calls = 0; failures = 0 }
 
-pub thin_read : (result : Result Request Fault) (p q : Pipe) (s t : Stream) (r0 r : Option (List ℕ)) → s.bytes ≡ r0 → t.bytes ≡ r → p.outbox ≡ [] → q.outbox ≡ []
-    → IfOk result (λ v. (h : RequestHead) × IsRequest h × (v ≡ request_of h) × IsSome (request_framing v) × ((w : Stream) → Moves (ends p s w) (ends q t w) (print_request h) []))
+pub thin_read : (result : Result Request Fault) (p q : Pipe) (s t : Stream) (r0 r : Option (List ℕ)) → s.bytes ≡ r0 → t.bytes ≡ r → p.outbox ≡ []
+    → q.outbox ≡ []
+    → IfOk result (λ v. (h : RequestHead) × IsRequest h × (v ≡ request_of h) × IsSome (request_framing v) × ((w : Stream) → Moves (ends p s w) (ends q t w)
+    (print_request h) []))
     → IfOk result (λ v. (h : RequestHead) × IsRequest h × (v ≡ request_of h) × IsSome (request_framing v)
     × ((w : Option (List ℕ)) → Passes p.inbox q.inbox r0 r w w (print_request h) []))
 thin_read (Ok v) p q s t r0 r e f none left x = (
@@ -71,8 +79,10 @@ thin_read (Ok v) p q s t r0 r e f none left x = (
 )
 thin_read (Err fault) p q s t r0 r e f none left x = tt
 
-pub thin_read_fault : (result : Result Request Fault) (Why : Fault → List ℕ → Type 0) (p q : Pipe) (s t : Stream) (r0 r : Option (List ℕ)) → s.bytes ≡ r0 → t.bytes ≡ r
-    → p.outbox ≡ [] → ((w : Stream) → IfErr result (Fails (ends p s w) (ends q t w) [] [] Why)) → (w : Option (List ℕ)) → IfErr result (Misses p.inbox r0 r w w [] [] Why)
+pub thin_read_fault : (result : Result Request Fault) (Why : Fault → List ℕ → Type 0) (p q : Pipe) (s t : Stream) (r0 r : Option (List ℕ)) → s.bytes ≡ r0
+    → t.bytes ≡ r
+    → p.outbox ≡ [] → ((w : Stream) → IfErr result (Fails (ends p s w) (ends q t w) [] [] Why)) → (w : Option (List ℕ))
+    → IfErr result (Misses p.inbox r0 r w w [] [] Why)
 thin_read_fault (Ok v) Why p q s t r0 r e f none x w = tt
 thin_read_fault (Err fault) Why p q s t r0 r e f none x w =
     thin_fault Why (record { reader0 = e; reader = f; writer0 = refl; writer = refl }) none (x (silent s w))
@@ -84,14 +94,16 @@ thin_write (Ok v) text p q s t w0 w e f none left x r =
     thin (record { reader0 = refl; reader = refl; writer0 = e; writer = f }) none left (x (silent s r))
 thin_write (Err fault) text p q s t w0 w e f none left x r = tt
 
-pub thin_write_fault : {T : Type 0} (result : Result T Fault) (Why : Fault → List ℕ → Type 0) (text : List ℕ) (p q : Pipe) (s t : Stream) (w0 w : Option (List ℕ))
+pub thin_write_fault : {T : Type 0} (result : Result T Fault) (Why : Fault → List ℕ → Type 0) (text : List ℕ) (p q : Pipe) (s t : Stream)
+    (w0 w : Option (List ℕ))
     → s.bytes ≡ w0 → t.bytes ≡ w → p.outbox ≡ [] → ((r : Stream) → IfErr result (Fails (ends p r s) (ends q r t) [] text Why))
     → (r : Option (List ℕ)) → IfErr result (Misses p.inbox r r w0 w [] text Why)
 thin_write_fault (Ok v) Why text p q s t w0 w e f none x r = tt
 thin_write_fault (Err fault) Why text p q s t w0 w e f none x r =
     thin_fault Why (record { reader0 = refl; reader = refl; writer0 = e; writer = f }) none (x (silent s r))
 
-pub thin_both_fault : {T : Type 0} (result : Result T Fault) (Part : List ℕ → List ℕ → Type 0) (Why : Fault → List ℕ → Type 0) (a b : Ends) (r0 r w0 w : Option (List ℕ))
+pub thin_both_fault : {T : Type 0} (result : Result T Fault) (Part : List ℕ → List ℕ → Type 0) (Why : Fault → List ℕ → Type 0) (a b : Ends)
+    (r0 r w0 w : Option (List ℕ))
     → a.source.bytes ≡ r0 → b.source.bytes ≡ r → a.sink.bytes ≡ w0 → b.sink.bytes ≡ w → a.pipe.outbox ≡ []
     → IfErr result (λ fault. (x : List ℕ) × (y : List ℕ) × Part x y × Fails a b x y Why fault)
     → IfErr result (λ fault. (x : List ℕ) × (y : List ℕ) × Part x y × Misses a.pipe.inbox r0 r w0 w x y Why fault)
@@ -125,7 +137,8 @@ thin_wrote (Ok v) s t w0 w text e f x = appends_as text e f x.bytes
 thin_wrote (Err fault) s t w0 w text e f x = tt
 
 pub thin_prefix : {T : Type 0} (result : Result T Fault) (s t : Stream) (w0 w : Option (List ℕ)) (text : List ℕ) → s.bytes ≡ w0 → t.bytes ≡ w
-    → IfErr result (λ fault. (fault ≡ Write) × (t.failures ≡ s.failures + 1) × WritesFront s t text) → IfErr result (λ fault. (fault ≡ Write) × WrotePrefix w0 w text)
+    → IfErr result (λ fault. (fault ≡ Write) × (t.failures ≡ s.failures + 1) × WritesFront s t text)
+    → IfErr result (λ fault. (fault ≡ Write) × WrotePrefix w0 w text)
 thin_prefix (Ok v) s t w0 w text e f x = tt
 thin_prefix (Err fault) s t w0 w text e f x =
     (x.0, record { front = x.2.front; left = x.2.rest; writes = appends_as x.2.front e f x.2.wrote.bytes; text_is = x.2.all })

@@ -84,7 +84,8 @@ pub data PartOfAnswered (method : List ℕ) (framed : Bool) : List ℕ → List 
   some_heads : (hs : List ResponseHead) → AreInterims method hs → PartOfAnswered method framed (print_heads hs) (interims_text framed hs)
   head_and_body : (hs : List ResponseHead) (h : ResponseHead) (plan : Plan) (used passed : List ℕ) → AreInterims method hs → IsFinal method h plan
       → PartOfBody plan.body framed used passed
-      → PartOfAnswered method framed (print_heads hs ++ (print_response h ++ used)) (interims_text framed hs ++ (answer_text framed (answer_of h) plan ++ passed))
+      → PartOfAnswered method framed (print_heads hs ++ (print_response h ++ used)) (interims_text framed hs ++ (answer_text framed
+      (answer_of h) plan ++ passed))
 
 -- behind so many heads the input ends too early
 pub data EndsEarly (method : List ℕ) : List ℕ → Type 0 where

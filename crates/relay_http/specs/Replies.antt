@@ -1,9 +1,9 @@
 -- What the proxy itself says to a client.
-use Rattle.std.specs.Prelude.{ℕ, Bool, true, false, ◌&&◌, nat_lt, List, [], if◌then◌else◌, Option, Some, None, codes}
+use Rattle.std.specs.Prelude.{ℕ, Bool, true, false, ◌&&◌, nat_lt, List, [], if◌then◌else◌, Option, Some, codes}
 use Rattle.std.specs.List.{list_any}
 use Rattle.std.specs.Str.{str_eq_ignore_ascii_case}
 use Rattle.relay_body.specs.declared.framing.Framing.{Framing}
-use Rattle.relay_body.specs.declared.framing.Framing.TheVariants.{Empty, Length, Chunked, ToEnd}
+use Rattle.relay_body.specs.declared.framing.Framing.TheVariants.{Length, Chunked}
 use Rattle.relay_http.specs.Framings.{request_framing}
 use Rattle.relay_http.specs.Texts.{framed_for}
 use Rattle.relay_http.specs.declared.refusing.Code.{Code}

@@ -1,11 +1,11 @@
 -- What an exchange is after each of its calls.
-use Rattle.std.specs.Prelude.{◌≡◌, ℕ, ◌<◌, Bool, true, false, List, [], length, ◌⊎◌, IsTrue, IsFalse}
+use Rattle.std.specs.Prelude.{◌≡◌, ℕ, ◌<◌, Bool, false, List, [], length, ◌⊎◌, IsTrue, IsFalse}
 use Rattle.std.specs.Io.KnownBytes.{Appends, Keeps}
 use Rattle.counted_io.specs.Streams.{Stream}
 use Rattle.relay_body.specs.declared.pipe.Pipe.{Pipe}
 use Rattle.relay_http.specs.declared.exchange.Exchange.{Exchange}
 use Rattle.relay_http.specs.declared.exchange.Stage.{Stage}
-use Rattle.relay_http.specs.declared.exchange.Stage.TheVariants.{New, Asked, Forwarded, Answered, Failed}
+use Rattle.relay_http.specs.declared.exchange.Stage.TheVariants.{New, Failed}
 
 -- nothing was read or written yet
 pub record IsFresh (most : ℕ) (e : Exchange) : Type 0 where

@@ -1,5 +1,5 @@
 -- A client of version 1.1 gets each such head that isn't a 100.
-use Rattle.std.proofs.Common.{◌≡◌, ◌∙◌, List, ℕ, ◌++◌, sym}
+use Rattle.std.proofs.Common.{◌≡◌, ◌∙◌, ◌++◌, sym}
 use Rattle.httparse.specs.Ascii.{crlf_bytes}
 use Rattle.relay_body.proofs.Exits.{at_exit}
 use Rattle.relay_http.specs.Texts.{answer_lines, interim_text}

@@ -15,21 +15,28 @@ pub returns-in_err-put_fields-clause-err : goal.returns-in_err-put_fields-clause
 returns-in_err-put_fields-clause-err g c =
     let rest = host_text (kept of_request c.args.view.now.fields) ++ end_text c.args.framing in
     at_exit _ _ _ c.from_residual-in_err-put_fields.ensures.1
-    (puts_halts c.in_ok-put_request_line.ensures.ok (halts_front rest (halts_as (ap (λ (fields : List NamedValue). fields_text (kept of_request fields)) c.section.ensures) c.in_err-put_fields.ensures.err)))
+    (puts_halts c.in_ok-put_request_line.ensures.ok (halts_front rest (halts_as (ap (λ (fields : List NamedValue). fields_text
+    (kept of_request fields)) c.section.ensures) c.in_err-put_fields.ensures.err)))
 
 pub returns-in_err-put_host-clause-err : goal.returns-in_err-put_host-clause-err
 returns-in_err-put_host-clause-err g c =
     at_exit _ _ _ c.from_residual-in_err-put_host.ensures.1
-    (puts_halts c.in_ok-put_request_line.ensures.ok (puts_halts (puts_as (ap (λ (fields : List NamedValue). fields_text (kept of_request fields)) c.section.ensures) c.in_ok-put_fields.ensures.ok)
-    (halts_front (end_text c.args.framing) (halts_as (ap (λ (fields : List NamedValue). host_text (kept of_request fields)) c.section-2.ensures) c.in_err-put_host.ensures.err))))
+    (puts_halts c.in_ok-put_request_line.ensures.ok (puts_halts (puts_as (ap (λ (fields : List NamedValue). fields_text
+    (kept of_request fields)) c.section.ensures) c.in_ok-put_fields.ensures.ok)
+    (halts_front (end_text c.args.framing) (halts_as (ap (λ (fields : List NamedValue). host_text
+    (kept of_request fields)) c.section-2.ensures) c.in_err-put_host.ensures.err))))
 
 pub returns-in_err-put_end-clause-err : goal.returns-in_err-put_end-clause-err
 returns-in_err-put_end-clause-err g c =
     at_exit _ _ _ c.from_residual-in_err-put_end.ensures.1
-    (puts_halts c.in_ok-put_request_line.ensures.ok (puts_halts (puts_as (ap (λ (fields : List NamedValue). fields_text (kept of_request fields)) c.section.ensures) c.in_ok-put_fields.ensures.ok)
-    (puts_halts (puts_as (ap (λ (fields : List NamedValue). host_text (kept of_request fields)) c.section-2.ensures) c.in_ok-put_host.ensures.ok) c.in_err-put_end.ensures.err)))
+    (puts_halts c.in_ok-put_request_line.ensures.ok (puts_halts (puts_as (ap (λ (fields : List NamedValue). fields_text
+    (kept of_request fields)) c.section.ensures) c.in_ok-put_fields.ensures.ok)
+    (puts_halts (puts_as (ap (λ (fields : List NamedValue). host_text
+    (kept of_request fields)) c.section-2.ensures) c.in_ok-put_host.ensures.ok) c.in_err-put_end.ensures.err)))
 
 pub returns-clause-ok : goal.returns-clause-ok
 returns-clause-ok g c =
-    puts_trans c.in_ok-put_request_line.ensures.ok (puts_trans (puts_as (ap (λ (fields : List NamedValue). fields_text (kept of_request fields)) c.section.ensures) c.in_ok-put_fields.ensures.ok)
-    (puts_trans (puts_as (ap (λ (fields : List NamedValue). host_text (kept of_request fields)) c.section-2.ensures) c.in_ok-put_host.ensures.ok) c.in_ok-put_end.ensures.ok))
+    puts_trans c.in_ok-put_request_line.ensures.ok (puts_trans (puts_as (ap (λ (fields : List NamedValue). fields_text
+    (kept of_request fields)) c.section.ensures) c.in_ok-put_fields.ensures.ok)
+    (puts_trans (puts_as (ap (λ (fields : List NamedValue). host_text
+    (kept of_request fields)) c.section-2.ensures) c.in_ok-put_host.ensures.ok) c.in_ok-put_end.ensures.ok))

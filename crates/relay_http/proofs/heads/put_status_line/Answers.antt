@@ -12,15 +12,19 @@ returns-in_err-put_three-clause-err g c =
 
 pub returns-in_err-put-clause-err : goal.returns-in_err-put-clause-err
 returns-in_err-put-clause-err g c =
-    let line = puts_as (ap (λ (l : List ℕ). codes "HTTP/1.1 " ++ (l ++ space ∷ [])) (c.status_digits-digits.ensures ∙ ap status_text c.status.ensures.value)) c.in_ok-put_three.ensures.ok in
+    let line = puts_as (ap (λ (l : List ℕ). codes "HTTP/1.1 " ++ (l ++ space ∷ []))
+    (c.status_digits-digits.ensures ∙ ap status_text c.status.ensures.value)) c.in_ok-put_three.ensures.ok in
     at_exit _ _ _ c.from_residual-in_err-put.ensures.1 (puts_halts line (halts_front crlf_bytes (halts_as c.reason.ensures c.in_err-put.ensures.err)))
 
 pub returns-in_err-put-2-clause-err : goal.returns-in_err-put-2-clause-err
 returns-in_err-put-2-clause-err g c =
-    let line = puts_as (ap (λ (l : List ℕ). codes "HTTP/1.1 " ++ (l ++ space ∷ [])) (c.status_digits-digits.ensures ∙ ap status_text c.status.ensures.value)) c.in_ok-put_three.ensures.ok in
-    at_exit _ _ _ c.from_residual-in_err-put-2.ensures.1 (puts_halts line (puts_halts (puts_as c.reason.ensures c.in_ok-put.ensures.ok) c.in_err-put-2.ensures.err))
+    let line = puts_as (ap (λ (l : List ℕ). codes "HTTP/1.1 " ++ (l ++ space ∷ []))
+    (c.status_digits-digits.ensures ∙ ap status_text c.status.ensures.value)) c.in_ok-put_three.ensures.ok in
+    at_exit _ _ _ c.from_residual-in_err-put-2.ensures.1 (puts_halts line (puts_halts
+    (puts_as c.reason.ensures c.in_ok-put.ensures.ok) c.in_err-put-2.ensures.err))
 
 pub returns-clause-ok : goal.returns-clause-ok
 returns-clause-ok g c =
-    let line = puts_as (ap (λ (l : List ℕ). codes "HTTP/1.1 " ++ (l ++ space ∷ [])) (c.status_digits-digits.ensures ∙ ap status_text c.status.ensures.value)) c.in_ok-put_three.ensures.ok in
+    let line = puts_as (ap (λ (l : List ℕ). codes "HTTP/1.1 " ++ (l ++ space ∷ []))
+    (c.status_digits-digits.ensures ∙ ap status_text c.status.ensures.value)) c.in_ok-put_three.ensures.ok in
     puts_trans line (puts_trans (puts_as c.reason.ensures c.in_ok-put.ensures.ok) c.in_ok-put-2.ensures.ok)

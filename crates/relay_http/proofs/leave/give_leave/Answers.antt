@@ -3,8 +3,8 @@ use Rattle.std.proofs.Common.{◌≡◌, ◌∙◌, List, ℕ, Bool, false, true
 use Rattle.relay_body.proofs.Exits.{at_exit}
 use Rattle.relay_body.proofs.Stepping.{moves_none, moves_as}
 use Rattle.relay_http.specs.Failures.{NoCause}
-use Rattle.relay_http.specs.Replies.{waits_for_leave, leave_text}
-use Rattle.relay_http.proofs.Failing.{moves_put, fails_put, fails_as}
+use Rattle.relay_http.specs.Replies.{waits_for_leave}
+use Rattle.relay_http.proofs.Failing.{fails_put, fails_as}
 use Rattle.relay_http.proofs.leave.give_leave.Goals as goal
 
 leave : List ℕ

@@ -1,5 +1,5 @@
 -- The heads, the body and what waits, one after the other.
-use Rattle.std.proofs.Common.{◌≡◌, ◌∙◌, Bool, List, [], ◌++◌, refl, sym, ap, append_assoc, append-nil, subst}
+use Rattle.std.proofs.Common.{◌≡◌, ◌∙◌, Bool, [], ◌++◌, refl, sym, ap, append_assoc, append-nil, subst}
 use Rattle.httparse.specs.Grammar.{print_response}
 use Rattle.relay_body.specs.Framings.{IsBody, PartOfBody, LacksBody}
 use Rattle.relay_body.proofs.Exits.{at_exit}

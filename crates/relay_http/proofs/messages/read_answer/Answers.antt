@@ -1,5 +1,5 @@
 -- Head after head, up to the answer's own.
-use Rattle.std.proofs.Common.{◌≡◌, ◌∙◌, ◌+◌, ◌<◌, ◌≤◌, List, [], ◌∷◌, ◌++◌, length, refl, sym, ap, arith, append-nil, length-append}
+use Rattle.std.proofs.Common.{◌∙◌, ◌<◌, ◌≤◌, [], ◌∷◌, ◌++◌, length, refl, sym, ap, arith, append-nil, length-append}
 use Rattle.httparse.specs.Grammar.{print_response}
 use Rattle.relay_body.proofs.Exits.{at_exit}
 use Rattle.relay_body.proofs.Lists.{map_more}
@@ -28,7 +28,8 @@ returns-in_err-head-clause-err g c =
       hs,
       are,
       fails_as (LacksAnswer method) (append-nil (print_heads hs)) (append-nil (interims_text framed hs))
-          (moves_fails NoAnswer (LacksAnswer method) (λ l why. heads_then method hs _ l are why) so_far.4 (c.in_err-head.ensures.err (g.K.Sink.stream c.heads.sink))),
+          (moves_fails NoAnswer (LacksAnswer method) (λ l why. heads_then method hs _ l are why) so_far.4 (c.in_err-head.ensures.err
+          (g.K.Sink.stream c.heads.sink))),
     )
 
 pub returns-in_default-clause-err : goal.returns-in_default-clause-err
@@ -42,7 +43,8 @@ returns-in_default-clause-err g c =
     let h = seen.0 in
     let read = moves_trans so_far.4 (seen.3 (g.K.Sink.stream c.heads.sink)) in
     let planned = sym (c.answer_plan-planned.ensures ∙ (λ i. answer_plan (c.method.ensures i) (seen.2 i))) in
-    let bad = bad_here method hs h c.read_answer_head.new.pipe.inbox are (no_plan (length hs) h c.read_answer_head.new.pipe.inbox seen.1 (planned ∙ c.in_default.is)) in (
+    let bad = bad_here method hs h c.read_answer_head.new.pipe.inbox are (no_plan (length hs) h c.read_answer_head.new.pipe.inbox seen.1
+    (planned ∙ c.in_default.is)) in (
       hs,
       are,
       fails_less (LacksAnswer method) (print_heads hs) (print_response h)

@@ -1,12 +1,12 @@
 -- Bytes are read until a head stands there, or can't.
-use Rattle.std.proofs.Common.{◌≡◌, ◌∙◌, ◌<◌, ◌+◌, ℕ, List, [], length, sym, ap, arith, refl, subst}
+use Rattle.std.proofs.Common.{◌∙◌, sym, arith, refl, subst}
 use Rattle.httparse.specs.Grammar.{print_response}
 use Rattle.relay_body.proofs.Exits.{at_exit}
 use Rattle.relay_body.proofs.Stepping.{moves_none, moves_trans}
 use Rattle.relay_http.specs.Heads.{NoAnswer}
 use Rattle.relay_http.proofs.Failing.{moves_fails, fails_plainly, fails_end}
 use Rattle.relay_http.proofs.Standing.{answer_alone, answer_refused, moves_front}
-use Rattle.req_view.specs.AnswerHeads.{NeverHasAnswer, HasNoAnswer, TellsAnswer}
+use Rattle.req_view.specs.AnswerHeads.{HasNoAnswer}
 use Rattle.relay_http.proofs.reading.read_answer_head.Goals as goal
 
 pub reading-init : goal.reading-init

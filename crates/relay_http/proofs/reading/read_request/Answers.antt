@@ -1,5 +1,5 @@
 -- The head was read, and its framing is good or bad.
-use Rattle.std.proofs.Common.{◌≡◌, ◌∙◌, List, ℕ, [], refl, sym, ap}
+use Rattle.std.proofs.Common.{◌∙◌, [], refl, sym, ap}
 use Rattle.httparse.specs.Grammar.{print_request}
 use Rattle.relay_body.proofs.Exits.{at_exit}
 use Rattle.relay_body.proofs.Stepping.{moves_none}

@@ -6,10 +6,12 @@ use Rattle.relay_http.proofs.exchange.Exchange.answer.Goals as goal
 
 pub returns-clause-ok : goal.returns-clause-ok
 returns-clause-ok g c =
-    thin_answer _ c.args.view.now.method (framed_for c.args.view.now.version) _ _ _ _ _ _ (search rules) (search rules) (search rules) (search rules) c.args.self.now.drained
+    thin_answer _ c.args.view.now.method (framed_for c.args.view.now.version) _ _ _ _ _ _ (search rules) (search rules) (search rules)
+    (search rules) c.args.self.now.drained
     c.answer_between.new.self.drained c.answer_between.ensures.ok
 
 pub returns-clause-err : goal.returns-clause-err
 returns-clause-err g c = λ open_still.
-    thin_both_fault _ (PartOfAnswered c.args.view.now.method (framed_for c.args.view.now.version)) (LacksAnswer c.args.view.now.method) _ _ _ _ _ _ (search rules) (search rules) (search rules) (search rules)
+    thin_both_fault _ (PartOfAnswered c.args.view.now.method (framed_for c.args.view.now.version)) (LacksAnswer c.args.view.now.method) _ _ _ _ _ _
+    (search rules) (search rules) (search rules) (search rules)
     c.args.self.now.drained (c.answer_between.ensures.err open_still)

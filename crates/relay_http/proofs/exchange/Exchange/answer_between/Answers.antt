@@ -1,10 +1,6 @@
 -- The answer is handed on by a pipe that holds nothing, and what was written is known by how many writes succeeded.
-use Rattle.std.proofs.Common.{◌≡◌, ◌<◌, List, ℕ, length, arith, ap, length-append}
-use Rattle.relay_body.specs.declared.pipe.Pipe.{Pipe}
-use Rattle.relay_body.specs.Steps.{ends, Moves}
-use Rattle.relay_http.specs.Failures.{Fails}
+use Rattle.std.proofs.Common.{◌<◌, ℕ, length, arith, ap, length-append}
 use Rattle.relay_http.specs.Messages.{LacksAnswer}
-use Rattle.relay_http.specs.States.{emptied}
 use Rattle.relay_http.proofs.Failing.{fails_after}
 use Rattle.relay_http.proofs.Marking.{marks, begun_by, pipe_emptied, answered_some}
 use Rattle.relay_http.proofs.exchange.Exchange.answer_between.Goals as goal

@@ -20,7 +20,8 @@ blames_earlier : (fault : Fault) (a b c : Ends) (Why Whole : Fault → List ℕ 
     → b.source.failures ≡ a.source.failures → b.sink.failures ≡ a.sink.failures
     → ((l : List ℕ) → Why fault l → Whole fault (used ++ l)) → whole ≡ used ++ input
     → Blames b c Why input fault → Blames a c Whole whole fault
-blames_earlier NoMemory a b c Why Whole used input whole r w step e blame = record { reads = blame.reads ∙ r; writes = blame.writes ∙ w }
+blames_earlier NoMemory a b c Why Whole used input whole r w step e blame =
+    (record { reads = blame.0.reads ∙ r; writes = blame.0.writes ∙ w }, subst (Whole NoMemory) (sym e) (step input blame.1))
 blames_earlier Head a b c Why Whole used input whole r w step e blame =
     (record { reads = blame.0.reads ∙ r; writes = blame.0.writes ∙ w }, subst (Whole Head) (sym e) (step input blame.1))
 blames_earlier Framing a b c Why Whole used input whole r w step e blame =
@@ -109,14 +110,15 @@ fails_framing {a} {b} Why p why = record {
 }
 
 -- or memory is wanting
-pub fails_memory : {a b : Ends} {used text : List ℕ} (Why : Fault → List ℕ → Type 0) → Moves a b used text → Fails a b used text Why NoMemory
-fails_memory {a} {b} Why p = record {
+pub fails_memory : {a b : Ends} {used text : List ℕ} (Why : Fault → List ℕ → Type 0) → Moves a b used text → Why NoMemory (used ++ b.pipe.inbox)
+    → Fails a b used text Why NoMemory
+fails_memory {a} {b} Why p why = record {
   taken = p.taken;
   reads = p.reads;
   rest = b.pipe.inbox;
   held = p.held;
   writes = record { front = p.front; rest = b.pipe.outbox; wrote = p.writes; all = p.waiting };
-  blames = record { reads = p.good_reads; writes = p.good_writes };
+  blames = (record { reads = p.good_reads; writes = p.good_writes }, subst (Why NoMemory) (sym p.held) why);
 }
 
 -- or the input ended
@@ -165,7 +167,7 @@ moves_halts {s = s} {used = used} Why so_far x =
 
 turns_same : (fault : Fault) (a : Ends) (p q : Pipe) (s w : Stream) (Why : Fault → List ℕ → Type 0) (input : List ℕ) → q.turns ≡ p.turns
     → Blames a (ends p s w) Why input fault → Blames a (ends q s w) Why input fault
-turns_same NoMemory a p q s w Why input e blame = record { reads = blame.reads; writes = blame.writes }
+turns_same NoMemory a p q s w Why input e blame = (record { reads = blame.0.reads; writes = blame.0.writes }, blame.1)
 turns_same Head a p q s w Why input e blame = (record { reads = blame.0.reads; writes = blame.0.writes }, blame.1)
 turns_same Framing a p q s w Why input e blame = (record { reads = blame.0.reads; writes = blame.0.writes }, blame.1)
 turns_same Read a p q s w Why input e blame = blame
@@ -194,7 +196,7 @@ fails_after {a} {p} {s} {w} {fault = fault} Why q e x = record {
 }
 
 explains : (fault : Fault) (a b : Ends) (Why : Fault → List ℕ → Type 0) (input : List ℕ) → Blames a b Why input fault → Explains Why fault input
-explains NoMemory a b Why input blame = tt
+explains NoMemory a b Why input blame = blame.1
 explains Head a b Why input blame = blame.1
 explains Framing a b Why input blame = blame.1
 explains Read a b Why input blame = tt

@@ -44,7 +44,7 @@ pub heads_then : (method : List ℕ) (hs : List ResponseHead) (fault : Fault) (l
 heads_then method hs Read l are none = record { interims = hs; are = are; rest = l; input_is = refl; then = no_head l none }
 heads_then method hs Head l are none = record { interims = hs; are = are; rest = l; input_is = refl; then = none }
 heads_then method hs Framing l are none = absurd none
-heads_then method hs NoMemory l are none = absurd none
+heads_then method hs NoMemory l are none = tt
 heads_then method hs Write l are none = absurd none
 heads_then method hs Turns l are none = absurd none
 heads_then method hs Closed l are none = absurd none

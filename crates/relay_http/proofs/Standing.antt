@@ -41,20 +41,20 @@ pub request_refused : {a : Ends} (p : Pipe) (s w : Stream) (held : List ℕ) (wh
 request_refused {a} p s w held HeadFault fault so_far same told is =
     subst (λ (f : Fault). Fails a (ends p s w) [] [] NoRequest f) (sym is) (fails_head NoRequest so_far (subst (λ (l : List ℕ). NeverHasHead l) same told))
 request_refused {a} p s w held NoMemory fault so_far same told is =
-    subst (λ (f : Fault). Fails a (ends p s w) [] [] NoRequest f) (sym is) (fails_memory NoRequest so_far)
+    subst (λ (f : Fault). Fails a (ends p s w) [] [] NoRequest f) (sym is) (fails_memory NoRequest so_far tt)
 
 pub answer_refused : {a : Ends} (p : Pipe) (s w : Stream) (held : List ℕ) (why : Refusal) (fault : Fault) → Moves a (ends p s w) [] [] → held ≡ p.inbox
     → TellsAnswer held (Refused why) → fault ≡ of_refusal why → Fails a (ends p s w) [] [] NoAnswer fault
 answer_refused {a} p s w held HeadFault fault so_far same told is =
     subst (λ (f : Fault). Fails a (ends p s w) [] [] NoAnswer f) (sym is) (fails_head NoAnswer so_far (subst (λ (l : List ℕ). NeverHasAnswer l) same told))
 answer_refused {a} p s w held NoMemory fault so_far same told is =
-    subst (λ (f : Fault). Fails a (ends p s w) [] [] NoAnswer f) (sym is) (fails_memory NoAnswer so_far)
+    subst (λ (f : Fault). Fails a (ends p s w) [] [] NoAnswer f) (sym is) (fails_memory NoAnswer so_far tt)
 
 pub request_lacks : (fault : Fault) (l : List ℕ) → NoRequest fault l → LacksRequest fault l
 request_lacks Faulty.Read l why = why
 request_lacks Faulty.Head l why = why
 request_lacks Faulty.Framing l why = absurd why
-request_lacks Faulty.NoMemory l why = absurd why
+request_lacks Faulty.NoMemory l why = tt
 request_lacks Faulty.Write l why = absurd why
 request_lacks Faulty.Turns l why = absurd why
 request_lacks Faulty.Closed l why = absurd why

@@ -12,9 +12,10 @@ pub record Fine (old new : Ends) : Type 0 where
   pub writes : new.sink.failures ≡ old.sink.failures
 
 -- Whose the fault is, where Why says of a fault what is wrong with the input: a read failed, or the input ended too
--- early; a write failed; all turns are spent; or the bytes can't be what they have to be.
+-- early; a write failed; all turns are spent; or the bytes can't be what they have to be. Want of memory is no fault of
+-- the input: Why says of it where it may be met.
 abbrev pub Blames : Ends → Ends → (Fault → List ℕ → Type 0) → List ℕ → Fault → Type 0
-Blames old new Why input NoMemory = Fine old new
+Blames old new Why input NoMemory = Fine old new × Why NoMemory input
 Blames old new Why input Head = Fine old new × Why Head input
 Blames old new Why input Framing = Fine old new × Why Framing input
 Blames old new Why input Read = (new.sink.failures ≡ old.sink.failures)
@@ -37,11 +38,11 @@ pub record Fails (old new : Ends) (used text : List ℕ) (Why : Fault → List �
   pub writes : WritesFront old.sink new.sink (old.pipe.outbox ++ text)
   pub blames : Blames old new Why (old.pipe.inbox ++ taken) fault
 
--- what is wrong with the input, where the fault is that of the bytes
+-- what is wrong with the input, where the fault is that of the bytes, or may be met at all
 abbrev pub Explains : (Fault → List ℕ → Type 0) → Fault → List ℕ → Type 0
 Explains Why Head input = Why Head input
 Explains Why Framing input = Why Framing input
-Explains Why NoMemory input = Unit {0}
+Explains Why NoMemory input = Why NoMemory input
 Explains Why Read input = Unit {0}
 Explains Why Write input = Unit {0}
 Explains Why Turns input = Unit {0}

@@ -21,7 +21,7 @@ abbrev pub NoRequest : Fault → List ℕ → Type 0
 NoRequest Read input = HasNoHead input
 NoRequest Head input = NeverHasHead input
 NoRequest Framing input = ⊥
-NoRequest NoMemory input = ⊥
+NoRequest NoMemory input = Unit {0}
 NoRequest Write input = ⊥
 NoRequest Turns input = ⊥
 NoRequest Closed input = ⊥
@@ -38,7 +38,7 @@ abbrev pub LacksRequest : Fault → List ℕ → Type 0
 LacksRequest Read input = HasNoHead input
 LacksRequest Head input = NeverHasHead input
 LacksRequest Framing input = FramedBadly input
-LacksRequest NoMemory input = ⊥
+LacksRequest NoMemory input = Unit {0}
 LacksRequest Write input = ⊥
 LacksRequest Turns input = ⊥
 LacksRequest Closed input = ⊥
@@ -48,7 +48,7 @@ abbrev pub NoAnswer : Fault → List ℕ → Type 0
 NoAnswer Read input = HasNoAnswer input
 NoAnswer Head input = NeverHasAnswer input
 NoAnswer Framing input = ⊥
-NoAnswer NoMemory input = ⊥
+NoAnswer NoMemory input = Unit {0}
 NoAnswer Write input = ⊥
 NoAnswer Turns input = ⊥
 NoAnswer Closed input = ⊥

@@ -112,7 +112,7 @@ abbrev pub LacksAnswer : List ℕ → Fault → List ℕ → Type 0
 LacksAnswer method Read input = Behind method (λ n rest. EndsEarly method rest) input
 LacksAnswer method Head input = Behind method (λ n rest. NeverHasAnswer rest) input
 LacksAnswer method Framing input = Behind method (BadlyFramed method) input
-LacksAnswer method NoMemory input = ⊥
+LacksAnswer method NoMemory input = Unit {0}
 LacksAnswer method Write input = ⊥
 LacksAnswer method Turns input = ⊥
 LacksAnswer method Closed input = ⊥

@@ -1,5 +1,5 @@
 -- What is known of streams that count, as what is known of their readers and writers.
-use Rattle.std.proofs.Common.{◌≡◌, ℕ, Bool, List, [], Option, Result, Ok, Err, ◌+◌, refl, subst}
+use Rattle.std.proofs.Common.{◌≡◌, ◌∙◌, ap, sym, ℕ, Bool, List, [], Option, Result, Ok, Err, ◌+◌, refl, subst}
 use Rattle.std.specs.Prelude.{IfErr, IfOk, OnOk, IsSome}
 use Rattle.std.specs.Io.KnownBytes.{Appends, Consumes, Keeps, IsAtEnd}
 use Rattle.counted_io.specs.Streams.{Stream}
@@ -142,3 +142,7 @@ pub thin_prefix : {T : Type 0} (result : Result T Fault) (s t : Stream) (w0 w : 
 thin_prefix (Ok v) s t w0 w text e f x = tt
 thin_prefix (Err fault) s t w0 w text e f x =
     (x.0, record { front = x.2.front; left = x.2.rest; writes = appends_as x.2.front e f x.2.wrote.bytes; text_is = x.2.all })
+
+-- a stream that wasn't asked
+pub thin_same : (s t : Stream) (r0 r : Option (List ℕ)) → s.bytes ≡ r0 → t.bytes ≡ r → t ≡ s → r ≡ r0
+thin_same s t r0 r e f same = sym f ∙ ap (λ (k : Stream). k.bytes) same ∙ e

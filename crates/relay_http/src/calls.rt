@@ -28,6 +28,7 @@ impl Exchange {
             × ((w : Option (List ℕ)) → Passes self.old.pipe.inbox self.new.pipe.inbox (R.remaining reader.old) (R.remaining reader.new) w w (print_request h) [])) }
         ensures asked { OnOk result (self.new.stage ≡ Stage.Asked) }
         ensures closed { self.old.stage ≡ Stage.Failed → result ≡ Err Fault.Closed }
+        ensures untouched { self.old.stage ≡ Stage.Failed → (self.new ≡ self.old) × (R.remaining reader.new ≡ R.remaining reader.old) }
         ensures err { self.old.stage ≢ Stage.Failed → (w : Option (List ℕ)) → IfErr result (Misses self.old.pipe.inbox (R.remaining reader.old) (R.remaining reader.new) w w [] [] LacksRequest) }
         ensures failed { OnErr result (self.new.stage ≡ Stage.Failed) }
         ensures most { self.new.most ≡ self.old.most }
@@ -50,6 +51,7 @@ impl Exchange {
             × Passes self.old.pipe.inbox self.new.pipe.inbox (R.remaining reader.old) (R.remaining reader.new) (W.contents writer.old) (W.contents writer.new) used text) }
         ensures forwarded { OnOk result (self.new.stage ≡ Stage.Forwarded) }
         ensures closed { self.old.stage ≡ Stage.Failed → result ≡ Err Fault.Closed }
+        ensures untouched { self.old.stage ≡ Stage.Failed → (self.new ≡ self.old) × (R.remaining reader.new ≡ R.remaining reader.old) × (W.contents writer.new ≡ W.contents writer.old) }
         ensures err { self.old.stage ≢ Stage.Failed → IfErr result (λ fault. (used : List ℕ) × (text : List ℕ) × messages.PartOfForwarded view.now used text
             × Misses self.old.pipe.inbox (R.remaining reader.old) (R.remaining reader.new) (W.contents writer.old) (W.contents writer.new) used text (messages.LacksForwarded view.now) fault) }
         ensures failed { OnErr result (self.new.stage ≡ Stage.Failed) }
@@ -68,6 +70,7 @@ impl Exchange {
         ensures ok { (r : Option (List ℕ)) → OnOk result (Passes self.old.pipe.inbox self.new.pipe.inbox r r (W.contents writer.old) (W.contents writer.new) [] (leave_text view.now)) }
         ensures asked { OnOk result (self.new.stage ≡ Stage.Asked) }
         ensures closed { self.old.stage ≡ Stage.Failed → result ≡ Err Fault.Closed }
+        ensures untouched { self.old.stage ≡ Stage.Failed → (self.new ≡ self.old) × (W.contents writer.new ≡ W.contents writer.old) }
         ensures err { self.old.stage ≢ Stage.Failed → (r : Option (List ℕ)) → IfErr result (Misses self.old.pipe.inbox r r (W.contents writer.old) (W.contents writer.new) [] (leave_text view.now) NoCause) }
         ensures failed { OnErr result (self.new.stage ≡ Stage.Failed) }
         ensures most { self.new.most ≡ self.old.most }
@@ -93,6 +96,7 @@ impl Exchange {
             × (answered.plan.body ≡ Framing.ToEnd → self.new.pipe.inbox ≡ [])) }
         ensures answered { OnOk result (self.new.stage ≡ Stage.Answered) }
         ensures closed { self.old.stage ≡ Stage.Failed → result ≡ Err Fault.Closed }
+        ensures untouched { self.old.stage ≡ Stage.Failed → (self.new ≡ self.old) × (R.remaining reader.new ≡ R.remaining reader.old) × (W.contents writer.new ≡ W.contents writer.old) }
         ensures err { self.old.stage ≢ Stage.Failed → IfErr result (λ fault. (used : List ℕ) × (text : List ℕ)
             × messages.PartOfAnswered view.now.method (framed_for view.now.version) used text
             × Misses [] (R.remaining reader.old) (R.remaining reader.new) (W.contents writer.old) (W.contents writer.new) used text (messages.LacksAnswer view.now.method) fault) }

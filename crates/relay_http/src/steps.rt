@@ -35,6 +35,7 @@ impl Exchange {
             × ((w : Stream) → Moves (ends self.old.pipe (S.stream source.old) w) (ends self.new.pipe (S.stream source.new) w) (print_request h) [])) }
         ensures asked { OnOk result (self.new.stage ≡ Stage.Asked) }
         ensures closed { self.old.stage ≡ Stage.Failed → result ≡ Err Fault.Closed }
+        ensures untouched { self.old.stage ≡ Stage.Failed → (self.new ≡ self.old) × (S.stream source.new ≡ S.stream source.old) }
         ensures err { self.old.stage ≢ Stage.Failed → (w : Stream) → IfErr result (Fails (ends self.old.pipe (S.stream source.old) w) (ends self.new.pipe (S.stream source.new) w) [] [] LacksRequest) }
         ensures failed { OnErr result (self.new.stage ≡ Stage.Failed) }
         ensures same_source { (S.stream source.new).name ≡ (S.stream source.old).name }
@@ -64,6 +65,7 @@ impl Exchange {
         ensures ok { (s : Stream) → OnOk result (Moves (ends self.old.pipe s (K.stream sink.old)) (ends self.new.pipe s (K.stream sink.new)) [] (leave_text view.now)) }
         ensures asked { OnOk result (self.new.stage ≡ Stage.Asked) }
         ensures closed { self.old.stage ≡ Stage.Failed → result ≡ Err Fault.Closed }
+        ensures untouched { self.old.stage ≡ Stage.Failed → (self.new ≡ self.old) × (K.stream sink.new ≡ K.stream sink.old) }
         ensures err { self.old.stage ≢ Stage.Failed → (s : Stream) → IfErr result (Fails (ends self.old.pipe s (K.stream sink.old)) (ends self.new.pipe s (K.stream sink.new)) [] (leave_text view.now) NoCause) }
         ensures failed { OnErr result (self.new.stage ≡ Stage.Failed) }
         ensures same_sink { (K.stream sink.new).name ≡ (K.stream sink.old).name }
@@ -96,6 +98,7 @@ impl Exchange {
             × Moves (ends self.old.pipe (S.stream source.old) (K.stream sink.old)) (ends self.new.pipe (S.stream source.new) (K.stream sink.new)) used text) }
         ensures forwarded { OnOk result (self.new.stage ≡ Stage.Forwarded) }
         ensures closed { self.old.stage ≡ Stage.Failed → result ≡ Err Fault.Closed }
+        ensures untouched { self.old.stage ≡ Stage.Failed → (self.new ≡ self.old) × (S.stream source.new ≡ S.stream source.old) × (K.stream sink.new ≡ K.stream sink.old) }
         ensures err { self.old.stage ≢ Stage.Failed → IfErr result (λ fault. (used : List ℕ) × (text : List ℕ) × messages.PartOfForwarded view.now used text
             × Fails (ends self.old.pipe (S.stream source.old) (K.stream sink.old)) (ends self.new.pipe (S.stream source.new) (K.stream sink.new)) used text (messages.LacksForwarded view.now) fault) }
         ensures failed { OnErr result (self.new.stage ≡ Stage.Failed) }
@@ -136,6 +139,7 @@ impl Exchange {
             × (answered.plan.body ≡ Framing.ToEnd → self.new.pipe.inbox ≡ [])) }
         ensures answered { OnOk result (self.new.stage ≡ Stage.Answered) }
         ensures closed { self.old.stage ≡ Stage.Failed → result ≡ Err Fault.Closed }
+        ensures untouched { self.old.stage ≡ Stage.Failed → (self.new ≡ self.old) × (S.stream source.new ≡ S.stream source.old) × (K.stream sink.new ≡ K.stream sink.old) }
         ensures err { self.old.stage ≢ Stage.Failed → IfErr result (λ fault. (used : List ℕ) × (text : List ℕ)
             × messages.PartOfAnswered view.now.method (framed_for view.now.version) used text
             × Fails (ends (emptied self.old.pipe) (S.stream source.old) (K.stream sink.old)) (ends self.new.pipe (S.stream source.new) (K.stream sink.new)) used text (messages.LacksAnswer view.now.method) fault) }

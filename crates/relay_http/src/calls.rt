@@ -21,7 +21,10 @@ use std::io::{Read, Write};
 
 // Each call reads how many turns are left, which so are known to be fewer than can be counted.
 impl Exchange {
-    /// Reads the request's head. What comes behind it in the same reads is held.
+    /// Reads the request's head (RFC 9112, sections 2 to 5). What comes behind it in the same reads is held. `O(n)` a read.
+    ///
+    /// Faults: `Head` once no head can come of the bytes, `Framing` where the head frames its body badly, `Read` where a read fails
+    /// or the input ends before the head does, `Turns`, and `NoMemory` where a whole head finds none.
     pub fn read_request<R: Read>(&mut self, alloc: Global, reader: &mut R) -> Result<View, Fault>
         requires { IsAt Stage.New self.old }
         ensures ok { IfOk result (λ view. (h : RequestHead) × IsRequest h × (view ≡ request_of h) × IsSome (framings.request_framing view)
@@ -39,7 +42,9 @@ impl Exchange {
         self.read_request_from(alloc, &mut source)
     }
 
-    /// Hands the request on to the server: its head, the bytes held, and the rest of its body.
+    /// Hands the request on to the server: its head, the bytes held, and the rest of its body (RFC 9112, sections 6 and 7).
+    ///
+    /// Faults: `Framing` once the bytes can be no such body, `Read`, `Write` and `Turns`. It takes no memory.
     pub fn forward<R: Read, W: Write>(
         &mut self,
         view: &View,
@@ -64,7 +69,9 @@ impl Exchange {
         self.forward_between(view, &mut source, &mut sink)
     }
 
-    /// Gives a client that waits for it leave to send its body.
+    /// Gives a client that waits for it leave to send its body (RFC 9110, section 10.1.1): 25 bytes, which don't count as begun.
+    ///
+    /// Faults: `Write` and `Turns`. It takes no memory.
     pub fn go_on<W: Write>(&mut self, view: &View, writer: &mut W) -> Result<(), Fault>
         requires { IsAt Stage.Asked self.old }
         ensures ok { (r : Option (List ℕ)) → OnOk result (Passes self.old.pipe.inbox self.new.pipe.inbox r r (W.contents writer.old) (W.contents writer.new) [] (leave_text view.now)) }
@@ -81,7 +88,11 @@ impl Exchange {
         self.go_on_to(view, &mut sink)
     }
 
-    /// Hands the server's answer on to the client: at most eight heads before it, its own, and its body.
+    /// Hands the server's answer on to the client: at most eight heads before it, its own, and its body (RFC 9110, section 15;
+    /// RFC 9112, sections 6 and 7).
+    ///
+    /// Faults: `Head` once no head can come of the bytes, `Framing` where a head frames its body badly or is the ninth before an answer, or once
+    /// the bytes behind it can be no such body, `Read`, `Write`, `Turns`, and `NoMemory` where a whole head finds none.
     pub fn answer<R: Read, W: Write>(
         &mut self,
         alloc: Global,

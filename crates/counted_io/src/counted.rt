@@ -56,4 +56,8 @@ impl<'s, W: Write> Sink for Counted<'s, W> {
             }
         }
     }
+
+    fn successes(&self) -> u64 {
+        self.calls - self.failures
+    }
 }

@@ -1,4 +1,4 @@
-ghost use Rattle.std.specs.Prelude.{◌+◌, ◌-◌, ◌^◌, ◌<◌, length, IfOk};
+ghost use Rattle.std.specs.Prelude.{◌≡◌, ◌+◌, ◌-◌, ◌^◌, ◌<◌, length, IfOk};
 ghost use Rattle.std.specs.Io.{ReadsAtMost, WritesAtMost};
 ghost use Rattle.std.specs.Io.KnownBytes.{ReadConsumes, WriteAppends};
 ghost use Rattle.counted_io.specs.Streams.{Stream, Counts};
@@ -33,4 +33,8 @@ pub trait Sink {
         ensures moves { IfOk result (λ count. 0 < count) }
         ensures bytes { WriteAppends (stream self.old).bytes (stream self.new).bytes result bytes.now }
         ensures counted { Counts (stream self.old) (stream self.new) result };
+
+    /// How many of its writes succeeded.
+    fn successes(&self) -> u64
+        ensures { result + (stream self.now).failures ≡ (stream self.now).calls };
 }

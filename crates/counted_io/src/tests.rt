@@ -44,6 +44,7 @@ fn a_sink_gives_its_writer_what_it_is_given(rt: HostRuntime) {
     let mut sink = Counted::new(&mut writer);
     assert_eq!(rt; sink.put(b"ab"), Ok(2));
     assert_eq!(rt; sink.put(b"c"), Ok(1));
+    assert_eq!(rt; sink.successes(), 2);
     assert_eq!(rt; writer.as_slice(), b"abc".as_slice());
 }
 

@@ -1,9 +1,9 @@
 -- Texts that go to a sink one after the other.
 use Rattle.std.proofs.Common.{◌≡◌, ◌∙◌, ℕ, List, [], ◌++◌, refl, sym, ap, arith, append_assoc, append-nil, subst}
-use Rattle.std.proofs.KnownBytes.{Appends-nil, Appends-trans}
 use Rattle.counted_io.specs.Streams.{Stream}
 use Rattle.relay_body.specs.declared.fault.Fault.{Fault}
 use Rattle.relay_body.specs.declared.fault.Fault.TheVariants.{Framing, Read, Write, Turns}
+use Rattle.relay_body.proofs.Writing.{Wrote-nil, Wrote-trans}
 use Rattle.relay_body.specs.Texts.{Spends, Emits, StopsBy, Stops}
 
 pub Spends-none : (s : Stream) (turns : ℕ) → Spends s s turns turns
@@ -15,7 +15,7 @@ Spends-trans p q = record { same = q.same ∙ p.same; calls = omega (arith, p.ca
 pub emits_none : (w : Stream) (turns : ℕ) (waiting : List ℕ) → Emits w w turns turns waiting waiting []
 emits_none w turns waiting = record {
   front = [];
-  wrote = Appends-nil w.bytes;
+  wrote = Wrote-nil w;
   all = append-nil waiting;
   spends = Spends-none w turns;
   fine = refl;
@@ -24,7 +24,7 @@ emits_none w turns waiting = record {
 pub emits_trans : {a b c : Stream} {t u v : ℕ} {p q r first second : List ℕ} → Emits a b t u p q first → Emits b c u v q r second → Emits a c t v p r (first ++ second)
 emits_trans {a} {b} {c} {p = p} {q = q} {r = r} {first = first} {second = second} x y = record {
   front = x.front ++ y.front;
-  wrote = Appends-trans a.bytes b.bytes c.bytes x.front y.front x.wrote y.wrote;
+  wrote = Wrote-trans x.wrote y.wrote;
   all =
       sym (append_assoc p first second)
       ∙ ap (λ l. l ++ second) x.all
@@ -49,7 +49,7 @@ emits_stops {a} {b} {c} {v = v} {p = p} {q = q} {first = first} {fault = fault} 
   front = record {
     front = x.front ++ y.front.front;
     rest = y.front.rest;
-    wrote = Appends-trans a.bytes b.bytes c.bytes x.front y.front.front x.wrote y.front.wrote;
+    wrote = Wrote-trans x.wrote y.front.wrote;
     all =
         sym (append_assoc p first second)
         ∙ ap (λ l. l ++ second) x.all

@@ -1,4 +1,5 @@
 pub mod Chunking
+pub mod Comparing
 pub mod Emitting
 pub mod Exits
 pub mod Fronts
@@ -8,3 +9,4 @@ pub mod Rows
 pub mod Stepping
 pub mod Wholes
 pub mod Windows
+pub mod Writing

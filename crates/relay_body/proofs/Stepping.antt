@@ -1,16 +1,17 @@
 -- Steps one after the other.
 use Rattle.std.proofs.Common.{◌≡◌, ◌∙◌, ℕ, ◌+◌, ◌*◌, ◌≤◌, List, [], ◌++◌, length, refl, sym, ap, arith, append_assoc, append-nil, subst, inl, inr, length-append}
 use Rattle.std.specs.Io.KnownBytes.{IsAtEnd}
-use Rattle.std.proofs.KnownBytes.{Appends-nil, Appends-trans, Consumes-nil, Consumes-trans}
+use Rattle.std.proofs.KnownBytes.{Consumes-nil, Consumes-trans}
 use Rattle.counted_io.specs.Streams.{Stream}
 use Rattle.relay_body.specs.declared.fault.Fault.{Fault}
 use Rattle.relay_body.specs.declared.fault.Fault.TheVariants.{Framing, Read, Write, Turns}
 use Rattle.relay_body.specs.declared.pipe.Pipe.{Pipe}
 use Rattle.relay_body.specs.Texts.{Emits, StopsBy, Stops}
+use Rattle.relay_body.proofs.Writing.{Wrote-nil, Wrote-trans}
 use Rattle.relay_body.specs.Steps.{Ends, ends, Countable, Reads, Moves, Blames, Breaks, LacksNothing}
 
 -- a list whose front is taken off, twice
-joined : (a b c d e f g : List ℕ) → a ++ b ≡ c ++ d → d ++ e ≡ f ++ g → a ++ (b ++ e) ≡ (c ++ f) ++ g
+pub joined : (a b c d e f g : List ℕ) → a ++ b ≡ c ++ d → d ++ e ≡ f ++ g → a ++ (b ++ e) ≡ (c ++ f) ++ g
 joined a b c d e f g p q =
     sym (append_assoc a b e) ∙ ap (λ l. l ++ e) p ∙ append_assoc c d e ∙ ap (λ l. c ++ l) q ∙ sym (append_assoc c f g)
 
@@ -48,7 +49,7 @@ moves_none e = record {
   reads = Reads-none e;
   held = append-nil e.pipe.inbox;
   front = [];
-  writes = Appends-nil e.sink.bytes;
+  writes = Wrote-nil e.sink;
   waiting = append-nil e.pipe.outbox;
   good_reads = refl;
   good_writes = refl;
@@ -61,7 +62,7 @@ moves_trans {a} {b} {c} {used} {text} {more_used} {more_text} p q = record {
   reads = Reads-trans p.reads q.reads;
   held = joined a.pipe.inbox p.taken used b.pipe.inbox q.taken more_used c.pipe.inbox p.held q.held;
   front = p.front ++ q.front;
-  writes = Appends-trans a.sink.bytes b.sink.bytes c.sink.bytes p.front q.front p.writes q.writes;
+  writes = Wrote-trans p.writes q.writes;
   waiting = joined a.pipe.outbox text p.front b.pipe.outbox more_text q.front c.pipe.outbox p.waiting q.waiting;
   good_reads = q.good_reads ∙ p.good_reads;
   good_writes = q.good_writes ∙ p.good_writes;
@@ -101,7 +102,7 @@ moves_breaks {a} {b} {c} {used} {text} {more_used} {more_text} {fault} Lacks Who
       writes = record {
         front = p.front ++ q.writes.front;
         rest = q.writes.rest;
-        wrote = Appends-trans a.sink.bytes b.sink.bytes c.sink.bytes p.front q.writes.front p.writes q.writes.wrote;
+        wrote = Wrote-trans p.writes q.writes.wrote;
         all = joined a.pipe.outbox text p.front b.pipe.outbox more_text q.writes.front q.writes.rest p.waiting q.writes.all;
       };
       blames = blames_earlier fault a b c Lacks Whole used (b.pipe.inbox ++ q.taken) (a.pipe.inbox ++ (p.taken ++ q.taken)) p.good_reads p.good_writes step front q.blames;
@@ -226,7 +227,7 @@ moves_use p0 p s w used e same turns = record {
   };
   held = append-nil p0.inbox ∙ e;
   front = [];
-  writes = Appends-nil w.bytes;
+  writes = Wrote-nil w;
   waiting = append-nil p0.outbox ∙ sym same;
   good_reads = refl;
   good_writes = refl;

@@ -1,11 +1,11 @@
 -- Steps of a pipe: some input is used, and the text that is given for it goes on its way.
 use Rattle.std.specs.Prelude.{◌≡◌, ℕ, ◌+◌, ◌*◌, ◌^◌, ◌<◌, ◌≤◌, ◌⊎◌, List, ◌++◌, length}
-use Rattle.std.specs.Io.KnownBytes.{Appends, Consumes, IsAtEnd}
+use Rattle.std.specs.Io.KnownBytes.{Consumes, IsAtEnd}
 use Rattle.counted_io.specs.Streams.{Stream}
 use Rattle.relay_body.specs.declared.fault.Fault.{Fault}
 use Rattle.relay_body.specs.declared.fault.Fault.TheVariants.{Framing, Read, Write, Turns}
 use Rattle.relay_body.specs.declared.pipe.Pipe.{Pipe}
-use Rattle.relay_body.specs.Texts.{WritesFront}
+use Rattle.relay_body.specs.Texts.{Wrote, WritesFront}
 
 -- a pipe, where its bytes come from and where they go
 pub record Ends : Type 0 where
@@ -37,7 +37,7 @@ pub record Moves (old new : Ends) (used text : List ℕ) : Type 0 where
   pub reads : Reads old new taken
   pub held : old.pipe.inbox ++ taken ≡ used ++ new.pipe.inbox
   pub front : List ℕ
-  pub writes : Appends old.sink.bytes new.sink.bytes front
+  pub writes : Wrote old.sink new.sink front
   pub waiting : old.pipe.outbox ++ text ≡ front ++ new.pipe.outbox
   pub good_reads : new.source.failures ≡ old.source.failures
   pub good_writes : new.sink.failures ≡ old.sink.failures
@@ -59,7 +59,7 @@ pub record Breaks (old new : Ends) (used text : List ℕ) (Lacks : List ℕ → 
   pub reads : Reads old new taken
   pub rest : List ℕ
   pub held : old.pipe.inbox ++ taken ≡ used ++ rest
-  pub writes : WritesFront old.sink.bytes new.sink.bytes (old.pipe.outbox ++ text)
+  pub writes : WritesFront old.sink new.sink (old.pipe.outbox ++ text)
   pub blames : Blames old new Lacks (old.pipe.inbox ++ taken) fault
 
 -- what never lacks

@@ -1,5 +1,5 @@
 -- Texts that go to a sink, some of them later.
-use Rattle.std.specs.Prelude.{◌≡◌, ℕ, ◌+◌, ◌≤◌, List, ◌++◌, Option}
+use Rattle.std.specs.Prelude.{◌≡◌, ℕ, ◌+◌, ◌≤◌, List, [], ◌++◌, length}
 use Rattle.std.specs.Io.KnownBytes.{Appends}
 use Rattle.counted_io.specs.Streams.{Stream}
 use Rattle.relay_body.specs.declared.fault.Fault.{Fault}
@@ -11,19 +11,26 @@ pub record Spends (s0 s : Stream) (turns0 turns : ℕ) : Type 0 where
   pub calls : s0.calls ≤ s.calls
   pub spent : s.calls + turns ≡ s0.calls + turns0
 
+-- the sink took the front, some of it at each call that didn't fail
+pub record Wrote (w0 w : Stream) (front : List ℕ) : Type 0 where
+  pub bytes : Appends w0.bytes w.bytes front
+  pub more : w0.calls + w.failures ≤ w.calls + w0.failures
+  pub some : w.calls + w0.failures ≤ w0.calls + w.failures + length front
+  pub none : w.calls + w0.failures ≡ w0.calls + w.failures → front ≡ []
+
 -- Where `waiting0` waited to be written, the text was put behind it: a front of them went to the sink, and the rest waits.
 pub record Emits (w0 w : Stream) (turns0 turns : ℕ) (waiting0 waiting text : List ℕ) : Type 0 where
   pub front : List ℕ
-  pub wrote : Appends w0.bytes w.bytes front
+  pub wrote : Wrote w0 w front
   pub all : waiting0 ++ text ≡ front ++ waiting
   pub spends : Spends w0 w turns0 turns
   pub fine : w.failures ≡ w0.failures
 
 -- a front of the text went to the sink
-pub record WritesFront (w0 w : Option (List ℕ)) (text : List ℕ) : Type 0 where
+pub record WritesFront (w0 w : Stream) (text : List ℕ) : Type 0 where
   pub front : List ℕ
   pub rest : List ℕ
-  pub wrote : Appends w0 w front
+  pub wrote : Wrote w0 w front
   pub all : text ≡ front ++ rest
 
 -- what ends a text's way: a write that failed, or want of turns
@@ -35,6 +42,6 @@ StopsBy w0 w turns Framing = ⊥
 
 -- a front of the text went to the sink, and a fault was met
 pub record Stops (w0 w : Stream) (turns0 turns : ℕ) (text : List ℕ) (fault : Fault) : Type 0 where
-  pub front : WritesFront w0.bytes w.bytes text
+  pub front : WritesFront w0 w text
   pub spends : Spends w0 w turns0 turns
   pub cause : StopsBy w0 w turns fault

@@ -1,5 +1,6 @@
 ghost use Rattle.std.specs.Prelude.{◌≡◌, ◌+◌, ◌^◌, ◌<◌, ◌≤◌, ◌++◌, ℕ, List, [], length, take, drop, IfOk, OnOk, IfErr};
 ghost use Rattle.std.specs.Io.KnownBytes.{IsAtEnd};
+ghost use Rattle.counted_io.specs.Streams.{Stream};
 ghost use Rattle.relay_body.specs.Steps.{ends, Countable, Moves, Breaks, LacksNothing};
 ghost use Rattle.relay_body.specs.Texts.{Emits, Stops};
 
@@ -41,6 +42,13 @@ impl Pipe {
         self.inbox.clear();
         self.outbox.clear();
         self.turns = turns;
+    }
+
+    /// How many reads and writes it may still make.
+    pub fn turns(&self) -> u64
+        ensures { result ≡ self.now.turns }
+    {
+        self.turns
     }
 
     /// The bytes that were read and aren't used yet.
@@ -115,6 +123,28 @@ impl Pipe {
         Ok(())
     }
 
+    /// Reads once; 0 at the end of the input. What waits goes on waiting.
+    pub fn fill<S: Source>(&mut self, source: &mut S) -> Result<usize, Fault>
+        requires room { length self.old.inbox < INBOX_BYTES }
+        requires countable { (S.stream source.old).calls + self.old.turns < 2 ^ 64 }
+        ensures ok { (w : Stream) → OnOk result (Moves (ends self.old (S.stream source.old) w) (ends self.new (S.stream source.new) w) [] []) }
+        ensures more { IfOk result (λ count. length self.new.inbox ≡ length self.old.inbox + count) }
+        ensures end { IfOk result (λ count. count ≡ 0 → IsAtEnd (S.stream source.new).bytes) }
+        ensures none { IfOk result (λ count. count ≡ 0 → self.new.inbox ≡ self.old.inbox) }
+        ensures spent { OnOk result (self.new.turns < self.old.turns) }
+        ensures waiting { self.new.outbox ≡ self.old.outbox }
+        ensures err { (w : Stream) → IfErr result (Breaks (ends self.old (S.stream source.old) w) (ends self.new (S.stream source.new) w) [] [] LacksNothing) }
+    {
+        if self.turns == 0 {
+            return Err(Fault::Turns);
+        }
+        self.turns -= 1;
+        match self.inbox.fill(source) {
+            Ok(count) => Ok(count),
+            Err(_) => Err(Fault::Read),
+        }
+    }
+
     /// Writes all that waits, and then reads once; 0 at the end of the input.
     pub fn supply<S: Source, K: Sink>(
         &mut self,
@@ -131,13 +161,7 @@ impl Pipe {
         ensures err { IfErr result (Breaks (ends self.old (S.stream source.old) (K.stream sink.old)) (ends self.new (S.stream source.new) (K.stream sink.new)) [] [] LacksNothing) }
     {
         self.flush(sink)?;
-        if self.turns == 0 {
-            return Err(Fault::Turns);
-        }
-        self.turns -= 1;
-        match self.inbox.fill(source) {
-            Ok(count) => Ok(count),
-            Err(_) => Err(Fault::Read),
-        }
+        let count = self.fill(source)?;
+        Ok(count)
     }
 }

@@ -316,6 +316,19 @@ fn a_pipe_is_used_again(rt: HostRuntime) -> Result<(), Fail> {
 }
 
 #[test]
+fn a_read_leaves_what_waits(rt: HostRuntime) -> Result<(), Fail> {
+    let mut pipe = Pipe::new(rt.alloc(), 2)?;
+    let mut writer = Vec::new(rt.alloc());
+    assert_eq!(rt; pipe.emit(&mut Counted::new(&mut writer), b"x"), Ok(()));
+    let mut reader = b"ab".as_slice();
+    assert_eq!(rt; pipe.fill(&mut Counted::new(&mut reader)), Ok(2));
+    assert_eq!(rt; pipe.held(), b"ab".as_slice());
+    assert_eq!(rt; pipe.turns(), 1);
+    assert_eq!(rt; writer.as_slice(), b"".as_slice());
+    Ok(())
+}
+
+#[test]
 fn a_large_body_passes(rt: HostRuntime) -> Result<(), Fail> {
     let mut input = Vec::with_capacity(rt.alloc(), 3 * INBOX_BYTES)?;
     input.resize(3 * INBOX_BYTES, b'x')?;

@@ -1,3 +1,11 @@
+pub mod Agreeing
+pub mod Failing
+pub mod Keeping
 pub mod Lengths
+pub mod Marking
+pub mod Passing
 pub mod Planning
+pub mod Putting
 pub mod Rows
+pub mod Standing
+pub mod Thinning

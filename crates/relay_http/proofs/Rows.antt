@@ -1,8 +1,12 @@
 -- The definitions at worked examples: what must hold, and what must not.
-use Rattle.std.proofs.Common.{◌≡◌, ℕ, List, [], ◌∷◌, Some, None, true, false, codes, refl}
-use Rattle.http1.specs.Text.{numeral}
+use Rattle.std.proofs.Common.{◌≡◌, ◌∙◌, ℕ, List, [], ◌∷◌, Some, None, true, false, codes, length, refl, sym, arith, subst}
+use Rattle.std.specs.Fmt.{digits}
 use Rattle.relay_body.specs.declared.framing.Framing.TheVariants.{Empty, Length, Chunked, ToEnd}
 use Rattle.relay_http.specs.Framings.{request_framing, answer_plan, bare}
+use Rattle.relay_body.specs.Framings.{IsBody}
+use Rattle.relay_body.specs.declared.framing.Framing.{Framing}
+use Rattle.relay_http.specs.Messages.{IsForwarded}
+use Rattle.relay_http.specs.Replies.{leave_text}
 use Rattle.relay_http.specs.Texts.{request_text, answer_text, interim_text}
 use Rattle.req_view.specs.Answer.{Answer}
 use Rattle.req_view.specs.Request.{NamedValue, Request}
@@ -36,7 +40,7 @@ naming_a_field_framing = refl
 
 -- the field that Connection names isn't handed on
 naming_a_field_text : request_text naming_a_field (Length 3) ≡ codes "POST /a HTTP/1.1\r\nHost: h\r\nContent-Length: 3\r\nConnection: close\r\n\r\n"
-unfolding naming_a_field post host length_is numeral
+unfolding naming_a_field post host length_is digits
 naming_a_field_text = refl
 
 two_lengths : request_framing (post (length_is (codes "3") ∷ length_is (codes "4") ∷ [])) ≡ None
@@ -126,7 +130,7 @@ not_modified = refl
 
 not_modified_text : answer_text true (answer 304 Http11 (length_is (codes "5") ∷ [])) (record { body = Empty; stated = Length 5 })
     ≡ codes "HTTP/1.1 304 OK\r\nContent-Length: 5\r\nConnection: close\r\n\r\n"
-unfolding answer length_is numeral
+unfolding answer length_is digits
 not_modified_text = refl
 
 head_of_chunked : answer_plan (codes "HEAD") (answer 200 Http11 (chunked ∷ [])) ≡ Some bare
@@ -153,3 +157,44 @@ coding_of_an_old_server = refl
 hints : interim_text true (answer 103 Http11 ((codes "Link", codes "x") ∷ length_is (codes "3") ∷ [])) ≡ codes "HTTP/1.1 103 OK\r\nLink: x\r\n\r\n"
 unfolding answer length_is
 hints = refl
+
+-- which no old client gets
+no_hints : interim_text false (answer 103 Http11 []) ≡ []
+unfolding answer
+no_hints = refl
+
+-- a 100 is for the proxy alone
+no_continue : interim_text true (answer 100 Http11 []) ≡ []
+unfolding answer
+no_continue = refl
+
+waiting : List ℕ → Request
+waiting value = post (host ∷ length_is value ∷ (codes "expect", codes "100-Continue") ∷ [])
+
+leave_is_given : leave_text (waiting (codes "3")) ≡ codes "HTTP/1.1 100 Continue\r\n\r\n"
+unfolding waiting post host length_is
+leave_is_given = refl
+
+-- a body without bytes needs none
+no_leave_for_nothing : leave_text (waiting (codes "0")) ≡ []
+unfolding waiting post host length_is
+no_leave_for_nothing = refl
+
+-- an old client can't wait for it
+no_leave_for_old : leave_text (old_get (length_is (codes "3") ∷ (codes "Expect", codes "100-continue") ∷ [])) ≡ []
+unfolding old_get length_is
+no_leave_for_old = refl
+
+-- the body goes behind the head, and no byte past it
+naming_a_field_whole : IsForwarded naming_a_field (codes "abc") (codes "POST /a HTTP/1.1\r\nHost: h\r\nContent-Length: 3\r\nConnection: close\r\n\r\nabc")
+unfolding naming_a_field post host length_is digits
+naming_a_field_whole = record { framing = Length 3; framed = refl; body = codes "abc"; passes = (refl, refl); text_is = refl }
+
+length_of : (w : Framing) → Some (Length 3) ≡ Some w → (used text : List ℕ) → IsBody w true used text → length used ≡ 3
+length_of w same used text passes =
+    let is : Length 3 ≡ w = cc in
+    (subst (λ (f : Framing). IsBody f true used text) (sym is) passes).0
+
+-- two bytes are no body of three
+not_yet_whole : (text : List ℕ) → ¬ (IsForwarded naming_a_field (codes "ab") text)
+not_yet_whole text w = omega (arith, length_of w.framing (sym naming_a_field_framing ∙ w.framed) (codes "ab") w.body w.passes)

@@ -1,4 +1,12 @@
+pub mod Emissions
+pub mod Failures
+pub mod Faults
 pub mod Fields
 pub mod Framings
+pub mod Heads
+pub mod Lines
+pub mod Messages
+pub mod Replies
+pub mod States
 pub mod Summaries
 pub mod Texts

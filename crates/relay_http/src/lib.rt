@@ -1,12 +1,29 @@
 //! Messages handed on: from the bytes of a client to those of a server, and back.
 #![tactic(auto)]
 
+mod calls;
+mod exchange;
+mod fault;
+mod fields;
 mod framings;
+mod heads;
+mod laws;
+mod leave;
+mod lines;
+mod messages;
 mod plans;
+mod reading;
+mod refusing;
+mod steps;
 
+pub use exchange::{Exchange, Stage};
+pub use fault::Fault;
 pub use framings::request_framing;
+pub use laws::{texts_of_a_request_are_comparable, texts_of_an_answer_are_comparable};
+pub use messages::MOST_INTERIMS;
 pub use plans::{Plan, answer_plan};
-pub use relay_body::{Fault, Framing};
+pub use refusing::Code;
+pub use relay_body::Framing;
 
 #[cfg(test)]
 mod tests;

@@ -54,7 +54,7 @@ fn plan_of(
     same_plan(framing_of(version, Framing::ToEnd, coding, stated))
 }
 
-fn is_interim(status: u16) -> bool
+pub(crate) fn is_interim(status: u16) -> bool
     ensures { result ≡ framings.is_interim status }
 {
     99 < status && status < 200

@@ -21,7 +21,7 @@ pub use answer::AnswerHead;
 pub use answering::answer_head;
 pub use refusal::Refusal;
 pub use request::View;
-pub use section::Field;
+pub use section::{Field, Section};
 pub use values::Values;
 pub use version::Version;
 pub use viewing::{HEAD_BYTES, HEAD_FIELDS, Viewed, view};

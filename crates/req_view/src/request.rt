@@ -86,6 +86,13 @@ impl View {
         self.version
     }
 
+    /// The fields, whatever the kind of the head.
+    pub fn section(&self) -> &Section
+        ensures { result.now.fields ≡ self.now.fields }
+    {
+        &self.section
+    }
+
     /// How many fields there are: 64 at most.
     pub fn field_count(&self) -> usize
         ensures { result ≡ length self.now.fields }

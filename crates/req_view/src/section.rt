@@ -23,7 +23,7 @@ pub struct Field<'a> {
 ///
 /// Names and values are pieces of the copy, and a map from names to places finds values by name.
 #[derive(Drop)]
-pub(crate) struct Section {
+pub struct Section {
     text: Vec<u8>,
     places: Vec<HeaderSpan>,
     by_name: HeaderMap<Span>,
@@ -73,14 +73,15 @@ impl Section {
         span.of(&self.text)
     }
 
-    pub(crate) fn count(&self) -> usize
+    /// How many fields there are: 64 at most.
+    pub fn count(&self) -> usize
         ensures { result ≡ length self.now.fields }
     {
         self.places.len()
     }
 
     /// The field at a position, counted from 0. `O(1)`.
-    pub(crate) fn field(&self, position: usize) -> Option<Field<'_>>
+    pub fn field(&self, position: usize) -> Option<Field<'_>>
         ensures { MatchOption result (slice_get self.now.fields position ≡ None) (λ field. slice_get self.now.fields position ≡ Some (field.name.now, field.value.now)) }
     {
         let span = self.places.get(position)?;
@@ -91,7 +92,7 @@ impl Section {
     }
 
     /// The values of the fields of a name, case ignored, in order. `O(n)` in the name's bytes, no memory.
-    pub(crate) fn values(&self, name: &[u8]) -> Values<'_>
+    pub fn values(&self, name: &[u8]) -> Values<'_>
         ensures { result ≡ values_of name.now self.now.fields }
     {
         Values::new(&self.text, self.by_name.get_all(name).iter())

@@ -1,0 +1,11 @@
+ghost use Rattle.std.specs.Prelude.{◌≡◌, ◌++◌, ℕ, List, Bool};
+ghost use Rattle.relay_body.specs.Framings.{PartOfBody};
+ghost use Rattle.relay_body.specs.Fronts.{AreComparable};
+
+use crate::framing::Framing;
+
+/// The law of the definitions: what two parts of a body at the front of one input become are fronts of one another.
+pub fn texts_of_parts_are_comparable()
+    ensures { (framing : Framing) (framed : Bool) (used text more_used more_text rest more_rest : List ℕ) → PartOfBody framing framed used text
+        → PartOfBody framing framed more_used more_text → used ++ rest ≡ more_used ++ more_rest → AreComparable text more_text }
+{}

@@ -1,0 +1,230 @@
+-- Steps, and then a fault.
+use Rattle.std.proofs.Common.{◌≡◌, ◌∙◌, ℕ, ◌+◌, List, [], ◌++◌, refl, sym, ap, arith, append_assoc, append-nil, subst, inl, inr}
+use Rattle.std.specs.Io.KnownBytes.{Appends, IsAtEnd}
+use Rattle.counted_io.specs.Streams.{Stream}
+use Rattle.relay_body.specs.declared.fault.Fault as Body
+use Rattle.relay_body.specs.declared.fault.Fault.TheVariants as OfBody
+use Rattle.relay_body.specs.declared.pipe.Pipe.{Pipe}
+use Rattle.relay_body.specs.Steps.{Ends, ends, Reads, Moves, Breaks, LacksNothing}
+use Rattle.relay_body.specs.Steps as Body_steps
+use Rattle.relay_body.proofs.Stepping.{joined, Reads-trans, moves_emit, breaks_emit}
+use Rattle.relay_body.proofs.Writing.{Wrote-trans}
+use Rattle.relay_http.specs.Emissions.{Puts, Halts}
+use Rattle.relay_http.specs.Failures.{Blames, Fails, Explains, Passes, Misses}
+use Rattle.relay_http.specs.Faults.{relayed}
+use Rattle.relay_http.specs.declared.fault.Fault.{Fault}
+use Rattle.relay_http.specs.declared.fault.Fault.TheVariants.{NoMemory, Head, Framing, Read, Write, Turns, Closed}
+
+-- whose the fault is doesn't depend on where one begins to look, as long as no call failed before
+blames_earlier : (fault : Fault) (a b c : Ends) (Why Whole : Fault → List ℕ → Type 0) (used input whole : List ℕ)
+    → b.source.failures ≡ a.source.failures → b.sink.failures ≡ a.sink.failures
+    → ((l : List ℕ) → Why fault l → Whole fault (used ++ l)) → whole ≡ used ++ input
+    → Blames b c Why input fault → Blames a c Whole whole fault
+blames_earlier NoMemory a b c Why Whole used input whole r w step e blame =
+    (record { reads = blame.0.reads ∙ r; writes = blame.0.writes ∙ w }, subst (Whole NoMemory) (sym e) (step input blame.1))
+blames_earlier Head a b c Why Whole used input whole r w step e blame =
+    (record { reads = blame.0.reads ∙ r; writes = blame.0.writes ∙ w }, subst (Whole Head) (sym e) (step input blame.1))
+blames_earlier Framing a b c Why Whole used input whole r w step e blame =
+    (record { reads = blame.0.reads ∙ r; writes = blame.0.writes ∙ w }, subst (Whole Framing) (sym e) (step input blame.1))
+blames_earlier Read a b c Why Whole used input whole r w step e blame = (
+  blame.0 ∙ w,
+  elim blame.1 [
+    | inl failed ↦ inl (failed ∙ ap (λ n. n + 1) r)
+    | inr ended ↦ inr (ended.0 ∙ r, ended.1, subst (Whole Read) (sym e) (step input ended.2))
+  ],
+)
+blames_earlier Write a b c Why Whole used input whole r w step e blame = (blame.0 ∙ r, blame.1 ∙ ap (λ n. n + 1) w)
+blames_earlier Turns a b c Why Whole used input whole r w step e blame =
+    (record { reads = blame.0.reads ∙ r; writes = blame.0.writes ∙ w }, blame.1)
+blames_earlier Closed a b c Why Whole used input whole r w step e blame = blame
+
+-- a step, and then a fault
+pub moves_fails : {a b c : Ends} {used text more_used more_text : List ℕ} {fault : Fault} (Why Whole : Fault → List ℕ → Type 0)
+    → ((l : List ℕ) → Why fault l → Whole fault (used ++ l)) → Moves a b used text → Fails b c more_used more_text Why fault
+    → Fails a c (used ++ more_used) (text ++ more_text) Whole fault
+moves_fails {a} {b} {c} {used} {text} {more_used} {more_text} {fault} Why Whole step p q =
+    let front : a.pipe.inbox ++ (p.taken ++ q.taken) ≡ used ++ (b.pipe.inbox ++ q.taken) =
+    sym (append_assoc a.pipe.inbox p.taken q.taken) ∙ ap (λ l. l ++ q.taken) p.held ∙ append_assoc used b.pipe.inbox q.taken in record {
+      taken = p.taken ++ q.taken;
+      reads = Reads-trans p.reads q.reads;
+      rest = q.rest;
+      held = joined a.pipe.inbox p.taken used b.pipe.inbox q.taken more_used q.rest p.held q.held;
+      writes = record {
+        front = p.front ++ q.writes.front;
+        rest = q.writes.rest;
+        wrote = Wrote-trans p.writes q.writes.wrote;
+        all = joined a.pipe.outbox text p.front b.pipe.outbox more_text q.writes.front q.writes.rest p.waiting q.writes.all;
+      };
+      blames = blames_earlier fault a b c Why Whole used (b.pipe.inbox ++ q.taken)
+          (a.pipe.inbox ++ (p.taken ++ q.taken)) p.good_reads p.good_writes step front q.blames;
+    }
+
+blames_of : (fault : Body.Fault) (a b : Ends) (Lacks : List ℕ → Type 0) (Why : Fault → List ℕ → Type 0) (input : List ℕ)
+    → ((l : List ℕ) → Lacks l → Why Read l) → ((l : List ℕ) → ((more : List ℕ) → Lacks (l ++ more)) → Why Framing l)
+    → Body_steps.Blames a b Lacks input fault → Blames a b Why input (relayed fault)
+blames_of OfBody.Read a b Lacks Why input early bad blame =
+    (blame.0, elim blame.1 [ inl failed ↦ inl failed | inr ended ↦ inr (ended.0, ended.1, early input ended.2) ])
+blames_of OfBody.Write a b Lacks Why input early bad blame = blame
+blames_of OfBody.Turns a b Lacks Why input early bad blame = (record { reads = blame.0; writes = blame.1 }, blame.2)
+blames_of OfBody.Framing a b Lacks Why input early bad blame = (record { reads = blame.0; writes = blame.1 }, bad input blame.2)
+
+-- a fault of a body
+pub fails_of : {a b : Ends} {used text : List ℕ} {fault : Body.Fault} (Lacks : List ℕ → Type 0) (Why : Fault → List ℕ → Type 0)
+    → ((l : List ℕ) → Lacks l → Why Read l) → ((l : List ℕ) → ((more : List ℕ) → Lacks (l ++ more)) → Why Framing l)
+    → Breaks a b used text Lacks fault → Fails a b used text Why (relayed fault)
+fails_of {a} {b} {fault = fault} Lacks Why early bad p = record {
+  taken = p.taken;
+  reads = p.reads;
+  rest = p.rest;
+  held = p.held;
+  writes = p.writes;
+  blames = blames_of fault a b Lacks Why (a.pipe.inbox ++ p.taken) early bad p.blames;
+}
+
+-- one after which nothing lacks
+pub fails_plainly : {a b : Ends} {used text : List ℕ} {fault : Body.Fault} (Why : Fault → List ℕ → Type 0) → Breaks a b used text LacksNothing fault
+    → Fails a b used text Why (relayed fault)
+fails_plainly Why p = fails_of LacksNothing Why (λ l none. absurd none) (λ l none. absurd (none [])) p
+
+-- steps, and what they read is bad
+pub fails_head : {a b : Ends} {used text : List ℕ} (Why : Fault → List ℕ → Type 0) → Moves a b used text → Why Head (used ++ b.pipe.inbox)
+    → Fails a b used text Why Head
+fails_head {a} {b} Why p why = record {
+  taken = p.taken;
+  reads = p.reads;
+  rest = b.pipe.inbox;
+  held = p.held;
+  writes = record { front = p.front; rest = b.pipe.outbox; wrote = p.writes; all = p.waiting };
+  blames = (record { reads = p.good_reads; writes = p.good_writes }, subst (Why Head) (sym p.held) why);
+}
+
+pub fails_framing : {a b : Ends} {used text : List ℕ} (Why : Fault → List ℕ → Type 0) → Moves a b used text → Why Framing (used ++ b.pipe.inbox)
+    → Fails a b used text Why Framing
+fails_framing {a} {b} Why p why = record {
+  taken = p.taken;
+  reads = p.reads;
+  rest = b.pipe.inbox;
+  held = p.held;
+  writes = record { front = p.front; rest = b.pipe.outbox; wrote = p.writes; all = p.waiting };
+  blames = (record { reads = p.good_reads; writes = p.good_writes }, subst (Why Framing) (sym p.held) why);
+}
+
+-- or memory is wanting
+pub fails_memory : {a b : Ends} {used text : List ℕ} (Why : Fault → List ℕ → Type 0) → Moves a b used text → Why NoMemory (used ++ b.pipe.inbox)
+    → Fails a b used text Why NoMemory
+fails_memory {a} {b} Why p why = record {
+  taken = p.taken;
+  reads = p.reads;
+  rest = b.pipe.inbox;
+  held = p.held;
+  writes = record { front = p.front; rest = b.pipe.outbox; wrote = p.writes; all = p.waiting };
+  blames = (record { reads = p.good_reads; writes = p.good_writes }, subst (Why NoMemory) (sym p.held) why);
+}
+
+-- or the input ended
+pub fails_end : {a b : Ends} {used text : List ℕ} (Why : Fault → List ℕ → Type 0) → Moves a b used text → IsAtEnd b.source.bytes
+    → Why Read (used ++ b.pipe.inbox)
+    → Fails a b used text Why Read
+fails_end {a} {b} Why p end why = record {
+  taken = p.taken;
+  reads = p.reads;
+  rest = b.pipe.inbox;
+  held = p.held;
+  writes = record { front = p.front; rest = b.pipe.outbox; wrote = p.writes; all = p.waiting };
+  blames = (p.good_writes, inr (p.good_reads, end, subst (Why Read) (sym p.held) why));
+}
+
+-- what was put, as a step
+pub moves_put : {p q : Pipe} {a b : Stream} {text : List ℕ} (s : Stream) → Puts p q a b text → Moves (ends p s a) (ends q s b) [] text
+moves_put s x = moves_emit s [] x.emits (sym x.inbox)
+
+pub fails_put : {p q : Pipe} {a b : Stream} {text : List ℕ} {fault : Body.Fault} (s : Stream) (Why : Fault → List ℕ → Type 0) → Halts p q a b text fault
+    → Fails (ends p s a) (ends q s b) [] text Why (relayed fault)
+fails_put {p} s Why x = fails_plainly Why (breaks_emit s [] p.inbox x.stops refl)
+
+pub fails_as : {a b : Ends} {used text same_used same_text : List ℕ} {fault : Fault} (Why : Fault → List ℕ → Type 0) → used ≡ same_used → text ≡ same_text
+    → Fails a b used text Why fault → Fails a b same_used same_text Why fault
+fails_as {a} {b} {used} {text} {same_used} {fault = fault} Why e f p =
+    subst (λ (l : List ℕ). Fails a b same_used l Why fault) f (subst (λ (l : List ℕ). Fails a b l text Why fault) e p)
+
+-- less is claimed to be used
+pub fails_less : {a b : Ends} {text : List ℕ} {fault : Fault} (Why : Fault → List ℕ → Type 0) (used tail : List ℕ) → Fails a b (used ++ tail) text Why fault
+    → Fails a b used text Why fault
+fails_less Why used tail p = record {
+  taken = p.taken;
+  reads = p.reads;
+  rest = tail ++ p.rest;
+  held = p.held ∙ append_assoc used tail p.rest;
+  writes = p.writes;
+  blames = p.blames;
+}
+
+-- a step, and then a text that stopped on its way
+pub moves_halts : {a : Ends} {p q : Pipe} {s w v : Stream} {used text more : List ℕ} {fault : Body.Fault} (Why : Fault → List ℕ → Type 0)
+    → Moves a (ends p s w) used text → Halts p q w v more fault → Fails a (ends q s v) used (text ++ more) Why (relayed fault)
+moves_halts {s = s} {used = used} Why so_far x =
+    fails_as Why (append-nil used) refl (moves_fails (λ f l. ⊥) Why (λ l none. absurd none) so_far (fails_put s (λ f l. ⊥) x))
+
+turns_same : (fault : Fault) (a : Ends) (p q : Pipe) (s w : Stream) (Why : Fault → List ℕ → Type 0) (input : List ℕ) → q.turns ≡ p.turns
+    → Blames a (ends p s w) Why input fault → Blames a (ends q s w) Why input fault
+turns_same NoMemory a p q s w Why input e blame = (record { reads = blame.0.reads; writes = blame.0.writes }, blame.1)
+turns_same Head a p q s w Why input e blame = (record { reads = blame.0.reads; writes = blame.0.writes }, blame.1)
+turns_same Framing a p q s w Why input e blame = (record { reads = blame.0.reads; writes = blame.0.writes }, blame.1)
+turns_same Read a p q s w Why input e blame = blame
+turns_same Write a p q s w Why input e blame = blame
+turns_same Turns a p q s w Why input e blame = (record { reads = blame.0.reads; writes = blame.0.writes }, e ∙ blame.1)
+turns_same Closed a p q s w Why input e blame = blame
+
+-- what a pipe does with its bytes after a fault doesn't matter
+pub fails_after : {a : Ends} {p : Pipe} {s w : Stream} {used text : List ℕ} {fault : Fault} (Why : Fault → List ℕ → Type 0) (q : Pipe) → q.turns ≡ p.turns
+    → Fails a (ends p s w) used text Why fault → Fails a (ends q s w) used text Why fault
+fails_after {a} {p} {s} {w} {fault = fault} Why q e x = record {
+  taken = x.taken;
+  reads = record {
+    same_source = x.reads.same_source;
+    same_sink = x.reads.same_sink;
+    bytes = x.reads.bytes;
+    few = x.reads.few;
+    reads = x.reads.reads;
+    writes = x.reads.writes;
+    spent = omega (arith, x.reads.spent, e);
+  };
+  rest = x.rest;
+  held = x.held;
+  writes = x.writes;
+  blames = turns_same fault a p q s w Why (a.pipe.inbox ++ x.taken) e x.blames;
+}
+
+explains : (fault : Fault) (a b : Ends) (Why : Fault → List ℕ → Type 0) (input : List ℕ) → Blames a b Why input fault → Explains Why fault input
+explains NoMemory a b Why input blame = blame.1
+explains Head a b Why input blame = blame.1
+explains Framing a b Why input blame = blame.1
+explains Read a b Why input blame = tt
+explains Write a b Why input blame = tt
+explains Turns a b Why input blame = tt
+explains Closed a b Why input blame = blame
+
+-- where nothing waits, what was put was written
+pub passes_of : {a b : Ends} {used text : List ℕ} → a.pipe.outbox ≡ [] → b.pipe.outbox ≡ [] → Moves a b used text
+    → Passes a.pipe.inbox b.pipe.inbox a.source.bytes b.source.bytes a.sink.bytes b.sink.bytes used text
+passes_of {a} {b} {used} {text} none left x =
+    let whole : x.front ≡ text = sym (ap (λ l. l ++ text) (sym none) ∙ x.waiting ∙ ap (λ l. x.front ++ l) left ∙ append-nil x.front) in record {
+      taken = x.taken;
+      reads = x.reads.bytes;
+      all = x.held;
+      writes = subst (λ (l : List ℕ). Appends a.sink.bytes b.sink.bytes l) whole x.writes.bytes;
+    }
+
+pub misses_of : {a b : Ends} {used text : List ℕ} {fault : Fault} (Why : Fault → List ℕ → Type 0) → a.pipe.outbox ≡ [] → Fails a b used text Why fault
+    → Misses a.pipe.inbox a.source.bytes b.source.bytes a.sink.bytes b.sink.bytes used text Why fault
+misses_of {a} {b} {used} {text} {fault} Why none x = record {
+  taken = x.taken;
+  reads = x.reads.bytes;
+  rest = x.rest;
+  all = x.held;
+  front = x.writes.front;
+  left = x.writes.rest;
+  writes = x.writes.wrote.bytes;
+  text_is = ap (λ l. l ++ text) (sym none) ∙ x.writes.all;
+  why = explains fault a b Why (a.pipe.inbox ++ x.taken) x.blames;
+}

@@ -1,0 +1,24 @@
+use Rattle.std.proofs.Common.{rules}
+use Rattle.relay_http.specs.Messages.{PartOfAnswered, LacksAnswer}
+use Rattle.relay_http.specs.Texts.{framed_for}
+use Rattle.relay_http.proofs.Thinning.{thin_answer, thin_both_fault, thin_same}
+use Rattle.relay_http.proofs.exchange.Exchange.answer.Goals as goal
+
+pub returns-clause-ok : goal.returns-clause-ok
+returns-clause-ok g c =
+    thin_answer _ c.args.view.now.method (framed_for c.args.view.now.version) _ _ _ _ _ _ (search rules) (search rules) (search rules)
+    (search rules) c.args.self.now.drained
+    c.answer_between.new.self.drained c.answer_between.ensures.ok
+
+pub returns-clause-err : goal.returns-clause-err
+returns-clause-err g c = λ open_still.
+    thin_both_fault _ (PartOfAnswered c.args.view.now.method (framed_for c.args.view.now.version)) (LacksAnswer c.args.view.now.method) _ _ _ _ _ _
+    (search rules) (search rules) (search rules) (search rules)
+    c.args.self.now.drained (c.answer_between.ensures.err open_still)
+
+pub returns-clause-untouched : goal.returns-clause-untouched
+returns-clause-untouched g c = λ failed. (
+  (c.answer_between.ensures.untouched failed).0,
+  thin_same _ _ _ _ (search rules) (search rules) (c.answer_between.ensures.untouched failed).1,
+  thin_same _ _ _ _ (search rules) (search rules) (c.answer_between.ensures.untouched failed).2,
+)

@@ -1,0 +1,67 @@
+-- The answer is handed on by a pipe that holds nothing, and what was written is known by how many writes succeeded.
+use Rattle.std.proofs.Common.{◌<◌, ℕ, length, arith, ap, length-append}
+use Rattle.relay_http.specs.Messages.{LacksAnswer}
+use Rattle.relay_http.proofs.Failing.{fails_after}
+use Rattle.relay_http.proofs.Marking.{marks, begun_by, pipe_emptied, answered_some}
+use Rattle.relay_http.proofs.exchange.Exchange.answer_between.Goals as goal
+
+pub returns-in-Ok-clause-ok : goal.returns-in-Ok-clause-ok
+returns-in-Ok-clause-ok g c =
+    let empty = pipe_emptied c.args.self.now.pipe c.hold.new.self c.hold.ensures.inbox c.hold.ensures.outbox c.hold.ensures.turns in
+    let whole = c.in-Ok.ensures.ok in (
+      whole.0,
+      whole.1,
+      whole.2,
+      rw (← empty) whole.3,
+      whole.4,
+      whole.5,
+    )
+
+pub returns-in-Ok-clause-marks : goal.returns-in-Ok-clause-marks
+returns-in-Ok-clause-marks g c = λ open_still.
+    marks c.args.self.now.begun c.has_begun-self.result c.successes-before.result c.successes.result c.successes-before.ensures c.successes.ensures
+    c.in-Ok.ensures.ok.3.writes c.has_begun-self.ensures
+
+pub returns-in-Ok-clause-begun : goal.returns-in-Ok-clause-begun
+returns-in-Ok-clause-begun g c =
+    let whole = c.in-Ok.ensures.ok in
+    let moves = whole.3 in
+    let some : 0 < length moves.front =
+    omega (
+      arith,
+      answered_some whole.2,
+      ap (length {A = ℕ}) moves.waiting,
+      length-append c.hold.new.self.outbox whole.1,
+      length-append moves.front c.pass_answer-result.new.pipe.outbox,
+      ap (length {A = ℕ}) c.in-Ok.ensures.empty,
+    ) in
+    begun_by c.args.self.now.begun c.has_begun-self.result c.successes-before.result c.successes.result c.successes-before.ensures c.successes.ensures
+    moves.writes c.has_begun-self.ensures some
+
+pub returns-in-Err-clause-err : goal.returns-in-Err-clause-err
+returns-in-Err-clause-err g c =
+    let empty = pipe_emptied c.args.self.now.pipe c.hold.new.self c.hold.ensures.inbox c.hold.ensures.outbox c.hold.ensures.turns in
+    let part = c.in-Err.ensures.err in
+    λ open_still. (
+      part.0,
+      part.1,
+      part.2,
+      rw (← empty) (fails_after (LacksAnswer c.args.view.now.method) c.forget_waiting.new.self c.forget_waiting.ensures.turns part.3),
+    )
+
+pub returns-in-Err-clause-marks : goal.returns-in-Err-clause-marks
+returns-in-Err-clause-marks g c = λ open_still.
+    marks c.args.self.now.begun c.has_begun-self.result c.successes-before.result c.successes.result c.successes-before.ensures c.successes.ensures
+    c.in-Err.ensures.err.3.writes.wrote c.has_begun-self.ensures
+
+pub returns-in-Ok-clause-same_source : goal.returns-in-Ok-clause-same_source
+returns-in-Ok-clause-same_source g c = c.in-Ok.ensures.ok.3.reads.same_source
+
+pub returns-in-Ok-clause-same_sink : goal.returns-in-Ok-clause-same_sink
+returns-in-Ok-clause-same_sink g c = c.in-Ok.ensures.ok.3.reads.same_sink
+
+pub returns-in-Err-clause-same_source : goal.returns-in-Err-clause-same_source
+returns-in-Err-clause-same_source g c = c.in-Err.ensures.err.3.reads.same_source
+
+pub returns-in-Err-clause-same_sink : goal.returns-in-Err-clause-same_sink
+returns-in-Err-clause-same_sink g c = c.in-Err.ensures.err.3.reads.same_sink

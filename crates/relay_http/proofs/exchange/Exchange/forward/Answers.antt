@@ -1,0 +1,23 @@
+-- The streams count from 0 on.
+use Rattle.std.proofs.Common.{arith, rules}
+use Rattle.relay_http.specs.Messages.{PartOfForwarded, LacksForwarded}
+use Rattle.relay_http.proofs.Thinning.{thin_both_fault, thin_same}
+use Rattle.relay_http.proofs.exchange.Exchange.forward.Goals as goal
+
+pub forward_between-requires-clause-countable : goal.forward_between-requires-clause-countable
+forward_between-requires-clause-countable g c = record {
+  reads = omega (arith, c.new-source.ensures.calls, c.turns-turns.ensures);
+  writes = omega (arith, c.new-sink.ensures.calls, c.turns-turns.ensures);
+}
+
+pub returns-clause-err : goal.returns-clause-err
+returns-clause-err g c = λ open_still.
+    thin_both_fault _ (PartOfForwarded c.args.view.now) (LacksForwarded c.args.view.now) _ _ _ _ _ _ (search rules) (search rules) (search rules) (search rules)
+    c.args.self.now.drained (c.forward_between.ensures.err open_still)
+
+pub returns-clause-untouched : goal.returns-clause-untouched
+returns-clause-untouched g c = λ failed. (
+  (c.forward_between.ensures.untouched failed).0,
+  thin_same _ _ _ _ (search rules) (search rules) (c.forward_between.ensures.untouched failed).1,
+  thin_same _ _ _ _ (search rules) (search rules) (c.forward_between.ensures.untouched failed).2,
+)

@@ -1,0 +1,74 @@
+-- The head, the body and what waits, one after the other.
+use Rattle.std.proofs.Common.{◌∙◌, [], ◌++◌, refl, sym, append-nil}
+use Rattle.relay_body.specs.Framings.{LacksBody}
+use Rattle.relay_body.proofs.Exits.{at_exit}
+use Rattle.relay_body.proofs.Stepping.{moves_none, moves_trans, moves_as}
+use Rattle.relay_http.specs.Messages.{NoBody, LacksForwarded}
+use Rattle.relay_http.specs.Messages.PartOfForwarded.{nothing, head_and_body}
+use Rattle.relay_http.specs.Messages.LacksForwarded.{no_framing, no_body}
+use Rattle.relay_http.specs.Texts.{request_text}
+use Rattle.relay_http.proofs.Failing.{moves_fails, moves_put, moves_halts, fails_put, fails_of, fails_as, fails_framing}
+use Rattle.relay_http.proofs.Passing.{part_none, body_part}
+use Rattle.relay_http.proofs.messages.pass_request.Goals as goal
+
+pub returns-in_default-clause-err : goal.returns-in_default-clause-err
+returns-in_default-clause-err g c =
+    let none = sym c.request_framing.ensures ∙ c.in_default.is in
+    ([], [], nothing, fails_framing (LacksForwarded c.args.view.now) (moves_none _) (no_framing refl none))
+
+pub returns-in_err-put_request-clause-err : goal.returns-in_err-put_request-clause-err
+returns-in_err-put_request-clause-err g c =
+    let r = c.args.view.now in
+    let framing = c.in-Some.framing in
+    let is = sym c.request_framing.ensures ∙ c.in-Some.is in
+    at_exit _ _ _ c.from_residual.ensures.1 (
+      [],
+      request_text r framing ++ [],
+      head_and_body framing [] [] is (part_none framing _),
+      fails_as (LacksForwarded r) refl (sym (append-nil (request_text r framing)))
+          (fails_put (g.S.Source.stream c.args.source.now) (LacksForwarded r) c.in_err-put_request.ensures.err),
+    )
+
+pub returns-in_err-pass_body-clause-err : goal.returns-in_err-pass_body-clause-err
+returns-in_err-pass_body-clause-err g c =
+    let r = c.args.view.now in
+    let framing = c.in-Some.framing in
+    let is = sym c.request_framing.ensures ∙ c.in-Some.is in
+    let put = moves_put (g.S.Source.stream c.args.source.now) c.in_ok-put_request.ensures.ok in
+    let part = c.in_err-pass_body.ensures.err in
+    at_exit _ _ _ c.from_residual-in_err-pass_body.ensures.1 (
+      part.0,
+      request_text r framing ++ part.1,
+      head_and_body framing part.0 part.1 is part.2,
+      moves_fails (NoBody framing) (LacksForwarded r) (λ l why. no_body framing is why) put
+          (fails_of (LacksBody framing) (NoBody framing) (λ l lacks. lacks) (λ l lacks. lacks) part.3),
+    )
+
+pub returns-in_err-send-clause-err : goal.returns-in_err-send-clause-err
+returns-in_err-send-clause-err g c =
+    let r = c.args.view.now in
+    let framing = c.in-Some.framing in
+    let is = sym c.request_framing.ensures ∙ c.in-Some.is in
+    let put = moves_put (g.S.Source.stream c.args.source.now) c.in_ok-put_request.ensures.ok in
+    let passed = c.in_ok-pass_body.ensures.ok in
+    at_exit _ _ _ c.from_residual-in_err-send.ensures.1 (
+      passed.0,
+      request_text r framing ++ passed.1,
+      head_and_body framing passed.0 passed.1 is (body_part framing _ passed.0 passed.1 passed.2),
+      fails_as (LacksForwarded r) refl (append-nil (request_text r framing ++ passed.1))
+          (moves_halts (LacksForwarded r) (moves_trans put passed.3) c.in_err-send.ensures.err),
+    )
+
+pub returns-clause-ok : goal.returns-clause-ok
+returns-clause-ok g c =
+    let r = c.args.view.now in
+    let framing = c.in-Some.framing in
+    let is = sym c.request_framing.ensures ∙ c.in-Some.is in
+    let put = moves_put (g.S.Source.stream c.args.source.now) c.in_ok-put_request.ensures.ok in
+    let passed = c.in_ok-pass_body.ensures.ok in
+    let sent = moves_put (g.S.Source.stream c.pass_body.new.source) c.in_ok-send.ensures.ok in (
+      passed.0,
+      request_text r framing ++ passed.1,
+      record { framing = framing; framed = is; body = passed.1; passes = passed.2; text_is = refl },
+      moves_as (append-nil passed.0) (append-nil (request_text r framing ++ passed.1)) (moves_trans (moves_trans put passed.3) sent),
+    )

@@ -1,0 +1,144 @@
+-- Head after head, up to the answer's own.
+use Rattle.std.proofs.Common.{◌∙◌, ◌<◌, ◌≤◌, [], ◌∷◌, ◌++◌, length, refl, sym, ap, arith, append-nil, length-append}
+use Rattle.httparse.specs.Grammar.{print_response}
+use Rattle.relay_body.proofs.Exits.{at_exit}
+use Rattle.relay_body.proofs.Lists.{map_more}
+use Rattle.relay_body.proofs.Stepping.{moves_none, moves_trans, moves_as, Countable-later}
+use Rattle.relay_http.specs.Framings.{answer_plan, is_interim}
+use Rattle.relay_http.specs.Heads.{NoAnswer}
+use Rattle.relay_http.specs.Messages.{AreInterims, print_heads, interims_text, LacksAnswer}
+use Rattle.relay_http.specs.Messages.BadlyFramed.{no_plan}
+use Rattle.relay_http.specs.Texts.{framed_for}
+use Rattle.relay_http.proofs.Failing.{moves_fails, moves_put, moves_halts, fails_as, fails_less, fails_framing}
+use Rattle.relay_http.proofs.Passing.{heads_then, bad_here, ninth_here, interims_more, interim_is, interims_text_more}
+use Rattle.req_view.specs.Answer.{Answer}
+use Rattle.relay_http.proofs.messages.read_answer.Goals as goal
+
+pub heads-init : goal.heads-init
+heads-init g c = ([], tt, refl, omega arith, moves_none _)
+
+pub returns-in_err-head-clause-err : goal.returns-in_err-head-clause-err
+returns-in_err-head-clause-err g c =
+    let method = c.args.view.now.method in
+    let framed = framed_for c.args.view.now.version in
+    let so_far = c.heads.invariant in
+    let hs = so_far.0 in
+    let are : AreInterims method hs = record { each = so_far.1; few = omega (arith, so_far.2, so_far.3) } in
+    at_exit _ _ _ c.from_residual.ensures.1 (
+      hs,
+      are,
+      fails_as (LacksAnswer method) (append-nil (print_heads hs)) (append-nil (interims_text framed hs))
+          (moves_fails NoAnswer (LacksAnswer method) (λ l why. heads_then method hs _ l are why) so_far.4 (c.in_err-head.ensures.err
+          (g.K.Sink.stream c.heads.sink))),
+    )
+
+pub returns-in_default-clause-err : goal.returns-in_default-clause-err
+returns-in_default-clause-err g c =
+    let method = c.args.view.now.method in
+    let framed = framed_for c.args.view.now.version in
+    let so_far = c.heads.invariant in
+    let hs = so_far.0 in
+    let are : AreInterims method hs = record { each = so_far.1; few = omega (arith, so_far.2, so_far.3) } in
+    let seen = c.in_ok-head.ensures.ok in
+    let h = seen.0 in
+    let read = moves_trans so_far.4 (seen.3 (g.K.Sink.stream c.heads.sink)) in
+    let planned = sym (c.answer_plan-planned.ensures ∙ (λ i. answer_plan (c.method.ensures i) (seen.2 i))) in
+    let bad = bad_here method hs h c.read_answer_head.new.pipe.inbox are (no_plan (length hs) h c.read_answer_head.new.pipe.inbox seen.1
+    (planned ∙ c.in_default.is)) in (
+      hs,
+      are,
+      fails_less (LacksAnswer method) (print_heads hs) (print_response h)
+          (fails_as (LacksAnswer method) refl (append-nil (interims_text framed hs)) (fails_framing (LacksAnswer method) read bad)),
+    )
+
+pub returns-then-not-is_interim-clause-ok : goal.returns-then-not-is_interim-clause-ok
+returns-then-not-is_interim-clause-ok g c =
+    let method = c.args.view.now.method in
+    let framed = framed_for c.args.view.now.version in
+    let so_far = c.heads.invariant in
+    let hs = so_far.0 in
+    let are : AreInterims method hs = record { each = so_far.1; few = omega (arith, so_far.2, so_far.3) } in
+    let seen = c.in_ok-head.ensures.ok in
+    let h = seen.0 in
+    let read = moves_trans so_far.4 (seen.3 (g.K.Sink.stream c.heads.sink)) in
+    let planned = sym (c.answer_plan-planned.ensures ∙ (λ i. answer_plan (c.method.ensures i) (seen.2 i))) in
+    let status = c.is_interim.ensures ∙ ap is_interim (c.status.ensures.value ∙ ap (λ (a : Answer). a.status) seen.2) in (
+      hs,
+      h,
+      are,
+      record { head = seen.1; planned = planned ∙ c.in-Some.is; final = sym status ∙ c.if-not-is_interim.true },
+      seen.2,
+      moves_as refl (append-nil (interims_text framed hs)) read,
+    )
+
+pub returns-then-count-ge-MOST_INTERIMS-clause-err : goal.returns-then-count-ge-MOST_INTERIMS-clause-err
+returns-then-count-ge-MOST_INTERIMS-clause-err g c =
+    let method = c.args.view.now.method in
+    let framed = framed_for c.args.view.now.version in
+    let so_far = c.heads.invariant in
+    let hs = so_far.0 in
+    let are : AreInterims method hs = record { each = so_far.1; few = omega (arith, so_far.2, so_far.3) } in
+    let seen = c.in_ok-head.ensures.ok in
+    let h = seen.0 in
+    let read = moves_trans so_far.4 (seen.3 (g.K.Sink.stream c.heads.sink)) in
+    let planned = sym (c.answer_plan-planned.ensures ∙ (λ i. answer_plan (c.method.ensures i) (seen.2 i))) in
+    let status = c.is_interim.ensures ∙ ap is_interim (c.status.ensures.value ∙ ap (λ (a : Answer). a.status) seen.2) in
+    let is = interim_is method h c.in-Some.plan seen.1 (planned ∙ c.in-Some.is) (sym status ∙ c.if-not-is_interim.false) in
+    let many : 8 ≤ length hs = omega (arith, so_far.2, c.if-count-ge-MOST_INTERIMS.true) in
+    let bad = ninth_here method hs h c.read_answer_head.new.pipe.inbox are many is in (
+      hs,
+      are,
+      fails_less (LacksAnswer method) (print_heads hs) (print_response h)
+          (fails_as (LacksAnswer method) refl (append-nil (interims_text framed hs)) (fails_framing (LacksAnswer method) read bad)),
+    )
+
+pub pass_interim-requires : goal.pass_interim-requires
+pass_interim-requires g c =
+    let so_far = c.heads.invariant in
+    let read = moves_trans so_far.4 (c.in_ok-head.ensures.ok.3 (g.K.Sink.stream c.heads.sink)) in
+    (Countable-later read.reads c.requires).writes
+
+pub returns-in_err-pass_interim-clause-err : goal.returns-in_err-pass_interim-clause-err
+returns-in_err-pass_interim-clause-err g c =
+    let method = c.args.view.now.method in
+    let framed = framed_for c.args.view.now.version in
+    let so_far = c.heads.invariant in
+    let hs = so_far.0 in
+    let seen = c.in_ok-head.ensures.ok in
+    let h = seen.0 in
+    let read = moves_trans so_far.4 (seen.3 (g.K.Sink.stream c.heads.sink)) in
+    let planned = sym (c.answer_plan-planned.ensures ∙ (λ i. answer_plan (c.method.ensures i) (seen.2 i))) in
+    let status = c.is_interim.ensures ∙ ap is_interim (c.status.ensures.value ∙ ap (λ (a : Answer). a.status) seen.2) in
+    let is = interim_is method h c.in-Some.plan seen.1 (planned ∙ c.in-Some.is) (sym status ∙ c.if-not-is_interim.false) in
+    let told = c.is_framed-framed.ensures ∙ ap framed_for c.version.ensures in
+    let text = interims_text_more framed c.is_framed-framed.result hs h c.in_ok-head.head told seen.2 in
+    let below : length hs < 8 = omega (arith, so_far.2, c.if-count-ge-MOST_INTERIMS.false) in
+    at_exit _ _ _ c.from_residual-in_err-pass_interim.ensures.1 (
+      hs ++ h ∷ [],
+      interims_more method hs h so_far.1 below is,
+      fails_as (LacksAnswer method) (map_more print_response hs h) text (moves_halts (LacksAnswer method) read c.in_err-pass_interim.ensures.err),
+    )
+
+pub heads-preserved : goal.heads-preserved
+heads-preserved g c =
+    let method = c.args.view.now.method in
+    let framed = framed_for c.args.view.now.version in
+    let so_far = c.heads.invariant in
+    let hs = so_far.0 in
+    let seen = c.in_ok-head.ensures.ok in
+    let h = seen.0 in
+    let read = moves_trans so_far.4 (seen.3 (g.K.Sink.stream c.heads.sink)) in
+    let planned = sym (c.answer_plan-planned.ensures ∙ (λ i. answer_plan (c.method.ensures i) (seen.2 i))) in
+    let status = c.is_interim.ensures ∙ ap is_interim (c.status.ensures.value ∙ ap (λ (a : Answer). a.status) seen.2) in
+    let is = interim_is method h c.in-Some.plan seen.1 (planned ∙ c.in-Some.is) (sym status ∙ c.if-not-is_interim.false) in
+    let told = c.is_framed-framed.ensures ∙ ap framed_for c.version.ensures in
+    let text = interims_text_more framed c.is_framed-framed.result hs h c.in_ok-head.head told seen.2 in
+    let below : length hs < 8 = omega (arith, so_far.2, c.if-count-ge-MOST_INTERIMS.false) in
+    let passed = moves_put (g.S.Source.stream c.read_answer_head.new.source) c.in_ok-pass_interim.ensures.ok in
+    let are = interims_more method hs h so_far.1 below is in (
+      hs ++ h ∷ [],
+      are.each,
+      omega (arith, so_far.2, length-append hs (h ∷ [])),
+      omega (arith, so_far.2, below),
+      moves_as (append-nil (print_heads hs ++ print_response h) ∙ map_more print_response hs h) text (moves_trans read passed),
+    )

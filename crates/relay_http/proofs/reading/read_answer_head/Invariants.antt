@@ -1,0 +1,11 @@
+use Rattle.std.proofs.Common.{◌≡◌, []}
+use Rattle.counted_io.specs.Streams.{Stream}
+use Rattle.relay_body.specs.Steps.{ends, Moves}
+use Rattle.relay_http.proofs.reading.read_answer_head.Given as goal
+
+abbrev pub invariant-reading : goal.invariant-reading
+invariant-reading g l = ((w : Stream) → Moves (ends l.initial.pipe (g.S.Source.stream l.initial.source) w) (ends l.pipe (g.S.Source.stream l.source) w) [] [])
+    × (l.pipe.outbox ≡ l.initial.pipe.outbox)
+
+abbrev pub decreases-reading : goal.decreases-reading
+decreases-reading g l = l.pipe.turns

@@ -1,0 +1,75 @@
+-- Steps of a pipe that end in a fault, and whose it is.
+use Rattle.std.specs.Prelude.{◌≡◌, ℕ, ◌+◌, ◌⊎◌, List, ◌++◌, Option}
+use Rattle.std.specs.Io.KnownBytes.{Appends, Consumes, IsAtEnd}
+use Rattle.relay_body.specs.Steps.{Ends, Reads}
+use Rattle.relay_body.specs.Texts.{WritesFront}
+use Rattle.relay_http.specs.declared.fault.Fault.{Fault}
+use Rattle.relay_http.specs.declared.fault.Fault.TheVariants.{NoMemory, Head, Framing, Read, Write, Turns, Closed}
+
+-- no call failed
+pub record Fine (old new : Ends) : Type 0 where
+  pub reads : new.source.failures ≡ old.source.failures
+  pub writes : new.sink.failures ≡ old.sink.failures
+
+-- Whose the fault is, where Why says of a fault what is wrong with the input: a read failed, or the input ended too
+-- early; a write failed; all turns are spent; or the bytes can't be what they have to be. Want of memory is no fault of
+-- the input: Why says of it where it may be met.
+abbrev pub Blames : Ends → Ends → (Fault → List ℕ → Type 0) → List ℕ → Fault → Type 0
+Blames old new Why input NoMemory = Fine old new × Why NoMemory input
+Blames old new Why input Head = Fine old new × Why Head input
+Blames old new Why input Framing = Fine old new × Why Framing input
+Blames old new Why input Read = (new.sink.failures ≡ old.sink.failures)
+    × ((new.source.failures ≡ old.source.failures + 1) ⊎ ((new.source.failures ≡ old.source.failures) × IsAtEnd new.source.bytes × Why Read input))
+Blames old new Why input Write = (new.source.failures ≡ old.source.failures) × (new.sink.failures ≡ old.sink.failures + 1)
+Blames old new Why input Turns = Fine old new × (new.pipe.turns ≡ 0)
+Blames old new Why input Closed = ⊥
+
+-- nothing is wrong with the input
+abbrev pub NoCause : Fault → List ℕ → Type 0
+NoCause fault input = ⊥
+
+-- A fault was met. `used` stands at the front of what was held and read, and of what waited and of the text that is
+-- given for it a front was written.
+pub record Fails (old new : Ends) (used text : List ℕ) (Why : Fault → List ℕ → Type 0) (fault : Fault) : Type 0 where
+  pub taken : List ℕ
+  pub reads : Reads old new taken
+  pub rest : List ℕ
+  pub held : old.pipe.inbox ++ taken ≡ used ++ rest
+  pub writes : WritesFront old.sink new.sink (old.pipe.outbox ++ text)
+  pub blames : Blames old new Why (old.pipe.inbox ++ taken) fault
+
+-- what is wrong with the input, where the fault is that of the bytes, or may be met at all
+abbrev pub Explains : (Fault → List ℕ → Type 0) → Fault → List ℕ → Type 0
+Explains Why Head input = Why Head input
+Explains Why Framing input = Why Framing input
+Explains Why NoMemory input = Why NoMemory input
+Explains Why Read input = Unit {0}
+Explains Why Write input = Unit {0}
+Explains Why Turns input = Unit {0}
+Explains Why Closed input = ⊥
+
+-- Of what was held and read `used` is gone, and the whole text was written: of a reader and a writer, by their bytes.
+pub record Passes (held rest : List ℕ) (r0 r w0 w : Option (List ℕ)) (used text : List ℕ) : Type 0 where
+  pub taken : List ℕ
+  pub reads : Consumes r0 r taken
+  pub all : held ++ taken ≡ used ++ rest
+  pub writes : Appends w0 w text
+
+-- A fault was met: `used` stands at the front of what was held and read, and a front of the text was written.
+pub record Misses (held : List ℕ) (r0 r w0 w : Option (List ℕ)) (used text : List ℕ) (Why : Fault → List ℕ → Type 0) (fault : Fault) : Type 0 where
+  pub taken : List ℕ
+  pub reads : Consumes r0 r taken
+  pub rest : List ℕ
+  pub all : held ++ taken ≡ used ++ rest
+  pub front : List ℕ
+  pub left : List ℕ
+  pub writes : Appends w0 w front
+  pub text_is : text ≡ front ++ left
+  pub why : Explains Why fault (held ++ taken)
+
+-- a front of the text was written
+pub record WrotePrefix (w0 w : Option (List ℕ)) (text : List ℕ) : Type 0 where
+  pub front : List ℕ
+  pub left : List ℕ
+  pub writes : Appends w0 w front
+  pub text_is : text ≡ front ++ left

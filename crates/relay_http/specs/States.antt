@@ -1,0 +1,30 @@
+-- What an exchange is after each of its calls.
+use Rattle.std.specs.Prelude.{◌≡◌, ℕ, ◌<◌, Bool, false, List, [], length, ◌⊎◌, IsTrue, IsFalse}
+use Rattle.std.specs.Io.KnownBytes.{Appends, Keeps}
+use Rattle.counted_io.specs.Streams.{Stream}
+use Rattle.relay_body.specs.declared.pipe.Pipe.{Pipe}
+use Rattle.relay_http.specs.declared.exchange.Exchange.{Exchange}
+use Rattle.relay_http.specs.declared.exchange.Stage.{Stage}
+use Rattle.relay_http.specs.declared.exchange.Stage.TheVariants.{New, Failed}
+
+-- nothing was read or written yet
+pub record IsFresh (most : ℕ) (e : Exchange) : Type 0 where
+  pub held : e.pipe.inbox ≡ []
+  pub turns : e.pipe.turns ≡ most
+  pub most_is : e.most ≡ most
+  pub stage : e.stage ≡ New
+  pub begun : e.begun ≡ false
+
+-- it is at this stage, or met a fault
+abbrev pub IsAt : Stage → Exchange → Type 0
+IsAt stage e = (e.stage ≡ stage) ⊎ (e.stage ≡ Failed)
+
+-- the pipe without the bytes that it holds
+abbrev pub emptied : Pipe → Pipe
+emptied p = record { inbox = []; outbox = p.outbox; turns = p.turns }
+
+-- Whether a byte of an answer went out stays known: before one did, nothing was written, and where one did now, something was.
+pub record Marks (w0 w : Stream) (before after : Bool) : Type 0 where
+  pub stays : IsTrue before → IsTrue after
+  pub unset : IsFalse after → Keeps w0.bytes w.bytes
+  pub rose : IsFalse before → IsTrue after → (front : List ℕ) × (0 < length front) × Appends w0.bytes w.bytes front

@@ -1,0 +1,138 @@
+ghost use Rattle.std.specs.Prelude.{◌≡◌, ◌≢◌, ℕ, List, [], Err, IfOk, OnOk, IfErr, OnErr, IsSome, IsTrue, IsFalse, false, Option};
+ghost use Rattle.std.specs.Io.KnownBytes.{Appends, Keeps, IsAtEnd};
+ghost use Rattle.httparse.specs.Grammar.{RequestHead, print_request};
+ghost use Rattle.relay_http.specs.Failures.{Passes, Misses, NoCause, WrotePrefix};
+ghost use Rattle.relay_http.specs.Framings as framings;
+ghost use Rattle.relay_http.specs.Heads.{IsRequest, LacksRequest};
+ghost use Rattle.relay_http.specs.Messages as messages;
+ghost use Rattle.relay_http.specs.Replies.{leave_text, refusal_text};
+ghost use Rattle.relay_http.specs.States.{IsAt};
+ghost use Rattle.relay_http.specs.Texts.{framed_for};
+ghost use Rattle.req_view.specs.Request.{request_of};
+
+use crate::exchange::{Exchange, Stage};
+use crate::fault::Fault;
+use crate::refusing::Code;
+use counted_io::Counted;
+use relay_body::Framing;
+use req_view::View;
+use std::alloc::Global;
+use std::io::{Read, Write};
+
+// Each call reads how many turns are left, which so are known to be fewer than can be counted.
+impl Exchange {
+    /// Reads the request's head (RFC 9112, sections 2 to 5). What comes behind it in the same reads is held. `O(n)` a read.
+    ///
+    /// Faults: `Head` once no head can come of the bytes, `Framing` where the head frames its body badly, `Read` where a read fails
+    /// or the input ends before the head does, `Turns`, and `NoMemory` where a whole head finds none.
+    pub fn read_request<R: Read>(&mut self, alloc: Global, reader: &mut R) -> Result<View, Fault>
+        requires { IsAt Stage.New self.old }
+        ensures ok { IfOk result (λ view. (h : RequestHead) × IsRequest h × (view ≡ request_of h) × IsSome (framings.request_framing view)
+            × ((w : Option (List ℕ)) → Passes self.old.pipe.inbox self.new.pipe.inbox (R.remaining reader.old) (R.remaining reader.new) w w (print_request h) [])) }
+        ensures asked { OnOk result (self.new.stage ≡ Stage.Asked) }
+        ensures closed { self.old.stage ≡ Stage.Failed → result ≡ Err Fault.Closed }
+        ensures untouched { self.old.stage ≡ Stage.Failed → (self.new ≡ self.old) × (R.remaining reader.new ≡ R.remaining reader.old) }
+        ensures err { self.old.stage ≢ Stage.Failed → (w : Option (List ℕ)) → IfErr result (Misses self.old.pipe.inbox (R.remaining reader.old) (R.remaining reader.new) w w [] [] LacksRequest) }
+        ensures failed { OnErr result (self.new.stage ≡ Stage.Failed) }
+        ensures most { self.new.most ≡ self.old.most }
+        ensures begun { self.new.begun ≡ self.old.begun }
+    {
+        let _turns = self.turns();
+        let mut source = Counted::new(reader);
+        self.read_request_from(alloc, &mut source)
+    }
+
+    /// Hands the request on to the server: its head, the bytes held, and the rest of its body (RFC 9112, sections 6 and 7).
+    ///
+    /// Faults: `Framing` once the bytes can be no such body, `Read`, `Write` and `Turns`. It takes no memory.
+    pub fn forward<R: Read, W: Write>(
+        &mut self,
+        view: &View,
+        reader: &mut R,
+        writer: &mut W,
+    ) -> Result<(), Fault>
+        requires { IsAt Stage.Asked self.old }
+        ensures ok { OnOk result ((used : List ℕ) × (text : List ℕ) × messages.IsForwarded view.now used text
+            × Passes self.old.pipe.inbox self.new.pipe.inbox (R.remaining reader.old) (R.remaining reader.new) (W.contents writer.old) (W.contents writer.new) used text) }
+        ensures forwarded { OnOk result (self.new.stage ≡ Stage.Forwarded) }
+        ensures closed { self.old.stage ≡ Stage.Failed → result ≡ Err Fault.Closed }
+        ensures untouched { self.old.stage ≡ Stage.Failed → (self.new ≡ self.old) × (R.remaining reader.new ≡ R.remaining reader.old) × (W.contents writer.new ≡ W.contents writer.old) }
+        ensures err { self.old.stage ≢ Stage.Failed → IfErr result (λ fault. (used : List ℕ) × (text : List ℕ) × messages.PartOfForwarded view.now used text
+            × Misses self.old.pipe.inbox (R.remaining reader.old) (R.remaining reader.new) (W.contents writer.old) (W.contents writer.new) used text (messages.LacksForwarded view.now) fault) }
+        ensures failed { OnErr result (self.new.stage ≡ Stage.Failed) }
+        ensures most { self.new.most ≡ self.old.most }
+        ensures begun { self.new.begun ≡ self.old.begun }
+    {
+        let _turns = self.turns();
+        let mut source = Counted::new(reader);
+        let mut sink = Counted::new(writer);
+        self.forward_between(view, &mut source, &mut sink)
+    }
+
+    /// Gives a client that waits for it leave to send its body (RFC 9110, section 10.1.1): 25 bytes, which don't count as begun.
+    ///
+    /// Faults: `Write` and `Turns`. It takes no memory.
+    pub fn go_on<W: Write>(&mut self, view: &View, writer: &mut W) -> Result<(), Fault>
+        requires { IsAt Stage.Asked self.old }
+        ensures ok { (r : Option (List ℕ)) → OnOk result (Passes self.old.pipe.inbox self.new.pipe.inbox r r (W.contents writer.old) (W.contents writer.new) [] (leave_text view.now)) }
+        ensures asked { OnOk result (self.new.stage ≡ Stage.Asked) }
+        ensures closed { self.old.stage ≡ Stage.Failed → result ≡ Err Fault.Closed }
+        ensures untouched { self.old.stage ≡ Stage.Failed → (self.new ≡ self.old) × (W.contents writer.new ≡ W.contents writer.old) }
+        ensures err { self.old.stage ≢ Stage.Failed → (r : Option (List ℕ)) → IfErr result (Misses self.old.pipe.inbox r r (W.contents writer.old) (W.contents writer.new) [] (leave_text view.now) NoCause) }
+        ensures failed { OnErr result (self.new.stage ≡ Stage.Failed) }
+        ensures most { self.new.most ≡ self.old.most }
+        ensures begun { self.new.begun ≡ self.old.begun }
+    {
+        let _turns = self.turns();
+        let mut sink = Counted::new(writer);
+        self.go_on_to(view, &mut sink)
+    }
+
+    /// Hands the server's answer on to the client: at most eight heads before it, its own, and its body (RFC 9110, section 15;
+    /// RFC 9112, sections 6 and 7).
+    ///
+    /// Faults: `Head` once no head can come of the bytes, `Framing` where a head frames its body badly or is the ninth before an answer, or once
+    /// the bytes behind it can be no such body, `Read`, `Write`, `Turns`, and `NoMemory` where a whole head finds none.
+    pub fn answer<R: Read, W: Write>(
+        &mut self,
+        alloc: Global,
+        view: &View,
+        reader: &mut R,
+        writer: &mut W,
+    ) -> Result<(), Fault>
+        requires { IsAt Stage.Forwarded self.old }
+        ensures ok { OnOk result ((used : List ℕ) × (text : List ℕ) × (answered : messages.IsAnswered view.now.method (framed_for view.now.version) used text)
+            × Passes [] self.new.pipe.inbox (R.remaining reader.old) (R.remaining reader.new) (W.contents writer.old) (W.contents writer.new) used text
+            × (answered.plan.body ≡ Framing.ToEnd → IsAtEnd (R.remaining reader.new))
+            × (answered.plan.body ≡ Framing.ToEnd → self.new.pipe.inbox ≡ [])) }
+        ensures answered { OnOk result (self.new.stage ≡ Stage.Answered) }
+        ensures closed { self.old.stage ≡ Stage.Failed → result ≡ Err Fault.Closed }
+        ensures untouched { self.old.stage ≡ Stage.Failed → (self.new ≡ self.old) × (R.remaining reader.new ≡ R.remaining reader.old) × (W.contents writer.new ≡ W.contents writer.old) }
+        ensures err { self.old.stage ≢ Stage.Failed → IfErr result (λ fault. (used : List ℕ) × (text : List ℕ)
+            × messages.PartOfAnswered view.now.method (framed_for view.now.version) used text
+            × Misses [] (R.remaining reader.old) (R.remaining reader.new) (W.contents writer.old) (W.contents writer.new) used text (messages.LacksAnswer view.now.method) fault) }
+        ensures failed { OnErr result (self.new.stage ≡ Stage.Failed) }
+        ensures most { self.new.most ≡ self.old.most }
+        ensures begun { OnOk result (IsTrue self.new.begun) }
+        ensures stays { IsTrue self.old.begun → IsTrue self.new.begun }
+        ensures silent { self.old.stage ≢ Stage.Failed → IsFalse self.new.begun → Keeps (W.contents writer.old) (W.contents writer.new) }
+    {
+        let _turns = self.turns();
+        let mut source = Counted::new(reader);
+        let mut sink = Counted::new(writer);
+        self.answer_between(alloc, view, &mut source, &mut sink)
+    }
+
+    /// Tells the client why there is no answer, by as many writes at most as the text has bytes. The exchange is over then.
+    pub fn refuse<W: Write>(&mut self, code: Code, writer: &mut W) -> Result<(), Fault>
+        requires { self.old.begun ≡ false }
+        ensures ok { OnOk result (Appends (W.contents writer.old) (W.contents writer.new) (refusal_text code)) }
+        ensures err { IfErr result (λ fault. (fault ≡ Fault.Write) × WrotePrefix (W.contents writer.old) (W.contents writer.new) (refusal_text code)) }
+        ensures stage { self.new.stage ≡ Stage.Failed }
+        ensures most { self.new.most ≡ self.old.most }
+        ensures silent { IsFalse self.new.begun → Keeps (W.contents writer.old) (W.contents writer.new) }
+    {
+        let mut sink = Counted::new(writer);
+        self.refuse_to(code, &mut sink)
+    }
+}

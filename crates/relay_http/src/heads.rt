@@ -1,0 +1,134 @@
+ghost use Rattle.std.specs.Prelude.{◌≡◌, ◌+◌, ◌^◌, ◌<◌, ◌++◌, OnOk, IfErr};
+ghost use Rattle.relay_http.specs.Emissions.{Puts, Halts};
+ghost use Rattle.relay_http.specs.Texts as texts;
+
+use crate::fields::Way;
+use crate::lines::{put, put_end, put_fields, put_host, put_three, send};
+use crate::plans::Plan;
+use counted_io::Sink;
+use relay_body::{Fault, Framing, Pipe};
+use req_view::{AnswerHead, View};
+
+/// Puts the head of a request that is handed on to a server.
+pub(crate) fn put_request<K: Sink>(
+    pipe: &mut Pipe,
+    sink: &mut K,
+    view: &View,
+    framing: Framing,
+) -> Result<(), Fault>
+    requires { (K.stream sink.old).calls + pipe.old.turns < 2 ^ 64 }
+    ensures ok { OnOk result (Puts pipe.old pipe.new (K.stream sink.old) (K.stream sink.new) (texts.request_text view.now framing)) }
+    ensures err { IfErr result (Halts pipe.old pipe.new (K.stream sink.old) (K.stream sink.new) (texts.request_text view.now framing)) }
+{
+    put_request_line(pipe, sink, view)?;
+    put_fields(pipe, sink, view.section(), Way::ToServer)?;
+    put_host(pipe, sink, view.section())?;
+    put_end(pipe, sink, framing)?;
+    Ok(())
+}
+
+fn put_request_line<K: Sink>(pipe: &mut Pipe, sink: &mut K, view: &View) -> Result<(), Fault>
+    requires { (K.stream sink.old).calls + pipe.old.turns < 2 ^ 64 }
+    ensures ok { OnOk result (Puts pipe.old pipe.new (K.stream sink.old) (K.stream sink.new) (texts.request_line view.now)) }
+    ensures err { IfErr result (Halts pipe.old pipe.new (K.stream sink.old) (K.stream sink.new) (texts.request_line view.now)) }
+{
+    put(pipe, sink, view.method())?;
+    put_three(pipe, sink, b" ", view.target(), b" HTTP/1.1\r\n")?;
+    Ok(())
+}
+
+/// Puts the head of an answer that is handed on to a client. `framed` is false for a client of version 1.0.
+pub(crate) fn put_answer<K: Sink>(
+    pipe: &mut Pipe,
+    sink: &mut K,
+    head: &AnswerHead,
+    plan: Plan,
+    framed: bool,
+) -> Result<(), Fault>
+    requires { (K.stream sink.old).calls + pipe.old.turns < 2 ^ 64 }
+    ensures ok { OnOk result (Puts pipe.old pipe.new (K.stream sink.old) (K.stream sink.new) (texts.answer_text framed head.now plan)) }
+    ensures err { IfErr result (Halts pipe.old pipe.new (K.stream sink.old) (K.stream sink.new) (texts.answer_text framed head.now plan)) }
+{
+    put_answer_lines(pipe, sink, head)?;
+    put_end(pipe, sink, stated(framed, plan.stated))?;
+    Ok(())
+}
+
+fn stated(framed: bool, framing: Framing) -> Framing
+    ensures { result ≡ texts.stated framed framing }
+{
+    match framing {
+        Framing::Chunked if !framed => Framing::Empty,
+        _ => framing,
+    }
+}
+
+/// Puts a head that comes before the answer, where the client is to have it.
+pub(crate) fn put_interim<K: Sink>(
+    pipe: &mut Pipe,
+    sink: &mut K,
+    head: &AnswerHead,
+    framed: bool,
+) -> Result<(), Fault>
+    requires { (K.stream sink.old).calls + pipe.old.turns < 2 ^ 64 }
+    ensures ok { OnOk result (Puts pipe.old pipe.new (K.stream sink.old) (K.stream sink.new) (texts.interim_text framed head.now)) }
+    ensures err { IfErr result (Halts pipe.old pipe.new (K.stream sink.old) (K.stream sink.new) (texts.interim_text framed head.now)) }
+{
+    if !framed {
+        return Ok(());
+    }
+    if head.status() == 100 {
+        return Ok(());
+    }
+    put_answer_lines(pipe, sink, head)?;
+    put(pipe, sink, b"\r\n")?;
+    Ok(())
+}
+
+/// Puts such a head and writes it, since the server may take its time for the next.
+pub(crate) fn pass_interim<K: Sink>(
+    pipe: &mut Pipe,
+    sink: &mut K,
+    head: &AnswerHead,
+    framed: bool,
+) -> Result<(), Fault>
+    requires { (K.stream sink.old).calls + pipe.old.turns < 2 ^ 64 }
+    ensures ok { OnOk result (Puts pipe.old pipe.new (K.stream sink.old) (K.stream sink.new) (texts.interim_text framed head.now)) }
+    ensures err { IfErr result (Halts pipe.old pipe.new (K.stream sink.old) (K.stream sink.new) (texts.interim_text framed head.now)) }
+{
+    put_interim(pipe, sink, head, framed)?;
+    send(pipe, sink)?;
+    Ok(())
+}
+
+fn put_answer_lines<K: Sink>(pipe: &mut Pipe, sink: &mut K, head: &AnswerHead) -> Result<(), Fault>
+    requires { (K.stream sink.old).calls + pipe.old.turns < 2 ^ 64 }
+    ensures ok { OnOk result (Puts pipe.old pipe.new (K.stream sink.old) (K.stream sink.new) (texts.answer_lines head.now)) }
+    ensures err { IfErr result (Halts pipe.old pipe.new (K.stream sink.old) (K.stream sink.new) (texts.answer_lines head.now)) }
+{
+    put_status_line(pipe, sink, head)?;
+    put_fields(pipe, sink, head.section(), Way::ToClient)?;
+    Ok(())
+}
+
+fn put_status_line<K: Sink>(pipe: &mut Pipe, sink: &mut K, head: &AnswerHead) -> Result<(), Fault>
+    requires { (K.stream sink.old).calls + pipe.old.turns < 2 ^ 64 }
+    ensures ok { OnOk result (Puts pipe.old pipe.new (K.stream sink.old) (K.stream sink.new) (texts.status_line head.now)) }
+    ensures err { IfErr result (Halts pipe.old pipe.new (K.stream sink.old) (K.stream sink.new) (texts.status_line head.now)) }
+{
+    let digits = status_digits(head.status());
+    put_three(pipe, sink, b"HTTP/1.1 ", &digits, b" ")?;
+    put(pipe, sink, head.reason())?;
+    put(pipe, sink, b"\r\n")?;
+    Ok(())
+}
+
+fn status_digits(status: u16) -> [u8; 3]
+    requires { status < 1000 }
+    ensures { result ≡ texts.status_text status }
+{
+    let hundreds = (status / 100) as u8;
+    let tens = (status / 10 % 10) as u8;
+    let ones = (status % 10) as u8;
+    [b'0' + hundreds, b'0' + tens, b'0' + ones]
+}

@@ -1,0 +1,179 @@
+ghost use Rattle.std.specs.Prelude.{◌≡◌, ◌≢◌, ◌+◌, ◌^◌, ◌<◌, ℕ, Bool, ◌||◌, nat_lt, List, [], Err, IfOk, OnOk, IfErr, OnErr, IsSome, IsTrue};
+ghost use Rattle.std.specs.Io.KnownBytes.{IsAtEnd};
+ghost use Rattle.counted_io.specs.Streams.{Stream};
+ghost use Rattle.httparse.specs.Grammar.{RequestHead, print_request};
+ghost use Rattle.relay_body.specs.Steps.{ends, Countable, Moves};
+ghost use Rattle.relay_http.specs.Failures.{Fails, NoCause};
+ghost use Rattle.relay_http.specs.Framings as framings;
+ghost use Rattle.relay_http.specs.Heads.{IsRequest, LacksRequest};
+ghost use Rattle.relay_http.specs.Messages as messages;
+ghost use Rattle.relay_http.specs.Replies.{leave_text};
+ghost use Rattle.relay_http.specs.States.{IsAt, emptied, Marks};
+ghost use Rattle.relay_http.specs.Texts.{framed_for};
+ghost use Rattle.req_view.specs.Request.{request_of};
+
+use crate::exchange::{Exchange, Stage};
+use crate::fault::Fault;
+use crate::leave::give_leave;
+use crate::messages::{pass_answer, pass_request};
+use crate::reading::read_request;
+use counted_io::{Sink, Source};
+use relay_body::Framing;
+use req_view::View;
+use std::alloc::Global;
+
+impl Exchange {
+    /// `read_request` from a source that counts.
+    pub fn read_request_from<S: Source>(
+        &mut self,
+        alloc: Global,
+        source: &mut S,
+    ) -> Result<View, Fault>
+        requires ready { IsAt Stage.New self.old }
+        requires countable { (S.stream source.old).calls + self.old.pipe.turns < 2 ^ 64 }
+        ensures ok { IfOk result (λ view. (h : RequestHead) × IsRequest h × (view ≡ request_of h) × IsSome (framings.request_framing view)
+            × ((w : Stream) → Moves (ends self.old.pipe (S.stream source.old) w) (ends self.new.pipe (S.stream source.new) w) (print_request h) [])) }
+        ensures asked { OnOk result (self.new.stage ≡ Stage.Asked) }
+        ensures closed { self.old.stage ≡ Stage.Failed → result ≡ Err Fault.Closed }
+        ensures untouched { self.old.stage ≡ Stage.Failed → (self.new ≡ self.old) × (S.stream source.new ≡ S.stream source.old) }
+        ensures err { self.old.stage ≢ Stage.Failed → (w : Stream) → IfErr result (Fails (ends self.old.pipe (S.stream source.old) w) (ends self.new.pipe (S.stream source.new) w) [] [] LacksRequest) }
+        ensures failed { OnErr result (self.new.stage ≡ Stage.Failed) }
+        ensures same_source { (S.stream source.new).name ≡ (S.stream source.old).name }
+        ensures most { self.new.most ≡ self.old.most }
+        ensures begun { self.new.begun ≡ self.old.begun }
+    {
+        if self.is_closed() {
+            return Err(Fault::Closed);
+        }
+        match read_request(&mut self.pipe, alloc, source) {
+            Ok(view) => {
+                self.stage = Stage::Asked;
+                Ok(view)
+            }
+            Err(fault) => {
+                self.pipe.forget_waiting();
+                self.stage = Stage::Failed;
+                Err(fault)
+            }
+        }
+    }
+
+    /// `go_on` to a sink that counts.
+    pub fn go_on_to<K: Sink>(&mut self, view: &View, sink: &mut K) -> Result<(), Fault>
+        requires ready { IsAt Stage.Asked self.old }
+        requires countable { (K.stream sink.old).calls + self.old.pipe.turns < 2 ^ 64 }
+        ensures ok { (s : Stream) → OnOk result (Moves (ends self.old.pipe s (K.stream sink.old)) (ends self.new.pipe s (K.stream sink.new)) [] (leave_text view.now)) }
+        ensures asked { OnOk result (self.new.stage ≡ Stage.Asked) }
+        ensures closed { self.old.stage ≡ Stage.Failed → result ≡ Err Fault.Closed }
+        ensures untouched { self.old.stage ≡ Stage.Failed → (self.new ≡ self.old) × (K.stream sink.new ≡ K.stream sink.old) }
+        ensures err { self.old.stage ≢ Stage.Failed → (s : Stream) → IfErr result (Fails (ends self.old.pipe s (K.stream sink.old)) (ends self.new.pipe s (K.stream sink.new)) [] (leave_text view.now) NoCause) }
+        ensures failed { OnErr result (self.new.stage ≡ Stage.Failed) }
+        ensures same_sink { (K.stream sink.new).name ≡ (K.stream sink.old).name }
+        ensures most { self.new.most ≡ self.old.most }
+        ensures begun { self.new.begun ≡ self.old.begun }
+    {
+        if self.is_closed() {
+            return Err(Fault::Closed);
+        }
+        match give_leave(&mut self.pipe, view, sink) {
+            Ok(()) => Ok(()),
+            Err(fault) => {
+                self.pipe.forget_waiting();
+                self.stage = Stage::Failed;
+                Err(fault)
+            }
+        }
+    }
+
+    /// `forward` between a source and a sink that count.
+    pub fn forward_between<S: Source, K: Sink>(
+        &mut self,
+        view: &View,
+        source: &mut S,
+        sink: &mut K,
+    ) -> Result<(), Fault>
+        requires ready { IsAt Stage.Asked self.old }
+        requires countable { Countable (ends self.old.pipe (S.stream source.old) (K.stream sink.old)) }
+        ensures ok { OnOk result ((used : List ℕ) × (text : List ℕ) × messages.IsForwarded view.now used text
+            × Moves (ends self.old.pipe (S.stream source.old) (K.stream sink.old)) (ends self.new.pipe (S.stream source.new) (K.stream sink.new)) used text) }
+        ensures forwarded { OnOk result (self.new.stage ≡ Stage.Forwarded) }
+        ensures closed { self.old.stage ≡ Stage.Failed → result ≡ Err Fault.Closed }
+        ensures untouched { self.old.stage ≡ Stage.Failed → (self.new ≡ self.old) × (S.stream source.new ≡ S.stream source.old) × (K.stream sink.new ≡ K.stream sink.old) }
+        ensures err { self.old.stage ≢ Stage.Failed → IfErr result (λ fault. (used : List ℕ) × (text : List ℕ) × messages.PartOfForwarded view.now used text
+            × Fails (ends self.old.pipe (S.stream source.old) (K.stream sink.old)) (ends self.new.pipe (S.stream source.new) (K.stream sink.new)) used text (messages.LacksForwarded view.now) fault) }
+        ensures failed { OnErr result (self.new.stage ≡ Stage.Failed) }
+        ensures same_source { (S.stream source.new).name ≡ (S.stream source.old).name }
+        ensures same_sink { (K.stream sink.new).name ≡ (K.stream sink.old).name }
+        ensures most { self.new.most ≡ self.old.most }
+        ensures begun { self.new.begun ≡ self.old.begun }
+    {
+        if self.is_closed() {
+            return Err(Fault::Closed);
+        }
+        match pass_request(&mut self.pipe, view, source, sink) {
+            Ok(()) => {
+                self.stage = Stage::Forwarded;
+                Ok(())
+            }
+            Err(fault) => {
+                self.pipe.forget_waiting();
+                self.stage = Stage::Failed;
+                Err(fault)
+            }
+        }
+    }
+
+    /// `answer` between a source and a sink that count. What the client sent past its request isn't used.
+    pub fn answer_between<S: Source, K: Sink>(
+        &mut self,
+        alloc: Global,
+        view: &View,
+        source: &mut S,
+        sink: &mut K,
+    ) -> Result<(), Fault>
+        requires ready { IsAt Stage.Forwarded self.old }
+        requires countable { Countable (ends self.old.pipe (S.stream source.old) (K.stream sink.old)) }
+        ensures ok { OnOk result ((used : List ℕ) × (text : List ℕ) × (answered : messages.IsAnswered view.now.method (framed_for view.now.version) used text)
+            × Moves (ends (emptied self.old.pipe) (S.stream source.old) (K.stream sink.old)) (ends self.new.pipe (S.stream source.new) (K.stream sink.new)) used text
+            × (answered.plan.body ≡ Framing.ToEnd → IsAtEnd (S.stream source.new).bytes)
+            × (answered.plan.body ≡ Framing.ToEnd → self.new.pipe.inbox ≡ [])) }
+        ensures answered { OnOk result (self.new.stage ≡ Stage.Answered) }
+        ensures closed { self.old.stage ≡ Stage.Failed → result ≡ Err Fault.Closed }
+        ensures untouched { self.old.stage ≡ Stage.Failed → (self.new ≡ self.old) × (S.stream source.new ≡ S.stream source.old) × (K.stream sink.new ≡ K.stream sink.old) }
+        ensures err { self.old.stage ≢ Stage.Failed → IfErr result (λ fault. (used : List ℕ) × (text : List ℕ)
+            × messages.PartOfAnswered view.now.method (framed_for view.now.version) used text
+            × Fails (ends (emptied self.old.pipe) (S.stream source.old) (K.stream sink.old)) (ends self.new.pipe (S.stream source.new) (K.stream sink.new)) used text (messages.LacksAnswer view.now.method) fault) }
+        ensures failed { OnErr result (self.new.stage ≡ Stage.Failed) }
+        ensures same_source { (S.stream source.new).name ≡ (S.stream source.old).name }
+        ensures same_sink { (K.stream sink.new).name ≡ (K.stream sink.old).name }
+        ensures most { self.new.most ≡ self.old.most }
+        ensures marks { self.old.stage ≢ Stage.Failed → Marks (K.stream sink.old) (K.stream sink.new) self.old.begun self.new.begun }
+        ensures begun { OnOk result (IsTrue self.new.begun) }
+        ensures stays { IsTrue self.old.begun → IsTrue self.new.begun }
+    {
+        if self.is_closed() {
+            return Err(Fault::Closed);
+        }
+        self.pipe.hold(b"");
+        let before = sink.successes();
+        let result = pass_answer(&mut self.pipe, alloc, view, source, sink);
+        self.begun = has_begun(self.begun, before, sink.successes());
+        match result {
+            Ok(()) => {
+                self.stage = Stage::Answered;
+                Ok(())
+            }
+            Err(fault) => {
+                self.pipe.forget_waiting();
+                self.stage = Stage::Failed;
+                Err(fault)
+            }
+        }
+    }
+}
+
+pub(crate) fn has_begun(begun: bool, before: u64, after: u64) -> bool
+    ensures { result ≡ (begun || nat_lt before after) }
+{
+    begun || before < after
+}

@@ -226,7 +226,7 @@ limits_written setup s next e w keeps server some = subst (λ n. served server n
 
 -- limits are kept by every entry
 limits_after : (setup : Setup) (s : State) (n : ℕ) (t : Stage) (e : Entry) → IsConsistent s.rows s.ticket t → MayCome setup s n t e → KeepsLimits s → KeepsLimits (after setup s e)
-limits_after setup s n t e is may keeps = elim (writes_of setup s n t e is may) [ | inl w ↦ limits_written setup s (after setup s e) e w keeps | inr w ↦ w.keeps keeps ]
+limits_after setup s n t e is may keeps = elim (writes_of setup s n t e is may) [ inl w ↦ limits_written setup s (after setup s e) e w keeps | inr w ↦ w.keeps keeps ]
 
 pub limits_all : (setup : Setup) (s : State) (n : ℕ) (t : Stage) (es : List Entry) → IsConsistent s.rows s.ticket t → AllMayCome setup s n t es → KeepsLimits s → KeepsLimits (after_all setup s es)
 limits_all setup s n t [] is all keeps = keeps
@@ -351,9 +351,9 @@ dispatched h legal =
     let end = legal_consistent h legal in
     let stage = stage_after granting h.log in
     let arrived_once = λ (ticket : ℕ).
-        let none : given_between base.ticket base.ticket ticket ≡ 0 = grind (arith, nat_tests) in
-        let all : given_between base.ticket base.ticket ticket + arrivals_of ticket h.log ≡ given_between base.ticket (state_of h).ticket ticket = given_all h.setup base.ticket base 0 granting h.log ticket (omega arith) judged in
-        (let it : arrivals_of ticket h.log ≡ given_between base.ticket (state_of h).ticket ticket = omega arith in it)
+    let none : given_between base.ticket base.ticket ticket ≡ 0 = grind (arith, nat_tests) in
+    let all : given_between base.ticket base.ticket ticket + arrivals_of ticket h.log ≡ given_between base.ticket (state_of h).ticket ticket = given_all h.setup base.ticket base 0 granting h.log ticket (omega arith) judged in
+    (let it : arrivals_of ticket h.log ≡ given_between base.ticket (state_of h).ticket ticket = omega arith in it)
     in
     record {
       limits = limits_all h.setup base 0 granting h.log opened judged legal.begins.dispatched.limits;

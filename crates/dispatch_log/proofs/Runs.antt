@@ -54,9 +54,11 @@ same_stage t e begins = false_true begins
 -- what is lawful goes on lawfully
 pub judged_on : (setup : Setup) (s : State) (n : ℕ) (t : Stage) (es fs : List Entry) → AllMayCome setup s n t es → AllMayCome setup (after_all setup s es) (n + length es) (stage_after t es) fs → AllMayCome setup s n t (es ++ fs)
 judged_on setup s n t [] fs all later = subst (λ k. AllMayCome setup s k t fs) (omega arith) later
-judged_on setup s n t (e ∷ es) fs all later =
-    (all.0, judged_on setup (after setup s e) (n + 1) (next_stage t e) es fs all.1
-        (let longer : n + length (e ∷ es) ≡ (n + 1) + length es = omega arith in subst (λ k. AllMayCome setup (after_all setup s (e ∷ es)) k (stage_after t (e ∷ es)) fs) longer later))
+judged_on setup s n t (e ∷ es) fs all later = (
+  all.0,
+  judged_on setup (after setup s e) (n + 1) (next_stage t e) es fs all.1
+      (let longer : n + length (e ∷ es) ≡ (n + 1) + length es = omega arith in subst (λ k. AllMayCome setup (after_all setup s (e ∷ es)) k (stage_after t (e ∷ es)) fs) longer later),
+)
 
 pub after_on : (setup : Setup) (s : State) (es fs : List Entry) → after_all setup s (es ++ fs) ≡ after_all setup (after_all setup s es) fs
 after_on setup s [] fs = refl
@@ -164,7 +166,7 @@ adds_legally old new e legal adds = rebuilt new adds.setup adds.base adds.log
     rebuilt new same_setup same_base same_log =
         subst (λ x. IsLegal (record { setup = x; base = new.base; log = new.log })) (sym same_setup)
         (subst (λ x. IsLegal (record { setup = setup; base = x; log = new.log })) (sym same_base)
-            (subst (λ x. IsLegal (record { setup = setup; base = old.base; log = x })) (sym same_log) (record { begins = legal.begins; lawful = lawful })))
+        (subst (λ x. IsLegal (record { setup = setup; base = old.base; log = x })) (sym same_log) (record { begins = legal.begins; lawful = lawful })))
 
 -- the setup is as before
 same_setup : (call : Call) (old new : History) → GoesOnBy call old new → new.setup ≡ old.setup

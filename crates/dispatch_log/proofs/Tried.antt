@@ -177,9 +177,9 @@ module _ (setup : Setup) (s : State) where
   freed_tried old new u v is tried slot own excuses =
       change_one setup old new s.rows u slot.live.0 slot.row (in_phase Loose) tried is.tickets slot.live.1 slot.named
       (λ w e untold other.
-          let ticket : w.key.ticket ≡ u = ap (λ (x : Row). x.key.ticket) (sym (same_Some (record slot.row { phase = Loose }) w e)) ∙ slot.named in
-          subst (λ k. k ≤ setup.retries) (sym (phase_failures slot.row Loose w e))
-          (tried slot.row slot.live (slot_untold v slot.row.phase slot.phase) (λ it. own w (λ it2. other (it2 ∙ ap Some (sym ticket))) (it ∙ ap Some slot.named))))
+      let ticket : w.key.ticket ≡ u = ap (λ (x : Row). x.key.ticket) (sym (same_Some (record slot.row { phase = Loose }) w e)) ∙ slot.named in
+      subst (λ k. k ≤ setup.retries) (sym (phase_failures slot.row Loose w e))
+      (tried slot.row slot.live (slot_untold v slot.row.phase slot.phase) (λ it. own w (λ it2. other (it2 ∙ ap Some (sym ticket))) (it ∙ ap Some slot.named))))
       (λ ticket differs other. excuses ticket other)
 
   -- a row that comes has not failed

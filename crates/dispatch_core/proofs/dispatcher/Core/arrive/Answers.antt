@@ -33,8 +33,13 @@ pub returns-clause-ok : goal.returns-clause-ok
 returns-clause-ok g c =
     subst
     (λ (h : History). AddsEvent h c.settle.new.self.trace
-    (Arrive (effective h c.args.moment) record { ticket = c.in-Ok.it.ticket; class = c.args.class; due = pos (effective h c.args.moment) +ℤ c.args.offset;
-      pin = c.args.pin; place = c.in-Ok.it.place }))
+    (Arrive (effective h c.args.moment) record {
+      ticket = c.in-Ok.it.ticket;
+      class = c.args.class;
+      due = pos (effective h c.args.moment) +ℤ c.args.offset;
+      pin = c.args.pin;
+      place = c.in-Ok.it.place;
+    }))
     c.self.view_is
     (adds c.self.inside.events.trace c.arrive.new.self c.place.new.self.trace c.settle.new.self.trace _ refl c.in-Ok.ensures.ok
     (goes_places c.arrive.new.self c.place.new.self.trace c.place.ensures) (over_granting c.place.new.self.trace c.place.ensures.over) c.settle.ensures)

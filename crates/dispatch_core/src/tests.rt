@@ -514,6 +514,6 @@ fn a_full_log_has_room_after_a_roll(rt: HostRuntime) -> Result<(), Fail> {
     core.roll();
     assert!(rt; core.has_room());
     go_on(&rt, alloc, &mut core, &[(0, Call::Tick)]);
-    assert_eq!(rt; core.log().base().rows().len(), 2);
+    assert_eq!(rt; core.log().base().len(), 1);
     Ok(())
 }

@@ -64,14 +64,11 @@ fn with_seven(alloc: Global) -> Result<Base, Fail>
 {
     let mut base = opening(alloc)?;
     base.set_row(1, Some(seven()?));
-    base.set_health(0, Some(Health::new(1, 2)));
-    base.set_limit(
-        0,
-        Allowance {
-            limit: 3,
-            served: 1,
-        },
-    );
+    base.set_healths(&[Some(Health::new(1, 2))]);
+    base.set_limits(&[Allowance {
+        limit: 3,
+        served: 1,
+    }]);
     base.set_position(moment(4)?, 7, 0);
     Ok(base)
 }

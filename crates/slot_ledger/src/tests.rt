@@ -3,7 +3,7 @@ ghost use Rattle.dispatch_log.specs.Setups.{IsSound};
 ghost use Rattle.slot_ledger.specs.Slots.{AreBelow};
 
 use crate::Ledger;
-use dispatch_log::{Allowance, Phase, Queue, Row, ServerSet, Servers, Setup};
+use dispatch_log::{Phase, Queue, Row, ServerSet, Servers, Setup};
 use due_key::{Class, Due, Key, Moment, Offset};
 use std::alloc::Global;
 use std::test::Fail;
@@ -201,33 +201,5 @@ fn a_server_goes_down_and_up(rt: HostRuntime) -> Result<(), Fail> {
     );
     ledger.set_up(1, true);
     assert_eq!(rt; ledger.up(1), true);
-    Ok(())
-}
-
-#[test]
-fn a_limit_is_set_while_a_request_is_served(rt: HostRuntime) -> Result<(), Fail> {
-    let alloc = rt.alloc();
-    let mut ledger: Ledger<char> = Ledger::new(alloc, two_servers(alloc, 2)?)?;
-    let first = Allowance {
-        limit: 1,
-        served: 0,
-    };
-    assert_eq!(rt; ledger.limits(), [first, first].as_slice());
-    let row = Row {
-        key: key_of(5)?,
-        pin: None,
-        failures: 0,
-        phase: Phase::Loose,
-    };
-    let place = ledger.admit(row);
-    ledger.serve(place, 0);
-    ledger.set_limit(0, 3);
-    assert_eq!(rt; (ledger.limit(0), ledger.limit(1)), (3, 1));
-    let raised = Allowance {
-        limit: 3,
-        served: 1,
-    };
-    assert_eq!(rt; ledger.limits(), [raised, first].as_slice());
-    assert_eq!(rt; ledger.served(0), 1);
     Ok(())
 }

@@ -18,6 +18,3 @@ mod windows;
 pub use failing::Fate;
 pub use position::{Position, Ticketed};
 pub use trace::Trace;
-
-#[cfg(test)]
-mod tests;

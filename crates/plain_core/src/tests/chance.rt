@@ -73,7 +73,7 @@ impl Chance {
             13 => Call::Tick,
             14 if self.below(4) == 0 => {
                 let server = self.server(plain);
-                Call::Limit(server, self.below(4) as u32)
+                Call::Limit(server, self.below(4).min(3) as u32)
             }
             _ => {
                 let server = self.server(plain);

@@ -201,9 +201,9 @@ impl<Q: PendQueue<Key, usize>> Core<Q> {
         Ok(())
     }
 
-    /// A server serves at most so many requests at once from now on (`maxconn`); 0: no limit. A request
-    /// that it serves is never stopped: it takes no other until fewer than the limit are left. Where the
-    /// limit rose, requests that wait take what came free. Refused, in this order, where the log is full
+    /// A server serves at most so many requests at once from now on (`maxconn`); 0: no limit. No request
+    /// that it serves is stopped: it takes no other until it serves fewer than the limit. Where the
+    /// limit rose, requests that wait take the slots that came free. Refused, in this order, where the log is full
     /// or no server has the number. Takes no memory; `O(s)` in the servers, and `O(log n)` for each
     /// request that takes a slot.
     pub fn limit(&mut self, moment: Moment, server: usize, limit: u32) -> Result<(), Refusal>

@@ -43,3 +43,11 @@ for_one_row P a first row (suc zero, stands) = let e : Some None ≡ Some (Some 
 for_one_row P a first row (suc (suc zero), stands) = let e : Some None ≡ Some (Some row) = stands in cc
 for_one_row P a first row (suc (suc (suc zero)), stands) = let e : Some None ≡ Some (Some row) = stands in cc
 for_one_row P a first row (suc (suc (suc (suc p))), stands) = let e : None ≡ Some (Some row) = stands in cc
+
+-- the same where the first request has ended
+pub for_last_rows : (P : Row → Type 0) (b c : Row) → P b → P c → (row : Row) → IsRow (None ∷ Some b ∷ Some c ∷ None ∷ []) row → P row
+for_last_rows P b c second third row (zero, stands) = let e : Some None ≡ Some (Some row) = stands in cc
+for_last_rows P b c second third row (suc zero, stands) = subst P (same_Some b row (same_Some (Some b) (Some row) stands)) second
+for_last_rows P b c second third row (suc (suc zero), stands) = subst P (same_Some c row (same_Some (Some c) (Some row) stands)) third
+for_last_rows P b c second third row (suc (suc (suc zero)), stands) = let e : Some None ≡ Some (Some row) = stands in cc
+for_last_rows P b c second third row (suc (suc (suc (suc p))), stands) = let e : None ≡ Some (Some row) = stands in cc

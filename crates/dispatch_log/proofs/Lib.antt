@@ -10,5 +10,6 @@ pub mod WrongLogs
 pub mod FourPlaces
 pub mod WrongChanges
 pub mod RightLogs
+pub mod RightWindows
 pub mod WrongWindows
 pub mod Limiting

@@ -25,11 +25,11 @@ use Rattle.dispatch_log.specs.WorkedChanges.{checked_server, worked_with_checks,
 use Rattle.dispatch_log.proofs.FourPlaces.{for_no_row, for_one_row, for_two_rows, for_three_rows, first_row, second_row, third_row}
 use Rattle.dispatch_log.specs.WorkedRight.{redispatch_to_the_other_server, told_by_rising_ticket, fall_moves_its_queue}
 
-up_by : (m n : ℕ) → m ≤ m + n
+pub up_by : (m n : ℕ) → m ≤ m + n
 up_by m n = omega arith
 
 -- what holds of the first server, or of the first two, and of the numbers past them, holds of each
-for_one_server : (P : ℕ → Type 0) → P 0 → ((n : ℕ) → P (suc n)) → (server : ℕ) → P server
+pub for_one_server : (P : ℕ → Type 0) → P 0 → ((n : ℕ) → P (suc n)) → (server : ℕ) → P server
 for_one_server P first past zero = first
 for_one_server P first past (suc n) = past n
 
@@ -39,17 +39,17 @@ for_two_servers P first second past (suc zero) = second
 for_two_servers P first second past (suc (suc n)) = past n
 
 -- the class and the offsets of the worked arrivals
-class_0 : IsBetween LOWEST_CLASS HIGHEST_CLASS (pos 0)
+pub class_0 : IsBetween LOWEST_CLASS HIGHEST_CLASS (pos 0)
 class_0 = record { lower = omega (arith, ints); upper = omega (arith, ints) }
 
-no_offset : IsBetween LOWEST_OFFSET HIGHEST_OFFSET (pos 0)
+pub no_offset : IsBetween LOWEST_OFFSET HIGHEST_OFFSET (pos 0)
 no_offset = record { lower = omega (arith, ints); upper = omega (arith, ints) }
 
-five_less : IsBetween LOWEST_OFFSET HIGHEST_OFFSET (negsuc 4)
+pub five_less : IsBetween LOWEST_OFFSET HIGHEST_OFFSET (negsuc 4)
 five_less = record { lower = omega (arith, ints); upper = omega (arith, ints) }
 
 -- where the one live request doesn't wait, all is settled
-settled_alone : (servers : List ServerSet) (limits : List Allowance) (ups : List Bool) (a : Row) → ((server : ℕ) → may_go_to (record { servers = servers; limits = limits; ups = ups; rows = Some a ∷ None ∷ None ∷ None ∷ [] }) server a.phase ≡ false)
+pub settled_alone : (servers : List ServerSet) (limits : List Allowance) (ups : List Bool) (a : Row) → ((server : ℕ) → may_go_to (record { servers = servers; limits = limits; ups = ups; rows = Some a ∷ None ∷ None ∷ None ∷ [] }) server a.phase ≡ false)
     → IsSettled (record { servers = servers; limits = limits; ups = ups; rows = Some a ∷ None ∷ None ∷ None ∷ [] })
 settled_alone servers limits ups a none server can =
     for_one_row (λ r. IsTrue (may_go_to (record { servers = servers; limits = limits; ups = ups; rows = Some a ∷ None ∷ None ∷ None ∷ [] }) server r.phase) → ⊥) a (λ goes. false_true (sym (none server) ∙ goes)) can.1.0 can.1.1 can.1.2

@@ -1,15 +1,20 @@
--- Worked logs of limits that change and of windows that follow one another. None is legal, each for one reason.
+-- Worked logs of limits that change and of windows that follow one another: three that are legal, and others of which none
+-- is, each for one reason.
 use Rattle.std.specs.Prelude.{pos, List, [], ◌∷◌, ◌++◌, None, false}
 use Rattle.dispatch_log.specs.declared.entry.Entry.{Entry}
 use Rattle.dispatch_log.specs.declared.entry.Entry.TheVariants.{Arrive, Done, Limit, Direct, Joined, Granted, Freed, Ended}
 use Rattle.dispatch_log.specs.declared.queue.Queue.TheVariants.{Backend}
+use Rattle.dispatch_log.specs.declared.setup.ServerSet.{ServerSet}
 use Rattle.dispatch_log.specs.Histories.{History, first_window, next_window}
 use Rattle.dispatch_log.specs.Worked.{arrival, two_wait, worked, worked_by_two}
 
 -- one server, which may serve two at once
+abbrev pub pair_server : ServerSet
+pair_server = record { limit = 2; maxqueue = 0; weight = 1; rise_fall = None }
+
 abbrev pub worked_by_pairs : List Entry → History
 worked_by_pairs log =
-    first_window (record { servers = record { limit = 2; maxqueue = 0; weight = 1; rise_fall = None } ∷ []; places = 4; log = 64; retries = 3; redispatch = false; queue_timeout = 0 }) log
+    first_window (record { servers = pair_server ∷ []; places = 4; log = 64; retries = 3; redispatch = false; queue_timeout = 0 }) log
 
 -- tickets 1 and 2 are served, and 3 waits
 abbrev pub two_are_served : List Entry
@@ -17,6 +22,14 @@ two_are_served =
     Arrive 0 (arrival 1 (pos 0) 0) ∷ Direct 1 0
     ∷ Arrive 0 (arrival 2 (pos 0) 1) ∷ Direct 2 0
     ∷ Arrive 1 (arrival 3 (pos 1) 2) ∷ Joined 3 Backend ∷ []
+
+-- the limit is raised to 3, and 3 takes the new slot
+abbrev pub raised_limit_grants : List Entry
+raised_limit_grants = two_are_served ++ Limit 3 0 3 ∷ Granted 3 Backend 0 ∷ []
+
+-- the limit is lowered to 1, and 1 ends: 2 is still served, and 3 waits on
+abbrev pub lowered_limit_is_reached : List Entry
+lowered_limit_is_reached = two_are_served ++ Limit 3 0 1 ∷ Done 4 1 ∷ Freed 1 0 ∷ Ended 1 ∷ []
 
 -- the limit is lowered to 1, and 1 ends: 2 is still served, and 3 is served beside it
 abbrev pub grant_at_the_lowered_limit : List Entry
@@ -33,6 +46,10 @@ limit_of_no_server = two_are_served ++ Limit 3 1 3 ∷ []
 -- the window after another, with its own log
 abbrev pub windows : History → List Entry → History
 windows first log = record (next_window first) { log = log }
+
+-- 2 and 3 wait since the window before, and the slot that comes back goes to 3, which is due first
+abbrev pub waits_of_the_base_are_served : History
+waits_of_the_base_are_served = windows (worked two_wait) (Done 10 1 ∷ Freed 1 0 ∷ Ended 1 ∷ Granted 3 Backend 0 ∷ [])
 
 -- 3 waits since the window before, and the slot that comes back stays idle
 abbrev pub waits_of_the_base_are_forgotten : History

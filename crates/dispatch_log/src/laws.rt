@@ -8,7 +8,7 @@ ghost use Rattle.dispatch_log.specs.declared.setup.Setup.{Setup};
 ghost use Rattle.dispatch_log.specs.Runs.{Call, IsRun};
 ghost use Rattle.dispatch_log.specs.Worked.{worked, first_come_first_served, idle_slot, grant_above_the_limit, due_date_of_no_offset, end_is_missing, ticket_twice, worked_by_two, more_loaded_server, tie_against_the_cursor, waits_beside_room};
 ghost use Rattle.dispatch_log.specs.WorkedRight.{redispatch_to_the_other_server, told_by_rising_ticket, fall_moves_its_queue};
-ghost use Rattle.dispatch_log.specs.WorkedWindows.{worked_by_pairs, grant_at_the_lowered_limit, raised_limit_grants_nothing, limit_of_no_server, waits_of_the_base_are_forgotten, cursor_is_reset, tickets_begin_anew};
+ghost use Rattle.dispatch_log.specs.WorkedWindows.{worked_by_pairs, raised_limit_grants, lowered_limit_is_reached, waits_of_the_base_are_served, grant_at_the_lowered_limit, raised_limit_grants_nothing, limit_of_no_server, waits_of_the_base_are_forgotten, cursor_is_reset, tickets_begin_anew};
 ghost use Rattle.dispatch_log.specs.WorkedChanges.{worked_with_checks, worked_in_time, retry_past_the_retries, failure_counted_twice, redispatch_keeps_the_pin, redispatch_to_the_failed_server, redispatch_before_the_grant, no_server_beside_a_usable_one, told_one_millisecond_early, told_by_falling_ticket, expired_and_not_told, abort_of_a_served_request, failure_of_a_waiting_request, fall_leaves_its_queue, moves_by_ticket, grant_before_the_moves, rise_grants_nothing, rise_is_not_told, down_after_its_rise, served_by_a_fallen_server};
 
 /// The law of legal logs: whatever was asked of a dispatcher, in whatever order, as long as its
@@ -37,6 +37,9 @@ pub fn worked_logs_are_legal()
     ensures redispatch_to_the_other_server { IsLegal (worked_with_checks redispatch_to_the_other_server) }
     ensures told_by_rising_ticket { IsLegal (worked_in_time told_by_rising_ticket) }
     ensures fall_moves_its_queue { IsLegal (worked_with_checks fall_moves_its_queue) }
+    ensures raised_limit_grants { IsLegal (worked_by_pairs raised_limit_grants) }
+    ensures lowered_limit_is_reached { IsLegal (worked_by_pairs lowered_limit_is_reached) }
+    ensures waits_of_the_base_are_served { IsLegal waits_of_the_base_are_served }
 {}
 
 /// The law of wrong logs: none of these, each wrong in one way, is legal.

@@ -1,4 +1,5 @@
 use Rattle.dispatch_log.proofs.RightLogs.{redispatch_is_legal, rising_is_legal, fall_is_legal}
+use Rattle.dispatch_log.proofs.RightWindows.{raised_is_legal, lowered_is_legal, waits_are_legal}
 use Rattle.dispatch_log.proofs.laws.worked_logs_are_legal.Goals as goal
 
 pub returns-clause-redispatch_to_the_other_server : goal.returns-clause-redispatch_to_the_other_server
@@ -9,3 +10,12 @@ returns-clause-told_by_rising_ticket c = rising_is_legal
 
 pub returns-clause-fall_moves_its_queue : goal.returns-clause-fall_moves_its_queue
 returns-clause-fall_moves_its_queue c = fall_is_legal
+
+pub returns-clause-raised_limit_grants : goal.returns-clause-raised_limit_grants
+returns-clause-raised_limit_grants c = raised_is_legal
+
+pub returns-clause-lowered_limit_is_reached : goal.returns-clause-lowered_limit_is_reached
+returns-clause-lowered_limit_is_reached c = lowered_is_legal
+
+pub returns-clause-waits_of_the_base_are_served : goal.returns-clause-waits_of_the_base_are_served
+returns-clause-waits_of_the_base_are_served c = waits_are_legal

@@ -3,7 +3,7 @@ ghost use Rattle.dispatch_log.specs.Setups.{IsSound};
 ghost use Rattle.slot_ledger.specs.Slots.{AreBelow};
 
 use crate::Ledger;
-use dispatch_log::{Phase, Queue, Row, ServerSet, Servers, Setup};
+use dispatch_log::{Allowance, Phase, Queue, Row, ServerSet, Servers, Setup};
 use due_key::{Class, Due, Key, Moment, Offset};
 use std::alloc::Global;
 use std::test::Fail;
@@ -201,5 +201,27 @@ fn a_server_goes_down_and_up(rt: HostRuntime) -> Result<(), Fail> {
     );
     ledger.set_up(1, true);
     assert_eq!(rt; ledger.up(1), true);
+    Ok(())
+}
+
+#[test]
+fn a_limit_is_set_while_a_request_is_served(rt: HostRuntime) -> Result<(), Fail> {
+    let alloc = rt.alloc();
+    let mut ledger: Ledger<char> = Ledger::new(alloc, two_servers(alloc, 2)?)?;
+    let row = Row {
+        key: key_of(5)?,
+        pin: None,
+        failures: 0,
+        phase: Phase::Serving(0),
+    };
+    let place = ledger.admit(row);
+    assert_eq!(rt; ledger.cell(place), Some(row));
+    ledger.set_limit(0, 3);
+    assert_eq!(rt; (ledger.limit(0), ledger.limit(1)), (3, 1));
+    let noted = Allowance {
+        limit: 3,
+        served: 1,
+    };
+    assert_eq!(rt; ledger.limits().first().copied(), Some(noted));
     Ok(())
 }

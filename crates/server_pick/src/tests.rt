@@ -131,3 +131,28 @@ fn a_server_that_is_down_takes_nothing(rt: HostRuntime) -> Result<(), Fail> {
     assert_eq!(rt; cursor.server(), 1);
     Ok(())
 }
+
+#[test]
+fn a_server_takes_up_to_its_present_limit(rt: HostRuntime) -> Result<(), Fail> {
+    let alloc = rt.alloc();
+    let mut ledger: Ledger<char> = Ledger::new(alloc, three_servers(alloc)?)?;
+    let row = Row {
+        key: key(1)?,
+        pin: None,
+        failures: 0,
+        phase: Phase::Serving(0),
+    };
+    ledger.admit(row);
+    ledger.set_limit(0, 2);
+    let mut cursor = Cursor::new(3);
+    assert_eq!(rt;
+        place(&ledger, &mut cursor, Some(0), None),
+        Placement::Slot(0)
+    );
+    ledger.set_limit(0, 1);
+    assert_eq!(rt;
+        place(&ledger, &mut cursor, Some(0), None),
+        Placement::OwnQueue(0)
+    );
+    Ok(())
+}

@@ -12,6 +12,8 @@ mod leaving;
 mod moving;
 mod position;
 mod serving;
+#[cfg(test)]
+mod tests;
 mod trace;
 mod windows;
 

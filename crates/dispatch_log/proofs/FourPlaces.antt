@@ -37,6 +37,20 @@ for_two_rows P a b first second row (suc (suc zero), stands) = let e : Some None
 for_two_rows P a b first second row (suc (suc (suc zero)), stands) = let e : Some None ≡ Some (Some row) = stands in cc
 for_two_rows P a b first second row (suc (suc (suc (suc p))), stands) = let e : None ≡ Some (Some row) = stands in cc
 
+pub for_inner_rows : (P : Row → Type 0) (a b : Row) → P a → P b → (row : Row) → IsRow (None ∷ Some a ∷ Some b ∷ None ∷ []) row → P row
+for_inner_rows P a b first second row (zero, stands) = let e : Some None ≡ Some (Some row) = stands in cc
+for_inner_rows P a b first second row (suc zero, stands) = subst P (same_Some a row (same_Some (Some a) (Some row) stands)) first
+for_inner_rows P a b first second row (suc (suc zero), stands) = subst P (same_Some b row (same_Some (Some b) (Some row) stands)) second
+for_inner_rows P a b first second row (suc (suc (suc zero)), stands) = let e : Some None ≡ Some (Some row) = stands in cc
+for_inner_rows P a b first second row (suc (suc (suc (suc p))), stands) = let e : None ≡ Some (Some row) = stands in cc
+
+pub for_parted_rows : (P : Row → Type 0) (a b : Row) → P a → P b → (row : Row) → IsRow (Some a ∷ None ∷ Some b ∷ None ∷ []) row → P row
+for_parted_rows P a b first second row (zero, stands) = subst P (same_Some a row (same_Some (Some a) (Some row) stands)) first
+for_parted_rows P a b first second row (suc zero, stands) = let e : Some None ≡ Some (Some row) = stands in cc
+for_parted_rows P a b first second row (suc (suc zero), stands) = subst P (same_Some b row (same_Some (Some b) (Some row) stands)) second
+for_parted_rows P a b first second row (suc (suc (suc zero)), stands) = let e : Some None ≡ Some (Some row) = stands in cc
+for_parted_rows P a b first second row (suc (suc (suc (suc p))), stands) = let e : None ≡ Some (Some row) = stands in cc
+
 pub for_one_row : (P : Row → Type 0) (a : Row) → P a → (row : Row) → IsRow (Some a ∷ None ∷ None ∷ None ∷ []) row → P row
 for_one_row P a first row (zero, stands) = subst P (same_Some a row (same_Some (Some a) (Some row) stands)) first
 for_one_row P a first row (suc zero, stands) = let e : Some None ≡ Some (Some row) = stands in cc

@@ -4,6 +4,9 @@ pub mod Consistency
 pub mod Judged
 pub mod Tried
 pub mod Dispatched
+pub mod Choices
+pub mod SameRows
+pub mod Staying
 pub mod Windows
 pub mod Runs
 pub mod WrongLogs
@@ -12,4 +15,8 @@ pub mod WrongChanges
 pub mod RightLogs
 pub mod RightWindows
 pub mod WrongWindows
+pub mod OneEntry
+pub mod SameScenes
+pub mod Determined
+pub mod Within
 pub mod Limiting

@@ -29,6 +29,7 @@ use Rattle.dispatch_log.specs.States.{State, scene, after, after_all, opening_st
 use Rattle.dispatch_log.proofs.Accepted.{none_refuses}
 use Rattle.dispatch_log.proofs.Dispatched.{dispatched, base_consistent}
 use Rattle.dispatch_log.proofs.Judged.{places_all, results_all, limits_all}
+use Rattle.dispatch_log.proofs.Staying.{KeepsTo, keeps_all}
 use Rattle.dispatch_log.proofs.Tried.{AreTried, tried_all, tried_over}
 
 -- no row stands in an empty list of places
@@ -55,6 +56,8 @@ opening_base setup = record {
   limited = length-map setup.servers (λ (it : ServerSet). record { limit = it.limit; served = 0 });
   numbered = omega arith;
   timed = omega arith;
+  at_servers = λ row live. absurd (none_stands setup.places live.0 row live.1);
+  cursor = λ some. omega (arith, some);
   tried = λ row live untold. absurd (none_stands setup.places live.0 row live.1);
   dispatched = record {
     limits = λ server some. let none : served server (replicate setup.places None) ≡ 0 = none_counted (is_served_by server) setup.places refl in omega arith;
@@ -113,6 +116,10 @@ range_all setup s n t (e ∷ es) all is = range_all setup (after setup s e) (n +
 pub legal_range : (h : History) → IsLegal h → IsInRange (state_of h)
 legal_range h legal = range_all h.setup h.base 0 granting h.log legal.lawful.judged (record { numbered = legal.begins.numbered; timed = legal.begins.timed })
 
+-- rows and the cursor keep to the servers that are there
+pub legal_keeps : (h : History) → IsLegal h → KeepsTo (length h.setup.servers) (state_of h)
+legal_keeps h legal = keeps_all h.setup h.base 0 granting h.log (record { rows = legal.begins.at_servers; cursor = legal.begins.cursor }) legal.lawful.judged
+
 -- the shortest results leave the same servers up
 shortened_up : (server : ServerSet) → IsTrue (is_within server) → (results : List Bool) → is_up_by server.rise_fall (shortened_by server.rise_fall results) ≡ is_up_by server.rise_fall results
 shortened_up server within results = by_checks server.rise_fall (and_parts (nat_le server.weight 256) (checks_count server.rise_fall) within).1
@@ -141,12 +148,15 @@ next_base h sound legal =
     let is = dispatched h legal in
     let judged = legal.lawful.judged in
     let range = legal_range h legal in
+    let keeps = legal_keeps h legal in
     record {
       places = places_all h.setup h.base h.log ∙ legal.begins.places;
       checked = shortened_length h.setup.servers (state_of h).results;
       limited = limits_all h.setup h.base h.log ∙ legal.begins.limited;
       numbered = range.numbered;
       timed = range.timed;
+      at_servers = keeps.rows;
+      cursor = keeps.cursor;
       tried = tried_over h.setup (state_of h) (stage_after granting h.log)
           (tried_all h.setup h.base 0 granting h.log (base_consistent h.setup h.base legal.begins) judged (λ row live untold other. legal.begins.tried row live untold)) legal.lawful.whole;
       dispatched = record {

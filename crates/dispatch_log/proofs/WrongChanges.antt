@@ -1,5 +1,5 @@
 -- Why the worked logs of failures, waits that are too long, aborts and checks are not legal.
-use Rattle.std.proofs.Common.{◌≡◌, ◌≢◌, ℕ, ◌+◌, ◌≤◌, [], ◌∷◌, Option, None, Some, refl, arith, Greater}
+use Rattle.std.proofs.Common.{◌≡◌, ◌≢◌, ℕ, ◌+◌, ◌≤◌, pos, [], ◌∷◌, Option, None, Some, refl, arith, Greater}
 use Rattle.due_key.specs.Order.{key_cmp}
 use Rattle.dispatch_log.specs.declared.row.Phase.TheVariants.{Waiting, Serving}
 use Rattle.dispatch_log.specs.declared.queue.Queue.{Queue}
@@ -8,9 +8,9 @@ use Rattle.dispatch_log.specs.declared.row.Row.{Row}
 use Rattle.dispatch_log.specs.Legal.{IsLegal}
 use Rattle.dispatch_log.specs.Judgement.{has_expired}
 use Rattle.dispatch_log.specs.Rows.{IsRow}
-use Rattle.dispatch_log.proofs.FourPlaces.{for_three_rows, first_row, second_row, third_row}
+use Rattle.dispatch_log.proofs.FourPlaces.{for_parted_rows, for_three_rows, first_row, second_row, third_row}
 use Rattle.dispatch_log.specs.Worked.{worked}
-use Rattle.dispatch_log.specs.WorkedChanges.{worked_with_checks, worked_in_time, retry_past_the_retries, failure_counted_twice, redispatch_keeps_the_pin, redispatch_to_the_failed_server, redispatch_before_the_grant, no_server_beside_a_usable_one, told_one_millisecond_early, told_by_falling_ticket, expired_and_not_told, abort_of_a_served_request, failure_of_a_waiting_request, fall_leaves_its_queue, moves_by_ticket, grant_before_the_moves, rise_grants_nothing, rise_is_not_told, down_after_its_rise, served_by_a_fallen_server}
+use Rattle.dispatch_log.specs.WorkedChanges.{worked_with_checks, worked_in_time, worked_with_a_retry, retry_past_the_retries, failure_counted_twice, redispatch_keeps_the_pin, redispatch_to_the_failed_server, redispatch_before_the_grant, no_server_beside_a_usable_one, told_one_millisecond_early, told_by_falling_ticket, expired_and_not_told, abort_of_a_served_request, failure_of_a_waiting_request, fall_leaves_its_queue, moves_by_ticket, grant_before_the_moves, rise_grants_nothing, rise_is_not_told, down_after_its_rise, down_though_it_answers, fall_grants_nothing, moved_without_a_fall, redispatched_by_a_new_due_date, served_by_a_fallen_server}
 
 -- of the three, the row of ticket 2 hasn't the least key
 not_before_3 : (pin : Option ℕ) (queue : Queue) (row : Row) → IsRow (Some (first_row pin 0 (Serving 0)) ∷ Some (second_row pin (Waiting queue 1)) ∷ Some (third_row pin (Waiting queue 2)) ∷ None ∷ []) row
@@ -57,7 +57,7 @@ pub not_untold : IsLegal (worked_in_time expired_and_not_told) → ⊥
 not_untold legal = legal.lawful.whole (third_row None (Waiting Backend 2)) ((2, refl), (omega arith, omega arith))
 
 pub not_while_served : IsLegal (worked abort_of_a_served_request) → ⊥
-not_while_served legal = let accepted = legal.lawful.judged.1.1.1.1.1.1.0.accepted in cc
+not_while_served legal = let accepted = legal.lawful.judged.1.1.0.accepted in cc
 
 pub not_while_waiting : IsLegal (worked failure_of_a_waiting_request) → ⊥
 not_while_waiting legal = let accepted = legal.lawful.judged.1.1.1.1.1.1.0.accepted in cc
@@ -80,7 +80,30 @@ pub not_without_a_word : IsLegal (worked_with_checks rise_is_not_told) → ⊥
 not_without_a_word legal = let over = legal.lawful.judged.1.1.1.1.1.1.1.0.0 in cc
 
 pub not_down_after : IsLegal (worked_with_checks down_after_its_rise) → ⊥
-not_down_after legal = let up = legal.lawful.judged.1.1.1.1.1.1.1.0.1 in cc
+not_down_after legal = let over = legal.lawful.whole in cc
+
+pub not_down_though : IsLegal (worked_with_checks down_though_it_answers) → ⊥
+not_down_though legal = let up = legal.lawful.judged.1.0.1 in cc
+
+pub not_idle_after_a_fall : IsLegal (worked_with_checks fall_grants_nothing) → ⊥
+not_idle_after_a_fall legal = legal.lawful.settled 1 (refl, (_, (1, refl), refl))
+
+pub not_moved_alone : IsLegal (worked_with_checks moved_without_a_fall) → ⊥
+not_moved_alone legal = legal.lawful.judged.1.1.1.1.1.1.0
+
+pub not_due_anew : IsLegal (worked_with_a_retry redispatched_by_a_new_due_date) → ⊥
+not_due_anew legal =
+    let grant = legal.lawful.judged.1.1.1.1.1.1.1.1.1.1.1.1.1.0.1 in
+    for_parted_rows (λ r. r.key.ticket ≡ 3 → key_cmp r.key own_row.key ≢ Greater → ⊥) own_row late_row
+    (λ named least. let e : 1 ≡ 3 = named in absurd (omega (arith, e)))
+    (λ named least. least refl)
+    grant.row grant.live grant.named (grant.least own_row (0, refl) refl)
+  where
+    own_row : Row
+    own_row = first_row None 1 (Waiting Backend 10)
+
+    late_row : Row
+    late_row = record { key = record { class = pos 0; due = pos 8; ticket = 3 }; pin = None; failures = 0; phase = Waiting Backend 0 }
 
 pub not_by_a_fallen_server : IsLegal (worked_with_checks served_by_a_fallen_server) → ⊥
 not_by_a_fallen_server legal = let up = legal.lawful.judged.1.1.1.0.1.0.member.0 in cc

@@ -1,44 +1,21 @@
 -- Why the worked logs are not legal.
-use Rattle.std.proofs.Common.{◌≡◌, ◌≢◌, ℕ, zero, suc, ◌+◌, ◌≤◌, pos, negsuc, [], ◌∷◌, None, Some, refl, ap, sym, ◌∙◌, arith, Greater}
+use Rattle.std.proofs.Common.{◌≡◌, ◌≢◌, ℕ, ◌+◌, ◌*◌, ◌≤◌, pos, ◌∷◌, None, Some, refl, arith, Greater}
 use Rattle.std.proofs.lemmas.Int.{ints}
-use Rattle.std.proofs.lemmas.Option.{same_Some}
 use Rattle.due_key.specs.Order.{key_cmp}
 use Rattle.dispatch_log.specs.declared.row.Phase.TheVariants.{Waiting}
-use Rattle.dispatch_log.specs.declared.queue.Queue.TheVariants.{Backend}
+use Rattle.dispatch_log.specs.declared.queue.Queue.TheVariants.{Backend, Server}
 use Rattle.dispatch_log.specs.declared.row.Row.{Row}
 use Rattle.dispatch_log.specs.Legal.{IsLegal}
-use Rattle.dispatch_log.specs.Rows.{Rows, StandsAt}
-use Rattle.dispatch_log.specs.Worked.{worked, worked_by_two, first_come_first_served, idle_slot, grant_above_the_limit, due_date_of_no_offset, end_is_missing, ticket_twice, more_loaded_server, tie_against_the_cursor, waits_beside_room}
-
--- what waits once ticket 1 is gone
-abbrev row_2 : Row
-row_2 = record { key = record { class = pos 0; due = pos 1; ticket = 2 }; pin = None; failures = 0; phase = Waiting Backend 1 }
-
-abbrev row_3 : Row
-row_3 = record { key = record { class = pos 0; due = negsuc 2; ticket = 3 }; pin = None; failures = 0; phase = Waiting Backend 2 }
-
-abbrev rows : Rows
-rows = None ∷ Some row_2 ∷ Some row_3 ∷ None ∷ []
-
-three_two : ◌≡◌ {A = ℕ} 3 2 → ⊥
-three_two e = omega (arith, e)
-
--- of the two, the row of ticket 2 hasn't the least key
-not_least : (p : ℕ) (row : Row) → StandsAt rows p row → row.key.ticket ≡ 2 → key_cmp row.key row_3.key ≢ Greater → ⊥
-not_least zero row stands named least = let e : Some None ≡ Some (Some row) = stands in cc
-not_least (suc zero) row stands named least =
-    let it : row_2 ≡ row = same_Some row_2 row (same_Some (Some row_2) (Some row) stands) in
-    least (ap (λ (r : Row). key_cmp r.key row_3.key) (sym it))
-not_least (suc (suc zero)) row stands named least =
-    let it : row_3 ≡ row = same_Some row_3 row (same_Some (Some row_3) (Some row) stands) in
-    absurd (three_two (ap (λ (r : Row). r.key.ticket) it ∙ named))
-not_least (suc (suc (suc zero))) row stands named least = let e : Some None ≡ Some (Some row) = stands in cc
-not_least (suc (suc (suc (suc p)))) row stands named least = let e : None ≡ Some (Some row) = stands in cc
+use Rattle.dispatch_log.proofs.FourPlaces.{for_inner_rows, second_row, third_row}
+use Rattle.dispatch_log.specs.Worked.{worked, worked_by_two, worked_by_weights, worked_by_queues, worked_by_room, first_come_first_served, idle_slot, grant_above_the_limit, due_date_of_no_offset, end_is_missing, ticket_left_out, backend_head_first, more_loaded_server, tie_against_the_cursor, loads_without_weights, loads_without_queues, waits_beside_room}
 
 pub not_first_come : IsLegal (worked first_come_first_served) → ⊥
 not_first_come legal =
     let grant = legal.lawful.judged.1.1.1.1.1.1.1.1.1.0.1 in
-    not_least grant.live.0 grant.row grant.live.1 grant.named (grant.least row_3 (2, refl) refl)
+    for_inner_rows (λ r. r.key.ticket ≡ 2 → key_cmp r.key (third_row None (Waiting Backend 2)).key ≢ Greater → ⊥) (second_row None (Waiting Backend 1)) (third_row None (Waiting Backend 2))
+    (λ named least. least refl)
+    (λ named least. let e : 3 ≡ 2 = named in absurd (omega (arith, e)))
+    grant.row grant.live grant.named (grant.least (third_row None (Waiting Backend 2)) (2, refl) refl)
 
 pub not_idle : IsLegal (worked idle_slot) → ⊥
 not_idle legal = legal.lawful.settled 0 (refl, (_, (1, refl), refl))
@@ -56,8 +33,23 @@ not_without_offset legal =
 pub not_without_end : IsLegal (worked end_is_missing) → ⊥
 not_without_end legal = legal.lawful.judged.1.1.1.1.1.1.1.1.0.0
 
-pub not_twice : IsLegal (worked ticket_twice) → ⊥
-not_twice legal = let next : 1 ≡ 1 + 1 = legal.lawful.judged.1.1.0.1.numbered in absurd (omega arith)
+pub not_left_out : IsLegal (worked ticket_left_out) → ⊥
+not_left_out legal = let next : 2 ≡ 0 + 1 = legal.lawful.judged.0.1.numbered in absurd (omega arith)
+
+-- of the two that may take the slot, the row in the backend's queue hasn't the least key
+pub not_backend_first : IsLegal (worked backend_head_first) → ⊥
+not_backend_first legal =
+    let grant = legal.lawful.judged.1.1.1.1.1.1.1.1.1.0.1 in
+    for_inner_rows (λ r. r.key.ticket ≡ 3 → key_cmp r.key own_row.key ≢ Greater → ⊥) own_row late_row
+    (λ named least. let e : 2 ≡ 3 = named in absurd (omega (arith, e)))
+    (λ named least. least refl)
+    grant.row grant.live grant.named (grant.least own_row (1, refl) refl)
+  where
+    own_row : Row
+    own_row = record { key = record { class = pos 0; due = pos 1; ticket = 2 }; pin = Some 0; failures = 0; phase = Waiting (Server 0) 1 }
+
+    late_row : Row
+    late_row = record { key = record { class = pos 0; due = pos 2; ticket = 3 }; pin = None; failures = 0; phase = Waiting Backend 2 }
 
 pub not_more_loaded : IsLegal (worked_by_two more_loaded_server) → ⊥
 not_more_loaded legal =
@@ -69,5 +61,15 @@ not_against_cursor legal =
     let nearer : 2 ≤ 1 = legal.lawful.judged.1.0.1.0.nearest 0 (refl, λ avoids. let e : None ≡ Some 0 = avoids in cc) (λ third own. omega arith) in
     absurd (omega arith)
 
-pub not_beside_room : IsLegal (worked_by_two waits_beside_room) → ⊥
-not_beside_room legal = legal.lawful.judged.1.0.1.2 0 refl
+pub not_by_loads_alone : IsLegal (worked_by_weights loads_without_weights) → ⊥
+not_by_loads_alone legal =
+    let no_more : 1 * 2 ≤ 1 * 1 = legal.lawful.judged.1.1.1.1.1.0.1.0.least 1 (refl, λ avoids. let e : None ≡ Some 1 = avoids in cc) in
+    absurd (omega arith)
+
+pub not_without_queues : IsLegal (worked_by_queues loads_without_queues) → ⊥
+not_without_queues legal =
+    let no_more : 2 ≤ 1 = legal.lawful.judged.1.1.1.1.1.1.1.0.1.0.least 1 (refl, λ avoids. let e : None ≡ Some 1 = avoids in cc) in
+    absurd (omega arith)
+
+pub not_beside_room : IsLegal (worked_by_room waits_beside_room) → ⊥
+not_beside_room legal = legal.lawful.judged.1.1.1.0.1.2 0 refl

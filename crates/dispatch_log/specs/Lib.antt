@@ -12,8 +12,10 @@ pub mod Judgement
 pub mod Logs
 pub mod Histories
 pub mod Dispatch
+pub mod Bounds
 pub mod Legal
 pub mod Runs
+pub mod Determined
 pub mod Worked
 pub mod WorkedChanges
 pub mod WorkedRight

@@ -1,9 +1,9 @@
 -- Worked logs that are not legal, each for one reason.
-use Rattle.std.specs.Prelude.{ℕ, ℤ, pos, negsuc, List, [], ◌∷◌, ◌++◌, None, false}
+use Rattle.std.specs.Prelude.{ℕ, ℤ, pos, negsuc, List, [], ◌∷◌, ◌++◌, None, Some, false}
 use Rattle.dispatch_log.specs.declared.entry.Arrival.{Arrival}
 use Rattle.dispatch_log.specs.declared.entry.Entry.{Entry}
 use Rattle.dispatch_log.specs.declared.entry.Entry.TheVariants.{Arrive, Done, Direct, Joined, Granted, Freed, Ended}
-use Rattle.dispatch_log.specs.declared.queue.Queue.TheVariants.{Backend}
+use Rattle.dispatch_log.specs.declared.queue.Queue.TheVariants.{Backend, Server}
 use Rattle.dispatch_log.specs.declared.setup.ServerSet.{ServerSet}
 use Rattle.dispatch_log.specs.declared.setup.Setup.{Setup}
 use Rattle.dispatch_log.specs.Histories.{History, first_window}
@@ -21,6 +21,13 @@ worked log = first_window worked_setup log
 -- an arrival of class 0 without a pin
 abbrev pub arrival : ℕ → ℤ → ℕ → Arrival
 arrival ticket due place = record { ticket = ticket; class = pos 0; due = due; pin = None; place = place }
+
+-- the same, bound to a server
+abbrev pub bound_to : ℕ → ℕ → ℤ → ℕ → Arrival
+bound_to server ticket due place = record (arrival ticket due place) { pin = Some server }
+
+abbrev pub bound : ℕ → ℤ → ℕ → Arrival
+bound = bound_to 0
 
 -- ticket 1 is served; 2 and 3 wait, and 3 is due first
 abbrev pub two_wait : List Entry
@@ -49,26 +56,68 @@ due_date_of_no_offset = Arrive 5 (arrival 1 (pos 524293) 0) ∷ Direct 1 0 ∷ [
 abbrev pub end_is_missing : List Entry
 end_is_missing = two_wait ++ Done 10 1 ∷ Freed 1 0 ∷ Granted 3 Backend 0 ∷ []
 
--- a ticket is given twice
-abbrev pub ticket_twice : List Entry
-ticket_twice = Arrive 0 (arrival 1 (pos 0) 0) ∷ Direct 1 0 ∷ Arrive 1 (arrival 1 (pos 1) 1) ∷ Joined 1 Backend ∷ []
+-- a ticket is left out: the first arrival has ticket 2
+abbrev pub ticket_left_out : List Entry
+ticket_left_out = Arrive 0 (arrival 2 (pos 0) 0) ∷ Direct 2 0 ∷ []
 
--- two servers without limits, of weight 1
+-- the slot goes to the backend's first request, and its server's own first one is due earlier
+abbrev pub backend_head_first : List Entry
+backend_head_first =
+    Arrive 0 (arrival 1 (pos 0) 0) ∷ Direct 1 0
+    ∷ Arrive 1 (bound 2 (pos 1) 1) ∷ Joined 2 (Server 0)
+    ∷ Arrive 2 (arrival 3 (pos 2) 2) ∷ Joined 3 Backend
+    ∷ Done 10 1 ∷ Freed 1 0 ∷ Ended 1 ∷ Granted 3 Backend 0 ∷ []
+
+-- two servers
+abbrev pub by_two : ServerSet → ServerSet → List Entry → History
+by_two first second log =
+    first_window (record { servers = first ∷ second ∷ []; places = 4; log = 64; retries = 3; redispatch = false; queue_timeout = 0 }) log
+
+-- without limits, of weight 1
 abbrev pub open_server : ServerSet
 open_server = record { limit = 0; maxqueue = 0; weight = 1; rise_fall = None }
 
 abbrev pub worked_by_two : List Entry → History
-worked_by_two log =
-    first_window (record { servers = open_server ∷ open_server ∷ []; places = 4; log = 64; retries = 3; redispatch = false; queue_timeout = 0 }) log
+worked_by_two = by_two open_server open_server
 
--- the second request goes to the server that has the first one
+-- the first server has a request that is bound to it, and the next one goes there too
 abbrev pub more_loaded_server : List Entry
-more_loaded_server = Arrive 0 (arrival 1 (pos 0) 0) ∷ Direct 1 0 ∷ Arrive 0 (arrival 2 (pos 0) 1) ∷ Direct 2 0 ∷ []
+more_loaded_server = Arrive 0 (bound 1 (pos 0) 0) ∷ Direct 1 0 ∷ Arrive 0 (arrival 2 (pos 0) 1) ∷ Direct 2 0 ∷ []
 
 -- of equal servers the second one is picked first
 abbrev pub tie_against_the_cursor : List Entry
 tie_against_the_cursor = Arrive 0 (arrival 1 (pos 0) 0) ∷ Direct 1 1 ∷ []
 
--- a request waits while a server has room
+-- the second one weighs 2, each serves one, and the next request goes to the first one
+abbrev pub worked_by_weights : List Entry → History
+worked_by_weights = by_two open_server (record open_server { weight = 2 })
+
+abbrev pub loads_without_weights : List Entry
+loads_without_weights =
+    Arrive 0 (bound 1 (pos 0) 0) ∷ Direct 1 0
+    ∷ Arrive 0 (bound_to 1 2 (pos 0) 1) ∷ Direct 2 1
+    ∷ Arrive 0 (arrival 3 (pos 0) 2) ∷ Direct 3 0 ∷ []
+
+-- a server that serves one at once, and in whose own queue five may wait
+abbrev pub queueing_server : ServerSet
+queueing_server = record { limit = 1; maxqueue = 5; weight = 1; rise_fall = None }
+
+-- each of two such servers serves one, in the first one's queue another waits, and the next request joins that queue
+abbrev pub worked_by_queues : List Entry → History
+worked_by_queues = by_two queueing_server queueing_server
+
+abbrev pub loads_without_queues : List Entry
+loads_without_queues =
+    Arrive 0 (bound 1 (pos 0) 0) ∷ Direct 1 0
+    ∷ Arrive 0 (bound 2 (pos 0) 1) ∷ Joined 2 (Server 0)
+    ∷ Arrive 0 (bound_to 1 3 (pos 0) 2) ∷ Direct 3 1
+    ∷ Arrive 0 (arrival 4 (pos 0) 3) ∷ Joined 4 (Server 0) ∷ []
+
+-- one server that serves one at once, and in whose own queue one may wait
+abbrev pub worked_by_room : List Entry → History
+worked_by_room log =
+    first_window (record { servers = record { limit = 1; maxqueue = 1; weight = 1; rise_fall = None } ∷ []; places = 4; log = 64; retries = 3; redispatch = false; queue_timeout = 0 }) log
+
+-- a request waits in the backend's queue while the server has room in its own
 abbrev pub waits_beside_room : List Entry
-waits_beside_room = Arrive 0 (arrival 1 (pos 0) 0) ∷ Joined 1 Backend ∷ []
+waits_beside_room = Arrive 0 (arrival 1 (pos 0) 0) ∷ Direct 1 0 ∷ Arrive 0 (arrival 2 (pos 0) 1) ∷ Joined 2 Backend ∷ []

@@ -1,13 +1,12 @@
 -- Worked logs of failures, waits that are too long, aborts and checks. None is legal, each for one reason.
-use Rattle.std.specs.Prelude.{ℕ, ℤ, pos, negsuc, true, false, List, [], ◌∷◌, ◌++◌, Some}
+use Rattle.std.specs.Prelude.{pos, negsuc, true, false, List, [], ◌∷◌, ◌++◌, Some}
 use Rattle.verdict.specs.declared.cause.Cause.TheVariants.{Aborted, Timeout, NoServer}
-use Rattle.dispatch_log.specs.declared.entry.Arrival.{Arrival}
 use Rattle.dispatch_log.specs.declared.entry.Entry.{Entry}
-use Rattle.dispatch_log.specs.declared.entry.Entry.TheVariants.{Arrive, Fail, Abort, Tick, Check, Direct, Joined, Granted, Moved, Freed, Retried, Left, Health}
+use Rattle.dispatch_log.specs.declared.entry.Entry.TheVariants.{Arrive, Done, Fail, Abort, Tick, Check, Direct, Joined, Granted, Moved, Freed, Retried, Left, Health, Ended}
 use Rattle.dispatch_log.specs.declared.queue.Queue.TheVariants.{Backend, Server}
 use Rattle.dispatch_log.specs.declared.setup.ServerSet.{ServerSet}
 use Rattle.dispatch_log.specs.Histories.{History, first_window}
-use Rattle.dispatch_log.specs.Worked.{plain_server, arrival, two_wait}
+use Rattle.dispatch_log.specs.Worked.{plain_server, arrival, bound, two_wait}
 
 -- a server that each result of its checks takes down or raises
 abbrev pub checked_server : ServerSet
@@ -22,10 +21,6 @@ worked_with_checks log =
 abbrev pub worked_in_time : List Entry → History
 worked_in_time log =
     first_window (record { servers = plain_server ∷ []; places = 4; log = 64; retries = 3; redispatch = false; queue_timeout = 5 }) log
-
--- an arrival of class 0, bound to the first server
-abbrev pub bound : ℕ → ℤ → ℕ → Arrival
-bound ticket due place = record { ticket = ticket; class = pos 0; due = due; pin = Some 0; place = place }
 
 -- ticket 1 is served by the first server; 2 and 3 wait in its queue, and 3 is due first
 abbrev pub two_are_bound : List Entry
@@ -48,13 +43,31 @@ failure_counted_twice = Arrive 0 (arrival 1 (pos 0) 0) ∷ Direct 1 0 ∷ Fail 1
 abbrev pub redispatch_keeps_the_pin : List Entry
 redispatch_keeps_the_pin = two_are_bound ++ Fail 3 1 ∷ Freed 1 0 ∷ Granted 3 (Server 0) 0 ∷ Joined 1 (Server 0) ∷ []
 
--- 1 is redispatched to the server that failed, though the other has room
+-- 1 is redispatched to the server that failed, which is the next to be picked, though the other has room
 abbrev pub redispatch_to_the_failed_server : List Entry
-redispatch_to_the_failed_server = Arrive 0 (arrival 1 (pos 0) 0) ∷ Direct 1 0 ∷ Fail 1 1 ∷ Freed 1 0 ∷ Direct 1 0 ∷ []
+redispatch_to_the_failed_server = Arrive 0 (bound 1 (pos 0) 0) ∷ Direct 1 0 ∷ Fail 1 1 ∷ Freed 1 0 ∷ Direct 1 0 ∷ []
 
 -- a slot comes back, and the redispatched request takes it before those that wait for it
 abbrev pub redispatch_before_the_grant : List Entry
 redispatch_before_the_grant = two_are_bound ++ Fail 3 1 ∷ Freed 1 0 ∷ Direct 1 1 ∷ Granted 3 (Server 0) 0 ∷ []
+
+-- one server; the one retry goes to another server where it can be
+abbrev pub worked_with_a_retry : List Entry → History
+worked_with_a_retry log =
+    first_window (record { servers = plain_server ∷ []; places = 4; log = 64; retries = 1; redispatch = true; queue_timeout = 0 }) log
+
+-- 1 is due at 0, 2 at 5 and 3 at 8; 1 fails at 10, and waits anew while 2 is served; then a slot comes back
+abbrev pub one_waits_anew : List Entry
+one_waits_anew =
+    Arrive 0 (arrival 1 (pos 0) 0) ∷ Direct 1 0
+    ∷ Arrive 0 (arrival 2 (pos 5) 1) ∷ Joined 2 Backend
+    ∷ Arrive 0 (arrival 3 (pos 8) 2) ∷ Joined 3 Backend
+    ∷ Fail 10 1 ∷ Freed 1 0 ∷ Granted 2 Backend 0 ∷ Joined 1 Backend
+    ∷ Done 20 2 ∷ Freed 2 0 ∷ Ended 2 ∷ []
+
+-- it goes to 3, as if 1 were due anew by its failure
+abbrev pub redispatched_by_a_new_due_date : List Entry
+redispatched_by_a_new_due_date = one_waits_anew ++ Granted 3 Backend 0 ∷ []
 
 -- no server is said to be usable, and one is
 abbrev pub no_server_beside_a_usable_one : List Entry
@@ -72,11 +85,12 @@ told_by_falling_ticket = two_wait ++ Tick 20 ∷ Left 3 Timeout ∷ Left 2 Timeo
 abbrev pub expired_and_not_told : List Entry
 expired_and_not_told = two_wait ++ Tick 20 ∷ Left 2 Timeout ∷ []
 
--- an abort of a request that is served
+-- an abort of a request that is served; no other one waits for its slot
 abbrev pub abort_of_a_served_request : List Entry
-abort_of_a_served_request = two_wait ++ Abort 3 1 ∷ Left 1 Aborted ∷ []
+abort_of_a_served_request = Arrive 0 (arrival 1 (pos 0) 0) ∷ Direct 1 0 ∷ Abort 3 1 ∷ Left 1 Aborted ∷ []
 
--- a failure of a request that waits
+-- a failure of a request that waits; this rule can't be the only one that a log breaks, since whatever follows a failure
+-- speaks of the slot that the request has, and this one has none
 abbrev pub failure_of_a_waiting_request : List Entry
 failure_of_a_waiting_request = two_wait ++ Fail 3 2 ∷ Retried 2 0 1 ∷ []
 
@@ -88,9 +102,24 @@ fall_leaves_its_queue = two_are_bound ++ Check 3 0 false ∷ Health 0 false ∷ 
 abbrev pub moves_by_ticket : List Entry
 moves_by_ticket = two_are_bound ++ Check 3 0 false ∷ Health 0 false ∷ Moved 2 0 ∷ Moved 3 0 ∷ Granted 3 Backend 1 ∷ []
 
--- a slot goes to 3 before 2 is moved
+-- a slot goes to 3 while 2 is still to be moved
 abbrev pub grant_before_the_moves : List Entry
-grant_before_the_moves = two_are_bound ++ Check 3 0 false ∷ Health 0 false ∷ Moved 3 0 ∷ Granted 3 Backend 1 ∷ Moved 2 0 ∷ []
+grant_before_the_moves = two_are_bound ++ Check 3 0 false ∷ Health 0 false ∷ Moved 3 0 ∷ Granted 3 Backend 1 ∷ []
+
+-- the first server goes down, 2 is moved, and the slot of the other one stays idle
+abbrev pub fall_grants_nothing : List Entry
+fall_grants_nothing =
+    Arrive 0 (bound 1 (pos 0) 0) ∷ Direct 1 0
+    ∷ Arrive 1 (bound 2 (pos 1) 1) ∷ Joined 2 (Server 0)
+    ∷ Check 2 0 false ∷ Health 0 false ∷ Moved 2 0 ∷ []
+
+-- both servers serve one, 3 waits for the first, and is moved though that one never went down
+abbrev pub moved_without_a_fall : List Entry
+moved_without_a_fall =
+    Arrive 0 (bound 1 (pos 0) 0) ∷ Direct 1 0
+    ∷ Arrive 0 (arrival 2 (pos 0) 1) ∷ Direct 2 1
+    ∷ Arrive 1 (bound 3 (pos 1) 2) ∷ Joined 3 (Server 0)
+    ∷ Moved 3 0 ∷ []
 
 -- the first server is down, and 2 waits for the second; then the first is checked, and answers
 abbrev pub first_server_answers : List Entry
@@ -108,9 +137,13 @@ rise_grants_nothing = first_server_answers ++ Health 0 true ∷ []
 abbrev pub rise_is_not_told : List Entry
 rise_is_not_told = first_server_answers ++ Granted 2 Backend 0 ∷ []
 
--- it stays down
+-- the first server goes down and answers again, and no entry says that it is up
 abbrev pub down_after_its_rise : List Entry
-down_after_its_rise = first_server_answers ++ Health 0 false ∷ []
+down_after_its_rise = Check 1 0 false ∷ Health 0 false ∷ Check 4 0 true ∷ []
+
+-- the first server answers, and is said to be down
+abbrev pub down_though_it_answers : List Entry
+down_though_it_answers = Check 1 0 true ∷ Health 0 false ∷ []
 
 -- a request is served by a server that is down
 abbrev pub served_by_a_fallen_server : List Entry

@@ -4,8 +4,7 @@ use Rattle.verdict.specs.declared.cause.Cause.TheVariants.{Timeout}
 use Rattle.dispatch_log.specs.declared.entry.Entry.{Entry}
 use Rattle.dispatch_log.specs.declared.entry.Entry.TheVariants.{Arrive, Fail, Tick, Check, Direct, Joined, Granted, Moved, Freed, Left, Health}
 use Rattle.dispatch_log.specs.declared.queue.Queue.TheVariants.{Backend, Server}
-use Rattle.dispatch_log.specs.Worked.{two_wait}
-use Rattle.dispatch_log.specs.WorkedChanges.{bound}
+use Rattle.dispatch_log.specs.Worked.{bound, two_wait}
 
 -- the connection of 1 fails, and the one retry goes to the other server
 abbrev pub redispatch_to_the_other_server : List Entry

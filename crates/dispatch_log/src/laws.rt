@@ -1,21 +1,48 @@
+ghost use Rattle.dispatch_log.specs.Bounds.{IsWithin};
+ghost use Rattle.dispatch_log.specs.Determined.{events, AreSameButForPlaces, IsSameButForPlaces};
 ghost use Rattle.dispatch_log.specs.Dispatch.{IsDispatched};
-ghost use Rattle.dispatch_log.specs.Histories.{History, next_window};
+ghost use Rattle.dispatch_log.specs.Histories.{History, state_of, next_window, begins_event};
+ghost use Rattle.dispatch_log.specs.Judgement.{Stage, AllMayCome, stage_after};
 ghost use Rattle.dispatch_log.specs.Legal.{IsBase, IsLegal};
 ghost use Rattle.dispatch_log.specs.Setups.{IsSound};
-ghost use Rattle.dispatch_log.specs.States.{opening_state};
-ghost use Rattle.std.specs.Prelude.{List};
+ghost use Rattle.dispatch_log.specs.States.{State, opening_state, after_all};
+ghost use Rattle.dispatch_log.specs.declared.entry.Entry.{Entry};
+ghost use Rattle.std.specs.Prelude.{◌≡◌, ◌↔◌, ℕ, ◌+◌, ◌++◌, false, List, length, All};
 ghost use Rattle.dispatch_log.specs.declared.setup.Setup.{Setup};
 ghost use Rattle.dispatch_log.specs.Runs.{Call, IsRun};
-ghost use Rattle.dispatch_log.specs.Worked.{worked, first_come_first_served, idle_slot, grant_above_the_limit, due_date_of_no_offset, end_is_missing, ticket_twice, worked_by_two, more_loaded_server, tie_against_the_cursor, waits_beside_room};
+ghost use Rattle.dispatch_log.specs.Worked.{worked, worked_by_two, worked_by_weights, worked_by_queues, worked_by_room, first_come_first_served, idle_slot, grant_above_the_limit, due_date_of_no_offset, end_is_missing, ticket_left_out, backend_head_first, more_loaded_server, tie_against_the_cursor, loads_without_weights, loads_without_queues, waits_beside_room};
 ghost use Rattle.dispatch_log.specs.WorkedRight.{redispatch_to_the_other_server, told_by_rising_ticket, fall_moves_its_queue};
 ghost use Rattle.dispatch_log.specs.WorkedWindows.{worked_by_pairs, raised_limit_grants, lowered_limit_is_reached, waits_of_the_base_are_served, grant_at_the_lowered_limit, raised_limit_grants_nothing, limit_of_no_server, waits_of_the_base_are_forgotten, cursor_is_reset, tickets_begin_anew};
-ghost use Rattle.dispatch_log.specs.WorkedChanges.{worked_with_checks, worked_in_time, retry_past_the_retries, failure_counted_twice, redispatch_keeps_the_pin, redispatch_to_the_failed_server, redispatch_before_the_grant, no_server_beside_a_usable_one, told_one_millisecond_early, told_by_falling_ticket, expired_and_not_told, abort_of_a_served_request, failure_of_a_waiting_request, fall_leaves_its_queue, moves_by_ticket, grant_before_the_moves, rise_grants_nothing, rise_is_not_told, down_after_its_rise, served_by_a_fallen_server};
+ghost use Rattle.dispatch_log.specs.WorkedChanges.{worked_with_checks, worked_in_time, worked_with_a_retry, retry_past_the_retries, failure_counted_twice, redispatch_keeps_the_pin, redispatch_to_the_failed_server, redispatch_before_the_grant, no_server_beside_a_usable_one, told_one_millisecond_early, told_by_falling_ticket, expired_and_not_told, abort_of_a_served_request, failure_of_a_waiting_request, fall_leaves_its_queue, moves_by_ticket, grant_before_the_moves, rise_grants_nothing, rise_is_not_told, down_after_its_rise, down_though_it_answers, fall_grants_nothing, moved_without_a_fall, redispatched_by_a_new_due_date, served_by_a_fallen_server};
 
 /// The law of legal logs: whatever was asked of a dispatcher, in whatever order, as long as its
 /// log is legal no server serves more than its limit, every request stands in one place, and no
 /// free slot faces a request that may take it.
 pub fn legal_logs_are_dispatched()
     ensures { (history : History) → IsLegal history → IsDispatched history }
+{}
+
+/// The law of bounds: a legal log keeps within its setup, whose places are as many as its rows' places,
+/// whose servers are the only ones that it speaks of, and its tickets and moments stay in their ranges.
+pub fn legal_logs_keep_within()
+    ensures { (history : History) → IsLegal history → IsWithin history }
+{}
+
+/// The law of parts: what entries leave that stand behind others is what they leave of what those leave;
+/// they may come there exactly where each part may; and none but an event changes the moment.
+pub fn entries_go_on_from_entries()
+    ensures state { (setup : Setup) (state : State) (front back : List Entry) → after_all setup state (front ++ back) ≡ after_all setup (after_all setup state front) back }
+    ensures stage { (stage : Stage) (front back : List Entry) → stage_after stage (front ++ back) ≡ stage_after (stage_after stage front) back }
+    ensures judged { (setup : Setup) (state : State) (used : ℕ) (stage : Stage) (front back : List Entry) → AllMayCome setup state used stage (front ++ back) ↔ (AllMayCome setup state used stage front × AllMayCome setup (after_all setup state front) (used + length front) (stage_after stage front) back) }
+    ensures moment { (setup : Setup) (state : State) (brought : List Entry) → All (λ entry. begins_event entry ≡ false) brought → (after_all setup state brought).moment ≡ state.moment }
+{}
+
+/// The law of determined logs: two legal logs of one setup and one base with the same events, the places
+/// of arrivals included, are one; so each pick, each grant, each move and their order follow from the
+/// events alone. Where only the places differ, nothing else does, up to what the logs leave.
+pub fn legal_logs_are_determined()
+    ensures placed { (history other : History) → IsLegal history → IsLegal other → other.setup ≡ history.setup → other.base ≡ history.base → events other.log ≡ events history.log → other ≡ history }
+    ensures unplaced { (history other : History) → IsLegal history → IsLegal other → other.setup ≡ history.setup → IsSameButForPlaces history.base other.base → AreSameButForPlaces (events history.log) (events other.log) → AreSameButForPlaces history.log other.log × IsSameButForPlaces (state_of history) (state_of other) }
 {}
 
 /// The law of windows: a dispatcher's first one begins at a proper base, and so does the one after any
@@ -49,15 +76,19 @@ pub fn wrong_logs_are_not_legal()
     ensures grant_above_the_limit { IsLegal (worked grant_above_the_limit) → ⊥ }
     ensures due_date_of_no_offset { IsLegal (worked due_date_of_no_offset) → ⊥ }
     ensures end_is_missing { IsLegal (worked end_is_missing) → ⊥ }
-    ensures ticket_twice { IsLegal (worked ticket_twice) → ⊥ }
+    ensures ticket_left_out { IsLegal (worked ticket_left_out) → ⊥ }
+    ensures backend_head_first { IsLegal (worked backend_head_first) → ⊥ }
     ensures more_loaded_server { IsLegal (worked_by_two more_loaded_server) → ⊥ }
     ensures tie_against_the_cursor { IsLegal (worked_by_two tie_against_the_cursor) → ⊥ }
-    ensures waits_beside_room { IsLegal (worked_by_two waits_beside_room) → ⊥ }
+    ensures loads_without_weights { IsLegal (worked_by_weights loads_without_weights) → ⊥ }
+    ensures loads_without_queues { IsLegal (worked_by_queues loads_without_queues) → ⊥ }
+    ensures waits_beside_room { IsLegal (worked_by_room waits_beside_room) → ⊥ }
     ensures retry_past_the_retries { IsLegal (worked retry_past_the_retries) → ⊥ }
     ensures failure_counted_twice { IsLegal (worked failure_counted_twice) → ⊥ }
     ensures redispatch_keeps_the_pin { IsLegal (worked_with_checks redispatch_keeps_the_pin) → ⊥ }
     ensures redispatch_to_the_failed_server { IsLegal (worked_with_checks redispatch_to_the_failed_server) → ⊥ }
     ensures redispatch_before_the_grant { IsLegal (worked_with_checks redispatch_before_the_grant) → ⊥ }
+    ensures redispatched_by_a_new_due_date { IsLegal (worked_with_a_retry redispatched_by_a_new_due_date) → ⊥ }
     ensures no_server_beside_a_usable_one { IsLegal (worked no_server_beside_a_usable_one) → ⊥ }
     ensures told_one_millisecond_early { IsLegal (worked_in_time told_one_millisecond_early) → ⊥ }
     ensures told_by_falling_ticket { IsLegal (worked_in_time told_by_falling_ticket) → ⊥ }
@@ -67,9 +98,12 @@ pub fn wrong_logs_are_not_legal()
     ensures fall_leaves_its_queue { IsLegal (worked_with_checks fall_leaves_its_queue) → ⊥ }
     ensures moves_by_ticket { IsLegal (worked_with_checks moves_by_ticket) → ⊥ }
     ensures grant_before_the_moves { IsLegal (worked_with_checks grant_before_the_moves) → ⊥ }
+    ensures fall_grants_nothing { IsLegal (worked_with_checks fall_grants_nothing) → ⊥ }
+    ensures moved_without_a_fall { IsLegal (worked_with_checks moved_without_a_fall) → ⊥ }
     ensures rise_grants_nothing { IsLegal (worked_with_checks rise_grants_nothing) → ⊥ }
     ensures rise_is_not_told { IsLegal (worked_with_checks rise_is_not_told) → ⊥ }
     ensures down_after_its_rise { IsLegal (worked_with_checks down_after_its_rise) → ⊥ }
+    ensures down_though_it_answers { IsLegal (worked_with_checks down_though_it_answers) → ⊥ }
     ensures served_by_a_fallen_server { IsLegal (worked_with_checks served_by_a_fallen_server) → ⊥ }
     ensures grant_at_the_lowered_limit { IsLegal (worked_by_pairs grant_at_the_lowered_limit) → ⊥ }
     ensures raised_limit_grants_nothing { IsLegal (worked_by_pairs raised_limit_grants_nothing) → ⊥ }

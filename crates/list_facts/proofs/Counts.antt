@@ -1,5 +1,5 @@
 -- How often a test holds in a list.
-use Rattle.std.proofs.Common.{◌≡◌, ℕ, zero, suc, ◌+◌, ◌≤◌, Bool, true, List, [], ◌∷◌, Some, slice_get, count_by, refl, sym, ap, ◌∙◌, subst, arith}
+use Rattle.std.proofs.Common.{◌≡◌, ℕ, zero, suc, ◌+◌, ◌≤◌, Bool, true, List, [], ◌∷◌, Some, slice_get, map, count_by, refl, sym, ap, ◌∙◌, subst, arith}
 use Rattle.std.proofs.lemmas.List.Sums.{sum_by-cons}
 use Rattle.std.proofs.lemmas.Option.{same_Some}
 use Rattle.list_facts.proofs.Places.{tally}
@@ -37,3 +37,9 @@ module _ {X : Type 0} (p : X → Bool) where
       let later : 1 ≤ count_by p zs = some_at zs i x at holds in
       let all : count_by p (z ∷ zs) ≡ tally (p z) + count_by p zs = counted z zs in
       absurd (omega arith)
+
+-- a test of what is made of each item
+pub count-map : {X Y : Type 0} (p : Y → Bool) (f : X → Y) (xs : List X) → count_by p (map f xs) ≡ count_by (λ x. p (f x)) xs
+count-map p f [] = refl
+count-map p f (x ∷ xs) =
+    sum_by-cons (λ y. tally (p y)) (f x) (map f xs) ∙ ap (λ n. tally (p (f x)) + n) (count-map p f xs) ∙ sym (sum_by-cons (λ y. tally (p (f y))) x xs)

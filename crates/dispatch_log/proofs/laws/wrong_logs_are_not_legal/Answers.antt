@@ -1,6 +1,6 @@
 use Rattle.dispatch_log.proofs.WrongWindows.{not_at_the_lowered_limit, not_idle_after_a_raise, not_of_no_server, not_forgotten, not_reset, not_anew}
-use Rattle.dispatch_log.proofs.WrongLogs.{not_first_come, not_idle, not_above_limit, not_without_offset, not_without_end, not_twice, not_more_loaded, not_against_cursor, not_beside_room}
-use Rattle.dispatch_log.proofs.WrongChanges.{not_past_the_retries, not_counted_twice, not_with_the_pin, not_to_the_failed, not_before_the_grant, not_beside_a_usable_one, not_early, not_by_falling_ticket, not_untold, not_while_served, not_while_waiting, not_left_behind, not_by_ticket, not_before_the_moves, not_idle_after_a_rise, not_without_a_word, not_down_after, not_by_a_fallen_server}
+use Rattle.dispatch_log.proofs.WrongLogs.{not_first_come, not_idle, not_above_limit, not_without_offset, not_without_end, not_left_out, not_backend_first, not_more_loaded, not_against_cursor, not_by_loads_alone, not_without_queues, not_beside_room}
+use Rattle.dispatch_log.proofs.WrongChanges.{not_past_the_retries, not_counted_twice, not_with_the_pin, not_to_the_failed, not_before_the_grant, not_beside_a_usable_one, not_early, not_by_falling_ticket, not_untold, not_while_served, not_while_waiting, not_left_behind, not_by_ticket, not_before_the_moves, not_idle_after_a_rise, not_without_a_word, not_down_after, not_down_though, not_idle_after_a_fall, not_moved_alone, not_due_anew, not_by_a_fallen_server}
 use Rattle.dispatch_log.proofs.laws.wrong_logs_are_not_legal.Goals as goal
 
 pub returns-clause-first_come_first_served : goal.returns-clause-first_come_first_served
@@ -18,8 +18,8 @@ returns-clause-due_date_of_no_offset c = not_without_offset
 pub returns-clause-end_is_missing : goal.returns-clause-end_is_missing
 returns-clause-end_is_missing c = not_without_end
 
-pub returns-clause-ticket_twice : goal.returns-clause-ticket_twice
-returns-clause-ticket_twice c = not_twice
+pub returns-clause-ticket_left_out : goal.returns-clause-ticket_left_out
+returns-clause-ticket_left_out c = not_left_out
 
 pub returns-clause-more_loaded_server : goal.returns-clause-more_loaded_server
 returns-clause-more_loaded_server c = not_more_loaded
@@ -101,3 +101,24 @@ returns-clause-cursor_is_reset c = not_reset
 
 pub returns-clause-tickets_begin_anew : goal.returns-clause-tickets_begin_anew
 returns-clause-tickets_begin_anew c = not_anew
+
+pub returns-clause-backend_head_first : goal.returns-clause-backend_head_first
+returns-clause-backend_head_first c = not_backend_first
+
+pub returns-clause-loads_without_weights : goal.returns-clause-loads_without_weights
+returns-clause-loads_without_weights c = not_by_loads_alone
+
+pub returns-clause-loads_without_queues : goal.returns-clause-loads_without_queues
+returns-clause-loads_without_queues c = not_without_queues
+
+pub returns-clause-down_though_it_answers : goal.returns-clause-down_though_it_answers
+returns-clause-down_though_it_answers c = not_down_though
+
+pub returns-clause-fall_grants_nothing : goal.returns-clause-fall_grants_nothing
+returns-clause-fall_grants_nothing c = not_idle_after_a_fall
+
+pub returns-clause-moved_without_a_fall : goal.returns-clause-moved_without_a_fall
+returns-clause-moved_without_a_fall c = not_moved_alone
+
+pub returns-clause-redispatched_by_a_new_due_date : goal.returns-clause-redispatched_by_a_new_due_date
+returns-clause-redispatched_by_a_new_due_date c = not_due_anew

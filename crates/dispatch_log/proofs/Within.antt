@@ -1,0 +1,60 @@
+-- A legal log keeps within its setup; and the parts of entries.
+use Rattle.std.proofs.Common.{◌≡◌, ◌↔◌, ℕ, ◌+◌, ◌<◌, ◌≤◌, ◌^◌, false, List, [], ◌∷◌, ◌++◌, length, All, refl, sym, ◌∙◌, arith}
+use Rattle.std.proofs.lemmas.Bool.Decides.{nat_tests}
+use Rattle.std.proofs.lemmas.List.Elements.{All-head, All-tail}
+use Rattle.list_facts.proofs.Never.{false_true}
+use Rattle.dispatch_log.specs.declared.entry.Entry.{Entry}
+use Rattle.dispatch_log.specs.declared.entry.Entry.TheVariants.{Arrive, Done, Fail, Abort, Tick, Check, Limit}
+use Rattle.dispatch_log.specs.declared.setup.Setup.{Setup}
+use Rattle.dispatch_log.specs.Bounds.{IsWithin}
+use Rattle.dispatch_log.specs.Dispatch.{arrivals_of, given_between}
+use Rattle.dispatch_log.specs.Histories.{History, state_of, begins_event}
+use Rattle.dispatch_log.specs.Judgement.{Stage, AllMayCome, next_stage, stage_after}
+use Rattle.dispatch_log.specs.Legal.{IsLegal}
+use Rattle.dispatch_log.specs.States.{State, after, after_all}
+use Rattle.dispatch_log.proofs.Dispatched.{dispatched, legal_consistent}
+use Rattle.dispatch_log.proofs.Judged.{places_all}
+use Rattle.dispatch_log.proofs.Runs.{judged_on, judged_off}
+use Rattle.dispatch_log.proofs.Windows.{legal_range, legal_keeps}
+
+none_given : (first last ticket arrivals : ℕ) → last < 2 ^ 40 → 2 ^ 40 ≤ ticket → arrivals ≡ given_between first last ticket → arrivals ≡ 0
+none_given first last ticket arrivals low high came = grind (arith, nat_tests)
+
+pub within : (h : History) → IsLegal h → IsWithin h
+within h legal =
+    let range = legal_range h legal in
+    let keeps = legal_keeps h legal in
+    record {
+      places = places_all h.setup h.base h.log ∙ legal.begins.places;
+      ticket = range.numbered;
+      rows = λ row live. (legal_consistent h legal).below live.0 row live.1;
+      arrivals = λ ticket high. none_given h.base.ticket (state_of h).ticket ticket (arrivals_of ticket h.log) range.numbered high ((dispatched h legal).one_place ticket).arrives_once;
+      moment = range.timed;
+      servers = keeps.rows;
+      cursor = keeps.cursor;
+    }
+
+judged_front : (setup : Setup) (s : State) (n : ℕ) (t : Stage) (es fs : List Entry) → AllMayCome setup s n t (es ++ fs) → AllMayCome setup s n t es
+judged_front setup s n t [] fs all = tt
+judged_front setup s n t (e ∷ es) fs all = (all.0, judged_front setup (after setup s e) (n + 1) (next_stage t e) es fs all.1)
+
+pub judged_parts : (setup : Setup) (s : State) (n : ℕ) (t : Stage) (es fs : List Entry)
+    → AllMayCome setup s n t (es ++ fs) ↔ (AllMayCome setup s n t es × AllMayCome setup (after_all setup s es) (n + length es) (stage_after t es) fs)
+judged_parts setup s n t es fs = (λ all. (judged_front setup s n t es fs all, judged_off setup s n t es fs all), λ both. judged_on setup s n t es fs both.0 both.1)
+
+-- none but an event changes the moment
+moment_kept : (setup : Setup) (s : State) (e : Entry) → begins_event e ≡ false → (after setup s e).moment ≡ s.moment
+moment_kept setup s (Arrive m a) none = false_true (sym none)
+moment_kept setup s (Done m u) none = false_true (sym none)
+moment_kept setup s (Fail m u) none = false_true (sym none)
+moment_kept setup s (Abort m u) none = false_true (sym none)
+moment_kept setup s (Tick m) none = false_true (sym none)
+moment_kept setup s (Check m v ok) none = false_true (sym none)
+moment_kept setup s (Limit m v k) none = false_true (sym none)
+moment_kept setup s e none = refl
+
+pub moment_stays : (setup : Setup) (s : State) (es : List Entry) → All (λ entry. begins_event entry ≡ false) es → (after_all setup s es).moment ≡ s.moment
+moment_stays setup s [] none = refl
+moment_stays setup s (e ∷ es) none =
+    moment_stays setup (after setup s e) es (All-tail (λ entry. begins_event entry ≡ false) e es none)
+    ∙ moment_kept setup s e (All-head (λ entry. begins_event entry ≡ false) e es none)

@@ -1,0 +1,28 @@
+-- What a log keeps within its setup.
+use Rattle.std.specs.Prelude.{◌≡◌, ℕ, ◌<◌, ◌≤◌, ◌^◌, length}
+use Rattle.dispatch_log.specs.declared.queue.Queue.TheVariants.{Backend, Server}
+use Rattle.dispatch_log.specs.declared.row.Phase.{Phase}
+use Rattle.dispatch_log.specs.declared.row.Phase.TheVariants.{Loose, Waiting, Serving, Told}
+use Rattle.dispatch_log.specs.declared.row.Row.{Row}
+use Rattle.dispatch_log.specs.Dispatch.{arrivals_of}
+use Rattle.dispatch_log.specs.Histories.{History, state_of}
+use Rattle.dispatch_log.specs.Rows.{IsRow}
+
+-- where a phase is at a server, in its slot or in its queue, it is one of so many
+abbrev pub IsAtOneOf : ℕ → Phase → Type 0
+IsAtOneOf servers (Serving server) = server < servers
+IsAtOneOf servers (Waiting (Server server) since) = server < servers
+IsAtOneOf servers (Waiting Backend since) = Unit {0}
+IsAtOneOf servers Loose = Unit {0}
+IsAtOneOf servers (Told cause) = Unit {0}
+
+-- as many places as the setup says; tickets below 2 ^ 40, of the rows as of the arrivals; a moment below 2 ^ 62; and each row
+-- that is at a server is at one of the setup's, as is what balancing picked last
+pub record IsWithin (history : History) : Type 0 where
+  pub places : length (state_of history).rows ≡ history.setup.places
+  pub ticket : (state_of history).ticket < 2 ^ 40
+  pub rows : (row : Row) → IsRow (state_of history).rows row → row.key.ticket ≤ (state_of history).ticket
+  pub arrivals : (ticket : ℕ) → 2 ^ 40 ≤ ticket → arrivals_of ticket history.log ≡ 0
+  pub moment : (state_of history).moment < 2 ^ 62
+  pub servers : (row : Row) → IsRow (state_of history).rows row → IsAtOneOf (length history.setup.servers) row.phase
+  pub cursor : 0 < length history.setup.servers → (state_of history).cursor < length history.setup.servers

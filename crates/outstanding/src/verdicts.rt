@@ -1,0 +1,19 @@
+ghost use Rattle.std.specs.Prelude.{◌≡◌};
+ghost use Rattle.outstanding.specs.Verdicts.{verdict_in};
+
+use dispatch_log::Entry;
+use verdict::Verdict;
+
+/// The verdict that an entry is, with its ticket: a request takes a slot, or keeps it for another try, or is told why it isn't served. None where
+/// the entry is no verdict.
+pub fn verdict_in(entry: Entry) -> Option<(u64, Verdict)>
+    ensures { result ≡ verdict_in entry }
+{
+    match entry {
+        Entry::Direct(ticket, server)
+        | Entry::Granted(ticket, _, server)
+        | Entry::Retried(ticket, server, _) => Some((ticket, Verdict::Serve(server))),
+        Entry::Left(ticket, cause) => Some((ticket, Verdict::Told(cause))),
+        _ => None,
+    }
+}

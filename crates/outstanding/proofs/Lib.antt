@@ -1,2 +1,3 @@
 pub mod Weighing
 pub mod Booking
+pub mod Turning

@@ -1,0 +1,254 @@
+-- What one event does to what is outstanding: its verdicts are added, and what the event was about is taken away.
+use Rattle.std.proofs.Common.{◌≡◌, ◌≢◌, ℕ, zero, suc, ◌+◌, ◌==◌, Bool, true, false, cond, IsTrue, List, [], ◌∷◌, ◌++◌, All, Option, None, Some, slice_get, map, refl, ap, sym, ◌∙◌, subst, arith}
+use Rattle.std.proofs.Math.ListN.{set}
+use Rattle.std.specs.List.{filter_map, cons_option}
+use Rattle.std.proofs.lemmas.Bool.Decides.{Decides-eqb}
+use Rattle.std.proofs.lemmas.List.Elements.{All-head, All-tail}
+use Rattle.std.proofs.lemmas.Option.{same_Some}
+use Rattle.verdict.specs.declared.Verdict.{Verdict}
+use Rattle.verdict.specs.declared.cause.Cause.TheVariants.{Aborted, Timeout, Retries, NoServer}
+use Rattle.list_facts.specs.Weights.{total}
+use Rattle.list_facts.proofs.Never.{false_true}
+use Rattle.list_facts.proofs.Totals.{total-append}
+use Rattle.grant_board.specs.Views.{Grant, grant}
+use Rattle.dispatch_log.specs.declared.entry.Entry.{Entry}
+use Rattle.dispatch_log.specs.declared.entry.Entry.TheVariants.{Arrive, Done, Fail, Abort, Tick, Check, Limit, Direct, Joined, Granted, Moved, Freed, Retried, Left, Health, Ended}
+use Rattle.dispatch_log.specs.declared.row.Phase.TheVariants.{Loose, Waiting, Serving, Told}
+use Rattle.dispatch_log.specs.declared.queue.Queue.TheVariants.{Backend}
+use Rattle.dispatch_log.specs.declared.row.Row.{Row}
+use Rattle.dispatch_log.specs.declared.setup.Setup.{Setup}
+use Rattle.dispatch_log.specs.Histories.{begins_event}
+use Rattle.dispatch_log.specs.Judgement.{Stage, placing, returning, ending, failing, leaving, aborting, telling, checking, falling, granting, MayGrant, MayBegin, MayCome, AllMayCome, IsOver, next_stage, stage_after}
+use Rattle.dispatch_log.specs.Retries.{failed}
+use Rattle.dispatch_log.specs.Rows.{Rows, StandsAt, with_change, changed, in_phase, in_backend_since, has_ticket}
+use Rattle.dispatch_log.specs.States.{State, after, after_all, arrived}
+use Rattle.dispatch_log.proofs.Consistency.{IsConsistent}
+use Rattle.dispatch_log.proofs.Judged.{consistent_after}
+use Rattle.outstanding.specs.Outstanding.{grants_at, outstanding_from, outstanding, place_in, grants_of}
+use Rattle.outstanding.specs.Verdicts.{verdict_in, verdicts}
+use Rattle.outstanding.proofs.Weighing.{weigh, only, put}
+use Rattle.outstanding.proofs.Booking.{kept, given, books, kept_over}
+
+-- at these stages a request may end
+abbrev may_end : Stage → Bool
+may_end (returning ticket) = true
+may_end (ending ticket) = true
+may_end (placing ticket) = false
+may_end (failing ticket) = false
+may_end (leaving ticket server) = false
+may_end (aborting ticket) = false
+may_end telling = false
+may_end (checking server) = false
+may_end (falling server) = false
+may_end granting = false
+
+-- a change that keeps tickets keeps the places of all
+abbrev KeepsTickets : (Row → Option Row) → Type 0
+KeepsTickets f = (r : Row) → (w : Row) × (f r ≡ Some w) × (w.key.ticket ≡ r.key.ticket)
+
+cell_kept : (t u : ℕ) (f : Row → Option Row) (cell : Option Row) → KeepsTickets f → has_ticket t (with_change u f cell) ≡ has_ticket t cell
+cell_kept t u f None keeps = refl
+cell_kept t u f (Some r) keeps = by_test (r.key.ticket == u)
+  where
+    by_test : (b : Bool) → has_ticket t (cond b (f r) (Some r)) ≡ has_ticket t (Some r)
+    by_test true = let it = keeps r in ap (has_ticket t) it.1 ∙ ap (λ n. n == t) it.2
+    by_test false = refl
+
+place_kept : (t u : ℕ) (f : Row → Option Row) (rows : Rows) → KeepsTickets f → place_in t (changed u f rows) ≡ place_in t rows
+place_kept t u f [] keeps = refl
+place_kept t u f (cell ∷ rows) keeps =
+    ap {B = ℕ} (λ (b : Bool). cond b 0 (suc (place_in t (changed u f rows)))) (cell_kept t u f cell keeps)
+    ∙ ap {B = ℕ} (λ n. cond (has_ticket t cell) 0 (suc n)) (place_kept t u f rows keeps)
+
+-- where no request may end, an entry that is no event keeps the places of all
+places_after : (setup : Setup) (s : State) (n : ℕ) (t : Stage) (e : Entry) (ticket : ℕ) → may_end t ≡ false → begins_event e ≡ false → MayCome setup s n t e
+    → place_in ticket (after setup s e).rows ≡ place_in ticket s.rows
+places_after setup s n t (Arrive m a) ticket quiet none may = false_true (sym none)
+places_after setup s n t (Done m u) ticket quiet none may = false_true (sym none)
+places_after setup s n t (Fail m u) ticket quiet none may = false_true (sym none)
+places_after setup s n t (Abort m u) ticket quiet none may = false_true (sym none)
+places_after setup s n t (Tick m) ticket quiet none may = false_true (sym none)
+places_after setup s n t (Check m v ok) ticket quiet none may = false_true (sym none)
+places_after setup s n t (Limit m v k) ticket quiet none may = false_true (sym none)
+places_after setup s n t (Direct u v) ticket quiet none may = place_kept ticket u (in_phase (Serving v)) s.rows (λ r. (record r { phase = Serving v }, refl, refl))
+places_after setup s n t (Joined u q) ticket quiet none may = place_kept ticket u (in_phase (Waiting q s.moment)) s.rows (λ r. (record r { phase = Waiting q s.moment }, refl, refl))
+places_after setup s n t (Granted u q v) ticket quiet none may = place_kept ticket u (in_phase (Serving v)) s.rows (λ r. (record r { phase = Serving v }, refl, refl))
+places_after setup s n t (Moved u v) ticket quiet none may = place_kept ticket u (in_backend_since s.moment) s.rows (λ r. (record r { pin = None; phase = Waiting Backend s.moment }, refl, refl))
+places_after setup s n t (Freed u v) ticket quiet none may = place_kept ticket u (in_phase Loose) s.rows (λ r. (record r { phase = Loose }, refl, refl))
+places_after setup s n t (Retried u v k) ticket quiet none may = refl
+places_after setup s n t (Left u c) ticket quiet none may = place_kept ticket u (in_phase (Told c)) s.rows (λ r. (record r { phase = Told c }, refl, refl))
+places_after setup s n t (Health v up) ticket quiet none may = refl
+places_after setup s n (returning t) (Ended u) ticket quiet none may = false_true (sym quiet)
+places_after setup s n (ending t) (Ended u) ticket quiet none may = false_true (sym quiet)
+places_after setup s n (leaving t w) (Ended u) ticket quiet none may = absurd may.put
+places_after setup s n t (Ended u) ticket quiet none may = absurd may
+
+-- and leads where none may end
+quiet_next : (setup : Setup) (s : State) (n : ℕ) (t : Stage) (e : Entry) → may_end t ≡ false → begins_event e ≡ false → MayCome setup s n t e → may_end (next_stage t e) ≡ false
+quiet_next setup s n t (Arrive m a) quiet none may = false_true (sym none)
+quiet_next setup s n t (Done m u) quiet none may = false_true (sym none)
+quiet_next setup s n t (Fail m u) quiet none may = false_true (sym none)
+quiet_next setup s n t (Abort m u) quiet none may = false_true (sym none)
+quiet_next setup s n t (Tick m) quiet none may = false_true (sym none)
+quiet_next setup s n t (Check m v ok) quiet none may = false_true (sym none)
+quiet_next setup s n t (Limit m v k) quiet none may = false_true (sym none)
+quiet_next setup s n (placing t) (Direct u v) quiet none may = refl
+quiet_next setup s n (placing t) (Joined u q) quiet none may = refl
+quiet_next setup s n (placing t) (Left u NoServer) quiet none may = refl
+quiet_next setup s n (leaving t w) (Direct u v) quiet none may = refl
+quiet_next setup s n (leaving t w) (Joined u q) quiet none may = refl
+quiet_next setup s n (leaving t w) (Left u NoServer) quiet none may = refl
+quiet_next setup s n (leaving t w) (Left u Retries) quiet none may = refl
+quiet_next setup s n (leaving t w) (Granted u q v) quiet none may = refl
+quiet_next setup s n (leaving t w) e quiet none may = absurd may.put
+quiet_next setup s n granting (Granted u q v) quiet none may = refl
+quiet_next setup s n telling (Granted u q v) quiet none may = refl
+quiet_next setup s n (checking w) (Granted u q v) quiet none may = refl
+quiet_next setup s n (falling w) (Granted u q v) quiet none may = refl
+quiet_next setup s n (failing t) (Freed u v) quiet none may = refl
+quiet_next setup s n (failing t) (Retried u v k) quiet none may = refl
+quiet_next setup s n (aborting t) (Left u Aborted) quiet none may = refl
+quiet_next setup s n telling (Left u Timeout) quiet none may = refl
+quiet_next setup s n (checking w) (Health v true) quiet none may = refl
+quiet_next setup s n (checking w) (Health v false) quiet none may = refl
+quiet_next setup s n (falling w) (Moved u v) quiet none may = refl
+quiet_next setup s n (returning t) e quiet none may = false_true (sym quiet)
+quiet_next setup s n (ending t) e quiet none may = false_true (sym quiet)
+quiet_next setup s n t (Granted u q v) quiet none may = absurd may.0
+quiet_next setup s n t e quiet none may = absurd may
+
+places_on : (setup : Setup) (s : State) (n : ℕ) (t : Stage) (es : List Entry) (ticket : ℕ) → may_end t ≡ false → All (λ e. begins_event e ≡ false) es → AllMayCome setup s n t es
+    → place_in ticket (after_all setup s es).rows ≡ place_in ticket s.rows
+places_on setup s n t [] ticket quiet none all = refl
+places_on setup s n t (e ∷ es) ticket quiet none all =
+    let here = All-head (λ x. begins_event x ≡ false) e es none in
+    places_on setup (after setup s e) (n + 1) (next_stage t e) es ticket (quiet_next setup s n t e quiet here all.0) (All-tail (λ x. begins_event x ≡ false) e es none) all.1
+    ∙ places_after setup s n t e ticket quiet here all.0
+
+-- a verdict leads where no request may end
+verdict_quiet : (setup : Setup) (s : State) (n : ℕ) (t : Stage) (e : Entry) (it : ℕ × Verdict) → verdict_in e ≡ Some it → MayCome setup s n t e → may_end (next_stage t e) ≡ false
+verdict_quiet setup s n (returning t) (Direct u v) it is may = absurd may
+verdict_quiet setup s n (returning t) (Granted u q v) it is may = absurd may.0
+verdict_quiet setup s n (returning t) (Retried u v k) it is may = absurd may
+verdict_quiet setup s n (returning t) (Left u c) it is may = absurd may
+verdict_quiet setup s n (ending t) (Direct u v) it is may = absurd may
+verdict_quiet setup s n (ending t) (Granted u q v) it is may = absurd may.0
+verdict_quiet setup s n (ending t) (Retried u v k) it is may = absurd may
+verdict_quiet setup s n (ending t) (Left u c) it is may = absurd may
+verdict_quiet setup s n (placing t) (Direct u v) it is may = quiet_next setup s n (placing t) (Direct u v) refl refl may
+verdict_quiet setup s n t (Direct u v) it is may = by_quiet (may_end t) refl
+  where
+    by_quiet : (b : Bool) → may_end t ≡ b → may_end (next_stage t (Direct u v)) ≡ false
+    by_quiet true e = refl
+    by_quiet false e = quiet_next setup s n t (Direct u v) e refl may
+verdict_quiet setup s n t (Granted u q v) it is may = by_quiet (may_end t) refl
+  where
+    by_quiet : (b : Bool) → may_end t ≡ b → may_end (next_stage t (Granted u q v)) ≡ false
+    by_quiet true e = cc
+    by_quiet false e = quiet_next setup s n t (Granted u q v) e refl may
+verdict_quiet setup s n t (Retried u v k) it is may = by_quiet (may_end t) refl
+  where
+    by_quiet : (b : Bool) → may_end t ≡ b → may_end (next_stage t (Retried u v k)) ≡ false
+    by_quiet true e = cc
+    by_quiet false e = quiet_next setup s n t (Retried u v k) e refl may
+verdict_quiet setup s n t (Left u c) it is may = by_quiet (may_end t) refl
+  where
+    by_quiet : (b : Bool) → may_end t ≡ b → may_end (next_stage t (Left u c)) ≡ false
+    by_quiet true e = cc
+    by_quiet false e = quiet_next setup s n t (Left u c) e refl may
+verdict_quiet setup s n t e it is may = cc
+
+-- what an entry adds is added where its ticket stands in the end
+filtered : (rows : Rows) (weight : Grant → ℕ) (e : Entry) (es : List Entry) → total weight (grants_of rows (verdicts (e ∷ es))) ≡ given weight rows e + total weight (grants_of rows (verdicts es))
+filtered rows weight e es = by_verdict (verdict_in e) refl
+  where
+    by_verdict : (o : Option (ℕ × Verdict)) → verdict_in e ≡ o → total weight (grants_of rows (verdicts (e ∷ es))) ≡ given weight rows e + total weight (grants_of rows (verdicts es))
+    by_verdict None is = rw is (omega arith)
+    by_verdict (Some it) is = rw is (omega arith)
+
+same_given : (one two : Rows) (weight : Grant → ℕ) (e : Entry) → ((it : ℕ × Verdict) → verdict_in e ≡ Some it → place_in it.0 two ≡ place_in it.0 one) → given weight one e ≡ given weight two e
+same_given one two weight e same = by_verdict (verdict_in e) refl
+  where
+    by_verdict : (o : Option (ℕ × Verdict)) → verdict_in e ≡ o → given weight one e ≡ given weight two e
+    by_verdict None is = rw is refl
+    by_verdict (Some it) is = rw is (ap (λ p. weight (grant p it.0 it.1) + 0) (sym (same it is)))
+
+-- entries that are no events
+booked : (weight : Grant → ℕ) (setup : Setup) (s : State) (n : ℕ) (t : Stage) (es : List Entry) → All (λ e. begins_event e ≡ false) es → IsConsistent s.rows s.ticket t → AllMayCome setup s n t es
+    → total weight (outstanding (after_all setup s es).rows) + kept weight t s.rows
+    ≡ total weight (outstanding s.rows) + kept weight (stage_after t es) (after_all setup s es).rows + total weight (grants_of (after_all setup s es).rows (verdicts es))
+booked weight setup s n t [] none is all = omega arith
+booked weight setup s n t (e ∷ es) none is all =
+    let here = All-head (λ x. begins_event x ≡ false) e es none in
+    let later = All-tail (λ x. begins_event x ≡ false) e es none in
+    let now = consistent_after setup s n t e is all.0 in
+    let end = (after_all setup (after setup s e) es).rows in
+    let one = books weight setup s n t e here is all.0 in
+    let rest = booked weight setup (after setup s e) (n + 1) (next_stage t e) es later now all.1 in
+    let same = same_given (after setup s e).rows end weight e (λ it told. places_on setup (after setup s e) (n + 1) (next_stage t e) es it.0 (verdict_quiet setup s n t e it told all.0) later all.1) in
+    omega (arith, one, rest, same, filtered end weight e es)
+
+-- what an event takes away
+abbrev pub back : (Grant → ℕ) → Entry → Rows → ℕ
+back weight (Done moment ticket) rows = total (only ticket weight) (outstanding rows)
+back weight (Fail moment ticket) rows = total (only ticket weight) (outstanding rows)
+back weight entry rows = 0
+
+-- a change that keeps what is out
+outs_kept : (weight : Grant → ℕ) (u i : ℕ) (f : Row → Option Row) (rows : Rows) → ((r : Row) (p : ℕ) → weigh weight p (f r) ≡ weigh weight p (Some r)) → total weight (outstanding_from i (changed u f rows)) ≡ total weight (outstanding_from i rows)
+outs_kept weight u i f [] keeps = refl
+outs_kept weight u i f (cell ∷ rows) keeps =
+    omega (
+      arith,
+      at cell,
+      outs_kept weight u (suc i) f rows keeps,
+      total-append weight (grants_at i (with_change u f cell)) (outstanding_from (suc i) (changed u f rows)),
+      total-append weight (grants_at i cell) (outstanding_from (suc i) rows),
+    )
+  where
+    at : (c : Option Row) → weigh weight i (with_change u f c) ≡ weigh weight i c
+    at None = refl
+    at (Some r) = by_test (r.key.ticket == u)
+      where
+        by_test : (b : Bool) → weigh weight i (cond b (f r) (Some r)) ≡ weigh weight i (Some r)
+        by_test true = keeps r i
+        by_test false = refl
+
+-- an event itself leaves all that is outstanding, and owes what it is about
+begins : (weight : Grant → ℕ) (setup : Setup) (s : State) (n : ℕ) (t : Stage) (e : Entry) → begins_event e ≡ true → MayCome setup s n t e
+    → (total weight (outstanding (after setup s e).rows) ≡ total weight (outstanding s.rows)) × (kept weight (next_stage t e) (after setup s e).rows ≡ back weight e s.rows)
+begins weight setup s n t (Arrive m a) is may =
+    let even = put weight 0 a.place a.place s.rows None (Some (arrived a)) (omega arith) may.1.vacant in
+    (omega (arith, even), refl)
+begins weight setup s n t (Done m u) is may = (refl, refl)
+begins weight setup s n t (Fail m u) is may =
+    let kept_out = λ (w : Grant → ℕ). outs_kept w u 0 (failed setup) s.rows (λ r p. refl) in
+    (kept_out weight, kept_out (only u weight))
+begins weight setup s n t (Abort m u) is may = (refl, refl)
+begins weight setup s n t (Tick m) is may = (refl, refl)
+begins weight setup s n t (Check m v ok) is may = (refl, refl)
+begins weight setup s n t (Limit m v k) is may = (refl, refl)
+begins weight setup s n t e is may = cc
+
+-- a whole event
+pub turned : (weight : Grant → ℕ) (setup : Setup) (s : State) (n : ℕ) (t : Stage) (e : Entry) (brought : List Entry) → begins_event e ≡ true → All (λ x. begins_event x ≡ false) brought → IsConsistent s.rows s.ticket t
+    → AllMayCome setup s n t (e ∷ brought) → IsOver setup (after_all setup s (e ∷ brought)) (stage_after t (e ∷ brought))
+    → total weight (outstanding (after_all setup s (e ∷ brought)).rows) + back weight e s.rows
+    ≡ total weight (outstanding s.rows) + total weight (grants_of (after_all setup s (e ∷ brought)).rows (verdicts (e ∷ brought)))
+turned weight setup s n t e brought event none is all over =
+    let begun = begins weight setup s n t e event all.0 in
+    let rest = booked weight setup (after setup s e) (n + 1) (next_stage t e) brought none (consistent_after setup s n t e is all.0) all.1 in
+    let end = kept_over weight setup (after_all setup s (e ∷ brought)) (stage_after t (e ∷ brought)) (after_all setup s (e ∷ brought)).rows over in
+    let told = no_verdict e event in
+    let added = filtered (after_all setup s (e ∷ brought)).rows weight e brought in
+    omega (arith, begun.0, begun.1, rest, end, added, ap (λ (o : Option (ℕ × Verdict)). total weight (grants_of (after_all setup s (e ∷ brought)).rows (cons_option o []))) told)
+  where
+    no_verdict : (x : Entry) → begins_event x ≡ true → verdict_in x ≡ None
+    no_verdict (Arrive m a) is = refl
+    no_verdict (Done m u) is = refl
+    no_verdict (Fail m u) is = refl
+    no_verdict (Abort m u) is = refl
+    no_verdict (Tick m) is = refl
+    no_verdict (Check m v ok) is = refl
+    no_verdict (Limit m v k) is = refl
+    no_verdict x is = cc

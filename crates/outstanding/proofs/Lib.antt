@@ -1,3 +1,4 @@
 pub mod Weighing
 pub mod Booking
 pub mod Turning
+pub mod Owing

@@ -1,0 +1,6 @@
+use Rattle.std.proofs.Common.{◌/◌, replicate}
+use Rattle.place_set.proofs.Bits.{none_in, zeros}
+use Rattle.place_set.proofs.set.PlaceSet.new.Goals as goal
+
+pub returns : goal.returns
+returns c place has = none_in (replicate 64 0) place (zeros 64 (place / 64)) has

@@ -1,0 +1,18 @@
+use crate::PlaceSet;
+
+#[test]
+fn places_come_by_rising_number(rt: HostRuntime) {
+    let mut set = PlaceSet::new();
+    assert_eq!(rt; set.next(0), None);
+    set.insert(70);
+    set.insert(3);
+    set.insert(4095);
+    assert_eq!(rt; set.next(0), Some(3));
+    assert_eq!(rt; set.next(3), Some(3));
+    assert_eq!(rt; set.next(4), Some(70));
+    assert_eq!(rt; set.next(71), Some(4095));
+    assert_eq!(rt; set.next(4096), None);
+    assert!(rt; set.contains(70) && !set.contains(71) && !set.contains(4096));
+    set.remove(70);
+    assert_eq!(rt; set.next(4), Some(4095));
+}

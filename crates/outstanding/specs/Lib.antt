@@ -1,3 +1,4 @@
 pub mod Verdicts
 pub mod Outstanding
 pub mod Books
+pub mod Calls

@@ -1,0 +1,2 @@
+pub mod Busying
+pub mod Paying

@@ -1,0 +1,107 @@
+ghost use Rattle.std.specs.Prelude.{◌≡◌, ◌+◌, ◌<◌, ◌≤◌, ◌^◌, ◌∷◌, [], IfSome, IfNone, MatchOption, length};
+ghost use Rattle.grant_board.specs.Views.{grant, count_at};
+ghost use Rattle.grant_board.specs.KeeperCalls.{HasRoom, offer_after, Collects, FindsUnposted, MayLimit, limit_after, Vouches};
+ghost use Rattle.outstanding.specs.Calls.{Wakes};
+ghost use Rattle.locked_book.specs.Busy.{IsBusyNext};
+
+use grant_board::{Board, KeeperSeat, RelaySeat, Return};
+use place_set::PlaceSet;
+use std::marker::Model;
+use verdict::Verdict;
+
+/// A keeper's seat with the set of the places that are out, so that a walk over these passes no other.
+#[derive(Drop)]
+pub struct Keeping {
+    seat: KeeperSeat,
+    out: PlaceSet,
+}
+
+impl Model for Keeping {
+    ghost use Rattle.grant_board.specs.KeeperCalls.{Keeper};
+    ghost use Rattle.locked_book.specs.Busy.{IsKept};
+
+    ghost Value = { Keeper };
+
+    ghost view = { λ it. it.seat };
+
+    ghost invariant = { λ it. IsKept it.seat.view it.out };
+}
+
+impl Keeping {
+    /// A seat that has nothing out.
+    pub fn new(seat: KeeperSeat) -> Keeping
+        requires none { seat.view.out ≡ [] }
+        requires few { seat.view.terms.places ≤ 4096 }
+        ensures { result ≡ seat }
+    {
+        Keeping {
+            seat,
+            out: PlaceSet::new(),
+        }
+    }
+
+    /// The first place from one on that is out.
+    pub fn next(&self, from: usize) -> Option<usize>
+        ensures next { IsBusyNext self.now.view.out from result }
+        ensures in_range { IfSome result (λ place. place < self.now.view.terms.places) }
+    {
+        self.out.next(from)
+    }
+
+    /// Offers a verdict, and notes its place among those that are to be woken.
+    pub fn offer(&mut self, board: &Board, place: usize, told: (u64, Verdict), woken: &mut PlaceSet)
+        requires same_board { self.old.board ≡ board.now }
+        requires in_range { place < self.old.view.terms.places }
+        requires free { count_at place self.old.view.out ≡ 0 }
+        requires ticket_fits { told.0 < 2 ^ 40 }
+        requires has_room { HasRoom self.old.view told.1 }
+        ensures offered { self.new ≡ record self.old { view = offer_after self.old.view (grant place told.0 told.1) } }
+        ensures woken { Wakes (grant place told.0 told.1 ∷ []) woken.old woken.new }
+    {
+        self.seat.offer(board, place, told.0, told.1);
+        self.out.insert(place);
+        woken.insert(place);
+    }
+
+    /// What came back from a place.
+    pub fn collect(&mut self, board: &Board, place: usize) -> Option<Return>
+        requires same_board { self.old.board ≡ board.now }
+        requires in_range { place < self.old.view.terms.places }
+        ensures some { IfSome result (λ back. Collects self.old.view self.new.view place back) }
+        ensures none { IfNone result (FindsUnposted self.old.view self.new.view place) }
+        ensures board { self.new.board ≡ self.old.board }
+    {
+        let back = self.seat.collect(board, place)?;
+        self.out.remove(place);
+        Some(back)
+    }
+
+    /// Sets a server's bound.
+    pub fn limit(&mut self, board: &Board, server: usize, bound: u32)
+        requires same_board { self.old.board ≡ board.now }
+        requires may_limit { MayLimit self.old.view server bound }
+        ensures { self.new ≡ record self.old { view = limit_after self.old.view server bound } }
+    {
+        self.seat.limit(board, server, bound);
+    }
+
+    /// The relay's seat as it was, and how many passes it has, each of which is out.
+    pub fn vouch(&mut self, board: &Board, relay: RelaySeat) -> (RelaySeat, u64)
+        requires same_board { self.old.board ≡ board.now }
+        requires relay_board { relay.board ≡ board.now }
+        ensures back { result.0 ≡ relay }
+        ensures count { result.1 ≡ length relay.view.passes }
+        ensures vouched { Vouches self.old.view self.new.view relay.view.passes }
+        ensures board { self.new.board ≡ self.old.board }
+    {
+        self.seat.vouch(board, relay)
+    }
+
+    /// The seat alone.
+    pub fn into_seat(self) -> KeeperSeat
+        ensures { result ≡ self }
+    {
+        let Keeping { seat, out: _ } = self;
+        seat
+    }
+}

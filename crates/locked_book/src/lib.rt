@@ -1,0 +1,7 @@
+//! The dispatcher beside its board: each call makes one event of the dispatcher and offers the verdicts that follow, so that what is out at the
+//! board is what is outstanding of the log. A `Book` is what stands behind the lock.
+#![tactic(auto)]
+
+pub mod keeping;
+pub mod offering;
+

@@ -1,0 +1,29 @@
+-- What a call on a dispatcher beside a board's keeper leaves.
+use Rattle.std.specs.Prelude.{◌≡◌, ◌⊎◌, ◌↔◌, ℕ, List, ◌++◌, Contains, drop, length, map}
+use Rattle.grant_board.specs.Views.{Grant, KeeperView}
+use Rattle.place_set.specs.Sets.{Has}
+use Rattle.dispatch_log.specs.declared.entry.Entry.{Entry}
+use Rattle.dispatch_log.specs.Histories.{History, state_of}
+use Rattle.outstanding.specs.Outstanding.{grants_of}
+use Rattle.outstanding.specs.Verdicts.{verdicts}
+
+-- a dispatcher's history, and what the keeper of its board knows
+pub record Booked : Type 0 where
+  pub history : History
+  pub view : KeeperView
+
+-- the entries that a call added
+abbrev pub added : History → History → List Entry
+added old new = drop (length old.log) new.log
+
+-- entries' verdicts, at the places where their requests stand in the end
+abbrev pub grants_in : History → List Entry → List Grant
+grants_in history entries = grants_of (state_of history).rows (verdicts entries)
+
+-- grants are offered, one after the other
+abbrev pub with_offers : KeeperView → List Grant → KeeperView
+with_offers view grants = record view { out = view.out ++ grants; offers = view.offers ++ grants }
+
+-- a set of places has those of these grants from now on, and no other
+abbrev pub Wakes : List Grant → List ℕ → List ℕ → Type 0
+Wakes grants old new = (place : ℕ) → Has new place ↔ (Contains (map (λ g. g.place) grants) place ⊎ Has old place)

@@ -1,2 +1,3 @@
 pub mod Busying
 pub mod Paying
+pub mod Events

@@ -2,6 +2,9 @@
 //! board is what is outstanding of the log. A `Book` is what stands behind the lock.
 #![tactic(auto)]
 
-pub mod keeping;
-pub mod offering;
+mod book;
+mod keeping;
+mod offering;
+
+pub use book::{Book, Wanted};
 

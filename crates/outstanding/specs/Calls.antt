@@ -27,3 +27,8 @@ with_offers view grants = record view { out = view.out ++ grants; offers = view.
 -- a set of places has those of these grants from now on, and no other
 abbrev pub Wakes : List Grant → List ℕ → List ℕ → Type 0
 Wakes grants old new = (place : ℕ) → Has new place ↔ (Contains (map (λ g. g.place) grants) place ⊎ Has old place)
+
+-- an event's verdicts are offered, and their places are added to a set; nothing came back meanwhile
+pub record CarriesOut (old new : Booked) (woken woken_then : List ℕ) : Type 0 where
+  pub view : new.view ≡ with_offers old.view (grants_in new.history (added old.history new.history))
+  pub wakes : Wakes (grants_in new.history (added old.history new.history)) woken woken_then

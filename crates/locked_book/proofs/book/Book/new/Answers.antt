@@ -1,0 +1,16 @@
+use Rattle.std.proofs.Common.{[], ap, sym, ◌∙◌, subst}
+use Rattle.dispatch_log.specs.Histories.{History, first_window}
+use Rattle.grant_board.specs.Views.{Terms, KeeperView}
+use Rattle.grant_board.specs.KeeperCalls.{Keeper, new_keeper}
+use Rattle.outstanding.specs.Books.{terms_of, IsBook}
+use Rattle.locked_book.proofs.Events.{first_book}
+use Rattle.locked_book.specs.Books.{IsKeptBook}
+use Rattle.locked_book.proofs.book.Book.new.Goals as goal
+
+pub invariant_of-result : goal.invariant_of-result
+invariant_of-result g c =
+    subst (IsKeptBook g.N.BoardName.board g.N.BoardName.terms c.args.core) (sym c.new.ensures) (record {
+      named = c.requires.board;
+      of_terms = ap (λ (v : KeeperView). v.terms) c.requires.seat;
+      book = subst (λ (v : KeeperView). IsBook c.args.core v) (sym (c.requires.seat ∙ ap new_keeper c.requires.terms)) (subst (λ (h : History). IsBook h (new_keeper (terms_of c.args.core.setup))) (sym c.requires.first) (first_book c.args.core.setup));
+    })

@@ -46,12 +46,12 @@ all_paid h view (e ∷ es) is = by_verdict (verdict_in e) refl (λ v owing. all_
         let g = grant (place_in it.0 (state_of h).rows) it.0 it.1 in
         let same : grants_in h (e ∷ es) ≡ g ∷ grants_in h es = ap (λ (o : Option (ℕ × Verdict)). grants_of (state_of h).rows (cons_option o (verdicts es))) told in
         let one : with_offers (offer_after view g) (grants_in h es) ≡ with_offers view (g ∷ grants_in h es) =
-            ap (λ l. record view { out = l; offers = (view.offers ++ g ∷ []) ++ grants_in h es }) (append_assoc view.out (g ∷ []) (grants_in h es))
-            ∙ ap (λ l. record view { out = view.out ++ g ∷ grants_in h es; offers = l }) (append_assoc view.offers (g ∷ []) (grants_in h es)) in
+        ap (λ l. record view { out = l; offers = (view.offers ++ g ∷ []) ++ grants_in h es }) (append_assoc view.out (g ∷ []) (grants_in h es))
+        ∙ ap (λ l. record view { out = view.out ++ g ∷ grants_in h es; offers = l }) (append_assoc view.offers (g ∷ []) (grants_in h es)) in
         subst (IsBook h) (one ∙ ap (with_offers view) (sym same)) (rest (offer_after view g) (offered h view e es it (place_in it.0 (state_of h).rows) is told refl))
 
 -- entries that are no events set no limit
-limits_kept : (setup : Setup) (s : State) (es : List Entry) → All (λ e. begins_event e ≡ false) es → (after_all setup s es).limits ≡ s.limits
+pub limits_kept : (setup : Setup) (s : State) (es : List Entry) → All (λ e. begins_event e ≡ false) es → (after_all setup s es).limits ≡ s.limits
 limits_kept setup s [] none = refl
 limits_kept setup s (e ∷ es) none = limits_kept setup (after setup s e) es (All-tail (λ x. begins_event x ≡ false) e es none) ∙ by_entry e (All-head (λ x. begins_event x ≡ false) e es none)
   where
@@ -78,7 +78,7 @@ pub plain_owes : (h new : History) (view : KeeperView) (e : Entry) → IsLegal h
 plain_owes h new view e legal is plain adds =
     subst (IsOwing new view) (sym (added_is h new e adds))
     (owes h new view view.bounds e legal is (by_event e plain) adds (by_ending e plain) (λ weight. by_back weight e plain)
-        (is.bounds ∙ ap (map bound_by) (sym (sets_none h new e adds (by_limits e plain)))))
+    (is.bounds ∙ ap (map bound_by) (sym (sets_none h new e adds (by_limits e plain)))))
   where
     by_event : (x : Entry) → is_plain x ≡ true → begins_event x ≡ true
     by_event (Arrive m a) p = refl
@@ -116,9 +116,9 @@ pub carried : (old : Booked) (h new : History) (first now : Keeper) (woken woken
 carried old h new first now woken woken_then from same long offers wakes =
     let at : from ≡ length old.history.log = long ∙ ap (λ (b : Booked). length b.history.log) same in
     record {
-  view = ap (λ (k : Keeper). k.view) offers ∙ ap (λ (v : KeeperView). with_offers v (grants_in new (drop from new.log))) (ap (λ (b : Booked). b.view) same) ∙ ap (λ n. with_offers old.view (grants_in new (drop n new.log))) at;
-  wakes = subst (λ n. Wakes (grants_in new (drop n new.log)) woken woken_then) at wakes;
-}
+      view = ap (λ (k : Keeper). k.view) offers ∙ ap (λ (v : KeeperView). with_offers v (grants_in new (drop from new.log))) (ap (λ (b : Booked). b.view) same) ∙ ap (λ n. with_offers old.view (grants_in new (drop n new.log))) at;
+      wakes = subst (λ n. Wakes (grants_in new (drop n new.log)) woken woken_then) at wakes;
+    }
 
 -- a first book
 opening_bounds : (servers : List ServerSet) → map (λ (it : ServerSet). it.limit) servers ≡ map bound_by (opening_limits servers)

@@ -1,3 +1,4 @@
 pub mod Busying
 pub mod Paying
 pub mod Events
+pub mod Ends

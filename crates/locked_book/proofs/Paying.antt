@@ -47,7 +47,7 @@ module _ (h : History) (first : Keeper) (before : List ℕ) (all : List Entry) (
   pays it place next now_woken told at offers wakes =
       let g = grant place it.0 it.1 in
       let same : grants_in h (e ∷ rest) ≡ g ∷ grants_in h rest =
-          ap (λ (o : Option (ℕ × Verdict)). grants_of (state_of h).rows (cons_option o (verdicts rest))) told ∙ ap (λ p. grant p it.0 it.1 ∷ grants_in h rest) at in
+      ap (λ (o : Option (ℕ × Verdict)). grants_of (state_of h).rows (cons_option o (verdicts rest))) told ∙ ap (λ p. grant p it.0 it.1 ∷ grants_in h rest) at in
       let view : next.view ≡ offer_after now.view g = ap (λ (k : Keeper). k.view) offers in
       record {
         owing = subst (λ (v : KeeperView). IsOwing h v rest) (sym view) (offered h now.view e rest it place is.owing told at);
@@ -80,7 +80,7 @@ module _ (h : History) (first : Keeper) (before : List ℕ) (all : List Entry) (
 pub paid_view : (h : History) (first : Keeper) (before : List ℕ) (all : List Entry) (now : Keeper) (woken : List ℕ) → IsPaying h first before all now woken [] → now ≡ record first { view = with_offers first.view (grants_in h all) }
 paid_view h first before all now woken is =
     let whole : with_offers now.view [] ≡ now.view =
-        ap (λ l. record now.view { out = l; offers = now.view.offers ++ [] }) (append-nil now.view.out) ∙ ap (λ l. record now.view { offers = l }) (append-nil now.view.offers) in
+    ap (λ l. record now.view { out = l; offers = now.view.offers ++ [] }) (append-nil now.view.out) ∙ ap (λ l. record now.view { offers = l }) (append-nil now.view.offers) in
     ap (λ v. record now { view = v }) (sym whole ∙ is.offers) ∙ ap (λ b. record { board = b; view = with_offers first.view (grants_in h all) }) is.board
 
 pub paid_woken : (h : History) (first : Keeper) (before : List ℕ) (all : List Entry) (now : Keeper) (woken : List ℕ) → IsPaying h first before all now woken [] → Wakes (grants_in h all) before woken

@@ -1,10 +1,16 @@
-ghost use Rattle.std.specs.Prelude.{◌≡◌, ◌≤◌, ◌↔◌, [], length, IfOk, IfErr, OnOk, OnErr, IsTrue, Some, pos, ◌+ℤ◌};
-ghost use Rattle.dispatch_log.specs.declared.entry.Entry.TheVariants.{Arrive, Abort, Tick, Check};
-ghost use Rattle.dispatch_log.specs.Histories.{first_window, effective, refuses_arrival, refuses_abort, refuses_tick, refuses_check, SomeExpires, RefusedOrNoMemory};
+ghost use Rattle.std.specs.Prelude.{◌≡◌, ◌<◌, ◌≤◌, ◌↔◌, [], length, IfSome, IfNone, IfOk, IfErr, OnOk, OnErr, IsTrue, Some, pos, ◌+ℤ◌};
+ghost use Rattle.dispatch_log.specs.declared.entry.Entry.TheVariants.{Arrive, Abort, Tick, Check, Limit};
+ghost use Rattle.dispatch_log.specs.declared.refusal.Refusal.TheVariants.{LogFull};
+ghost use Rattle.dispatch_log.specs.Dispatch.{bound_by};
+ghost use Rattle.dispatch_log.specs.Rows.{served};
+ghost use Rattle.list_facts.specs.Weights.{AreIn};
+ghost use Rattle.outstanding.specs.Outstanding.{outstanding};
+ghost use Rattle.locked_book.specs.Ends.{IsAcceptable};
+ghost use Rattle.dispatch_log.specs.Histories.{first_window, next_window, state_of, effective, refuses_arrival, refuses_abort, refuses_tick, refuses_check, refuses_limit, SomeExpires, RefusedOrNoMemory};
 ghost use Rattle.dispatch_log.specs.Legal.{AddsEvent, IsLegal};
-ghost use Rattle.grant_board.specs.KeeperCalls.{new_keeper, Vouches};
+ghost use Rattle.grant_board.specs.KeeperCalls.{new_keeper, FindsUnposted, Vouches};
 ghost use Rattle.outstanding.specs.Books.{terms_of, IsBook};
-ghost use Rattle.outstanding.specs.Calls.{CarriesOut};
+ghost use Rattle.outstanding.specs.Calls.{event_of, CarriesOut, TakesBack, SetsBound};
 
 use crate::keeping::Keeping;
 use crate::offering::offer_from;
@@ -12,11 +18,12 @@ use dispatch_core::Core;
 use dispatch_log::Refusal;
 use dispatch_trace::Ticketed;
 use due_key::{Class, Key, Moment, Offset};
-use grant_board::{Board, BoardName, KeeperSeat, RelaySeat};
+use grant_board::{Board, BoardName, KeeperSeat, RelaySeat, Return};
 use pend_queue::PendQueue;
 use place_set::PlaceSet;
 use std::alloc::Global;
 use std::marker::{Model, PhantomData};
+use verdict::Ending;
 
 /// A dispatcher beside the keeper's seat of the board that N names. Each call makes the dispatcher's event and then offers the verdicts that
 /// followed, so that between calls what is out at the board is what is outstanding of the log. The places of the offers that a call
@@ -146,4 +153,108 @@ impl<Q: PendQueue<Key, usize>, N: BoardName> Book<Q, N> {
         offer_from(&self.core, &mut self.keeping, board, from, woken);
         Ok(())
     }
+
+    /// What came back from a place becomes the dispatcher's event. `None` where nothing is posted there. Refused where the log is full,
+    /// which is asked first: the return then stays on the board.
+    pub fn collect_at(
+        &mut self,
+        board: &Board,
+        moment: Moment,
+        place: usize,
+        woken: &mut PlaceSet,
+    ) -> Result<Option<Return>, Refusal>
+        requires board { board.now ≡ N.board }
+        requires in_range { place < N.terms.places }
+        ensures some { IfOk result (λ found. IfSome found (λ back. TakesBack self.old self.new place (effective self.old.history moment) back woken.old woken.new)) }
+        ensures none { IfOk result (λ found. IfNone found ((self.new.history ≡ self.old.history) × FindsUnposted self.old.view self.new.view place × (woken.new ≡ woken.old))) }
+        ensures err { IfErr result (λ refusal. (refusal ≡ LogFull) × (refuses_tick self.old.history ≡ Some LogFull)) }
+        ensures unchanged { OnErr result ((self.new ≡ self.old) × (woken.new ≡ woken.old)) }
+    {
+        if !self.core.has_room() {
+            return Err(Refusal::LogFull);
+        }
+        let Some(back) = self.keeping.collect(board, place) else {
+            return Ok(None);
+        };
+        let from = self.core.log().len();
+        note_end(&mut self.core, moment, back);
+        offer_from(&self.core, &mut self.keeping, board, from, woken);
+        Ok(Some(back))
+    }
+
+    /// A server's limit is set: the event, then the server's bound at the board, then the offers. No request that is out is called back. Refused as
+    /// the dispatcher's `limit`.
+    pub fn limit(
+        &mut self,
+        board: &Board,
+        moment: Moment,
+        server: usize,
+        limit: u32,
+        woken: &mut PlaceSet,
+    ) -> Result<(), Refusal>
+        requires { board.now ≡ N.board }
+        ensures ok { OnOk result (AddsEvent self.old.history self.new.history (Limit (effective self.old.history moment) server limit)) }
+        ensures err { IfErr result (λ refusal. refuses_limit self.old.history server ≡ Some refusal) }
+        ensures bound { OnOk result (SetsBound self.old self.new server (bound_by (record { limit = limit; served = served server (state_of self.old.history).rows })) woken.old woken.new) }
+        ensures unchanged { OnErr result ((self.new ≡ self.old) × (woken.new ≡ woken.old)) }
+    {
+        let from = self.core.log().len();
+        // No more are served than there are places.
+        let served = self.core.served(server).min(self.core.places());
+        self.core.limit(moment, server, limit)?;
+        self.keeping.limit(board, server, bound_of(limit, served));
+        offer_from(&self.core, &mut self.keeping, board, from, woken);
+        Ok(())
+    }
+
+    /// Begins the next window of the log. The board doesn't change.
+    pub fn roll(&mut self)
+        ensures { self.new ≡ record self.old { history = next_window self.old.history } }
+    {
+        self.core.roll();
+    }
+
+    /// The relay's seat as it was, and how many passes it has, each of which is outstanding.
+    pub fn vouch(&mut self, board: &Board, relay: RelaySeat) -> (RelaySeat, u64)
+        requires board { board.now ≡ N.board }
+        requires relay_board { relay.board ≡ board.now }
+        ensures back { result.0 ≡ relay }
+        ensures count { result.1 ≡ length relay.view.passes }
+        ensures outstanding { AreIn relay.view.passes (outstanding (state_of self.new.history).rows) }
+        ensures history { self.new.history ≡ self.old.history }
+        ensures vouched { Vouches self.old.view self.new.view relay.view.passes }
+    {
+        self.keeping.vouch(board, relay)
+    }
+
+    /// Whether a tick at this moment would tell a timeout. `O(1)`.
+    pub fn expired(&self, moment: Moment) -> bool
+        ensures { IsTrue result ↔ SomeExpires self.now.history moment }
+    {
+        self.core.expired(moment)
+    }
+}
+
+// The bound of a server that serves so many when its limit is set; 0: none.
+fn bound_of(limit: u32, served: usize) -> u32
+    requires { served ≤ 4096 }
+    ensures { result ≡ bound_by (record { limit = limit; served = served }) }
+{
+    if limit == 0 {
+        0
+    } else {
+        limit.max(served.min(4096) as u32)
+    }
+}
+
+// A return becomes its event.
+fn note_end<Q: PendQueue<Key, usize>>(core: &mut Core<Q>, moment: Moment, back: Return)
+    requires { IsAcceptable core.old back }
+    ensures { AddsEvent core.old core.new (event_of (effective core.old moment) back) }
+{
+    let noted = match back.ending {
+        Ending::Done => core.done(moment, back.ticket),
+        Ending::Failed => core.failed(moment, back.ticket),
+    };
+    let Ok(()) = noted else { unreachable!() };
 }

@@ -7,4 +7,3 @@ mod keeping;
 mod offering;
 
 pub use book::{Book, Wanted};
-

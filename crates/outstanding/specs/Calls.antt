@@ -1,9 +1,15 @@
 -- What a call on a dispatcher beside a board's keeper leaves.
 use Rattle.std.specs.Prelude.{◌≡◌, ◌⊎◌, ◌↔◌, ℕ, List, ◌++◌, Contains, drop, length, map}
+use Rattle.verdict.specs.declared.Ending.{Ending}
+use Rattle.verdict.specs.declared.Ending.TheVariants as ending
+use Rattle.grant_board.specs.declared.returned.Return.{Return}
 use Rattle.grant_board.specs.Views.{Grant, KeeperView}
+use Rattle.grant_board.specs.KeeperCalls.{Collects, limit_after}
 use Rattle.place_set.specs.Sets.{Has}
 use Rattle.dispatch_log.specs.declared.entry.Entry.{Entry}
+use Rattle.dispatch_log.specs.declared.entry.Entry.TheVariants.{Done, Fail}
 use Rattle.dispatch_log.specs.Histories.{History, state_of}
+use Rattle.dispatch_log.specs.Legal.{AddsEvent}
 use Rattle.outstanding.specs.Outstanding.{grants_of}
 use Rattle.outstanding.specs.Verdicts.{verdicts}
 
@@ -31,4 +37,25 @@ Wakes grants old new = (place : ℕ) → Has new place ↔ (Contains (map (λ g.
 -- an event's verdicts are offered, and their places are added to a set; nothing came back meanwhile
 pub record CarriesOut (old new : Booked) (woken woken_then : List ℕ) : Type 0 where
   pub view : new.view ≡ with_offers old.view (grants_in new.history (added old.history new.history))
+  pub wakes : Wakes (grants_in new.history (added old.history new.history)) woken woken_then
+
+-- the event that a return is: its exchange is over, or its connection failed
+abbrev pub ended_by : Ending → ℕ → ℕ → Entry
+ended_by ending.Done moment ticket = Done moment ticket
+ended_by ending.Failed moment ticket = Fail moment ticket
+
+abbrev pub event_of : ℕ → Return → Entry
+event_of moment back = ended_by back.ending moment back.ticket
+
+-- a return was collected at a place and is the next event, whose verdicts are offered
+pub record TakesBack (old new : Booked) (place moment : ℕ) (back : Return) (woken woken_then : List ℕ) : Type 0 where
+  pub between : KeeperView
+  pub collects : Collects old.view between place back
+  pub event : AddsEvent old.history new.history (event_of moment back)
+  pub view : new.view ≡ with_offers between (grants_in new.history (added old.history new.history))
+  pub wakes : Wakes (grants_in new.history (added old.history new.history)) woken woken_then
+
+-- a server's bound is set, and then an event's verdicts are offered
+pub record SetsBound (old new : Booked) (server bound : ℕ) (woken woken_then : List ℕ) : Type 0 where
+  pub view : new.view ≡ with_offers (limit_after old.view server bound) (grants_in new.history (added old.history new.history))
   pub wakes : Wakes (grants_in new.history (added old.history new.history)) woken woken_then

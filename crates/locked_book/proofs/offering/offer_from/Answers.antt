@@ -48,7 +48,7 @@ loop-number-preserved-in_default g c =
     let e = c.index-entries-number.result in
     passes c.args.core.now c.args.keeping.now c.args.woken.now (drop c.args.from c.args.core.now.log) c.loop-number.keeping c.loop-number.woken e (drop (c.loop-number.number + 1) c.args.core.now.log)
     (at_entry c.args.core.now c.args.keeping.now c.loop-number.keeping c.args.woken.now c.loop-number.woken (drop c.args.from c.args.core.now.log) c.entries-entries.result.now c.loop-number.number e
-        (c.entries-entries.ensures.entries ∙ c.log.ensures.entries) c.loop-number.invariant c.loop-number-test.true c.index-entries-number.is)
+    (c.entries-entries.ensures.entries ∙ c.log.ensures.entries) c.loop-number.invariant c.loop-number-test.true c.index-entries-number.is)
     (sym c.in_default.ensures)
 
 pub unreachable-requires : goal.unreachable-requires
@@ -56,7 +56,7 @@ unreachable-requires g c =
     let e = c.index-entries-number.result in
     not_missing c.args.core.now c.args.keeping.now c.loop-number.keeping c.args.woken.now c.loop-number.woken (drop c.args.from c.args.core.now.log) (drop (c.loop-number.number + 1) c.args.core.now.log) e c.in-Some.told c.log.ensures.legal
     (at_entry c.args.core.now c.args.keeping.now c.loop-number.keeping c.args.woken.now c.loop-number.woken (drop c.args.from c.args.core.now.log) c.entries-entries.result.now c.loop-number.number e
-        (c.entries-entries.ensures.entries ∙ c.log.ensures.entries) c.loop-number.invariant c.loop-number-test.true c.index-entries-number.is)
+    (c.entries-entries.ensures.entries ∙ c.log.ensures.entries) c.loop-number.invariant c.loop-number-test.true c.index-entries-number.is)
     (sym c.in-Some.ensures) c.in_default-place.ensures
 
 pub offer-requires-clause-same_board : goal.offer-requires-clause-same_board
@@ -69,7 +69,7 @@ may g c =
     found_may c.args.core.now c.args.keeping.now c.loop-number.keeping c.args.woken.now c.loop-number.woken (drop c.args.from c.args.core.now.log) (drop (c.loop-number.number + 1) c.args.core.now.log) e c.in-Some.told c.in-Some-place.place
     c.log.ensures.legal
     (at_entry c.args.core.now c.args.keeping.now c.loop-number.keeping c.args.woken.now c.loop-number.woken (drop c.args.from c.args.core.now.log) c.entries-entries.result.now c.loop-number.number e
-        (c.entries-entries.ensures.entries ∙ c.log.ensures.entries) c.loop-number.invariant c.loop-number-test.true c.index-entries-number.is)
+    (c.entries-entries.ensures.entries ∙ c.log.ensures.entries) c.loop-number.invariant c.loop-number-test.true c.index-entries-number.is)
     (sym c.in-Some.ensures) c.in-Some-place.ensures
 
 pub offer-requires-clause-in_range : goal.offer-requires-clause-in_range
@@ -89,7 +89,7 @@ loop-number-preserved g c =
     let e = c.index-entries-number.result in
     pays c.args.core.now c.args.keeping.now c.args.woken.now (drop c.args.from c.args.core.now.log) c.loop-number.keeping c.loop-number.woken e (drop (c.loop-number.number + 1) c.args.core.now.log)
     (at_entry c.args.core.now c.args.keeping.now c.loop-number.keeping c.args.woken.now c.loop-number.woken (drop c.args.from c.args.core.now.log) c.entries-entries.result.now c.loop-number.number e
-        (c.entries-entries.ensures.entries ∙ c.log.ensures.entries) c.loop-number.invariant c.loop-number-test.true c.index-entries-number.is)
+    (c.entries-entries.ensures.entries ∙ c.log.ensures.entries) c.loop-number.invariant c.loop-number-test.true c.index-entries-number.is)
     c.in-Some.told c.in-Some-place.place c.offer.new.self c.offer.new.woken (sym c.in-Some.ensures)
     (found_place c.args.core.now c.loop-number.keeping.view c.in-Some-place.place c.in-Some.told c.log.ensures.legal c.in-Some-place.ensures) c.offer.ensures.offered c.offer.ensures.woken
 

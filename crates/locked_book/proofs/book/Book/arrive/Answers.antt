@@ -18,7 +18,7 @@ pub invariant_of-self-2 : goal.invariant_of-self-2
 invariant_of-self-2 g c =
     kept_again g.N.BoardName.board g.N.BoardName.terms c.self.inside.core c.arrive.new.self c.self.inside.keeping c.offer_from.new.keeping (drop c.len-from.result c.arrive.new.self.log)
     (subst (λ n. IsOwing c.arrive.new.self c.self.inside.keeping.view (drop n c.arrive.new.self.log)) (sym (c.len-from.ensures ∙ ap length c.log.ensures.entries))
-        (plain_owes c.self.inside.core c.arrive.new.self c.self.inside.keeping.view (Arrive (effective c.self.inside.core c.args.moment) (record { ticket = c.in_ok-it.it.ticket; class = c.args.wanted.class; due = pos (effective c.self.inside.core c.args.moment) +ℤ c.args.wanted.offset; pin = c.args.wanted.pin; place = c.in_ok-it.it.place })) c.log.ensures.legal c.self.invariant.book refl c.in_ok-it.ensures.ok))
+    (plain_owes c.self.inside.core c.arrive.new.self c.self.inside.keeping.view (Arrive (effective c.self.inside.core c.args.moment) (record { ticket = c.in_ok-it.it.ticket; class = c.args.wanted.class; due = pos (effective c.self.inside.core c.args.moment) +ℤ c.args.wanted.offset; pin = c.args.wanted.pin; place = c.in_ok-it.it.place })) c.log.ensures.legal c.self.invariant.book refl c.in_ok-it.ensures.ok))
     c.self.invariant.named c.self.invariant.of_terms c.offer_from.ensures.offered
 
 pub returns-clause-carried : goal.returns-clause-carried

@@ -1,10 +1,9 @@
 -- Parts of a body at the front of one input, and what they become.
 use Rattle.std.proofs.Common.{◌≡◌, ◌∙◌, ℕ, ◌<◌, ◌≤◌, Bool, List, [], ◌∷◌, ◌++◌, length, refl, sym, ap, arith, append_assoc, append-nil, subst, inl, inr}
-use Rattle.std.specs.Prelude.{◌⊎◌}
 use Rattle.std.specs.List.{flat_map, AllByRecursion}
 use Rattle.httparse.specs.Ascii.{crlf_bytes}
 use Rattle.httparse.specs.Grammar.{ChunkLine, print_chunk_line, chunk_size}
-use Rattle.relay_body.specs.Bodies.{ChunkedBody, PartOfChunked, last_text, print_chunked, chunked_text}
+use Rattle.relay_body.specs.Bodies.{ChunkedBody, PartOfChunked, last_text, print_chunked}
 use Rattle.relay_body.specs.Bodies.PartOfChunked.{some_chunks, all_of_it}
 use Rattle.relay_body.specs.Chunks.{IsSizeLine, Chunk, IsChunk, print_chunk, chunk_text, size_text, end_text, PartOfData, PartOfChunk}
 use Rattle.relay_body.specs.Chunks.PartOfData.{some_data, whole_data}

@@ -1,3 +1,4 @@
+pub mod ChunkRows
 pub mod Chunking
 pub mod Comparing
 pub mod Emitting

@@ -33,7 +33,7 @@ forwarded_part {r} {used} w =
     subst (λ (l : List ℕ). PartOfForwarded r used l) (sym w.text_is) (request w.framing used w.body w.framed (body_part w.framing true used w.body w.passes))
 
 -- a head at the front of an input is the only one
-same_head : (h k : ResponseHead) (x y : List ℕ) → IsAnswer h → IsAnswer k → print_response h ++ x ≡ print_response k ++ y → (h ≡ k) × (x ≡ y)
+pub same_head : (h k : ResponseHead) (x y : List ℕ) → IsAnswer h → IsAnswer k → print_response h ++ x ≡ print_response k ++ y → (h ≡ k) × (x ≡ y)
 same_head h k x y is other e = response_unique (print_response h ++ x) h k x y (is.reads.0, refl) (other.reads.0, e)
 
 -- what stands behind the heads before an answer: nothing yet, or the answer's own and a part of its body

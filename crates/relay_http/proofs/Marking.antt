@@ -71,7 +71,7 @@ begun_by begun after_begun before after b a wrote is some =
 pub pipe_emptied : (p q : Pipe) → q.inbox ≡ [] → q.outbox ≡ p.outbox → q.turns ≡ p.turns → q ≡ emptied p
 pipe_emptied p q held waiting turns = λ i. record { inbox = held i; outbox = waiting i; turns = turns i }
 
-some_behind : (xs ys : List ℕ) (x : ℕ) → 0 < length (xs ++ x ∷ ys)
+pub some_behind : (xs ys : List ℕ) (x : ℕ) → 0 < length (xs ++ x ∷ ys)
 some_behind xs ys x = omega (arith, length-append xs (x ∷ ys))
 
 -- an answer's text isn't empty

@@ -12,3 +12,5 @@ pub mod Ones
 pub mod Each
 pub mod Front
 pub mod Kept
+pub mod Fronts
+pub mod Windows

@@ -13,7 +13,7 @@ use Rattle.relay_body.specs.Chunks.{Chunk, IsChunk, IsSizeLine, print_chunk, chu
 use Rattle.relay_body.specs.Chunks.PartOfChunk.{line_and_data}
 use Rattle.relay_body.specs.Chunks.PartOfData.{some_data}
 use Rattle.relay_body.specs.Framings.{IsBody, PartOfBody, LacksBody}
-use Rattle.relay_body.specs.Fronts.{IsFront}
+use Rattle.list_facts.specs.Fronts.{IsFront}
 use Rattle.relay_body.specs.Trailers.{IsTrailer, print_trailers}
 use Rattle.relay_body.specs.declared.framing.Framing.TheVariants.{Chunked}
 

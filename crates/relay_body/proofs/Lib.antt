@@ -5,9 +5,7 @@ pub mod Emitting
 pub mod Exits
 pub mod Fronts
 pub mod Lines
-pub mod Lists
 pub mod Rows
 pub mod Stepping
 pub mod Wholes
-pub mod Windows
 pub mod Writing

@@ -19,7 +19,7 @@ use Rattle.relay_http.specs.Messages.BadlyFramed.{no_plan, ninth}
 use Rattle.relay_http.specs.declared.fault.Fault.TheVariants as Faulty
 use Rattle.relay_http.specs.declared.plans.Plan.{Plan}
 use Rattle.relay_http.proofs.Agreeing.{same_head}
-use Rattle.relay_http.proofs.Marking.{some_behind}
+use Rattle.list_facts.proofs.Fronts.{some_behind}
 use Rattle.req_view.specs.Answer.{answer_of}
 use Rattle.req_view.specs.AnswerHeads.{HasNoAnswer}
 

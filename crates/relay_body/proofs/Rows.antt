@@ -1,8 +1,15 @@
 -- The definitions at worked examples: what must hold, and what must not.
-use Rattle.std.proofs.Common.{◌≡◌, [], true, codes, refl, arith}
+use base.Fml.{GName}
+use Rattle.std.proofs.Common.{◌≡◌, ℕ, List, [], length, Some, true, codes, refl, ap, arith, inl, inr}
+use Rattle.counted_io.specs.Streams.{Stream}
 use Rattle.httparse.specs.Grammar.LineEnd.{lf}
 use Rattle.relay_body.specs.Framings.{IsBody, LacksBody}
+use Rattle.relay_body.specs.Lengths.{LacksLength}
+use Rattle.relay_body.specs.Steps.{ends, Blames}
+use Rattle.relay_body.specs.Texts.{Wrote}
+use Rattle.relay_body.specs.declared.fault.Fault.TheVariants.{Read}
 use Rattle.relay_body.specs.declared.framing.Framing.TheVariants.{Length, ToEnd}
+use Rattle.relay_body.specs.declared.pipe.Pipe.{Pipe}
 use Rattle.relay_body.specs.Trailers.{print_trailers, IsTrailer}
 
 -- an empty line that ends in a line feed alone ends the trailers
@@ -28,3 +35,23 @@ three_lack_none lacks = omega (arith, lacks)
 -- what goes on to the end lacks nothing
 empty_is_whole : ¬ (LacksBody ToEnd [])
 empty_is_whole lacks = lacks
+
+stream : GName → List ℕ → ℕ → Stream
+stream end bytes calls = record { name = end; bytes = Some bytes; calls = calls; failures = 0 }
+
+-- two bytes went out by one write
+one_write : (end : GName) → Wrote (stream end [] 0) (stream end (codes "ab") 1) (codes "ab")
+unfolding stream
+one_write end = record { bytes = refl; more = omega arith; some = omega arith; none = λ e. absurd (omega (arith, e)) }
+
+-- one byte isn't what two writes took, since each takes one at least
+not_two_writes : (end : GName) → ¬ (Wrote (stream end [] 0) (stream end (codes "a") 2) (codes "a"))
+unfolding stream
+not_two_writes end wrote = omega (arith, wrote.some)
+
+-- it's no read fault where no read failed and the input goes on
+not_at_its_end : (end : GName) (pipe : Pipe) (w : Stream) (input : List ℕ)
+    → ¬ (Blames (ends pipe (stream end (codes "ab") 0) w) (ends pipe (stream end (codes "b") 1) w) (LacksLength 3) input Read)
+unfolding stream
+not_at_its_end end pipe w input (same, inl failed) = omega (arith, failed)
+not_at_its_end end pipe w input (same, inr (none, at_end, lacks)) = omega (arith, ap (length {A = ℕ}) at_end)

@@ -4,12 +4,16 @@
 //! memory to memory.
 #![tactic(auto)]
 
+ghost use Rattle.relay_http.specs.States.{Serves};
+
 use anyhow::{Result, bail};
+use grant_board::{Board, Pass, Taking};
 use relay_http::Exchange;
 use std::alloc::Global;
 use std::env;
 use std::io::{Read, Write};
 use std::net::TcpStream;
+use verdict::{Ending, Verdict};
 
 const TURNS: u64 = 1_000_000_000;
 
@@ -28,35 +32,60 @@ fn main(rt: HostRuntime) -> Result<()> {
                 ANSWER
             };
             let mut written = Vec::new(alloc);
-            pass(alloc, what.as_str(), &mut message, &mut written)?;
+            hand_on(alloc, what.as_str(), &mut message, &mut written)?;
             println!(rt; "{}", written.len())?;
         }
         [_, what, from, to] => {
             let mut reader = TcpStream::connect(&rt, from.as_str())?;
             let mut writer = TcpStream::connect(&rt, to.as_str())?;
-            pass(alloc, what.as_str(), &mut reader, &mut writer)?;
+            hand_on(alloc, what.as_str(), &mut reader, &mut writer)?;
         }
         _ => bail!("forward or answer, and two addresses"),
     }
     Ok(())
 }
 
-fn pass<R: Read, W: Write>(
+// Hands a message on, on a pass that is posted then.
+fn hand_on<R: Read, W: Write>(
     alloc: Global,
     what: &str,
     reader: &mut R,
     writer: &mut W,
 ) -> Result<()> {
+    let (board, mut keeper, mut seat) = Board::open(alloc, 1, &[1])?;
+    keeper.offer(&board, 0, 1, Verdict::Serve(0));
+    match seat.try_take(&board, 0, 1) {
+        Taking::Taken(pass) => {
+            let done = match pass.verdict() {
+                Verdict::Serve(_) => serve(alloc, &pass, what, reader, writer),
+                Verdict::Told(_) => Ok(()),
+            };
+            seat.post(&board, pass, Ending::Done);
+            done
+        }
+        Taking::NotYet => bail!("no pass"),
+    }
+}
+
+fn serve<R: Read, W: Write>(
+    alloc: Global,
+    pass: &Pass,
+    what: &str,
+    reader: &mut R,
+    writer: &mut W,
+) -> Result<()>
+    requires { Serves pass.now.verdict }
+{
     let mut exchange = Exchange::new(alloc, TURNS)?;
     if what == "forward" {
         let view = exchange.read_request(alloc, reader)?;
-        exchange.forward(&view, reader, writer)?;
+        exchange.forward(pass, &view, reader, writer)?;
         return Ok(());
     }
     let mut request = REQUEST;
     let mut server = Vec::new(alloc);
     let view = exchange.read_request(alloc, &mut request)?;
-    exchange.forward(&view, &mut request, &mut server)?;
-    exchange.answer(alloc, &view, reader, writer)?;
+    exchange.forward(pass, &view, &mut request, &mut server)?;
+    exchange.answer(alloc, pass, &view, reader, writer)?;
     Ok(())
 }

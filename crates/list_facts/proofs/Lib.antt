@@ -11,3 +11,6 @@ pub mod Totals
 pub mod Ones
 pub mod Each
 pub mod Front
+pub mod Kept
+pub mod Fronts
+pub mod Windows

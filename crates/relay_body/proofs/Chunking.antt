@@ -5,7 +5,7 @@ use Rattle.httparse.specs.Grammar.{ChunkLine, print_chunk_line, chunk_size}
 use Rattle.httparse.proofs.ChunkLemmas.{chunk_line_unique}
 use Rattle.relay_body.specs.Lengths.{LacksLength}
 use Rattle.relay_body.specs.Chunks.{IsSizeLine, LacksSizeLine, LacksFront, LacksData, LacksChunk}
-use Rattle.relay_body.proofs.Lists.{same_behind}
+use Rattle.list_facts.proofs.Fronts.{same_behind}
 
 pub lacks_end : (l : List ℕ) → LacksFront (10 ∷ []) l → LacksFront crlf_bytes (13 ∷ l)
 lacks_end l lacks rest e = let same : l ≡ 10 ∷ rest = cc in lacks rest same

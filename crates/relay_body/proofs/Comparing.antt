@@ -1,83 +1,20 @@
 -- Parts of a body at the front of one input, and what they become.
 use Rattle.std.proofs.Common.{◌≡◌, ◌∙◌, ℕ, ◌<◌, ◌≤◌, Bool, List, [], ◌∷◌, ◌++◌, length, refl, sym, ap, arith, append_assoc, append-nil, subst, inl, inr}
-use Rattle.std.specs.Prelude.{◌⊎◌}
 use Rattle.std.specs.List.{flat_map, AllByRecursion}
 use Rattle.httparse.specs.Ascii.{crlf_bytes}
 use Rattle.httparse.specs.Grammar.{ChunkLine, print_chunk_line, chunk_size}
-use Rattle.relay_body.specs.Bodies.{ChunkedBody, PartOfChunked, last_text, print_chunked, chunked_text}
+use Rattle.list_facts.specs.Fronts.{IsFront, AreComparable}
+use Rattle.list_facts.proofs.Fronts.{front_more, front_under, front_nil, front_same, front_as, under, comparable_as, two_fronts, short_front, same_front, same_behind}
+use Rattle.relay_body.specs.Bodies.{ChunkedBody, PartOfChunked, last_text, print_chunked}
 use Rattle.relay_body.specs.Bodies.PartOfChunked.{some_chunks, all_of_it}
 use Rattle.relay_body.specs.Chunks.{IsSizeLine, Chunk, IsChunk, print_chunk, chunk_text, size_text, end_text, PartOfData, PartOfChunk}
 use Rattle.relay_body.specs.Chunks.PartOfData.{some_data, whole_data}
 use Rattle.relay_body.specs.Chunks.PartOfChunk.{nothing, line_and_data}
 use Rattle.relay_body.specs.Framings.{PartOfBody}
-use Rattle.relay_body.specs.Fronts.{IsFront, AreComparable}
 use Rattle.relay_body.specs.Trailers.{print_trailers}
 use Rattle.relay_body.specs.declared.framing.Framing.{Framing}
 use Rattle.relay_body.specs.declared.framing.Framing.TheVariants.{Empty, Length, Chunked, ToEnd}
 use Rattle.relay_body.proofs.Chunking.{only_line}
-use Rattle.relay_body.proofs.Lists.{same_behind}
-
-pub front_more : {a b : List ℕ} (more : List ℕ) → IsFront a b → IsFront a (b ++ more)
-front_more {a} {b} more f = record { rest = f.rest ++ more; is = ap (λ l. l ++ more) f.is ∙ append_assoc a f.rest more }
-
-pub front_under : (p : List ℕ) {a b : List ℕ} → IsFront a b → IsFront (p ++ a) (p ++ b)
-front_under p {a} {b} f = record { rest = f.rest; is = ap (λ l. p ++ l) f.is ∙ sym (append_assoc p a f.rest) }
-
-pub front_cons : {x y : ℕ} {a b : List ℕ} → x ≡ y → IsFront a b → IsFront (x ∷ a) (y ∷ b)
-front_cons e f = record { rest = f.rest; is = λ i. sym e i ∷ f.is i }
-
-pub front_nil : (b : List ℕ) → IsFront [] b
-front_nil b = record { rest = b; is = refl }
-
-pub front_same : (a : List ℕ) → IsFront a a
-front_same a = record { rest = []; is = sym (append-nil a) }
-
-pub front_as : {a b c d : List ℕ} → a ≡ c → b ≡ d → IsFront a b → IsFront c d
-front_as {a} {b} {c} e f x = subst (λ (l : List ℕ). IsFront c l) f (subst (λ (l : List ℕ). IsFront l b) e x)
-
-pub swap : {a b : List ℕ} → AreComparable a b → AreComparable b a
-swap (inl f) = inr f
-swap (inr f) = inl f
-
-pub under : (p : List ℕ) {a b : List ℕ} → AreComparable a b → AreComparable (p ++ a) (p ++ b)
-under p (inl f) = inl (front_under p f)
-under p (inr f) = inr (front_under p f)
-
-pub comparable_as : {a b c d : List ℕ} → a ≡ c → b ≡ d → AreComparable a b → AreComparable c d
-comparable_as e f (inl x) = inl (front_as e f x)
-comparable_as e f (inr x) = inr (front_as f e x)
-
-cons_both : {x y : ℕ} {a b : List ℕ} → x ≡ y → AreComparable a b → AreComparable (x ∷ a) (y ∷ b)
-cons_both e (inl f) = inl (front_cons e f)
-cons_both e (inr f) = inr (front_cons (sym e) f)
-
--- two fronts of one list
-pub two_fronts : (a b x y : List ℕ) → a ++ x ≡ b ++ y → AreComparable a b
-two_fronts [] b x y e = inl (front_nil b)
-two_fronts (c ∷ a) [] x y e = inr (front_nil (c ∷ a))
-two_fronts (c ∷ a) (d ∷ b) x y e =
-    let head : c ≡ d = cc in
-    let tail : a ++ x ≡ b ++ y = cc in
-    cons_both head (two_fronts a b x y tail)
-
--- the shorter is a front of the longer
-short_front : (a b x y : List ℕ) → a ++ x ≡ b ++ y → length a ≤ length b → IsFront a b
-short_front [] b x y e short = front_nil b
-short_front (c ∷ a) [] x y e short = absurd (omega (arith, short))
-short_front (c ∷ a) (d ∷ b) x y e short =
-    let head : c ≡ d = cc in
-    let tail : a ++ x ≡ b ++ y = cc in
-    front_cons head (short_front a b x y tail (omega (arith, short)))
-
-same_front : (a b x y : List ℕ) → a ++ x ≡ b ++ y → length a ≡ length b → a ≡ b
-same_front [] [] x y e len = refl
-same_front [] (d ∷ b) x y e len = absurd (omega (arith, len))
-same_front (c ∷ a) [] x y e len = absurd (omega (arith, len))
-same_front (c ∷ a) (d ∷ b) x y e len =
-    let head : c ≡ d = cc in
-    let tail : a ++ x ≡ b ++ y = cc in
-    let rest = same_front a b x y tail (omega (arith, len)) in
-    λ i. head i ∷ rest i
 
 -- of the data behind a size line, each part is a front of the whole
 data_front : {framed : Bool} (size : ℕ) {used text : List ℕ} (body x y : List ℕ) → PartOfData framed size used text → length body ≡ size

@@ -2,18 +2,9 @@
 use Rattle.std.proofs.Common.{◌≡◌, ◌∙◌, ℕ, ◌+◌, ◌-◌, ◌<◌, ◌≤◌, List, [], ◌∷◌, ◌++◌, length, get_or, take, drop, sym, ap, arith, append_assoc}
 use Rattle.std.proofs.Math.Seq.{take-append-add}
 use Rattle.std.proofs.lemmas.List.{take-append-drop, take-append-le}
+use Rattle.list_facts.proofs.Fronts.{take_front, take_then}
 use Rattle.httparse.specs.Grammar.{ChunkLine, print_chunk_line, HasNoChunkLine, NeverHasChunkLine}
 use Rattle.relay_body.specs.Chunks.{LacksSizeLine}
-
--- a text of at most n bytes at the front stands in the first n
-take_front : (n : ℕ) (input text rest : List ℕ) → input ≡ text ++ rest → length text ≤ n → take n input ≡ text ++ take (n - length text) rest
-take_front n input text rest e short =
-    let sum : n ≡ length text + (n - length text) = omega arith in
-    ap (take n) e ∙ ap (λ m. take m (text ++ rest)) sum ∙ take-append-add text rest (n - length text)
-
--- the first n bytes, and then all that follows
-take_then : (n : ℕ) (held more : List ℕ) → held ++ more ≡ take n held ++ (drop n held ++ more)
-take_then n held more = ap (λ l. l ++ more) (sym (take-append-drop n held)) ∙ append_assoc (take n held) (drop n held) more
 
 -- a line in the first bytes is one of all
 pub line_whole : (n : ℕ) (held : List ℕ) (l : ChunkLine) (rest : List ℕ) → take n held ≡ print_chunk_line l ++ rest → held ≡ print_chunk_line l ++ (rest ++ drop n held)

@@ -1,12 +1,11 @@
+pub mod ChunkRows
 pub mod Chunking
 pub mod Comparing
 pub mod Emitting
 pub mod Exits
 pub mod Fronts
 pub mod Lines
-pub mod Lists
 pub mod Rows
 pub mod Stepping
 pub mod Wholes
-pub mod Windows
 pub mod Writing

@@ -7,7 +7,7 @@ use Rattle.relay_body.specs.Bodies.{LacksChunked}
 use Rattle.relay_body.specs.Chunks.{IsSizeLine, Chunk, IsChunk, print_chunk, LacksChunk}
 use Rattle.relay_body.specs.Trailers.{Trailers, print_trailers, AreTrailers, LacksTrailers}
 use Rattle.relay_body.proofs.Chunking.{only_line}
-use Rattle.relay_body.proofs.Lists.{same_behind}
+use Rattle.list_facts.proofs.Fronts.{same_behind}
 
 pub chunk_some : (c : Chunk) → IsChunk c → 0 < length (print_chunk c)
 chunk_some c is =

@@ -1,7 +1,6 @@
 pub mod Bodies
 pub mod Chunks
 pub mod Framings
-pub mod Fronts
 pub mod Lengths
 pub mod Steps
 pub mod Texts

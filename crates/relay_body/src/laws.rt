@@ -1,6 +1,6 @@
 ghost use Rattle.std.specs.Prelude.{◌≡◌, ◌++◌, ℕ, List, Bool};
 ghost use Rattle.relay_body.specs.Framings.{PartOfBody};
-ghost use Rattle.relay_body.specs.Fronts.{AreComparable};
+ghost use Rattle.list_facts.specs.Fronts.{AreComparable};
 
 use crate::framing::Framing;
 

@@ -3,10 +3,11 @@ use Rattle.std.proofs.Common.{◌≡◌, ◌∙◌, ℕ, Bool, true, false, List
 use Rattle.std.specs.List.{AllByRecursion}
 use Rattle.httparse.specs.Grammar.{ResponseHead, print_response}
 use Rattle.httparse.proofs.GrammarLemmas.{response_unique}
+use Rattle.list_facts.specs.Fronts.{AreComparable}
+use Rattle.list_facts.proofs.Fronts.{front_nil, swap, under, comparable_as}
 use Rattle.relay_body.specs.Framings.{PartOfBody}
-use Rattle.relay_body.specs.Fronts.{AreComparable}
 use Rattle.relay_body.specs.declared.framing.Framing as Framed
-use Rattle.relay_body.proofs.Comparing.{front_nil, swap, under, comparable_as, bodies_agree}
+use Rattle.relay_body.proofs.Comparing.{bodies_agree}
 use Rattle.relay_http.specs.Framings.{answer_plan, is_interim}
 use Rattle.relay_http.specs.Heads.{IsAnswer}
 use Rattle.relay_http.specs.Messages.{IsForwarded, PartOfForwarded, IsInterim, IsFinal, print_heads, interims_text, IsAnswered, PartOfAnswered}
@@ -33,7 +34,7 @@ forwarded_part {r} {used} w =
     subst (λ (l : List ℕ). PartOfForwarded r used l) (sym w.text_is) (request w.framing used w.body w.framed (body_part w.framing true used w.body w.passes))
 
 -- a head at the front of an input is the only one
-same_head : (h k : ResponseHead) (x y : List ℕ) → IsAnswer h → IsAnswer k → print_response h ++ x ≡ print_response k ++ y → (h ≡ k) × (x ≡ y)
+pub same_head : (h k : ResponseHead) (x y : List ℕ) → IsAnswer h → IsAnswer k → print_response h ++ x ≡ print_response k ++ y → (h ≡ k) × (x ≡ y)
 same_head h k x y is other e = response_unique (print_response h ++ x) h k x y (is.reads.0, refl) (other.reads.0, e)
 
 -- what stands behind the heads before an answer: nothing yet, or the answer's own and a part of its body

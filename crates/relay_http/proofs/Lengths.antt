@@ -6,6 +6,7 @@ use Rattle.std.proofs.lemmas.Bool.Decides.{nat_tests}
 use Rattle.std.proofs.lemmas.List.{length-map}
 use Rattle.std.proofs.lemmas.List.Folds.{list_all-append}
 use Rattle.std.proofs.lemmas.List.Splits.{length-slice_split}
+use Rattle.list_facts.proofs.Kept.{list_all_flat_map}
 use Rattle.proxy_words.specs.Numerals.{is_numeral, value_of, numeral}
 use Rattle.proxy_words.specs.Parts.{parts, trimmed, is_comma}
 use Rattle.relay_body.specs.declared.framing.Framing.{Framing}
@@ -33,10 +34,6 @@ missed : (b : Bool) (value : ℕ) → cond b (Some value) None ≡ None → b �
 missed true value e = cc
 missed false value e = refl
 
-all_flat : {X : Type 0} (p : List ℕ → Bool) (f : X → List (List ℕ)) (xs : List X) → list_all p (flat_map f xs) ≡ list_all (λ x. list_all p (f x)) xs
-all_flat p f [] = refl
-all_flat p f (x ∷ xs) = list_all-append p (f x) (flat_map f xs) ∙ ap (λ b. list_all p (f x) && b) (all_flat p f xs)
-
 -- what a first part that isn't a number makes of all
 pub first_faulty : (first : List ℕ) (rest : List (List ℕ)) (part : List ℕ) (more : List (List ℕ)) → parts first ≡ part ∷ more → numeral 18 part ≡ None
     → Faulty ≡ stated_of (flat_map parts (first ∷ rest))
@@ -58,7 +55,7 @@ all_parts first rest part more count e number =
     let is : common (part ∷ tail) ≡ cond (list_all p tail) (Some count) None =
     λ i. cond (yes.0 i && list_all (is_number (yes.1 i)) tail) (Some (yes.1 i)) None in
     let rests : list_all p tail ≡ (list_all p more && list_all (λ value. list_all p (parts value)) rest) =
-    list_all-append p more (flat_map parts rest) ∙ ap (λ b. list_all p more && b) (all_flat p parts rest) in
+    list_all-append p more (flat_map parts rest) ∙ ap (λ b. list_all p more && b) (list_all_flat_map p parts rest) in
     let firsts : list_all p (parts first) ≡ list_all p more = ap (list_all p) e ∙ ap (λ b. b && list_all p more) own in
     ap (λ l. stated_of (l ++ flat_map parts rest)) e
     ∙ ap count_or_fault is

@@ -1,6 +1,6 @@
 pub mod Agreeing
+pub mod AnswerRows
 pub mod Failing
-pub mod Keeping
 pub mod Lengths
 pub mod Marking
 pub mod Passing

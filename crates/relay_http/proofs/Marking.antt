@@ -5,6 +5,7 @@ use Rattle.std.specs.Prelude.{◌||◌, nat_lt}
 use Rattle.std.specs.Io.KnownBytes.{Appends, Keeps}
 use Rattle.std.proofs.lemmas.Bool.Decides.{nat_tests}
 use Rattle.counted_io.specs.Streams.{Stream}
+use Rattle.list_facts.proofs.Fronts.{some_behind}
 use Rattle.relay_body.specs.Texts.{Wrote}
 use Rattle.relay_body.specs.declared.pipe.Pipe.{Pipe}
 use Rattle.relay_http.specs.Messages.{IsAnswered, interims_text}
@@ -70,9 +71,6 @@ begun_by begun after_begun before after b a wrote is some =
 -- the pipe holds nothing, and is the same otherwise
 pub pipe_emptied : (p q : Pipe) → q.inbox ≡ [] → q.outbox ≡ p.outbox → q.turns ≡ p.turns → q ≡ emptied p
 pipe_emptied p q held waiting turns = λ i. record { inbox = held i; outbox = waiting i; turns = turns i }
-
-some_behind : (xs ys : List ℕ) (x : ℕ) → 0 < length (xs ++ x ∷ ys)
-some_behind xs ys x = omega (arith, length-append xs (x ∷ ys))
 
 -- an answer's text isn't empty
 pub answered_some : {method : List ℕ} {framed : Bool} {used text : List ℕ} → IsAnswered method framed used text → 0 < length text

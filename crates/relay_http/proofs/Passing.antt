@@ -10,7 +10,8 @@ use Rattle.relay_body.specs.Chunks.PartOfChunk.{nothing}
 use Rattle.relay_body.specs.Framings.{IsBody, PartOfBody}
 use Rattle.relay_body.specs.declared.framing.Framing as Framed
 use Rattle.relay_body.specs.declared.framing.Framing.TheVariants.{Empty, Length, Chunked, ToEnd}
-use Rattle.relay_body.proofs.Lists.{all_more, map_more}
+use Rattle.list_facts.proofs.Kept.{flat_last}
+use Rattle.list_facts.proofs.Members.{all_append}
 use Rattle.relay_http.specs.Framings.{answer_plan, is_interim}
 use Rattle.relay_http.specs.Heads.{IsAnswer, NoAnswer}
 use Rattle.relay_http.specs.Messages.{NoBody, IsInterim, IsFinal, AreInterims, print_heads, interims_text, BadlyFramed, LacksAnswer}
@@ -82,7 +83,7 @@ body_then method hs h plan Closed l are is none = absurd none
 pub interims_more : (method : List ℕ) (hs : List ResponseHead) (h : ResponseHead) → AllByRecursion (IsInterim method) hs → length hs < 8 → IsInterim method h
     → AreInterims method (hs ++ h ∷ [])
 interims_more method hs h all few is = record {
-  each = all_more (IsInterim method) hs h all is;
+  each = all_append (IsInterim method) hs (h ∷ []) all (is, tt);
   few = omega (arith, few, length-append hs (h ∷ []));
 }
 
@@ -101,4 +102,4 @@ pub interims_text_more : (framed told : Bool) (hs : List ResponseHead) (h : Resp
 interims_text_more framed told hs h a e f =
     ap (λ l. l ++ interim_text told a) (append-nil (interims_text framed hs))
     ∙ (λ i. interims_text framed hs ++ interim_text (e i) (f i))
-    ∙ map_more (λ (k : ResponseHead). interim_text framed (answer_of k)) hs h
+    ∙ flat_last (λ (k : ResponseHead). interim_text framed (answer_of k)) hs h

@@ -1,11 +1,20 @@
 -- The definitions at worked examples: what must hold, and what must not.
-use Rattle.std.proofs.Common.{◌≡◌, ◌∙◌, ℕ, List, [], ◌∷◌, Some, None, true, false, codes, length, refl, sym, arith, subst}
+use Rattle.std.proofs.Common.{◌≡◌, ◌∙◌, ℕ, ◌≤◌, List, [], ◌∷◌, Some, None, true, false, codes, length, refl, sym, ap, arith, subst}
+use base.Fml.{GName}
 use Rattle.std.specs.Fmt.{digits}
 use Rattle.relay_body.specs.declared.framing.Framing.TheVariants.{Empty, Length, Chunked, ToEnd}
 use Rattle.relay_http.specs.Framings.{request_framing, answer_plan, bare}
-use Rattle.relay_body.specs.Framings.{IsBody}
+use Rattle.relay_body.specs.Framings.{IsBody, PartOfBody, LacksBody}
+use Rattle.relay_body.specs.Steps.{Ends}
 use Rattle.relay_body.specs.declared.framing.Framing.{Framing}
-use Rattle.relay_http.specs.Messages.{IsForwarded}
+use Rattle.relay_http.specs.Failures.{Blames, NoCause}
+use Rattle.relay_http.specs.Messages.{IsForwarded, PartOfForwarded, LacksForwarded}
+use Rattle.relay_http.specs.Messages.PartOfForwarded.{nothing, head_and_body}
+use Rattle.relay_http.specs.Messages.LacksForwarded.{no_framing as badly_framed, no_body}
+use Rattle.relay_http.specs.declared.fault.Fault.TheVariants.{Read, Framing as BadFraming, Turns as TurnsSpent}
+use Rattle.relay_http.specs.States.{Serves, Marks}
+use Rattle.verdict.specs.declared.cause.Cause.TheVariants.{Aborted}
+use Rattle.verdict.specs.declared.Verdict.TheVariants.{Serve, Told}
 use Rattle.relay_http.specs.Replies.{leave_text}
 use Rattle.relay_http.specs.Texts.{request_text, answer_text, interim_text}
 use Rattle.req_view.specs.Answer.{Answer}
@@ -198,3 +207,53 @@ length_of w same used text passes =
 -- two bytes are no body of three
 not_yet_whole : (text : List ℕ) → ¬ (IsForwarded naming_a_field (codes "ab") text)
 not_yet_whole text w = omega (arith, length_of w.framing (sym naming_a_field_framing ∙ w.framed) (codes "ab") w.body w.passes)
+
+-- but a part, which becomes as much
+naming_a_field_part : PartOfForwarded naming_a_field (codes "ab") (codes "POST /a HTTP/1.1\r\nHost: h\r\nContent-Length: 3\r\nConnection: close\r\n\r\nab")
+unfolding naming_a_field post host length_is digits
+naming_a_field_part = head_and_body (Length 3) (codes "ab") (codes "ab") refl (omega arith, refl)
+
+-- a byte past the body is of no part
+few_bytes : (used text : List ℕ) → PartOfForwarded naming_a_field used text → length used ≤ 3
+few_bytes used text nothing = omega arith
+few_bytes used text (head_and_body w u body framed part) =
+    let same : Some (Length 3) ≡ Some w = sym naming_a_field_framing ∙ framed in
+    let is : Length 3 ≡ w = cc in
+    (subst (λ (f : Framing). PartOfBody f true u body) (sym is) part).0
+
+past_the_body : (text : List ℕ) → ¬ (PartOfForwarded naming_a_field (codes "abcd") text)
+past_the_body text part = omega (arith, few_bytes (codes "abcd") text part)
+
+-- where the input ends there, a byte is wanting
+two_lack_one : LacksForwarded naming_a_field Read (codes "ab")
+two_lack_one = no_body (Length 3) naming_a_field_framing (omega arith)
+
+three_lack_none : ¬ (LacksForwarded naming_a_field Read (codes "abc"))
+three_lack_none (badly_framed e none) = let wrong : Read ≡ BadFraming = e in cc
+three_lack_none (no_body w framed lacks) =
+    let same : Some (Length 3) ≡ Some w = sym naming_a_field_framing ∙ framed in
+    let is : Length 3 ≡ w = cc in
+    omega (arith, subst (λ (f : Framing). LacksBody f (codes "abc")) (sym is) lacks)
+
+-- two lengths are bad framing, whatever follows
+two_lengths_lack : (input : List ℕ) → LacksForwarded (post (length_is (codes "3") ∷ length_is (codes "4") ∷ [])) BadFraming input
+two_lengths_lack input = badly_framed refl two_lengths
+
+-- a verdict that drops the request gives no slot
+slot : Serves (Serve 0)
+slot = tt
+
+no_slot : ¬ (Serves (Told Aborted))
+no_slot serves = serves
+
+-- before a byte went out nothing was written, and where one did something was
+silent : (end : GName) → Marks (record { name = end; bytes = Some []; calls = 0; failures = 0 }) (record { name = end; bytes = Some []; calls = 1; failures = 1 }) false false
+silent end = record { stays = λ yes. yes; unset = λ no. refl; rose = λ no yes. let wrong : false ≡ true = yes in cc }
+
+not_silent : (end : GName)
+    → ¬ (Marks (record { name = end; bytes = Some []; calls = 0; failures = 0 }) (record { name = end; bytes = Some (codes "a"); calls = 1; failures = 0 }) false false)
+not_silent end marks = omega (arith, ap (length {A = ℕ}) (marks.unset refl))
+
+-- turns aren't spent while one is left
+not_spent : (old new : Ends) (input : List ℕ) → new.pipe.turns ≡ 1 → ¬ (Blames old new NoCause input TurnsSpent)
+not_spent old new input left blames = omega (arith, left, blames.1)

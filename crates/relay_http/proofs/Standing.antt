@@ -4,7 +4,7 @@ use Rattle.httparse.specs.Grammar.{RequestHead, ResponseHead, print_request, pri
 use Rattle.counted_io.specs.Streams.{Stream}
 use Rattle.relay_body.specs.declared.pipe.Pipe.{Pipe}
 use Rattle.relay_body.specs.Steps.{Ends, ends, Moves}
-use Rattle.relay_body.proofs.Lists.{behind}
+use Rattle.list_facts.proofs.Fronts.{behind}
 use Rattle.relay_body.proofs.Stepping.{moves_trans, moves_use}
 use Rattle.relay_http.specs.Failures.{Fails}
 use Rattle.relay_http.specs.Faults.{of_refusal}

@@ -2,10 +2,13 @@
 use Rattle.std.specs.Prelude.{◌≡◌, ℕ, ◌<◌, Bool, false, List, [], length, ◌⊎◌, IsTrue, IsFalse}
 use Rattle.std.specs.Io.KnownBytes.{Appends, Keeps}
 use Rattle.counted_io.specs.Streams.{Stream}
+use Rattle.grant_board.specs.Views.{Grant}
 use Rattle.relay_body.specs.declared.pipe.Pipe.{Pipe}
 use Rattle.relay_http.specs.declared.exchange.Exchange.{Exchange}
 use Rattle.relay_http.specs.declared.exchange.Stage.{Stage}
-use Rattle.relay_http.specs.declared.exchange.Stage.TheVariants.{New, Failed}
+use Rattle.relay_http.specs.declared.exchange.Stage.TheVariants.{New, Forwarded, Failed}
+use Rattle.verdict.specs.declared.Verdict.{Verdict}
+use Rattle.verdict.specs.declared.Verdict.TheVariants.{Serve, Told}
 
 -- nothing was read or written yet
 pub record IsFresh (most : ℕ) (e : Exchange) : Type 0 where
@@ -18,6 +21,15 @@ pub record IsFresh (most : ℕ) (e : Exchange) : Type 0 where
 -- it is at this stage, or met a fault
 abbrev pub IsAt : Stage → Exchange → Type 0
 IsAt stage e = (e.stage ≡ stage) ⊎ (e.stage ≡ Failed)
+
+-- a verdict that gives a slot of a server, and so doesn't drop the request
+abbrev pub Serves : Verdict → Type 0
+Serves (Serve server) = Unit {0}
+Serves (Told cause) = ⊥
+
+-- the stage of an exchange whose request was handed on, on this pass
+abbrev pub forwarded_on : Grant → Stage
+forwarded_on pass = Forwarded pass.ticket pass.verdict
 
 -- the pipe without the bytes that it holds
 abbrev pub emptied : Pipe → Pipe

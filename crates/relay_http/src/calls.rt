@@ -6,7 +6,8 @@ ghost use Rattle.relay_http.specs.Framings as framings;
 ghost use Rattle.relay_http.specs.Heads.{IsRequest, LacksRequest};
 ghost use Rattle.relay_http.specs.Messages as messages;
 ghost use Rattle.relay_http.specs.Replies.{leave_text, refusal_text};
-ghost use Rattle.relay_http.specs.States.{IsAt};
+ghost use Rattle.relay_http.specs.States as states;
+ghost use Rattle.relay_http.specs.States.{IsAt, Serves};
 ghost use Rattle.relay_http.specs.Texts.{framed_for};
 ghost use Rattle.req_view.specs.Request.{request_of};
 
@@ -14,6 +15,7 @@ use crate::exchange::{Exchange, Stage};
 use crate::fault::Fault;
 use crate::refusing::Code;
 use counted_io::Counted;
+use grant_board::Pass;
 use relay_body::Framing;
 use req_view::View;
 use std::alloc::Global;
@@ -42,19 +44,22 @@ impl Exchange {
         self.read_request_from(alloc, &mut source)
     }
 
-    /// Hands the request on to the server: its head, the bytes held, and the rest of its body (RFC 9112, sections 6 and 7).
+    /// Hands the request on to the server: its head, the bytes held, and the rest of its body (RFC 9112, sections 6 and 7). The pass is the
+    /// right to do so, and that of a slot at a server.
     ///
     /// Faults: `Framing` once the bytes can be no such body, `Read`, `Write` and `Turns`. It takes no memory.
     pub fn forward<R: Read, W: Write>(
         &mut self,
+        pass: &Pass,
         view: &View,
         reader: &mut R,
         writer: &mut W,
     ) -> Result<(), Fault>
-        requires { IsAt Stage.Asked self.old }
+        requires ready { IsAt Stage.Asked self.old }
+        requires serves { Serves pass.now.verdict }
         ensures ok { OnOk result ((used : List ℕ) × (text : List ℕ) × messages.IsForwarded view.now used text
             × Passes self.old.pipe.inbox self.new.pipe.inbox (R.remaining reader.old) (R.remaining reader.new) (W.contents writer.old) (W.contents writer.new) used text) }
-        ensures forwarded { OnOk result (self.new.stage ≡ Stage.Forwarded) }
+        ensures forwarded { OnOk result (self.new.stage ≡ states.forwarded_on pass.now) }
         ensures closed { self.old.stage ≡ Stage.Failed → result ≡ Err Fault.Closed }
         ensures untouched { self.old.stage ≡ Stage.Failed → (self.new ≡ self.old) × (R.remaining reader.new ≡ R.remaining reader.old) × (W.contents writer.new ≡ W.contents writer.old) }
         ensures err { self.old.stage ≢ Stage.Failed → IfErr result (λ fault. (used : List ℕ) × (text : List ℕ) × messages.PartOfForwarded view.now used text
@@ -66,7 +71,7 @@ impl Exchange {
         let _turns = self.turns();
         let mut source = Counted::new(reader);
         let mut sink = Counted::new(writer);
-        self.forward_between(view, &mut source, &mut sink)
+        self.forward_between(pass, view, &mut source, &mut sink)
     }
 
     /// Gives a client that waits for it leave to send its body (RFC 9110, section 10.1.1): 25 bytes, which don't count as begun.
@@ -89,18 +94,20 @@ impl Exchange {
     }
 
     /// Hands the server's answer on to the client: at most eight heads before it, its own, and its body (RFC 9110, section 15;
-    /// RFC 9112, sections 6 and 7).
+    /// RFC 9112, sections 6 and 7). The pass is the one on which the request was handed on, so that nobody posted it meanwhile.
     ///
     /// Faults: `Head` once no head can come of the bytes, `Framing` where a head frames its body badly or is the ninth before an answer, or once
     /// the bytes behind it can be no such body, `Read`, `Write`, `Turns`, and `NoMemory` where a whole head finds none.
     pub fn answer<R: Read, W: Write>(
         &mut self,
         alloc: Global,
+        pass: &Pass,
         view: &View,
         reader: &mut R,
         writer: &mut W,
     ) -> Result<(), Fault>
-        requires { IsAt Stage.Forwarded self.old }
+        requires ready { IsAt (states.forwarded_on pass.now) self.old }
+        requires serves { Serves pass.now.verdict }
         ensures ok { OnOk result ((used : List ℕ) × (text : List ℕ) × (answered : messages.IsAnswered view.now.method (framed_for view.now.version) used text)
             × Passes [] self.new.pipe.inbox (R.remaining reader.old) (R.remaining reader.new) (W.contents writer.old) (W.contents writer.new) used text
             × (answered.plan.body ≡ Framing.ToEnd → IsAtEnd (R.remaining reader.new))
@@ -120,7 +127,7 @@ impl Exchange {
         let _turns = self.turns();
         let mut source = Counted::new(reader);
         let mut sink = Counted::new(writer);
-        self.answer_between(alloc, view, &mut source, &mut sink)
+        self.answer_between(alloc, pass, view, &mut source, &mut sink)
     }
 
     /// Tells the client why there is no answer, by as many writes at most as the text has bytes. The exchange is over then.

@@ -2,6 +2,7 @@ ghost use Rattle.std.specs.Prelude.{◌≡◌, ◌≤◌, length, [], false, IfO
 
 use relay_body::{INBOX_BYTES, Pipe};
 use std::alloc::{AllocError, Global};
+use verdict::Verdict;
 
 /// How far an exchange is.
 #[derive(Clone, Copy, Debug, PartialEq, Eq)]
@@ -9,8 +10,8 @@ pub enum Stage {
     New,
     /// The request's head was read.
     Asked,
-    /// The request was handed on.
-    Forwarded,
+    /// The request was handed on, on the pass of this ticket, of this verdict.
+    Forwarded { ticket: u64, verdict: Verdict },
     /// The answer was handed on.
     Answered,
     /// A fault was met, or the request was refused.
@@ -19,8 +20,9 @@ pub enum Stage {
 
 /// One request and its answer, between a client and a server.
 ///
-/// Its calls are `read_request`, `go_on` or not, `forward` and `answer`, in this order and each once at most. After a
-/// fault they answer `Closed`, and `refuse` works as long as no byte of an answer went out.
+/// Its calls are `read_request`, `go_on` or not, `forward` and `answer`, in this order and each once at most. The last two are
+/// made on one pass that serves: whoever has lent it can't post it before the answer is done. After a fault they answer `Closed`, and
+/// `refuse` works as long as no byte of an answer went out.
 #[derive(Drop)]
 pub struct Exchange {
     pub(crate) pipe: Pipe,

@@ -1,5 +1,5 @@
 ghost use Rattle.std.specs.Prelude.{◌≡◌, ◌++◌, ℕ, List, Bool};
-ghost use Rattle.relay_body.specs.Fronts.{AreComparable};
+ghost use Rattle.list_facts.specs.Fronts.{AreComparable};
 ghost use Rattle.relay_http.specs.Messages.{IsForwarded, PartOfForwarded, IsAnswered, PartOfAnswered};
 ghost use Rattle.req_view.specs.Request.{Request};
 

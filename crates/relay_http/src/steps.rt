@@ -8,7 +8,8 @@ ghost use Rattle.relay_http.specs.Framings as framings;
 ghost use Rattle.relay_http.specs.Heads.{IsRequest, LacksRequest};
 ghost use Rattle.relay_http.specs.Messages as messages;
 ghost use Rattle.relay_http.specs.Replies.{leave_text};
-ghost use Rattle.relay_http.specs.States.{IsAt, emptied, Marks};
+ghost use Rattle.relay_http.specs.States as states;
+ghost use Rattle.relay_http.specs.States.{IsAt, Serves, emptied, Marks};
 ghost use Rattle.relay_http.specs.Texts.{framed_for};
 ghost use Rattle.req_view.specs.Request.{request_of};
 
@@ -18,6 +19,7 @@ use crate::leave::give_leave;
 use crate::messages::{pass_answer, pass_request};
 use crate::reading::read_request;
 use counted_io::{Sink, Source};
+use grant_board::Pass;
 use relay_body::Framing;
 use req_view::View;
 use std::alloc::Global;
@@ -85,18 +87,20 @@ impl Exchange {
         }
     }
 
-    /// `forward` between a source and a sink that count.
+    /// `forward` between a source and a sink that count. The exchange keeps the pass's ticket and verdict.
     pub fn forward_between<S: Source, K: Sink>(
         &mut self,
+        pass: &Pass,
         view: &View,
         source: &mut S,
         sink: &mut K,
     ) -> Result<(), Fault>
         requires ready { IsAt Stage.Asked self.old }
+        requires serves { Serves pass.now.verdict }
         requires countable { Countable (ends self.old.pipe (S.stream source.old) (K.stream sink.old)) }
         ensures ok { OnOk result ((used : List ℕ) × (text : List ℕ) × messages.IsForwarded view.now used text
             × Moves (ends self.old.pipe (S.stream source.old) (K.stream sink.old)) (ends self.new.pipe (S.stream source.new) (K.stream sink.new)) used text) }
-        ensures forwarded { OnOk result (self.new.stage ≡ Stage.Forwarded) }
+        ensures forwarded { OnOk result (self.new.stage ≡ states.forwarded_on pass.now) }
         ensures closed { self.old.stage ≡ Stage.Failed → result ≡ Err Fault.Closed }
         ensures untouched { self.old.stage ≡ Stage.Failed → (self.new ≡ self.old) × (S.stream source.new ≡ S.stream source.old) × (K.stream sink.new ≡ K.stream sink.old) }
         ensures err { self.old.stage ≢ Stage.Failed → IfErr result (λ fault. (used : List ℕ) × (text : List ℕ) × messages.PartOfForwarded view.now used text
@@ -112,7 +116,7 @@ impl Exchange {
         }
         match pass_request(&mut self.pipe, view, source, sink) {
             Ok(()) => {
-                self.stage = Stage::Forwarded;
+                self.stage = forwarded_on(pass);
                 Ok(())
             }
             Err(fault) => {
@@ -127,11 +131,13 @@ impl Exchange {
     pub fn answer_between<S: Source, K: Sink>(
         &mut self,
         alloc: Global,
+        pass: &Pass,
         view: &View,
         source: &mut S,
         sink: &mut K,
     ) -> Result<(), Fault>
-        requires ready { IsAt Stage.Forwarded self.old }
+        requires ready { IsAt (states.forwarded_on pass.now) self.old }
+        requires serves { Serves pass.now.verdict }
         requires countable { Countable (ends self.old.pipe (S.stream source.old) (K.stream sink.old)) }
         ensures ok { OnOk result ((used : List ℕ) × (text : List ℕ) × (answered : messages.IsAnswered view.now.method (framed_for view.now.version) used text)
             × Moves (ends (emptied self.old.pipe) (S.stream source.old) (K.stream sink.old)) (ends self.new.pipe (S.stream source.new) (K.stream sink.new)) used text
@@ -176,4 +182,14 @@ pub(crate) fn has_begun(begun: bool, before: u64, after: u64) -> bool
     ensures { result ≡ (begun || nat_lt before after) }
 {
     begun || before < after
+}
+
+// The stage of an exchange whose request was handed on, on this pass.
+fn forwarded_on(pass: &Pass) -> Stage
+    ensures { result ≡ states.forwarded_on pass.now }
+{
+    Stage::Forwarded {
+        ticket: pass.ticket(),
+        verdict: pass.verdict(),
+    }
 }

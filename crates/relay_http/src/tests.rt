@@ -1,6 +1,8 @@
 mod answers;
 mod calls;
+mod closed;
 mod framings;
 mod limits;
+mod memory;
 mod requests;
 mod streams;

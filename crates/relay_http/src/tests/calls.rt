@@ -1,7 +1,8 @@
 use crate::tests::streams::{
-    GET, Narrow, OLD_GET, Slow, TURNS, answer_to, forwarded, forwarded_from,
+    GET, Narrow, OLD_GET, Slow, TURNS, Tally, answer_to, forward_to, forward_view, forwarded,
+    forwarded_from,
 };
-use crate::{Code, Exchange, Fault, Stage};
+use crate::{Exchange, Fault, Stage};
 use std::test::Fail;
 
 // 77 bytes, the last of which is behind the body
@@ -16,9 +17,6 @@ const ANSWER: &[u8] = b"HTTP/1.1 103 X\r\n\r\nHTTP/1.1 200 OK\r\nContent-Length:
 
 const ANSWER_TEXT: &[u8] =
     b"HTTP/1.1 103 X\r\n\r\nHTTP/1.1 200 OK\r\nContent-Length: 2\r\nConnection: close\r\n\r\nab";
-
-const REFUSAL: &[u8] =
-    b"HTTP/1.1 503 Service Unavailable\r\nContent-Length: 0\r\nConnection: close\r\n\r\n";
 
 #[test]
 fn a_request_is_cut_after_each_byte(rt: HostRuntime) -> Result<(), Fail> {
@@ -46,7 +44,7 @@ fn each_read_of_a_request_fails_in_turn(rt: HostRuntime) -> Result<(), Fail> {
             reads: 0,
             fails_at,
         };
-        let seen = forwarded_from(rt.alloc(), &mut exchange, &mut reader)?;
+        let seen = forwarded_from(rt.alloc(), &mut exchange, &mut reader);
         assert!(rt; POST_TEXT.starts_with(seen.written.as_slice()));
         if fails_at < 77 {
             assert_eq!(rt; seen.result, Err(Fault::Read));
@@ -61,17 +59,13 @@ fn each_read_of_a_request_fails_in_turn(rt: HostRuntime) -> Result<(), Fail> {
 fn each_write_of_a_request_fails_in_turn(rt: HostRuntime) -> Result<(), Fail> {
     let mut exchange = Exchange::new(rt.alloc(), TURNS)?;
     for fails_at in 1..POST_TEXT.len() + 2 {
-        exchange.renew();
         let mut reader = POST;
         let mut writer = Narrow {
             bytes: Vec::new(rt.alloc()),
             writes: 0,
             fails_at,
         };
-        let Ok(view) = exchange.read_request(rt.alloc(), &mut reader) else {
-            return Err(Fail::from("no request"));
-        };
-        let result = exchange.forward(&view, &mut reader, &mut writer);
+        let result = forward_to(rt.alloc(), &mut exchange, &mut reader, &mut writer);
         if fails_at <= POST_TEXT.len() {
             assert_eq!(rt; result, Err(Fault::Write));
             assert_eq!(rt; writer.bytes.as_slice(), &POST_TEXT[..fails_at - 1]);
@@ -94,7 +88,7 @@ fn each_read_of_an_answer_fails_in_turn(rt: HostRuntime) -> Result<(), Fail> {
             fails_at,
         };
         let mut written = Vec::new(rt.alloc());
-        let result = answer_to(rt.alloc(), &mut exchange, GET, &mut reader, &mut written)?;
+        let result = answer_to(rt.alloc(), &mut exchange, GET, &mut reader, &mut written);
         assert!(rt; ANSWER_TEXT.starts_with(written.as_slice()));
         assert_eq!(rt; exchange.begun(), !written.is_empty());
         if fails_at <= ANSWER.len() {
@@ -117,7 +111,7 @@ fn each_write_of_an_answer_fails_in_turn(rt: HostRuntime) -> Result<(), Fail> {
             writes: 0,
             fails_at,
         };
-        let result = answer_to(rt.alloc(), &mut exchange, GET, &mut reader, &mut writer)?;
+        let result = answer_to(rt.alloc(), &mut exchange, GET, &mut reader, &mut writer);
         assert_eq!(rt; exchange.begun(), 1 < fails_at);
         assert!(rt; ANSWER_TEXT.starts_with(writer.bytes.as_slice()));
         if fails_at <= ANSWER_TEXT.len() {
@@ -130,14 +124,13 @@ fn each_write_of_an_answer_fails_in_turn(rt: HostRuntime) -> Result<(), Fail> {
     Ok(())
 }
 
-// What was begun isn't refused, and after a fault all calls are.
 #[test]
 fn an_interim_head_alone(rt: HostRuntime) -> Result<(), Fail> {
     let mut exchange = Exchange::new(rt.alloc(), TURNS)?;
     let input = b"HTTP/1.1 100 Continue\r\n\r\nHTTP/1.1 103 X\r\n\r\n".as_slice();
     let mut written = Vec::new(rt.alloc());
     let mut reader = input;
-    let result = answer_to(rt.alloc(), &mut exchange, GET, &mut reader, &mut written)?;
+    let result = answer_to(rt.alloc(), &mut exchange, GET, &mut reader, &mut written);
     assert_eq!(rt; result, Err(Fault::Read));
     assert_eq!(rt; written.as_slice(), b"HTTP/1.1 103 X\r\n\r\n".as_slice());
     assert!(rt; exchange.begun());
@@ -149,39 +142,28 @@ fn an_interim_head_alone(rt: HostRuntime) -> Result<(), Fail> {
         OLD_GET,
         &mut reader,
         &mut written,
-    )?;
+    );
     assert_eq!(rt; result, Err(Fault::Read));
     assert_eq!(rt; written.as_slice(), b"".as_slice());
     assert!(rt; !exchange.begun());
     Ok(())
 }
 
+// What is read together goes out together.
 #[test]
-fn a_fault_closes_the_exchange(rt: HostRuntime) -> Result<(), Fail> {
+fn a_head_and_its_body_are_one_write(rt: HostRuntime) -> Result<(), Fail> {
     let mut exchange = Exchange::new(rt.alloc(), TURNS)?;
-    let mut reader = GET;
-    let Ok(view) = exchange.read_request(rt.alloc(), &mut reader) else {
-        return Err(Fail::from("no request"));
-    };
-    exchange.renew();
-    let mut nothing = b"".as_slice();
-    assert!(rt; exchange.read_request(rt.alloc(), &mut nothing).is_err());
-    let mut written = Vec::new(rt.alloc());
-    assert_eq!(rt; exchange.go_on(&view, &mut written), Err(Fault::Closed));
-    assert_eq!(rt;
-        exchange.forward(&view, &mut nothing, &mut written),
-        Err(Fault::Closed)
-    );
-    assert_eq!(rt;
-        exchange.answer(rt.alloc(), &view, &mut nothing, &mut written),
-        Err(Fault::Closed)
-    );
-    assert_eq!(rt; written.as_slice(), b"".as_slice());
-    if !exchange.begun() {
-        assert_eq!(rt; exchange.refuse(Code::Unavailable, &mut written), Ok(()));
-    }
-    assert_eq!(rt; written.as_slice(), REFUSAL);
-    assert!(rt; exchange.begun());
+    let mut writer = Tally::new();
+    let mut reader = POST;
+    let result = forward_to(rt.alloc(), &mut exchange, &mut reader, &mut writer);
+    assert_eq!(rt; result, Ok(()));
+    assert_eq!(rt; writer.writes, 1);
+    assert_eq!(rt; writer.bytes, POST_TEXT.len());
+    let mut writer = Tally::new();
+    let mut reader = b"HTTP/1.1 200 OK\r\nContent-Length: 2\r\n\r\nab".as_slice();
+    let result = answer_to(rt.alloc(), &mut exchange, GET, &mut reader, &mut writer);
+    assert_eq!(rt; result, Ok(()));
+    assert_eq!(rt; writer.writes, 1);
     Ok(())
 }
 
@@ -197,7 +179,8 @@ fn a_request_is_taken_up(rt: HostRuntime) -> Result<(), Fail> {
     exchange.take_up(b"ab");
     let mut rest = b"cd".as_slice();
     let mut written = Vec::new(rt.alloc());
-    assert_eq!(rt; exchange.forward(&view, &mut rest, &mut written), Ok(()));
+    let forwarded = forward_view(rt.alloc(), &mut exchange, &view, &mut rest, &mut written);
+    assert_eq!(rt; forwarded, Ok(()));
     assert_eq!(rt; written.as_slice(), POST_TEXT);
     Ok(())
 }

@@ -1,5 +1,6 @@
 use crate::tests::streams::{
-    Endless, GET, Slow, TURNS, answer_to, answered, forwarded, forwarded_from,
+    Endless, GET, Slow, TURNS, Tally, answer_to, answered, forward_to, forward_view, forwarded,
+    forwarded_from,
 };
 use crate::{Code, Exchange, Fault, MOST_INTERIMS};
 use req_view::{HEAD_BYTES, HEAD_FIELDS};
@@ -7,6 +8,13 @@ use std::alloc::{AllocError, Global};
 use std::test::Fail;
 
 const START: &[u8] = b"GET / HTTP/1.1\r\nHost: h\r\n";
+
+// what comes before a size line's extension
+const SIZE_START: &[u8] = b"POST / HTTP/1.1\r\nHost: h\r\nTransfer-Encoding: chunked\r\n\r\n1;";
+
+// and before trailers
+const TRAILER_START: &[u8] =
+    b"POST / HTTP/1.1\r\nHost: h\r\nTransfer-Encoding: chunked\r\n\r\n0\r\n";
 
 // a head of so many bytes
 fn with_bytes(alloc: Global, count: usize) -> Result<Vec<u8>, AllocError> {
@@ -59,6 +67,32 @@ fn the_longest_heads(rt: HostRuntime) -> Result<(), Fail> {
     Ok(())
 }
 
+// so many bytes more, and then the end
+fn with_more(alloc: Global, start: &[u8], more: usize, end: &[u8]) -> Result<Vec<u8>, AllocError> {
+    let mut input = Vec::from_slice(alloc, start)?;
+    for _ in 0..more {
+        input.push(b'x')?;
+    }
+    input.extend_from_slice(end)?;
+    Ok(input)
+}
+
+#[test]
+fn the_longest_lines_of_a_body(rt: HostRuntime) -> Result<(), Fail> {
+    let end = b"\r\na\r\n0\r\n\r\n".as_slice();
+    let rows: [(&[u8], usize, &[u8], Result<(), Fault>); 4] = [
+        (SIZE_START, 256 - 4, end, Ok(())),
+        (SIZE_START, 257 - 4, end, Err(Fault::Framing)),
+        (TRAILER_START, 16_384 - 4, b"\r\n\r\n", Ok(())),
+        (TRAILER_START, 16_385 - 4, b"\r\n\r\n", Err(Fault::Framing)),
+    ];
+    for (start, more, end, expected) in rows {
+        let input = with_more(rt.alloc(), start, more, end)?;
+        assert_eq!(rt; forwarded(rt.alloc(), input.as_slice())?.result, expected);
+    }
+    Ok(())
+}
+
 #[test]
 fn the_most_heads_before_an_answer(rt: HostRuntime) -> Result<(), Fail> {
     let most = with_interims(rt.alloc(), MOST_INTERIMS)?;
@@ -84,31 +118,103 @@ fn turns_are_spent(rt: HostRuntime) -> Result<(), Fail> {
             reads: 0,
             fails_at: 0,
         };
-        let seen = forwarded_from(rt.alloc(), &mut exchange, &mut reader)?;
+        let seen = forwarded_from(rt.alloc(), &mut exchange, &mut reader);
         assert_eq!(rt; seen.result, Err(Fault::Turns));
         assert_eq!(rt; exchange.turns(), 0);
     }
     Ok(())
 }
 
+// Two turns are spent when an answer begins: one read and one write.
+#[test]
+fn turns_are_spent_by_an_answer(rt: HostRuntime) -> Result<(), Fail> {
+    let input = b"HTTP/1.1 200 OK\r\nContent-Length: 2\r\n\r\nab".as_slice();
+    let whole = input.len() as u64 + 1;
+    for turns in 0..whole + 3 {
+        let mut exchange = Exchange::new(rt.alloc(), turns)?;
+        let mut reader = Slow {
+            bytes: input,
+            reads: 0,
+            fails_at: 0,
+        };
+        let mut writer = Tally::new();
+        let result = answer_to(rt.alloc(), &mut exchange, GET, &mut reader, &mut writer);
+        if result.is_ok() {
+            assert!(rt; whole < turns);
+            assert!(rt; exchange.begun());
+        } else {
+            assert_eq!(rt; result, Err(Fault::Turns));
+            assert_eq!(rt; exchange.turns(), 0);
+            assert_eq!(rt; exchange.begun(), 0 < writer.writes);
+        }
+    }
+    Ok(())
+}
+
+#[test]
+fn no_turn_at_all(rt: HostRuntime) -> Result<(), Fail> {
+    let mut other = Exchange::new(rt.alloc(), TURNS)?;
+    let mut client = WAITING;
+    let Ok(view) = other.read_request(rt.alloc(), &mut client) else {
+        return Err(Fail::from("no request"));
+    };
+    let mut exchange = Exchange::new(rt.alloc(), 0)?;
+    let mut writer = Tally::new();
+    assert_eq!(rt;
+        exchange.read_request(rt.alloc(), &mut client).is_err(),
+        true
+    );
+    exchange.renew();
+    exchange.take_up(b"abc");
+    assert_eq!(rt; exchange.go_on(&view, &mut writer), Err(Fault::Turns));
+    exchange.renew();
+    exchange.take_up(b"abc");
+    let result = forward_view(rt.alloc(), &mut exchange, &view, &mut client, &mut writer);
+    assert_eq!(rt; result, Err(Fault::Turns));
+    assert_eq!(rt; writer.writes, 0);
+    Ok(())
+}
+
 #[test]
 fn an_input_without_end_ends(rt: HostRuntime) -> Result<(), Fail> {
-    let rows = [
-        (b'x', 100, Fault::Turns),
-        (b'x', 20_000, Fault::Head),
-        (b'\n', 100, Fault::Turns),
+    let rows: [(&[u8], u8, u64, Fault); 6] = [
+        (b"", b'x', 100, Fault::Turns),
+        (b"", b'x', TURNS, Fault::Head),
+        (b"", b'\n', 100, Fault::Turns),
+        (SIZE_START, b'x', TURNS, Fault::Framing),
+        (TRAILER_START, b'x', TURNS, Fault::Framing),
+        (TRAILER_START, b'x', 1000, Fault::Turns),
     ];
-    for (byte, turns, fault) in rows {
+    for (start, byte, turns, fault) in rows {
         let mut exchange = Exchange::new(rt.alloc(), turns)?;
-        let mut reader = Endless { byte };
-        let seen = forwarded_from(rt.alloc(), &mut exchange, &mut reader)?;
-        assert_eq!(rt; seen.result, Err(fault));
+        let mut reader = Endless { start, byte };
+        let mut writer = Tally::new();
+        let result = forward_to(rt.alloc(), &mut exchange, &mut reader, &mut writer);
+        assert_eq!(rt; result, Err(fault));
     }
-    let mut exchange = Exchange::new(rt.alloc(), TURNS)?;
-    let mut reader = Endless { byte: b'x' };
-    let mut written = Vec::new(rt.alloc());
-    let result = answer_to(rt.alloc(), &mut exchange, GET, &mut reader, &mut written)?;
-    assert_eq!(rt; result, Err(Fault::Head));
+    Ok(())
+}
+
+#[test]
+fn an_answer_without_end_ends(rt: HostRuntime) -> Result<(), Fail> {
+    let rows: [(&[u8], u8, u64, Fault); 4] = [
+        (b"", b'x', TURNS, Fault::Head),
+        (b"", b'\n', 100, Fault::Turns),
+        (b"HTTP/1.1 200 OK\r\n\r\n", b'x', 1000, Fault::Turns),
+        (
+            b"HTTP/1.1 200 OK\r\nTransfer-Encoding: chunked\r\n\r\n1;",
+            b'x',
+            TURNS,
+            Fault::Framing,
+        ),
+    ];
+    for (start, byte, turns, fault) in rows {
+        let mut exchange = Exchange::new(rt.alloc(), turns)?;
+        let mut reader = Endless { start, byte };
+        let mut writer = Tally::new();
+        let result = answer_to(rt.alloc(), &mut exchange, GET, &mut reader, &mut writer);
+        assert_eq!(rt; result, Err(fault));
+    }
     Ok(())
 }
 
@@ -126,13 +232,13 @@ fn leave(alloc: Global, head: &[u8]) -> Result<usize, Fail> {
     Ok(written.len())
 }
 
+const WAITING: &[u8] =
+    b"POST / HTTP/1.1\r\nHost: h\r\nContent-Length: 3\r\nExpect: 100-Continue\r\n\r\n";
+
 #[test]
 fn leave_is_given_to_those_who_wait(rt: HostRuntime) -> Result<(), Fail> {
     let rows: [(&[u8], usize); 6] = [
-        (
-            b"POST / HTTP/1.1\r\nHost: h\r\nContent-Length: 3\r\nExpect: 100-Continue\r\n\r\n",
-            25,
-        ),
+        (WAITING, 25),
         (
             b"POST / HTTP/1.1\r\nHost: h\r\nTransfer-Encoding: chunked\r\nExpect: 100-continue\r\n\r\n",
             25,

@@ -3,7 +3,7 @@ use Rattle.std.proofs.Common.{◌≡◌, ◌∙◌, ◌≤◌, ◌++◌, length,
 use Rattle.httparse.specs.Grammar.{ChunkLine, print_chunk_line, HasNoChunkLine}
 use Rattle.httparse.specs.Spans.{IsChunkLineAt}
 use Rattle.relay_body.proofs.Fronts.{line_whole, never_line, late_line}
-use Rattle.relay_body.proofs.Lists.{behind}
+use Rattle.list_facts.proofs.Fronts.{behind}
 use Rattle.relay_body.proofs.chunks.size_line.Goals as goal
 
 pub returns-in-Ok-Complete-clause-found : goal.returns-in-Ok-Complete-clause-found

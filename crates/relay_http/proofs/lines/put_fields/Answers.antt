@@ -6,7 +6,7 @@ use Rattle.relay_body.proofs.Exits.{at_exit}
 use Rattle.relay_http.specs.Fields.{is_kept, dropped}
 use Rattle.relay_http.specs.Lines.{kept_line}
 use Rattle.relay_http.specs.Texts.{field_text, fields_text}
-use Rattle.relay_http.proofs.Keeping.{text_more, text_front}
+use Rattle.list_facts.proofs.Kept.{flat_more, flat_front}
 use Rattle.relay_http.proofs.Putting.{puts_trans, puts_halts, halts_front, puts_as, halts_as}
 use Rattle.req_view.specs.Request.{NamedValue}
 use Rattle.relay_http.proofs.lines.put_fields.Goals as goal
@@ -27,8 +27,8 @@ returns-in_err-put_kept-clause-err g c =
     let rest = fields_text (filter keep (drop (n + 1) fields)) in
     let whole : fields_text (filter keep (take n fields)) ++ (line ++ rest) ≡ fields_text (filter keep fields) =
     sym (
-    text_front keep field_text fields (n + 1)
-    ∙ ap (λ l. l ++ rest) (text_more keep field_text fields n none below)
+    flat_front keep field_text fields (n + 1)
+    ∙ ap (λ l. l ++ rest) (flat_more keep field_text fields n none below)
     ∙ append_assoc (fields_text (filter keep (take n fields))) line rest
     ) in
     at_exit _ _ _ c.from_residual.ensures.1
@@ -42,5 +42,5 @@ fields-preserved g c =
     let keep = λ (field : NamedValue). is_kept names fields field.0 in
     let below : n < length fields = omega (arith, c.fields-test.true, c.count-position-end.ensures) in
     let at = get_or fields n none in
-    puts_as (sym (text_more keep field_text fields n none below))
+    puts_as (sym (flat_more keep field_text fields n none below))
     (puts_trans c.fields.invariant (c.in_ok-put_kept.ensures.ok at.0 at.1 (slice_get-get_or fields n none below)))

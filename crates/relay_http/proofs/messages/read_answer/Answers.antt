@@ -2,7 +2,7 @@
 use Rattle.std.proofs.Common.{◌∙◌, ◌<◌, ◌≤◌, [], ◌∷◌, ◌++◌, length, refl, sym, ap, arith, append-nil, length-append}
 use Rattle.httparse.specs.Grammar.{print_response}
 use Rattle.relay_body.proofs.Exits.{at_exit}
-use Rattle.relay_body.proofs.Lists.{map_more}
+use Rattle.list_facts.proofs.Kept.{flat_last}
 use Rattle.relay_body.proofs.Stepping.{moves_none, moves_trans, moves_as, Countable-later}
 use Rattle.relay_http.specs.Framings.{answer_plan, is_interim}
 use Rattle.relay_http.specs.Heads.{NoAnswer}
@@ -116,7 +116,7 @@ returns-in_err-pass_interim-clause-err g c =
     at_exit _ _ _ c.from_residual-in_err-pass_interim.ensures.1 (
       hs ++ h ∷ [],
       interims_more method hs h so_far.1 below is,
-      fails_as (LacksAnswer method) (map_more print_response hs h) text (moves_halts (LacksAnswer method) read c.in_err-pass_interim.ensures.err),
+      fails_as (LacksAnswer method) (flat_last print_response hs h) text (moves_halts (LacksAnswer method) read c.in_err-pass_interim.ensures.err),
     )
 
 pub heads-preserved : goal.heads-preserved
@@ -140,5 +140,5 @@ heads-preserved g c =
       are.each,
       omega (arith, so_far.2, length-append hs (h ∷ [])),
       omega (arith, so_far.2, below),
-      moves_as (append-nil (print_heads hs ++ print_response h) ∙ map_more print_response hs h) text (moves_trans read passed),
+      moves_as (append-nil (print_heads hs ++ print_response h) ∙ flat_last print_response hs h) text (moves_trans read passed),
     )

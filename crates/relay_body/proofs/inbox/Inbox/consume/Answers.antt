@@ -1,6 +1,6 @@
 -- What is left is the window behind the bytes that were used.
 use Rattle.std.proofs.Common.{◌∙◌, ◌+◌, ◌-◌, ◌≤◌, ℕ, length, drop, ap, arith, length-take}
-use Rattle.relay_body.proofs.Windows.{window_drop}
+use Rattle.list_facts.proofs.Windows.{window_drop}
 use Rattle.relay_body.proofs.inbox.Inbox.consume.Goals as goal
 
 pub returns : goal.returns

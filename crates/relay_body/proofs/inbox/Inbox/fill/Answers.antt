@@ -1,6 +1,6 @@
 -- What was read stands behind what was held.
 use Rattle.std.proofs.Common.{◌∙◌, ◌+◌, ◌-◌, ◌≤◌, length, take, drop, arith}
-use Rattle.relay_body.proofs.Windows.{window_more, window_length}
+use Rattle.list_facts.proofs.Windows.{window_more, window_length}
 use Rattle.relay_body.proofs.inbox.Inbox.fill.Goals as goal
 
 pub returns-clause-ok : goal.returns-clause-ok

@@ -4,7 +4,8 @@ use Rattle.std.specs.List.{flat_map}
 use Rattle.relay_body.specs.Bodies.{LacksChunked}
 use Rattle.relay_body.specs.Chunks.{IsChunk, LacksChunk, print_chunk, chunk_text}
 use Rattle.relay_body.proofs.Exits.{at_exit}
-use Rattle.relay_body.proofs.Lists.{all_more, map_more}
+use Rattle.list_facts.proofs.Kept.{flat_last}
+use Rattle.list_facts.proofs.Members.{all_append}
 use Rattle.relay_body.proofs.Wholes.{chunks_then, lacks_first, chunk_some}
 use Rattle.relay_body.proofs.Stepping.{moves_none, moves_trans, moves_as, moves_breaks, moves_smaller}
 use Rattle.relay_body.proofs.pipe.Pipe.pass_chunks.Goals as goal
@@ -42,8 +43,8 @@ chunks-preserved g c =
     let so_far = c.chunks.invariant in
     let more = c.in_ok-last.ensures.chunk c.if-last.false in (
       so_far.0 ++ more.0 ∷ [],
-      all_more IsChunk so_far.0 more.0 so_far.1 more.1,
-      moves_as (map_more print_chunk so_far.0 more.0) (map_more (chunk_text c.args.framed) so_far.0 more.0) (moves_trans so_far.2 more.2),
+      all_append IsChunk so_far.0 (more.0 ∷ []) so_far.1 (more.1, tt),
+      moves_as (flat_last print_chunk so_far.0 more.0) (flat_last (chunk_text c.args.framed) so_far.0 more.0) (moves_trans so_far.2 more.2),
     )
 
 pub chunks-smaller : goal.chunks-smaller

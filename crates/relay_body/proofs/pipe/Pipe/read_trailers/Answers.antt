@@ -4,7 +4,8 @@ use Rattle.std.specs.List.{flat_map}
 use Rattle.relay_body.specs.Trailers.{IsTrailer, print_line, LacksLine, LacksTrailers}
 use Rattle.relay_body.proofs.Exits.{at_exit}
 use Rattle.relay_body.proofs.Lines.{trailers_lack, trailers_end}
-use Rattle.relay_body.proofs.Lists.{all_more, map_more}
+use Rattle.list_facts.proofs.Kept.{flat_last}
+use Rattle.list_facts.proofs.Members.{all_append}
 use Rattle.relay_body.proofs.Stepping.{moves_none, moves_trans, moves_as, moves_breaks, breaks_less}
 use Rattle.relay_body.proofs.pipe.Pipe.read_trailers.Goals as goal
 
@@ -38,14 +39,14 @@ lines-preserved g c =
       more = λ e. let blank = line.3.1 (inr e) in cc;
     } in (
       so_far.0 ++ line.0 ∷ [],
-      all_more IsTrailer so_far.0 line.0 so_far.1 is,
+      all_append IsTrailer so_far.0 (line.0 ∷ []) so_far.1 (is, tt),
       omega (
         arith,
         so_far.2,
         line.2,
         c.in_ok-line.ensures.few,
-        ap length (map_more print_line so_far.0 line.0),
+        ap length (flat_last print_line so_far.0 line.0),
         length-append (flat_map print_line so_far.0) (print_line line.0),
       ),
-      moves_as (map_more print_line so_far.0 line.0) refl (moves_trans so_far.3 line.4),
+      moves_as (flat_last print_line so_far.0 line.0) refl (moves_trans so_far.3 line.4),
     )

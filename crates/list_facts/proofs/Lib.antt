@@ -11,3 +11,4 @@ pub mod Totals
 pub mod Ones
 pub mod Each
 pub mod Front
+pub mod Shuffles

@@ -6,10 +6,6 @@ use Rattle.dispatch_log.specs.declared.setup.ServerSet.{ServerSet}
 use Rattle.dispatch_log.specs.declared.setup.Setup.{Setup}
 use Rattle.dispatch_log.specs.Words.{Scene, of_server, is_free, limit_of}
 use Rattle.dispatch_log.specs.Rows.{served}
-use Rattle.due_key.specs.declared.key.Key.{Key}
-use Rattle.dispatch_log.specs.declared.queue.Queue.{Queue}
-use Rattle.dispatch_log.specs.declared.queue.Queue.TheVariants.{Backend, Server}
-use Rattle.server_pick.specs.Heads.{head_at}
 use Rattle.server_pick.specs.Sets.{IsIn, IsMore}
 use Rattle.server_pick.proofs.Preferred.{below_cases}
 
@@ -46,16 +42,6 @@ server_within scene server test passes = by_server (slice_get scene.servers serv
     by_server : (it : Option ServerSet) → slice_get scene.servers server ≡ it → option_map_or test it false ≡ true → server < length scene.servers
     by_server None at e = cc
     by_server (Some x) at e = slice_get_within scene.servers server x at
-
--- no queue has a head
-pub no_head : (n k : ℕ) → ◌≡◌ {A = Option Key} (slice_index_or (replicate n None) k None) None
-no_head zero k = refl
-no_head (suc n) zero = refl
-no_head (suc n) (suc k) = no_head n k
-
-pub no_heads : (queue : Queue) → head_at (record { own = replicate 64 None; backend = None }) queue ≡ None
-no_heads Backend = refl
-no_heads (Server server) = no_head 64 server
 
 pub empty_set : (server : ℕ) → IsIn (replicate 64 false) server → ⊥
 empty_set server own = let e : slice_index_or (replicate 64 false) server false ≡ false = has_none 64 server in let t : slice_index_or (replicate 64 false) server false ≡ true = own in cc

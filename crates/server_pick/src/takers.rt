@@ -24,6 +24,9 @@ pub fn next_taker<H: Drop>(ledger: &Ledger<H>, cursor: &mut Cursor) -> Option<us
     ensures cursor { MatchOption result (cursor.new ≡ cursor.old) (λ server. cursor.new ≡ granted_by ledger.now.setup server cursor.old) }
 {
     let takers = takers(ledger);
+    if takers.is_empty() {
+        return None;
+    }
     if let Some(server) = first_weightless(ledger, &takers) {
         return Some(server);
     }

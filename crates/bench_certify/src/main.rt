@@ -4,8 +4,8 @@
 #![tactic(auto)]
 
 use anyhow::{Context, Result, bail};
+use binom_queue::BinomQueue;
 use due_key::Key;
-use pend_queue::ListQueue;
 use replay::{Replayed, replay_events, reports_of};
 use std::{env, fs};
 
@@ -17,7 +17,7 @@ fn main(rt: HostRuntime) -> Result<()> {
     };
     let times = times.as_str().parse::<u32>().context("how often")?;
     let script = fs::read(&rt, file.as_str())?;
-    let Replayed { core, .. } = replay_events::<ListQueue<Key, usize>>(alloc, &script)?;
+    let Replayed { core, .. } = replay_events::<BinomQueue<Key, usize>>(alloc, &script)?;
     let mut reports = 0;
     for _ in 0..times {
         reports = reports_of(alloc, &core)?.as_slice().len();

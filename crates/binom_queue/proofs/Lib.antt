@@ -6,5 +6,4 @@ mod Orders
 mod Queued
 mod Raised
 mod Rows
-mod Shuffles
 mod Walks

@@ -1,8 +1,7 @@
 -- The pair of a key that went up by one root.
-use Rattle.std.proofs.Common.{◌≡◌, ℕ, zero, suc, List, [], ◌∷◌, ◌++◌, IsPermutation, sym, subst, ◌∙◌, Ordering, Box, Global}
+use Rattle.std.proofs.Common.{◌≡◌, ℕ, zero, suc, ◌∷◌, ◌++◌, IsPermutation, sym, subst, ◌∙◌, Ordering, Box, Global}
 use Rattle.std.specs.Cmp.{IsTotalOrder}
-use Rattle.std.proofs.lemmas.List.Sorted.{IsPermutation-trans, IsPermutation-sym, IsPermutation-cons, IsPermutation-middle, IsPermutation-append_left}
-use Rattle.std.proofs.lemmas.List.Sorted.{IsPermutation-append_right}
+use Rattle.list_facts.proofs.Shuffles.{through_front, behind_part}
 use Rattle.binom_queue.specs.declared.forest.Forest.{Forest}
 use Rattle.binom_queue.specs.declared.forest.Forest.TheVariants.{Of, Of'}
 use Rattle.binom_queue.specs.declared.forest.Node.{Node}
@@ -10,18 +9,6 @@ use Rattle.binom_queue.specs.Trees.{items, AreChildren, IsRaised}
 use Rattle.std.specs.Box.{with_value}
 use Rattle.binom_queue.proofs.Heaps.{opened}
 use Rattle.binom_queue.proofs.Floors.{not_above_itself, children_through}
-
-module _ {X : Type 0} where
-  -- two items in front change places
-  exchanged : (x y : X) (xs : List X) → IsPermutation (x ∷ (y ∷ xs)) (y ∷ (x ∷ xs))
-  exchanged x y xs = IsPermutation-middle (x ∷ []) y xs
-
-  pub through_front : (x y z : X) (us vs ws : List X) → IsPermutation (x ∷ us) (y ∷ vs) → IsPermutation (z ∷ (x ∷ (us ++ ws))) (y ∷ (z ∷ (vs ++ ws)))
-  through_front x y z us vs ws moved = IsPermutation-trans _ _ _ (IsPermutation-cons z _ _ (IsPermutation-append_left ws _ _ moved)) (exchanged z y (vs ++ ws))
-
-  pub behind_part : (x y : X) (us vs ws : List X) → IsPermutation (x ∷ us) (y ∷ vs) → IsPermutation (x ∷ (ws ++ us)) (y ∷ (ws ++ vs))
-  behind_part x y us vs ws moved = IsPermutation-trans _ _ _ (IsPermutation-sym _ _ (IsPermutation-middle ws x us))
-      (IsPermutation-trans _ _ _ (IsPermutation-append_right ws _ _ moved) (IsPermutation-middle ws y vs))
 
 module _ {K V : Type 0} {cmp : K → K → Ordering} (total : IsTotalOrder cmp) where
   module _ (above : K × V) (box box' : Box (Unit {0}) Global) (pair : K × V) (order : ℕ) (child next : Forest K V) where

@@ -1,11 +1,13 @@
 -- Grants and moves of a trace.
-use Rattle.std.proofs.Common.{◌≡◌, ◌≢◌, ℕ, ◌+◌, ◌<◌, ◌≤◌, List, [], ◌∷◌, Option, None, Some, MatchOption, IsTrue, length, refl, ap, sym, ◌∙◌, subst}
-use Rattle.std.proofs.Common.{arith, Ordering, Less, Equal, Greater}
+use Rattle.std.proofs.Common.{◌≡◌, ◌≢◌, ℕ, ◌+◌, ◌<◌, ◌≤◌, List, [], ◌∷◌, Option, None, Some, IsTrue, length, refl, ap, sym, ◌∙◌, subst}
+use Rattle.std.proofs.Common.{arith, ◌==◌, Ordering, Less, Equal, Greater}
+use Rattle.std.proofs.lemmas.Bool.Decides.{Decides-eqb}
 use Rattle.due_key.specs.declared.key.Key.{Key}
 use Rattle.due_key.specs.Order.{key_cmp}
 use Rattle.due_key.proofs.KeyOrder.{key_cmp_total, key_cmp_exact}
 use Rattle.dispatch_log.specs.declared.entry.Entry.TheVariants.{Granted}
 use Rattle.dispatch_log.specs.declared.queue.Queue.{Queue}
+use Rattle.dispatch_log.specs.declared.queue.Queue.TheVariants.{Backend, Server}
 use Rattle.dispatch_log.specs.declared.row.Phase.TheVariants.{Waiting, Serving}
 use Rattle.dispatch_log.specs.Grants.{IsLawfulGrant, IsSettled}
 use Rattle.dispatch_log.specs.Histories.{History, state_of}
@@ -13,18 +15,19 @@ use Rattle.dispatch_log.specs.Refusals.{is_waiting}
 use Rattle.dispatch_log.specs.Rows.{Rows, in_phase}
 use Rattle.dispatch_log.specs.declared.entry.Entry.{Entry}
 use Rattle.dispatch_log.specs.States.{scene, after_all, granted_by}
-use Rattle.dispatch_log.specs.Words.{Scene}
+use Rattle.dispatch_log.specs.Words.{Scene, is_up}
 use Rattle.dispatch_log.proofs.RowLemmas.{changed_at}
 use Rattle.list_facts.proofs.Orders.{greater_from_less}
 use Rattle.readable_log.specs.Grants.{joining_of, has_joined}
 use Rattle.readable_log.specs.Windows.{base_rows}
 use Rattle.readable_log.specs.Readable.{HasArrived}
-use Rattle.slot_ledger.specs.Counts.{IsQueueOf}
+use Rattle.list_facts.proofs.Both.{and_second}
 use Rattle.slot_ledger.specs.Ledgers.{Kept, with_slots}
 use Rattle.slot_ledger.specs.Slots.{rows_in, HasRow, with_phase, loosened}
-use Rattle.server_pick.specs.Heads.{Held, head_at, AreHeads, IsLawfulTake, IsEmptyQueue, IsLeastIn}
+use Rattle.server_pick.specs.declared.heads.Heads.{Heads}
+use Rattle.server_pick.specs.Heads.{AreHeads, IsHead, IsLawfulTake, IsEmptyQueue, IsLeastIn}
 use Rattle.wait_queues.specs.declared.waiters.Waiter.{Waiter}
-use Rattle.wait_queues.specs.Waitlists.{Waitlist, Waiters, NoneWaitsIn, IsFirstIn, IsFirstKey, AreFirst, without_waiter}
+use Rattle.wait_queues.specs.Waitlists.{Waitlist, Waiters, NoneWaitsIn, IsFirstIn, IsFirstKey, IsHeadOf, AreFirst, without_waiter}
 use Rattle.dispatch_trace.specs.Histories.{with_entry, scene_of, waiting_of, MayComeNext, MayGrantNext, IsGrant}
 use Rattle.dispatch_trace.specs.Traces.{Traced, history_of, noted, IsTrace, position_of}
 use Rattle.dispatch_trace.proofs.Beginning.{scene_is, cursor_is}
@@ -48,6 +51,20 @@ first_once queue waiters p q v w one two = by_order (key_cmp v.key w.key) refl
     by_order Greater e = absurd (one.least q w two.waits two.its e)
     by_order Less e = absurd (two.least p v one.waits one.its (greater_from_less key_cmp_total v.key w.key e))
 
+-- the key of a lawful take is the first one's
+first_key : (here : Scene) (list : Waitlist) (heads : Heads) (server cursor : ℕ) (queue : Queue) → AreFirst server heads list
+    → (take : IsLawfulTake here cursor heads server queue) → IsFirstKey queue list.waiters take.0
+first_key here list heads server cursor Backend first take = subst (λ (o : Option Key). IsHeadOf o Backend list.waiters) take.1 first.backend
+first_key here list heads server cursor (Server own) first take =
+    subst (λ n. IsFirstKey (Server n) list.waiters take.0)
+    (sym ((Decides-eqb own server).0 (and_second (is_up here server) (own == server) take.2.taken)))
+    (subst (λ (o : Option Key). IsHeadOf o (Server server) list.waiters) take.1 first.own)
+
+pub not_empty : (here : Scene) (list : Waitlist) (heads : Heads) (server cursor : ℕ) (queue : Queue) → AreFirst server heads list
+    → IsLawfulTake here cursor heads server queue → NoneWaitsIn queue list.waiters → ⊥
+not_empty here list heads server cursor queue first take none =
+    let it = first_key here list heads server cursor queue first take in none it.0 it.1 it.2.waits it.2.its
+
 module _ {N : Type 0} (pair_of : N → Key × ℕ) where
   -- nobody listed in a queue, no row waits in it
   pub none_wait : (t : Traced N) (queue : Queue) → IsTrace pair_of t → NoneWaitsIn queue t.waits.waiters
@@ -69,51 +86,40 @@ module _ {N : Type 0} (pair_of : N → Key × ℕ) where
             subst (λ (k : Key). key_cmp k other.key ≢ Greater) first.3 (first.2.least live.0 _ (listed pair_of t live.0 other queue w.0 is live.1 w.1) refl);
       }
 
-  -- the heads of the queues are those of the rows
-  pub heads_are : (t : Traced N) (heads : Held) → IsTrace pair_of t → AreFirst heads t.waits
-      → AreHeads heads (length t.kept.setup.servers) (rows_in t.kept.slots)
-  heads_are t heads is first queue within =
-      subst (λ (r : Rows). MatchOption (head_at heads queue) (IsEmptyQueue queue r) (IsLeastIn queue r)) (sym is.holds.rows)
-      (by_head (head_at heads queue) (first queue (subst (λ n. IsQueueOf n queue) (sym is.servers) within)))
+  -- the heads of a server's queue and of the backend's are those of the rows
+  pub heads_are : (t : Traced N) (heads : Heads) (server : ℕ) → IsTrace pair_of t → AreFirst server heads t.waits
+      → AreHeads heads server (rows_in t.kept.slots)
+  heads_are t heads server is first =
+      subst (λ (r : Rows). AreHeads heads server r) (sym is.holds.rows) (record {
+        own = by_head heads.own (Server server) first.own;
+        backend = by_head heads.backend Backend first.backend;
+      })
     where
-      by_head : (head : Option Key) → MatchOption head (NoneWaitsIn queue t.waits.waiters) (IsFirstKey queue t.waits.waiters)
-          → MatchOption head (IsEmptyQueue queue (state_of (history_of t)).rows) (IsLeastIn queue (state_of (history_of t)).rows)
-      by_head None none = none_wait t queue is none
-      by_head (Some key) its = least_is t queue key is its
-
-  -- the key of a lawful take is the first one's
-  first_key : (t : Traced N) (heads : Held) (server cursor : ℕ) (queue : Queue) → IsTrace pair_of t → AreFirst heads t.waits
-      → (take : IsLawfulTake (kept_scene t.kept) cursor heads server queue) → IsFirstKey queue t.waits.waiters take.0
-  first_key t heads server cursor queue is first take =
-      let within = take_within (kept_scene t.kept) cursor heads server queue take in
-      subst (λ (o : Option Key). MatchOption o (NoneWaitsIn queue t.waits.waiters) (IsFirstKey queue t.waits.waiters)) take.1
-      (first queue (subst (λ n. IsQueueOf n queue) (sym is.servers) within.1))
-
-  pub not_empty : (t : Traced N) (heads : Held) (server cursor : ℕ) (queue : Queue) → IsTrace pair_of t → AreFirst heads t.waits
-      → IsLawfulTake (kept_scene t.kept) cursor heads server queue → NoneWaitsIn queue t.waits.waiters → ⊥
-  not_empty t heads server cursor queue is first take none = let it = first_key t heads server cursor queue is first take in none it.0 it.1 it.2.waits it.2.its
+      by_head : (head : Option Key) (queue : Queue) → IsHeadOf head queue t.waits.waiters → IsHead head queue (state_of (history_of t)).rows
+      by_head None queue none = none_wait t queue is none
+      by_head (Some key) queue its = least_is t queue key is its
 
   -- what a grant's calls found
-  pub record GrantCalls (t : Traced N) (heads : Held) (server : ℕ) (queue : Queue) (place : ℕ) (waiter : Waiter) : Type 0 where
+  pub record GrantCalls (t : Traced N) (heads : Heads) (server : ℕ) (queue : Queue) (place : ℕ) (waiter : Waiter) : Type 0 where
     pub before : IsTrace pair_of t
     pub may_grant : MayGrantNext (history_of t)
-    pub heads_first : AreFirst heads t.waits
+    pub heads_first : AreFirst server heads t.waits
     pub take : IsLawfulTake (kept_scene t.kept) t.position.cursor heads server queue
     pub first : IsFirstIn queue t.waits.waiters place waiter
 
-  pub grant_calls : (t : Traced N) (now : History) (left : Waitlist) (heads : Held) (server : ℕ) (queue : Queue) (place : ℕ) (waiter : Waiter)
-      → IsTrace pair_of t → history_of t ≡ now → MayGrantNext now → AreFirst heads left → left ≡ t.waits
+  pub grant_calls : (t : Traced N) (now : History) (left : Waitlist) (heads : Heads) (server : ℕ) (queue : Queue) (place : ℕ) (waiter : Waiter)
+      → IsTrace pair_of t → history_of t ≡ now → MayGrantNext now → AreFirst server heads left → left ≡ t.waits
       → IsLawfulTake (kept_scene t.kept) t.position.cursor heads server queue → IsFirstIn queue left.waiters place waiter
       → GrantCalls t heads server queue place waiter
   grant_calls t now left heads server queue place waiter is same may_grant heads_first kept take first = record {
     before = is;
     may_grant = subst MayGrantNext (sym same) may_grant;
-    heads_first = subst (AreFirst heads) kept heads_first;
+    heads_first = subst (AreFirst server heads) kept heads_first;
     take = take;
     first = subst (λ (l : Waitlist). IsFirstIn queue l.waiters place waiter) kept first;
   }
 
-  module _ (t : Traced N) (heads : Held) (server : ℕ) (queue : Queue) (place : ℕ) (waiter : Waiter)
+  module _ (t : Traced N) (heads : Heads) (server : ℕ) (queue : Queue) (place : ℕ) (waiter : Waiter)
       (calls : GrantCalls t heads server queue place waiter) where
     its : ItsRow t.log.entries (state_of (history_of t)).rows place waiter
     its = waits_listed pair_of t place waiter calls.before calls.first.waits
@@ -123,7 +129,7 @@ module _ {N : Type 0} (pair_of : N → Key × ℕ) where
 
     pub grant_may : MayComeNext (history_of t) (Granted waiter.key.ticket queue server)
     grant_may =
-        let key = first_key t heads server t.position.cursor queue calls.before calls.heads_first calls.take in
+        let key = first_key (kept_scene t.kept) t.waits heads server t.position.cursor queue calls.heads_first calls.take in
         let same : calls.take.0 ≡ waiter.key = sym key.3 ∙ first_once queue t.waits.waiters key.0 place key.1 waiter key.2 calls.first in (
           calls.may_grant,
           subst (λ (k : Key). IsLawfulGrant (scene_of (history_of t)) (state_of (history_of t)).cursor k.ticket queue server) same

@@ -17,7 +17,8 @@ use Rattle.slot_ledger.specs.Counts.{IsQueueOf}
 use Rattle.list_facts.proofs.Both.{and_second}
 use Rattle.server_pick.proofs.Chosen.{room_within}
 use Rattle.server_pick.proofs.Filled.{free_within, server_within}
-use Rattle.server_pick.specs.Heads.{Held, IsLawfulTake}
+use Rattle.server_pick.specs.declared.heads.Heads.{Heads}
+use Rattle.server_pick.specs.Heads.{IsLawfulTake}
 use Rattle.dispatch_trace.specs.Histories.{stage_of, MayComeNext}
 
 -- a server that a request is put on is one of them
@@ -57,7 +58,7 @@ joined_within h u (Server v) may = by_stage (stage_of h) may
     by_stage t m = absurd m
 
 -- the server and the queue of a lawful grant are among them
-pub take_within : (here : Scene) (cursor : ℕ) (heads : Held) (server : ℕ) (queue : Queue) → IsLawfulTake here cursor heads server queue
+pub take_within : (here : Scene) (cursor : ℕ) (heads : Heads) (server : ℕ) (queue : Queue) → IsLawfulTake here cursor heads server queue
     → (server < length here.servers) × IsQueueOf (length here.servers) queue
 take_within here cursor heads server queue take =
     let grant = take.2 in

@@ -11,7 +11,7 @@ use crate::trace::Trace;
 use dispatch_log::{Entry, Queue};
 use due_key::{Key, Moment};
 use pend_queue::PendQueue;
-use server_pick::{Cursor, next_take};
+use server_pick::{Cursor, next_queue, next_taker};
 use verdict::Cause;
 use wait_queues::{Taken, Waiter};
 
@@ -105,11 +105,12 @@ impl<Q: PendQueue<Key, usize>> Trace<Q> {
         ensures unchanged { OnFalse result (self.new ≡ self.old) }
         ensures judged { IsJudged self.new }
     {
-        let heads = self.waiting.heads();
         let mut cursor = self.position.cursor;
-        let Some((server, queue)) = next_take(&self.ledger, &mut cursor, &heads) else {
+        let Some(server) = next_taker(&self.ledger, &mut cursor) else {
             return false;
         };
+        let heads = self.waiting.heads(server);
+        let queue = next_queue(&self.ledger, &heads, server);
         let Some(taken) = self.waiting.take(queue) else {
             unreachable!()
         };

@@ -1,5 +1,5 @@
 -- How often a test holds in a list.
-use Rattle.std.proofs.Common.{◌≡◌, ℕ, zero, suc, ◌+◌, ◌≤◌, Bool, true, List, [], ◌∷◌, Some, slice_get, map, count_by, refl, sym, ap, ◌∙◌, subst, arith}
+use Rattle.std.proofs.Common.{◌≡◌, ℕ, zero, suc, ◌+◌, ◌≤◌, Bool, true, false, List, [], ◌∷◌, Some, slice_get, map, count_by, refl, sym, ap, ◌∙◌, subst, arith}
 use Rattle.std.proofs.lemmas.List.Sums.{sum_by-cons}
 use Rattle.std.proofs.lemmas.Option.{same_Some}
 use Rattle.list_facts.proofs.Places.{tally}
@@ -37,6 +37,20 @@ module _ {X : Type 0} (p : X → Bool) where
       let later : 1 ≤ count_by p zs = some_at zs i x at holds in
       let all : count_by p (z ∷ zs) ≡ tally (p z) + count_by p zs = counted z zs in
       absurd (omega arith)
+
+  -- it holds at a place where it holds once at least
+  pub at_some : (xs : List X) → 1 ≤ count_by p xs → (i : ℕ) × (x : X) × (slice_get xs i ≡ Some x) × (p x ≡ true)
+  at_some [] some = absurd (omega (arith, some))
+  at_some (y ∷ ys) some = by_first (p y) refl (at_some ys)
+    where
+      by_first : (b : Bool) → p y ≡ b → (1 ≤ count_by p ys → (i : ℕ) × (x : X) × (slice_get ys i ≡ Some x) × (p x ≡ true))
+          → (i : ℕ) × (x : X) × (slice_get (y ∷ ys) i ≡ Some x) × (p x ≡ true)
+      by_first true e later = (zero, y, refl, e)
+      by_first false e later =
+          let here : tally (p y) ≡ 0 = ap tally e in
+          let all : count_by p (y ∷ ys) ≡ tally (p y) + count_by p ys = counted y ys in
+          let it = later (omega arith) in
+          (suc it.0, it.1, it.2, it.3)
 
 -- a test of what is made of each item
 pub count-map : {X Y : Type 0} (p : Y → Bool) (f : X → Y) (xs : List X) → count_by p (map f xs) ≡ count_by (λ x. p (f x)) xs

@@ -14,3 +14,4 @@ pub mod Front
 pub mod Kept
 pub mod Fronts
 pub mod Windows
+pub mod Shuffles

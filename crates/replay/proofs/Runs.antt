@@ -1,5 +1,5 @@
 -- A run of a script, step by step.
-use Rattle.std.proofs.Common.{◌≡◌, ◌≢◌, ◌⊎◌, ℕ, ◌-◌, List, ◌∷◌, ◌++◌, length, take, drop, filter_map, Option, Some, refl, sym, ap, subst, ◌∙◌, take_all, drop_at, length-drop, arith, Result, Ok, Err, OnOk, IsOk, inr, true≢false}
+use Rattle.std.proofs.Common.{◌≡◌, ◌≢◌, ◌⊎◌, ℕ, ◌-◌, List, ◌∷◌, ◌++◌, length, take, drop, filter_map, Option, Some, None, refl, sym, ap, subst, ◌∙◌, take_all, drop_at, length-drop, arith, Result, Ok, Err, OnOk, IsOk, inr, true≢false}
 use Rattle.std.specs.List.{cons_option}
 use Rattle.dispatch_log.specs.declared.entry.Entry.{Entry}
 use Rattle.dispatch_log.specs.Histories.{History}
@@ -20,6 +20,10 @@ new_part old new more before grown long =
 -- the steps of lines of which the first asks for one
 pub steps_from_line : (line : List ℕ) (lines rest : List (List ℕ)) (asked : Option Step) (step : Step) → lines ≡ line ∷ rest → asked ≡ step_of line → asked ≡ Some step → filter_map step_of lines ≡ step ∷ filter_map step_of rest
 steps_from_line line lines rest asked step cut is some = ap (filter_map step_of) cut ∙ ap (λ o. cons_option o (filter_map step_of rest)) (sym is ∙ some)
+
+-- and of which it asks for none
+pub steps_past_line : (line : List ℕ) (lines rest : List (List ℕ)) (asked : Option Step) → lines ≡ line ∷ rest → asked ≡ step_of line → asked ≡ None → filter_map step_of lines ≡ filter_map step_of rest
+steps_past_line line lines rest asked cut is none = ap (filter_map step_of) cut ∙ ap (λ o. cons_option o (filter_map step_of rest)) (sym is ∙ none)
 
 -- a text of the first step, and then one of the others, is a text of all
 pub text_from_step : (names : List (List ℕ)) (old new last : History) (step : Step) (all others : List Step) (front rest : List ℕ) → all ≡ step ∷ others → Answers names old new step front → IsScriptText names new others last rest → IsScriptText names old all last (front ++ rest)

@@ -1,7 +1,8 @@
-ghost use Rattle.std.specs.Prelude.{◌≡◌, ◌≢◌, ℕ, Some, None, IfOk, IfErr, OnOk, string_bytes};
+ghost use Rattle.std.specs.Prelude.{◌≡◌, ◌≢◌, ℕ, [], Some, take, IfOk, IfErr, OnOk, string_bytes};
 ghost use Rattle.std.specs.Str.Lines.{lines};
-ghost use Rattle.script.specs.Faults.{fault_of};
+ghost use Rattle.script.specs.Faults.{fault_of, fault_behind};
 ghost use Rattle.script.specs.Headers.{settings_of};
+ghost use Rattle.script.specs.Reading.{IsHeader};
 ghost use Rattle.replay.specs.TraceTexts.{AreReplayed};
 
 use crate::defaults::setup_of;
@@ -25,7 +26,7 @@ pub struct Replayed<Q: PendQueue<Key, usize>> {
 }
 
 /// Runs the events of a script in order, on a dispatcher for what its header lines say, or the defaults where none does.
-/// A faulty script is not run; an event that the dispatcher refuses has a line that says so.
+/// The first faulty line ends the run, and nothing is left of it; an event that the dispatcher refuses has a line that says so.
 pub fn replay_events<Q: PendQueue<Key, usize>>(
     alloc: Global,
     script: &[u8],
@@ -34,25 +35,27 @@ pub fn replay_events<Q: PendQueue<Key, usize>>(
     ensures script { IfErr result (λ fault. (line : ℕ) → fault ≡ Fault.Script line → fault_of script.now ≡ Some line) }
     ensures of_script { IfErr result (λ fault. (fault ≢ Fault.Read) × (fault ≢ Fault.Write)) }
 {
-    let header = header_of(alloc, script)?;
+    let (header, before) = header_of(alloc, script)?;
     let Ok((setup, names)) = setup_of(alloc, header) else {
         return Err(Fault::NoMemory);
     };
     let Ok(mut core) = Core::<Q>::new(alloc, setup) else {
         return Err(Fault::NoMemory);
     };
-    let text = run(alloc, &mut core, &names, script)?;
+    let text = run(alloc, &mut core, &names, script, before)?;
     Ok(Replayed { core, names, text })
 }
 
-fn header_of(alloc: Global, script: &[u8]) -> Result<Header, Fault>
-    ensures faultless { OnOk result (fault_of script.now ≡ None) }
-    ensures settings { IfOk result (λ header. header ≡ settings_of (lines script.now)) }
+// What the header lines of a script say, and how many they are.
+fn header_of(alloc: Global, script: &[u8]) -> Result<(Header, usize), Fault>
+    ensures short { OnOk result (fault_of script.now ≡ fault_behind [] (lines script.now)) }
+    ensures header { IfOk result (λ read. IsHeader (lines script.now) read.1) }
+    ensures settings { IfOk result (λ read. read.0 ≡ settings_of (take read.1 (lines script.now))) }
     ensures fault { IfErr result (λ fault. (line : ℕ) → fault ≡ Fault.Script line → fault_of script.now ≡ Some line) }
     ensures of_script { IfErr result (λ fault. (fault ≢ Fault.Read) × (fault ≢ Fault.Write)) }
 {
     match read(alloc, script) {
-        Ok(header) => Ok(header),
+        Ok(read) => Ok(read),
         Err(ScriptError::NoMemory) => Err(Fault::NoMemory),
         Err(ScriptError::Fault { line }) => Err(Fault::Script { line }),
     }

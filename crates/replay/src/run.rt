@@ -1,8 +1,11 @@
-ghost use Rattle.std.specs.Prelude.{◌≡◌, ◌≢◌, ◌++◌, ℕ, List, IfOk, IfErr, OnOk, OnErr, IsOk, string_bytes};
+ghost use Rattle.std.specs.Prelude.{◌≡◌, ◌≢◌, ◌++◌, ℕ, List, [], Some, None, IfOk, IfErr, OnOk, OnErr, IsOk, string_bytes};
+ghost use Rattle.std.specs.Str.Lines.{lines};
 ghost use Rattle.dispatch_log.specs.declared.entry.Entry.{Entry};
 ghost use Rattle.dispatch_log.specs.Histories.{RefusedOrNoMemory};
 ghost use Rattle.dispatch_log.specs.Legal.{AddsEvent};
 ghost use Rattle.script.specs.declared.step.Step.TheVariants.{Roll};
+ghost use Rattle.script.specs.Faults.{fault_behind};
+ghost use Rattle.script.specs.Reading.{IsHeader};
 ghost use Rattle.script.specs.Steps.{steps_of};
 ghost use Rattle.script.specs.ScriptTexts.{Answers, IsEventOf, IsScriptText, refuses};
 
@@ -13,24 +16,36 @@ use dispatch_log::Refusal;
 use due_key::Key;
 use pend_queue::PendQueue;
 use proxy_words::Lines;
-use script::{Names, Step, push_entries, push_refusal, step_of};
+use script::{Names, Step, is_faulty, push_entries, push_refusal, step_of};
 use std::alloc::{AllocError, Global};
 
-/// Runs the steps of a script in order, and answers their lines.
+/// Runs the steps of a script in order, and answers their lines. Behind its header lines, of which there are so many, the
+/// first faulty line ends the run.
 pub(crate) fn run<Q: PendQueue<Key, usize>>(
     alloc: Global,
     core: &mut Core<Q>,
     names: &Names,
     script: &[u8],
+    header: usize,
 ) -> Result<String, Fault>
+    requires { IsHeader (lines script.now) header }
     ensures ok { IfOk result (λ text. IsScriptText names.now core.old (steps_of script.now) core.new (string_bytes text)) }
-    ensures err { IfErr result (λ fault. fault ≡ Fault.NoMemory) }
+    ensures faultless { OnOk result (fault_behind [] (lines script.now) ≡ None) }
+    ensures fault { IfErr result (λ fault. (line : ℕ) → fault ≡ Fault.Script line → fault_behind [] (lines script.now) ≡ Some line) }
+    ensures of_script { IfErr result (λ fault. (fault ≢ Fault.Read) × (fault ≢ Fault.Write)) }
 {
     let mut text = String::new(alloc);
+    let mut number = 0;
     let mut lines = Lines::new(script);
     'lines: while let Some(line) = lines.next() {
-        if let Some(step) = step_of(line) {
-            take_step(alloc, core, names, step, &mut text)?;
+        number += 1;
+        match step_of(line) {
+            Some(step) => take_step(alloc, core, names, step, &mut text)?,
+            None => {
+                if header < number && is_faulty(line) {
+                    return Err(Fault::Script { line: number });
+                }
+            }
         }
     }
     Ok(text)

@@ -8,8 +8,9 @@ use crate::ends::{read_whole, write_whole};
 use crate::events::{Replayed, replay_events};
 use crate::fault::Fault;
 use crate::reports::report;
+use binom_queue::BinomQueue;
 use due_key::Key;
-use pend_queue::ListQueue;
+use pend_queue::PendQueue;
 use std::alloc::Global;
 use std::io::{Read, Write};
 
@@ -29,12 +30,15 @@ pub fn replay<R: Read, W: Write>(alloc: Global, reader: &mut R, writer: &mut W) 
     ensures nothing { result ≢ Err Fault.Write → OnErr result (Keeps (W.contents writer.old) (W.contents writer.new)) }
 {
     let script = read_whole(alloc, reader)?;
-    let trace = trace_of(alloc, &script)?;
+    let trace = trace_of::<BinomQueue<Key, usize>>(alloc, &script)?;
     write_whole(writer, trace.as_bytes())
 }
 
-// The trace of a script and its reports.
-fn trace_of(alloc: Global, script: &[u8]) -> Result<String, Fault>
+// The trace of a script and its reports, by a dispatcher over such queues.
+pub(crate) fn trace_of<Q: PendQueue<Key, usize>>(
+    alloc: Global,
+    script: &[u8],
+) -> Result<String, Fault>
     ensures faultless { OnOk result (fault_of script.now ≡ None) }
     ensures ok { IfOk result (λ trace. IsTraceOf script.now (string_bytes trace)) }
     ensures fault { IfErr result (λ fault. (line : ℕ) → fault ≡ Fault.Script line → fault_of script.now ≡ Some line) }
@@ -44,7 +48,7 @@ fn trace_of(alloc: Global, script: &[u8]) -> Result<String, Fault>
         core,
         names,
         mut text,
-    } = replay_events::<ListQueue<Key, usize>>(alloc, script)?;
+    } = replay_events::<Q>(alloc, script)?;
     report(alloc, &core, &names, &mut text)?;
     Ok(text)
 }

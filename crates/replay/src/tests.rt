@@ -8,7 +8,9 @@ mod servers;
 mod waiting;
 mod windows;
 
-use crate::{Fault, replay};
+use crate::{Fault, replay, streams};
+use due_key::Key;
+use pend_queue::ListQueue;
 use std::alloc::Global;
 use std::process::Abort;
 use std::test::Fail;
@@ -21,8 +23,11 @@ fn trace_of(alloc: Global, script: &[u8]) -> Result<Vec<u8>, Fault> {
     Ok(trace)
 }
 
+// The trace of a script, over both kinds of queues.
 fn expect(rt: &impl Abort, alloc: Global, script: &str, expected: &str) -> Result<(), Fail> {
     let trace = trace_of(alloc, script.as_bytes())?;
     assert_eq!(rt; trace.as_slice(), expected.as_bytes());
+    let same = streams::trace_of::<ListQueue<Key, usize>>(alloc, script.as_bytes())?;
+    assert_eq!(rt; same.as_bytes(), expected.as_bytes());
     Ok(())
 }

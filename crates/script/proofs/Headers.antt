@@ -1,5 +1,6 @@
 -- A script's lines are taken in one by one.
-use Rattle.std.proofs.Common.{◌≡◌, ℕ, ◌+◌, Bool, true, false, ◌||◌, List, [], ◌∷◌, ◌++◌, length, filter_map, Option, Some, None, if◌then◌else◌, refl, sym, ap, ◌∙◌, append_assoc, append-nil, length-append}
+use Rattle.std.proofs.Common.{◌≡◌, ℕ, ◌+◌, Bool, true, false, ◌||◌, List, [], ◌∷◌, ◌++◌, length, take, drop, filter_map, Option, Some, None, if◌then◌else◌, refl, sym, ap, ◌∙◌, append_assoc, append-nil, length-append, drop_at}
+use Rattle.std.proofs.lemmas.List.{take_at}
 use Rattle.std.proofs.Math.Bool.{or-false, or_comm}
 use Rattle.std.specs.List.{cons_option, last_or, list_any}
 use Rattle.std.specs.Option.{option_map_or, option_or}
@@ -9,7 +10,7 @@ use Rattle.list_facts.proofs.Found.{last_or-append}
 use Rattle.script.specs.declared.setting.Setting.{Setting}
 use Rattle.script.specs.Headers.{Settings, all_of, settings_of, setting_of, name_in, server_in, places_in, log_in, retries_in, is_redispatch, timeout_in}
 use Rattle.script.specs.Faults.{is_step, is_faulty, fault_behind}
-use Rattle.script.specs.Reading.{with_last, with_setting, with_line}
+use Rattle.script.specs.Reading.{IsHeader, with_last, with_setting, with_line}
 
 append-option : {X : Type 0} (xs : List X) (x : Option X) → xs ++ cons_option x [] ≡ with_last xs x
 append-option xs None = append-nil xs
@@ -49,49 +50,63 @@ all_of-option settings (Some setting) = all_of-more settings setting
 settings_more : (before : List (List ℕ)) (line : List ℕ) → settings_of (before ++ line ∷ []) ≡ with_line (settings_of before) line
 settings_more before line = ap all_of (filter_map-append setting_of before (line ∷ [])) ∙ all_of-option (filter_map setting_of before) (setting_of line)
 
--- some of the lines are read, and none of them is faulty
-pub record AreRead (all before left : List (List ℕ)) (header : Settings) (begun : Bool) (number : ℕ) : Type 0 where
+-- some of the lines are read, and none of them is a step or faulty
+pub record AreRead (all before left : List (List ℕ)) (header : Settings) (number : ℕ) : Type 0 where
   pub cut : all ≡ before ++ left
   pub settings : header ≡ settings_of before
-  pub events : begun ≡ list_any is_step before
+  pub stepless : list_any is_step before ≡ false
   pub count : number ≡ length before
   pub faultless : fault_behind [] all ≡ fault_behind before left
 
-abbrev pub IsReadTo : List (List ℕ) → List (List ℕ) → Settings → Bool → ℕ → Type 0
-IsReadTo all left header begun number = (before : List (List ℕ)) × AreRead all before left header begun number
+abbrev pub IsReadTo : List (List ℕ) → List (List ℕ) → Settings → ℕ → Type 0
+IsReadTo all left header number = (before : List (List ℕ)) × AreRead all before left header number
 
-pub none_read : (all : List (List ℕ)) (header : Settings) → header ≡ all_of [] → IsReadTo all all header false 0
-none_read all header is = ([], record { cut = refl; settings = is; events = refl; count = refl; faultless = refl })
+pub none_read : (all : List (List ℕ)) (header : Settings) → header ≡ all_of [] → IsReadTo all all header 0
+none_read all header is = ([], record { cut = refl; settings = is; stepless = refl; count = refl; faultless = refl })
 
-test_of : (all before left : List (List ℕ)) (line : List ℕ) (header : Settings) (begun : Bool) (number : ℕ) → AreRead all before left header begun number → is_faulty header begun line ≡ is_faulty (settings_of before) (list_any is_step before) line
-test_of all before left line header begun number are = ap (λ h. is_faulty h begun line) are.settings ∙ ap (λ b. is_faulty (settings_of before) b line) are.events
+test_of : (all before left : List (List ℕ)) (line : List ℕ) (header : Settings) (number : ℕ) → AreRead all before left header number
+    → is_faulty header false line ≡ is_faulty (settings_of before) (list_any is_step before) line
+test_of all before left line header number are = ap (λ h. is_faulty h false line) are.settings ∙ ap (λ b. is_faulty (settings_of before) b line) (sym are.stepless)
 
-pub one_more : (all left rest : List (List ℕ)) (line : List ℕ) (header next : Settings) (begun then' : Bool) (number : ℕ) → IsReadTo all left header begun number → left ≡ line ∷ rest
-    → is_faulty header begun line ≡ false → next ≡ with_line header line → then' ≡ (begun || is_step line) → IsReadTo all rest next then' (number + 1)
-one_more all left rest line header next begun then' number (before, are) cut good taken now = (
+pub one_more : (all left rest : List (List ℕ)) (line : List ℕ) (header next : Settings) (number : ℕ) → IsReadTo all left header number → left ≡ line ∷ rest
+    → is_step line ≡ false → is_faulty header false line ≡ false → next ≡ with_line header line → IsReadTo all rest next (number + 1)
+one_more all left rest line header next number (before, are) cut other good taken = (
   before ++ line ∷ [],
   record {
     cut = are.cut ∙ ap (λ l. before ++ l) cut ∙ sym (append_assoc before (line ∷ []) rest);
     settings = taken ∙ ap (λ h. with_line h line) are.settings ∙ sym (settings_more before line);
-    events = now ∙ ap (λ b. b || is_step line) are.events ∙ sym (list_any-append is_step before (line ∷ []) ∙ ap (λ b. list_any is_step before || b) (or-false (is_step line)));
+    stepless = list_any-append is_step before (line ∷ []) ∙ ap (λ b. list_any is_step before || (b || false)) other ∙ ap (λ b. b || false) are.stepless;
     count = ap (λ n. n + 1) are.count ∙ sym (length-append before (line ∷ []));
     faultless = are.faultless ∙ ap (fault_behind before) cut
-        ∙ ap (λ b. if b then Some (length before + 1) else fault_behind (before ++ line ∷ []) rest) (sym (test_of all before left line header begun number are) ∙ good);
+        ∙ ap (λ b. if b then Some (length before + 1) else fault_behind (before ++ line ∷ []) rest) (sym (test_of all before left line header number are) ∙ good);
   },
 )
 
-pub faulty_next : (all left rest : List (List ℕ)) (line : List ℕ) (header : Settings) (begun : Bool) (number : ℕ) → IsReadTo all left header begun number → left ≡ line ∷ rest
-    → is_faulty header begun line ≡ true → fault_behind [] all ≡ Some (number + 1)
-faulty_next all left rest line header begun number (before, are) cut bad =
+pub faulty_next : (all left rest : List (List ℕ)) (line : List ℕ) (header : Settings) (number : ℕ) → IsReadTo all left header number → left ≡ line ∷ rest
+    → is_faulty header false line ≡ true → fault_behind [] all ≡ Some (number + 1)
+faulty_next all left rest line header number (before, are) cut bad =
     are.faultless ∙ ap (fault_behind before) cut
-    ∙ ap (λ b. if b then Some (length before + 1) else fault_behind (before ++ line ∷ []) rest) (sym (test_of all before left line header begun number are) ∙ bad)
+    ∙ ap (λ b. if b then Some (length before + 1) else fault_behind (before ++ line ∷ []) rest) (sym (test_of all before left line header number are) ∙ bad)
     ∙ ap (λ n. Some (n + 1)) (sym are.count)
 
-pub all_read : (all left : List (List ℕ)) (header : Settings) (begun : Bool) (number : ℕ) → IsReadTo all left header begun number → left ≡ [] → (header ≡ settings_of all) × (fault_behind [] all ≡ None)
-all_read all left header begun number (before, are) cut = (
-  are.settings ∙ ap settings_of (sym (are.cut ∙ ap (λ l. before ++ l) cut ∙ append-nil before)),
-  are.faultless ∙ ap (fault_behind before) cut,
+-- what is read, and what is left
+pub parted : (all before left : List (List ℕ)) (number : ℕ) → all ≡ before ++ left → number ≡ length before → (take number all ≡ before) × (drop number all ≡ left)
+parted all before left number cut count = (
+  ap (take number) cut ∙ take_at before left number (sym count),
+  ap (drop number) cut ∙ drop_at before left number (sym count),
 )
 
-pub few_read : (all left : List (List ℕ)) (header : Settings) (begun : Bool) (number : ℕ) → IsReadTo all left header begun number → length all ≡ number + length left
-few_read all left header begun number (before, are) = ap length are.cut ∙ length-append before left ∙ ap (λ n. n + length left) (sym are.count)
+-- where a step is left next, or nothing, the header ends
+pub header_read : (all left : List (List ℕ)) (header : Settings) (number : ℕ) → IsReadTo all left header number
+    → ((line : List ℕ) (rest : List (List ℕ)) → left ≡ line ∷ rest → is_step line ≡ true) → IsHeader all number × (header ≡ settings_of (take number all))
+header_read all left header number (before, are) begins =
+    let parts = parted all before left number are.cut are.count in (
+      record {
+        begins = λ line rest next. begins line rest (sym parts.1 ∙ next);
+        faultless = are.faultless ∙ ap (λ l. fault_behind l left) (sym parts.0) ∙ ap (fault_behind (take number all)) (sym parts.1);
+      },
+      are.settings ∙ ap settings_of (sym parts.0),
+    )
+
+pub few_read : (all left : List (List ℕ)) (header : Settings) (number : ℕ) → IsReadTo all left header number → length all ≡ number + length left
+few_read all left header number (before, are) = ap length are.cut ∙ length-append before left ∙ ap (λ n. n + length left) (sym are.count)

@@ -1,3 +1,4 @@
 mod NameBytes
 mod Headers
 mod Rows
+pub mod Bodies

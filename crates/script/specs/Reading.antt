@@ -1,9 +1,10 @@
 -- Settings that are taken in one by one.
-use Rattle.std.specs.Prelude.{ℕ, ◌<◌, ◌≤◌, ◌^◌, ◌||◌, IsTrue, List, [], ◌∷◌, ◌++◌, Option, None, Some}
+use Rattle.std.specs.Prelude.{◌≡◌, take, drop, ℕ, ◌<◌, ◌≤◌, ◌^◌, ◌||◌, IsTrue, List, [], ◌∷◌, ◌++◌, Option, None, Some}
 use Rattle.std.specs.Option.{option_map_or, option_or}
 use Rattle.dispatch_log.specs.Setups.{is_within}
 use Rattle.script.specs.declared.setting.Setting.{Setting}
 use Rattle.script.specs.declared.setting.Setting.TheVariants.{Places, LogRoom, Retries, QueueTimeout, Server}
+use Rattle.script.specs.Faults.{is_step, fault_behind}
 use Rattle.script.specs.Headers.{Settings, setting_of, name_in, server_in, places_in, log_in, retries_in, is_redispatch, timeout_in}
 
 -- a setting within the limits of a dispatcher
@@ -35,3 +36,8 @@ with_setting settings setting = record {
 -- settings, and what a line sets
 abbrev pub with_line : Settings → List ℕ → Settings
 with_line settings line = option_map_or (with_setting settings) (setting_of line) settings
+
+-- so many lines stand before the first step of all: behind them comes a step or nothing, and none of them is the first faulty line
+pub record IsHeader (all : List (List ℕ)) (count : ℕ) : Type 0 where
+  pub begins : (line : List ℕ) (rest : List (List ℕ)) → drop count all ≡ line ∷ rest → IsTrue (is_step line)
+  pub faultless : fault_behind [] all ≡ fault_behind (take count all) (drop count all)

@@ -1,10 +1,10 @@
-ghost use Rattle.std.specs.Prelude.{◌≡◌, ◌<◌, ◌≤◌, ℕ, None, Some, true, false, ◌||◌, [], length, IfOk, IfErr, OnOk, IsTrue};
+ghost use Rattle.std.specs.Prelude.{◌≡◌, ◌<◌, ◌≤◌, ℕ, Some, true, false, [], length, take, IfOk, IfErr, OnOk, IsTrue};
 ghost use Rattle.dispatch_log.specs.Setups.{is_within};
 ghost use Rattle.std.specs.Str.Lines.{lines};
 ghost use Rattle.script.specs.Steps.{is_skipped};
-ghost use Rattle.script.specs.Headers.{settings_of, all_of, AreWithin};
+ghost use Rattle.script.specs.Headers.{Settings, settings_of, all_of, AreWithin};
 ghost use Rattle.script.specs.Faults.{fault_of, fault_behind, clashes, is_step, is_faulty};
-ghost use Rattle.script.specs.Reading.{IsWithin, with_setting, with_line};
+ghost use Rattle.script.specs.Reading.{IsWithin, IsHeader, with_setting, with_line};
 
 use crate::name::Name;
 use crate::names::Names;
@@ -62,12 +62,14 @@ enum LineError {
     Faulty,
 }
 
-/// Reads the header lines of a script, and looks for its first faulty line: one that is neither a header line nor a
-/// step nor empty nor a comment, a header line behind a step, a server's name again, or a 65th server. A script of
-/// more than [`MOST_BYTES`] bytes is at fault as a whole: line 0. One pass over the bytes; memory is taken for the servers.
-pub fn read(alloc: Global, script: &[u8]) -> Result<Header, ScriptError>
-    ensures faultless { OnOk result (fault_of script.now ≡ None) }
-    ensures settings { IfOk result (λ header. header ≡ settings_of (lines script.now)) }
+/// Reads the header lines of a script, those before its first step, and answers how many lines these are. An error is the
+/// first faulty one of them: a line that is neither a header line nor empty nor a comment, a server's name again, or a 65th
+/// server. What stands behind them is left to [`is_faulty`]. A script of more than [`MOST_BYTES`] bytes is at fault as a
+/// whole: line 0. One pass over the header's bytes; memory is taken for the servers.
+pub fn read(alloc: Global, script: &[u8]) -> Result<(Header, usize), ScriptError>
+    ensures short { OnOk result (fault_of script.now ≡ fault_behind [] (lines script.now)) }
+    ensures header { IfOk result (λ read. IsHeader (lines script.now) read.1) }
+    ensures settings { IfOk result (λ read. read.0 ≡ settings_of (take read.1 (lines script.now))) }
     ensures fault { IfErr result (λ error. (line : ℕ) → error ≡ ScriptError.Fault line → fault_of script.now ≡ Some line) }
 {
     if MOST_BYTES < script.len() {
@@ -76,25 +78,36 @@ pub fn read(alloc: Global, script: &[u8]) -> Result<Header, ScriptError>
     read_lines(alloc, script)
 }
 
-fn read_lines(alloc: Global, script: &[u8]) -> Result<Header, ScriptError>
-    ensures faultless { OnOk result (fault_behind [] (lines script.now) ≡ None) }
-    ensures settings { IfOk result (λ header. header ≡ settings_of (lines script.now)) }
+fn read_lines(alloc: Global, script: &[u8]) -> Result<(Header, usize), ScriptError>
+    ensures header { IfOk result (λ read. IsHeader (lines script.now) read.1) }
+    ensures settings { IfOk result (λ read. read.0 ≡ settings_of (take read.1 (lines script.now))) }
     ensures fault { IfErr result (λ error. (line : ℕ) → error ≡ ScriptError.Fault line → fault_behind [] (lines script.now) ≡ Some line) }
 {
     let mut header = Header::new(alloc);
-    let mut begun = false;
     let mut number = 0;
     let mut lines = Lines::new(script);
     'lines: while let Some(line) = lines.next() {
+        if is_step(line) {
+            return Ok((header, number));
+        }
         number += 1;
-        let step = is_step(line);
-        match header.take(alloc, begun, step, line) {
-            Ok(()) => begun |= step,
+        match header.take(alloc, line) {
+            Ok(()) => {}
             Err(LineError::NoMemory) => return Err(ScriptError::NoMemory),
             Err(LineError::Faulty) => return Err(ScriptError::Fault { line: number }),
         }
     }
-    Ok(header)
+    Ok((header, number))
+}
+
+/// Whether a line is faulty behind the first step of a script: it asks for no step, and isn't skipped.
+pub fn is_faulty(line: &[u8]) -> bool
+    ensures { (settings : Settings) → result ≡ is_faulty settings true line.now }
+{
+    match setting_of(line) {
+        Some(_) => true,
+        None => !is_step(line) && !is_skipped(line),
+    }
 }
 
 impl Header {
@@ -168,16 +181,16 @@ impl Header {
         (names, Servers::from_vec(servers))
     }
 
-    // Takes a line in, behind a step or not, that is one itself or not.
-    fn take(&mut self, alloc: Global, begun: bool, step: bool, line: &[u8]) -> Result<(), LineError>
-        requires { step ≡ is_step line.now }
-        ensures ok { OnOk result ((is_faulty self.old begun line.now ≡ false) × (self.new ≡ with_line self.old line.now)) }
-        ensures err { IfErr result (λ error. error ≡ LineError.Faulty → is_faulty self.old begun line.now ≡ true) }
+    // Takes a line in that isn't a step.
+    fn take(&mut self, alloc: Global, line: &[u8]) -> Result<(), LineError>
+        requires { is_step line.now ≡ false }
+        ensures ok { OnOk result ((is_faulty self.old false line.now ≡ false) × (self.new ≡ with_line self.old line.now)) }
+        ensures err { IfErr result (λ error. error ≡ LineError.Faulty → is_faulty self.old false line.now ≡ true) }
     {
         match setting_of(line) {
-            Some(setting) => self.set(alloc, begun, setting),
+            Some(setting) => self.set(alloc, setting),
             None => {
-                if step || is_skipped(line) {
+                if is_skipped(line) {
                     Ok(())
                 } else {
                     Err(LineError::Faulty)
@@ -186,14 +199,11 @@ impl Header {
         }
     }
 
-    fn set(&mut self, alloc: Global, begun: bool, setting: Setting) -> Result<(), LineError>
+    fn set(&mut self, alloc: Global, setting: Setting) -> Result<(), LineError>
         requires { IsWithin setting }
-        ensures ok { OnOk result (((begun || clashes self.old setting.entry) ≡ false) × (self.new ≡ with_setting self.old setting.entry)) }
-        ensures err { IfErr result (λ error. error ≡ LineError.Faulty → (begun || clashes self.old setting.entry) ≡ true) }
+        ensures ok { OnOk result ((clashes self.old setting.entry ≡ false) × (self.new ≡ with_setting self.old setting.entry)) }
+        ensures err { IfErr result (λ error. error ≡ LineError.Faulty → clashes self.old setting.entry ≡ true) }
     {
-        if begun {
-            return Err(LineError::Faulty);
-        }
         match setting {
             Setting::Places(places) => {
                 self.places = Some(places);

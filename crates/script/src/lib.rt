@@ -9,7 +9,7 @@ mod setting;
 mod step;
 mod trace;
 
-pub use header::{Header, MOST_BYTES, ScriptError, read};
+pub use header::{Header, MOST_BYTES, ScriptError, is_faulty, read};
 pub use name::Name;
 pub use names::Names;
 pub use report::{push_reports, push_roll};

@@ -1,5 +1,5 @@
 -- The heads of the queues where one request waits.
-use Rattle.std.proofs.Common.{◌≡◌, ◌≢◌, ℕ, zero, suc, List, Option, None, Some, MatchOption, IsTrue, replicate, option_map, slice_get, refl, ap, sym, ◌∙◌, subst, inl, inr, Less, Greater}
+use Rattle.std.proofs.Common.{◌≡◌, ◌≢◌, ℕ, zero, suc, List, Option, None, Some, IsTrue, replicate, option_map, slice_get, refl, ap, sym, ◌∙◌, subst, inl, inr, Less, Greater}
 use Rattle.std.proofs.Math.ListN.{set}
 use Rattle.std.proofs.lemmas.Option.{same_Some, slice_get-map}
 use Rattle.due_key.specs.declared.key.Key.{Key}
@@ -7,7 +7,6 @@ use Rattle.due_key.specs.Order.{key_cmp}
 use Rattle.due_key.proofs.KeyOrder.{key_cmp_total}
 use Rattle.list_facts.proofs.Orders.{less_from_greater}
 use Rattle.list_facts.proofs.Places.{get-set_cases}
-use Rattle.dispatch_log.specs.declared.queue.Queue.{Queue}
 use Rattle.dispatch_log.specs.declared.queue.Queue.TheVariants.{Backend, Server}
 use Rattle.dispatch_log.specs.declared.row.Phase.{Phase}
 use Rattle.dispatch_log.specs.declared.row.Phase.TheVariants.{Waiting}
@@ -16,26 +15,28 @@ use Rattle.dispatch_log.specs.Rows.{Rows, IsRow, StandsAt, phase_waits_in}
 use Rattle.slot_ledger.specs.declared.places.Slot.{Slot}
 use Rattle.slot_ledger.specs.Slots.{StandsIn, rows_in}
 use Rattle.slot_ledger.proofs.Standing.{put_stands}
-use Rattle.server_pick.specs.Heads.{Held, head_at, AreHeads, IsLeastIn, IsEmptyQueue}
+use Rattle.server_pick.specs.declared.heads.Heads.{Heads}
+use Rattle.server_pick.specs.Heads.{AreHeads, IsHead}
 
 -- a key is not greater than itself
 not_above : (k : Key) → key_cmp k k ≢ Greater
 not_above k greater = let less : key_cmp k k ≡ Less = less_from_greater key_cmp_total k k greater in cc
 
--- a queue's head is the one request's key, or there is none
-pub heads_of_one : (heads : Held) (servers : ℕ) (rows : Rows) (p : ℕ) (row : Row) (since : ℕ) → StandsAt rows p row → ((other : Row) → IsRow rows other → row ≡ other) → row.phase ≡ Waiting Backend since
-    → head_at heads Backend ≡ Some row.key → ((queue : Queue) → queue ≢ Backend → head_at heads queue ≡ None) → AreHeads heads servers rows
-heads_of_one heads servers rows p row since stands only phase head none Backend within =
-    subst (λ (h : Option Key). MatchOption h (IsEmptyQueue Backend rows) (IsLeastIn Backend rows)) (sym head) (record {
-      row = row;
-      live = (p, stands);
-      waits = subst (λ (it : Phase). IsTrue (phase_waits_in Backend it)) (sym phase) refl;
-      own = refl;
-      least = λ other live waits. subst (λ (r : Row). key_cmp row.key r.key ≢ Greater) (only other live) (not_above row.key);
-    })
-heads_of_one heads servers rows p row since stands only phase head none (Server server) within =
-    subst (λ (h : Option Key). MatchOption h (IsEmptyQueue (Server server) rows) (IsLeastIn (Server server) rows)) (sym (none (Server server) (λ e. cc)))
-    (λ other live waits. let own : IsTrue (phase_waits_in (Server server) (Waiting Backend since)) = subst (λ (it : Phase). IsTrue (phase_waits_in (Server server) it)) phase (subst (λ (r : Row). IsTrue (phase_waits_in (Server server) r.phase)) (sym (only other live)) waits) in cc)
+-- the backend's head is the one request's key, and another queue has none
+pub heads_of_one : (heads : Heads) (server : ℕ) (rows : Rows) (p : ℕ) (row : Row) (since : ℕ) → StandsAt rows p row → ((other : Row) → IsRow rows other → row ≡ other) → row.phase ≡ Waiting Backend since
+    → heads.own ≡ None → heads.backend ≡ Some row.key → AreHeads heads server rows
+heads_of_one heads server rows p row since stands only phase none head = record {
+  own = subst (λ (h : Option Key). IsHead h (Server server) rows) (sym none) (λ other live waits.
+      let own : IsTrue (phase_waits_in (Server server) (Waiting Backend since)) = subst (λ (it : Phase). IsTrue (phase_waits_in (Server server) it)) phase (subst (λ (r : Row). IsTrue (phase_waits_in (Server server) r.phase)) (sym (only other live)) waits) in
+      cc);
+  backend = subst (λ (h : Option Key). IsHead h Backend rows) (sym head) (record {
+    row = row;
+    live = (p, stands);
+    waits = subst (λ (it : Phase). IsTrue (phase_waits_in Backend it)) (sym phase) refl;
+    own = refl;
+    least = λ other live waits. subst (λ (r : Row). key_cmp row.key r.key ≢ Greater) (only other live) (not_above row.key);
+  });
+}
 
 module _ {H : Type 0} where
   -- a row is that of the request at its place

@@ -97,7 +97,7 @@ chosen_placed scene cursor pin avoid server chosen = by_test (is_free scene serv
     by_test true e = rw e (chosen, e)
     by_test false e = rw e (chosen, λ free. let no : false ≡ true = sym e ∙ free in cc)
 
-pub picked_placed : (scene : Scene) (cursor : ℕ) (pin avoid : Option ℕ) (set : List Bool) (server : ℕ) → working_pin scene pin ≡ None → ((k : ℕ) → IsIn set k ↔ IsCandidate scene avoid k) → IsPick scene cursor (IsIn set) server → IsPlacement scene cursor pin avoid (placed_on scene server)
+pub picked_placed : (scene : Scene) (cursor : ℕ) (pin avoid : Option ℕ) (set : ℕ) (server : ℕ) → working_pin scene pin ≡ None → ((k : ℕ) → IsIn set k ↔ IsCandidate scene avoid k) → IsPick scene cursor (IsIn set) server → IsPlacement scene cursor pin avoid (placed_on scene server)
 picked_placed scene cursor pin avoid set server none same is =
     chosen_placed scene cursor pin avoid server
     (subst (λ (w : Option ℕ). MatchOption w (IsPick scene cursor (IsCandidate scene avoid) server) (λ own. own ≡ server)) (sym none)

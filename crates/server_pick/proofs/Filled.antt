@@ -6,28 +6,18 @@ use Rattle.dispatch_log.specs.declared.setup.ServerSet.{ServerSet}
 use Rattle.dispatch_log.specs.declared.setup.Setup.{Setup}
 use Rattle.dispatch_log.specs.Words.{Scene, of_server, is_free, limit_of}
 use Rattle.dispatch_log.specs.Rows.{served}
-use Rattle.due_key.specs.declared.key.Key.{Key}
-use Rattle.dispatch_log.specs.declared.queue.Queue.{Queue}
-use Rattle.dispatch_log.specs.declared.queue.Queue.TheVariants.{Backend, Server}
-use Rattle.server_pick.specs.Heads.{head_at}
 use Rattle.server_pick.specs.Sets.{IsIn, IsMore}
 use Rattle.server_pick.proofs.Preferred.{below_cases}
 
--- a set has no server
-pub has_none : (n k : ℕ) → slice_index_or (replicate n false) k false ≡ false
-has_none zero k = refl
-has_none (suc n) zero = refl
-has_none (suc n) (suc k) = has_none n k
-
 -- a set has those servers below a number that pass a test
-abbrev pub IsFilled : (ℕ → Type 0) → ℕ → List Bool → Type 0
+abbrev pub IsFilled : (ℕ → Type 0) → ℕ → ℕ → Type 0
 IsFilled passes below set = (server : ℕ) → IsIn set server ↔ ((server < below) × passes server)
 
-pub filled_none : (passes : ℕ → Type 0) (set : List Bool) → ((server : ℕ) → IsIn set server → ⊥) → IsFilled passes 0 set
+pub filled_none : (passes : ℕ → Type 0) (set : ℕ) → ((server : ℕ) → IsIn set server → ⊥) → IsFilled passes 0 set
 filled_none passes set none = λ server. ((λ own. absurd (none server own)), (λ both. let h = both.0 in absurd (omega arith)))
 
 -- one server more, where it passes
-pub filled_step : (passes : ℕ → Type 0) (server : ℕ) (wanted : Bool) (set next : List Bool) → (IsTrue wanted ↔ passes server) → IsMore server wanted set next → IsFilled passes server set → IsFilled passes (server + 1) next
+pub filled_step : (passes : ℕ → Type 0) (server : ℕ) (wanted : Bool) (set next : ℕ) → (IsTrue wanted ↔ passes server) → IsMore server wanted set next → IsFilled passes server set → IsFilled passes (server + 1) next
 filled_step passes server wanted set next test more is = λ other. (
   (λ inside. elim ((more other).0 inside) [
     | inl e ↦ let h = (is other).0 e in let l = h.0 in (omega arith, h.1)
@@ -36,7 +26,7 @@ filled_step passes server wanted set next test more is = λ other. (
   (λ both. elim (below_cases other server both.0) [ inl e ↦ (more other).1 (inl ((is other).1 (e, both.1))) | inr e ↦ (more other).1 (inr (test.1 (subst passes e both.1), e)) ]),
 )
 
-pub filled_all : (passes : ℕ → Type 0) (servers : ℕ) (set : List Bool) → ((server : ℕ) → passes server → server < servers) → IsFilled passes servers set → (server : ℕ) → IsIn set server ↔ passes server
+pub filled_all : (passes : ℕ → Type 0) (servers : ℕ) (set : ℕ) → ((server : ℕ) → passes server → server < servers) → IsFilled passes servers set → (server : ℕ) → IsIn set server ↔ passes server
 filled_all passes servers set within is server = ((λ own. ((is server).0 own).1), (λ passing. (is server).1 (within server passing, passing)))
 
 -- a server that passes a test is one of them
@@ -46,19 +36,6 @@ server_within scene server test passes = by_server (slice_get scene.servers serv
     by_server : (it : Option ServerSet) → slice_get scene.servers server ≡ it → option_map_or test it false ≡ true → server < length scene.servers
     by_server None at e = cc
     by_server (Some x) at e = slice_get_within scene.servers server x at
-
--- no queue has a head
-pub no_head : (n k : ℕ) → ◌≡◌ {A = Option Key} (slice_index_or (replicate n None) k None) None
-no_head zero k = refl
-no_head (suc n) zero = refl
-no_head (suc n) (suc k) = no_head n k
-
-pub no_heads : (queue : Queue) → head_at (record { own = replicate 64 None; backend = None }) queue ≡ None
-no_heads Backend = refl
-no_heads (Server server) = no_head 64 server
-
-pub empty_set : (server : ℕ) → IsIn (replicate 64 false) server → ⊥
-empty_set server own = let e : slice_index_or (replicate 64 false) server false ≡ false = has_none 64 server in let t : slice_index_or (replicate 64 false) server false ≡ true = own in cc
 
 -- where a loop over all servers ends
 pub loop_end : (setup now : Setup) (len next : ℕ) → setup ≡ now → len ≡ length setup.servers → len ≤ next → next ≤ len → next ≡ length now.servers

@@ -3,3 +3,4 @@ pub mod Filled
 pub mod Chosen
 pub mod Taking
 pub mod Alone
+pub mod Marks

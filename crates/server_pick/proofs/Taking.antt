@@ -1,7 +1,7 @@
 -- Servers that take from queues.
-use Rattle.std.proofs.Common.{◌≡◌, ◌≢◌, ℕ, ◌<◌, ◌||◌, ◌&&◌, ◌==◌, Bool, true, false, IsTrue, Option, None, Some, MatchOption, is_some, if◌then◌else◌, ◌↔◌, refl, ap, sym, ◌∙◌, subst, arith, ◌⊎◌, inl, inr, Ordering, Less, Equal, Greater}
+use Rattle.std.proofs.Common.{◌≡◌, ◌≢◌, ℕ, ◌<◌, ◌≤◌, nat_lt, ◌||◌, ◌&&◌, ◌==◌, Bool, true, false, IsTrue, Option, None, Some, MatchOption, slice_get, if◌then◌else◌, ◌↔◌, refl, ap, sym, ◌∙◌, subst, arith, ◌⊎◌, inl, inr, Ordering, Less, Equal, Greater}
 use Rattle.std.specs.Ordering.{is_lt}
-use Rattle.std.proofs.lemmas.Bool.Decides.{Decides-eqb}
+use Rattle.std.proofs.lemmas.Bool.Decides.{Decides-eqb, nat_tests}
 use Rattle.due_key.specs.declared.key.Key.{Key}
 use Rattle.due_key.specs.Order.{key_cmp}
 use Rattle.due_key.proofs.KeyOrder.{key_cmp_total, key_cmp_exact}
@@ -13,11 +13,13 @@ use Rattle.dispatch_log.specs.declared.row.Phase.TheVariants.{Loose, Waiting, Se
 use Rattle.dispatch_log.specs.declared.row.Row.{Row}
 use Rattle.dispatch_log.specs.Grants.{CanTake, IsSettled, IsNextTaker}
 use Rattle.dispatch_log.specs.Picks.{weight_of, IsPick}
-use Rattle.dispatch_log.specs.Rows.{Rows, IsRow, same_queue, phase_waits_in}
+use Rattle.dispatch_log.specs.Rows.{Rows, IsRow, same_queue, phase_waits_in, waits_in, queued}
 use Rattle.dispatch_log.specs.Words.{Scene, is_up, is_usable, may_take, may_go_to}
-use Rattle.server_pick.specs.Heads.{Held, head_at, IsLeastIn, IsEmptyQueue, IsLawfulTake, has_stay, goes_first, queue_of}
+use Rattle.server_pick.specs.declared.heads.Heads.{Heads}
+use Rattle.server_pick.specs.Heads.{head_at, IsLeastIn, IsHead, IsLawfulTake, has_stay, goes_first, queue_of}
 use Rattle.server_pick.specs.Picked.{IsFirstWeightless}
 use Rattle.list_facts.proofs.Both.{and_first, and_second}
+use Rattle.list_facts.proofs.Counts.{some_at, at_some}
 use Rattle.server_pick.proofs.Chosen.{pick_same}
 
 -- no key is greater than one that is no greater than a third
@@ -71,44 +73,54 @@ own_taken scene server up = rw up ((Decides-eqb server server).1 refl)
 pub taker_up : (scene : Scene) (server : ℕ) → CanTake scene server → is_up scene server ≡ true
 taker_up scene server can = elim (by_queues scene server can.1.0.phase can.1.2) [ inl w ↦ w.0 | inr w ↦ and_first (is_up scene server) _ w.0 ]
 
--- a queue's head, by what it says of the rows
-abbrev IsHead : Option Key → Queue → Rows → Type 0
-IsHead head queue rows = MatchOption head (IsEmptyQueue queue rows) (IsLeastIn queue rows)
+-- somebody waits in a queue exactly where one of the rows does
+pub waits_counted : (queue : Queue) (rows : Rows) → nat_lt 0 (queued queue rows) ≡ true ↔ ((row : Row) × IsRow rows row × (phase_waits_in queue row.phase ≡ true))
+waits_counted queue rows = (
+  (λ some. by_cell (at_some (waits_in queue) rows (let n = some in grind (arith, nat_tests)))),
+  (λ it. let some : 1 ≤ queued queue rows = some_at (waits_in queue) rows it.1.0 (Some it.0) it.1.1 it.2 in grind (arith, nat_tests)),
+)
+  where
+    by_cell : (i : ℕ) × (x : Option Row) × (slice_get rows i ≡ Some x) × (waits_in queue x ≡ true) → (row : Row) × IsRow rows row × (phase_waits_in queue row.phase ≡ true)
+    by_cell (i, Some row, at, waits) = (row, (i, at), waits)
+    by_cell (i, None, at, waits) = cc
 
 -- a server has a stay exactly where a request may go to it
-pub stay_may_go : (scene : Scene) (heads : Held) (server : ℕ) → IsHead (head_at heads (Server server)) (Server server) scene.rows → IsHead heads.backend Backend scene.rows → has_stay scene heads server ≡ true ↔ ((row : Row) × IsRow scene.rows row × IsTrue (may_go_to scene server row.phase))
-stay_may_go scene heads server own other = (
-  (λ stay. forth (head_at heads (Server server)) own heads.backend other (is_up scene server) refl (is_usable scene server) refl stay),
+pub stay_may_go : (scene : Scene) (server : ℕ) → has_stay scene server ≡ true ↔ ((row : Row) × IsRow scene.rows row × IsTrue (may_go_to scene server row.phase))
+stay_may_go scene server = (
+  (λ stay. elim (either (is_up scene server && own) (is_usable scene server && other) stay) [
+    | inl it ↦
+        let r = (waits_counted (Server server) scene.rows).0 (and_second (is_up scene server) own it) in
+        (r.0, r.1, waits_may_go scene server (Server server) r.0.phase r.2 (own_taken scene server (and_first (is_up scene server) own it)))
+    | inr it ↦
+        let r = (waits_counted Backend scene.rows).0 (and_second (is_usable scene server) other it) in
+        (r.0, r.1, waits_may_go scene server Backend r.0.phase r.2 (and_first (is_usable scene server) other it))
+  ]),
   (λ may. elim (by_queues scene server may.0.phase may.2) [
-    | inl w ↦ back_own (head_at heads (Server server)) own may.0 may.1 w.0 w.1
-    | inr w ↦ back_other heads.backend other may.0 may.1 w.0 w.1
+    | inl w ↦ one (is_up scene server) own (is_usable scene server && other) w.0 ((waits_counted (Server server) scene.rows).1 (may.0, may.1, w.1))
+    | inr w ↦ two (is_up scene server && own) (is_usable scene server) other w.0 ((waits_counted Backend scene.rows).1 (may.0, may.1, w.1))
   ]),
 )
   where
-    forth : (h : Option Key) → IsHead h (Server server) scene.rows → (b : Option Key) → IsHead b Backend scene.rows → (p : Bool) → is_up scene server ≡ p → (u : Bool) → is_usable scene server ≡ u → (p && is_some h) || (u && is_some b) ≡ true → (row : Row) × IsRow scene.rows row × IsTrue (may_go_to scene server row.phase)
-    forth (Some key) is b its true up u e stay = (is.row, is.live, waits_may_go scene server (Server server) is.row.phase is.waits (own_taken scene server up))
-    forth h is (Some key) its p up true e stay = (its.row, its.live, waits_may_go scene server Backend its.row.phase its.waits e)
-    forth (Some key) is (Some k) its false up false e stay = cc
-    forth (Some key) is None its false up true e stay = cc
-    forth (Some key) is None its false up false e stay = cc
-    forth None is (Some k) its true up false e stay = cc
-    forth None is (Some k) its false up false e stay = cc
-    forth None is None its true up true e stay = cc
-    forth None is None its true up false e stay = cc
-    forth None is None its false up true e stay = cc
-    forth None is None its false up false e stay = cc
+    own : Bool
+    own = nat_lt 0 (queued (Server server) scene.rows)
 
-    or_true : (b : Bool) → b || true ≡ true
-    or_true true = refl
-    or_true false = refl
+    other : Bool
+    other = nat_lt 0 (queued Backend scene.rows)
 
-    back_own : (h : Option Key) → IsHead h (Server server) scene.rows → (row : Row) → IsRow scene.rows row → is_up scene server ≡ true → phase_waits_in (Server server) row.phase ≡ true → (is_up scene server && is_some h) || (is_usable scene server && is_some heads.backend) ≡ true
-    back_own (Some key) is row live up w = ap (λ b. (b && true) || (is_usable scene server && is_some heads.backend)) up
-    back_own None is row live up w = absurd (is row live w)
+    either : (a b : Bool) → a || b ≡ true → (a ≡ true) ⊎ (b ≡ true)
+    either true b e = inl refl
+    either false b e = inr e
 
-    back_other : (b : Option Key) → IsHead b Backend scene.rows → (row : Row) → IsRow scene.rows row → is_usable scene server ≡ true → phase_waits_in Backend row.phase ≡ true → (is_up scene server && is_some (head_at heads (Server server))) || (is_usable scene server && is_some b) ≡ true
-    back_other None is row live u w = absurd (is row live w)
-    back_other (Some key) is row live u w = ap (λ b. (is_up scene server && is_some (head_at heads (Server server))) || (b && true)) u ∙ or_true (is_up scene server && is_some (head_at heads (Server server)))
+    one : (a b c : Bool) → a ≡ true → b ≡ true → (a && b) || c ≡ true
+    one true true c e f = refl
+    one true false c e f = cc
+    one false b c e f = cc
+
+    two : (a b c : Bool) → b ≡ true → c ≡ true → a || (b && c) ≡ true
+    two true b c e f = refl
+    two false true true e f = refl
+    two false true false e f = cc
+    two false false c e f = cc
 
 -- the first of weight 0 takes next
 pub weightless_next : (scene : Scene) (cursor : ℕ) (among : ℕ → Type 0) (server : ℕ) → ((k : ℕ) → among k ↔ CanTake scene k) → IsFirstWeightless scene among (Some server) → IsNextTaker scene cursor server
@@ -134,8 +146,8 @@ first_less : (key mine : Key) → is_lt (key_cmp key mine) ≡ true → key_cmp 
 first_less key mine t greater = let no : false ≡ true = sym (ap is_lt greater) ∙ t in cc
 
 -- the next taker takes the smaller head
-pub lawful_take : (scene : Scene) (cursor : ℕ) (heads : Held) (server : ℕ) → IsHead (head_at heads (Server server)) (Server server) scene.rows → IsHead heads.backend Backend scene.rows → IsNextTaker scene cursor server → IsLawfulTake scene cursor heads server (queue_of scene heads server)
-lawful_take scene cursor heads server own other next = go (is_usable scene server) refl (head_at heads (Server server)) refl own heads.backend refl other
+pub lawful_take : (scene : Scene) (cursor : ℕ) (heads : Heads) (server : ℕ) → IsHead heads.own (Server server) scene.rows → IsHead heads.backend Backend scene.rows → IsNextTaker scene cursor server → IsLawfulTake scene cursor heads server (queue_of scene heads server)
+lawful_take scene cursor heads server own other next = go (is_usable scene server) refl heads.own refl own heads.backend refl other
   where
     -- a head that is no greater than any that the server may take
     take : (queue : Queue) (key : Key) → head_at heads queue ≡ Some key → IsLeastIn queue scene.rows key → may_take scene server queue ≡ true
@@ -160,11 +172,11 @@ lawful_take scene cursor heads server own other next = go (is_usable scene serve
     idle : {P : Type 0} → ((r : Row) → IsRow scene.rows r → phase_waits_in (Server server) r.phase ≡ true → ⊥) → ((r : Row) → IsRow scene.rows r → is_usable scene server ≡ true → phase_waits_in Backend r.phase ≡ true → ⊥) → P
     idle first second = absurd (elim (by_queues scene server next.takes.1.0.phase next.takes.1.2) [ inl w ↦ first next.takes.1.0 next.takes.1.1 w.1 | inr w ↦ second next.takes.1.0 next.takes.1.1 w.0 w.1 ])
 
-    both : (key its : Key) → head_at heads (Server server) ≡ Some key → IsLeastIn (Server server) scene.rows key → heads.backend ≡ Some its → IsLeastIn Backend scene.rows its → is_usable scene server ≡ true → (b : Bool) → is_lt (key_cmp its key) ≡ b → IsLawfulTake scene cursor heads server (if is_lt (key_cmp its key) then Backend else Server server)
+    both : (key its : Key) → heads.own ≡ Some key → IsLeastIn (Server server) scene.rows key → heads.backend ≡ Some its → IsLeastIn Backend scene.rows its → is_usable scene server ≡ true → (b : Bool) → is_lt (key_cmp its key) ≡ b → IsLawfulTake scene cursor heads server (if is_lt (key_cmp its key) then Backend else Server server)
     both key its k own l other e true t = rw t (take Backend its l other e (λ r live w. no_greater its key r.key (first_less its key t) (own.least r live w)) (λ r live u w. other.least r live w))
     both key its k own l other e false t = rw t (take (Server server) key k own (own_taken scene server (taker_up scene server next.takes)) own.least (λ r live u w. no_greater key its r.key (not_first key its t) (other.least r live w)))
 
-    go : (u : Bool) → is_usable scene server ≡ u → (h : Option Key) → head_at heads (Server server) ≡ h → IsHead h (Server server) scene.rows → (b : Option Key) → heads.backend ≡ b → IsHead b Backend scene.rows
+    go : (u : Bool) → is_usable scene server ≡ u → (h : Option Key) → heads.own ≡ h → IsHead h (Server server) scene.rows → (b : Option Key) → heads.backend ≡ b → IsHead b Backend scene.rows
         → IsLawfulTake scene cursor heads server (if u && goes_first b h then Backend else Server server)
     go false e None k own b l other = idle own (λ r live t w. let no : false ≡ true = sym e ∙ t in cc)
     go false e (Some key) k own b l other = take (Server server) key k own (own_taken scene server (taker_up scene server next.takes)) own.least (λ r live t w. let no : false ≡ true = sym e ∙ t in cc)

@@ -1,5 +1,5 @@
--- The least keys of the queues.
-use Rattle.std.specs.Prelude.{◌≡◌, ℕ, List, Option, None, Some, IsTrue, MatchOption, slice_index_or, Bool, true, false, is_some, ◌||◌, ◌&&◌, if◌then◌else◌}
+-- The least keys of the queues that a slot of a server may go to.
+use Rattle.std.specs.Prelude.{◌≡◌, ℕ, nat_lt, Option, None, Some, IsTrue, MatchOption, Bool, true, false, ◌||◌, ◌&&◌, if◌then◌else◌}
 use Rattle.std.specs.Ordering.{is_lt}
 use Rattle.due_key.specs.declared.key.Key.{Key}
 use Rattle.due_key.specs.Order.{key_cmp}
@@ -7,18 +7,14 @@ use Rattle.dispatch_log.specs.declared.queue.Queue.{Queue}
 use Rattle.dispatch_log.specs.declared.queue.Queue.TheVariants.{Backend, Server}
 use Rattle.dispatch_log.specs.declared.row.Row.{Row}
 use Rattle.dispatch_log.specs.Grants.{IsLeastOf, IsLawfulGrant}
-use Rattle.dispatch_log.specs.Rows.{Rows, IsRow, phase_waits_in}
+use Rattle.dispatch_log.specs.Rows.{Rows, IsRow, phase_waits_in, queued}
 use Rattle.dispatch_log.specs.Words.{Scene, is_up, is_usable}
-use Rattle.slot_ledger.specs.Counts.{IsQueueOf}
+use Rattle.server_pick.specs.declared.heads.Heads.{Heads}
 
--- heads of the servers' queues and of the backend's
-pub record Held : Type 0 where
-  pub own : List (Option Key)
-  pub backend : Option Key
-
-abbrev pub head_at : Held → Queue → Option Key
+-- the head of a server's own queue, or of the backend's
+abbrev pub head_at : Heads → Queue → Option Key
 head_at heads Backend = heads.backend
-head_at heads (Server server) = slice_index_or heads.own server None
+head_at heads (Server server) = heads.own
 
 -- a key is the least of those that wait in a queue
 pub record IsLeastIn (queue : Queue) (rows : Rows) (key : Key) : Type 0 where
@@ -32,17 +28,22 @@ pub record IsLeastIn (queue : Queue) (rows : Rows) (key : Key) : Type 0 where
 abbrev pub IsEmptyQueue : Queue → Rows → Type 0
 IsEmptyQueue queue rows = (row : Row) → IsRow rows row → IsTrue (phase_waits_in queue row.phase) → ⊥
 
--- the heads are the least keys of the queues of so many servers and of the backend's
-abbrev pub AreHeads : Held → ℕ → Rows → Type 0
-AreHeads heads servers rows = (queue : Queue) → IsQueueOf servers queue → MatchOption (head_at heads queue) (IsEmptyQueue queue rows) (IsLeastIn queue rows)
+-- a queue's head: the least key that waits in it, or none where nobody does
+abbrev pub IsHead : Option Key → Queue → Rows → Type 0
+IsHead head queue rows = MatchOption head (IsEmptyQueue queue rows) (IsLeastIn queue rows)
+
+-- the heads of a server's own queue and of the backend's
+pub record AreHeads (heads : Heads) (server : ℕ) (rows : Rows) : Type 0 where
+  pub own : IsHead heads.own (Server server) rows
+  pub backend : IsHead heads.backend Backend rows
 
 -- the request whose key is a queue's head is granted lawfully to a server
-abbrev pub IsLawfulTake : Scene → ℕ → Held → ℕ → Queue → Type 0
+abbrev pub IsLawfulTake : Scene → ℕ → Heads → ℕ → Queue → Type 0
 IsLawfulTake scene cursor heads server queue = (key : Key) × (head_at heads queue ≡ Some key) × IsLawfulGrant scene cursor key.ticket queue server
 
--- whether a queue has a head that a slot of a server may go to
-abbrev pub has_stay : Scene → Held → ℕ → Bool
-has_stay scene heads server = (is_up scene server && is_some (head_at heads (Server server))) || (is_usable scene server && is_some heads.backend)
+-- whether a request waits in a queue that a slot of a server may go to
+abbrev pub has_stay : Scene → ℕ → Bool
+has_stay scene server = (is_up scene server && nat_lt 0 (queued (Server server) scene.rows)) || (is_usable scene server && nat_lt 0 (queued Backend scene.rows))
 
 -- whether a head of the backend's queue goes before a head of a server's
 abbrev pub goes_first : Option Key → Option Key → Bool
@@ -51,5 +52,5 @@ goes_first (Some other) None = true
 goes_first (Some other) (Some own) = is_lt (key_cmp other own)
 
 -- the queue whose head a server takes: its own, or the backend's where the server is usable and that head goes first
-abbrev pub queue_of : Scene → Held → ℕ → Queue
-queue_of scene heads server = if is_usable scene server && goes_first heads.backend (head_at heads (Server server)) then Backend else Server server
+abbrev pub queue_of : Scene → Heads → ℕ → Queue
+queue_of scene heads server = if is_usable scene server && goes_first heads.backend heads.own then Backend else Server server

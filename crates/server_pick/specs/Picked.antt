@@ -2,10 +2,8 @@
 use Rattle.std.specs.Prelude.{◌≡◌, ℕ, ◌<◌, ◌≤◌, Option, MatchOption, if◌then◌else◌}
 use Rattle.dispatch_log.specs.declared.queue.Queue.TheVariants.{Server, Backend}
 use Rattle.dispatch_log.specs.Placement.{IsDirect, IsJoining, IsTurnedAway}
-use Rattle.dispatch_log.specs.declared.queue.Queue.{Queue}
-use Rattle.dispatch_log.specs.declared.setup.Setup.{Setup}
 use Rattle.dispatch_log.specs.Picks.{weight_of}
-use Rattle.dispatch_log.specs.States.{put_on, granted_by}
+use Rattle.dispatch_log.specs.States.{put_on}
 use Rattle.dispatch_log.specs.Words.{Scene, is_free}
 use Rattle.server_pick.specs.declared.placement.Placement.{Placement}
 use Rattle.server_pick.specs.declared.placement.Placement.TheVariants.{Slot, OwnQueue, BackendQueue, Nowhere}
@@ -31,10 +29,6 @@ IsMoved cursor now picked = MatchOption picked (now ≡ cursor) (λ server. now 
 -- a slot of a server where one is free, and else its queue
 abbrev pub placed_on : Scene → ℕ → Placement
 placed_on scene server = if is_free scene server then Slot server else OwnQueue server
-
--- the cursor after a server took a request, or none did
-abbrev pub IsTaken : Setup → ℕ → ℕ → Option (ℕ × Queue) → Type 0
-IsTaken setup cursor now taken = MatchOption taken (now ≡ cursor) (λ it. now ≡ granted_by setup it.0 cursor)
 
 -- the first server of weight 0 in a set, where it has one
 abbrev pub IsFirstWeightless : Scene → (ℕ → Type 0) → Option ℕ → Type 0

@@ -1,14 +1,15 @@
 -- Sets of servers.
-use Rattle.std.specs.Prelude.{◌≡◌, ℕ, Bool, false, List, IsTrue, slice_index_or, ◌↔◌, ◌⊎◌}
+use Rattle.std.specs.Prelude.{◌≡◌, ◌==◌, ℕ, Bool, IsTrue, ◌↔◌, ◌⊎◌}
+use Rattle.std.specs.Int.{bit_at}
 
--- whether a set has a server
-abbrev pub has : List Bool → ℕ → Bool
-has set server = slice_index_or set server false
+-- whether a set has a server, by the bits of its marks
+abbrev pub has : ℕ → ℕ → Bool
+has marks server = bit_at marks server == 1
 
 -- a server is one of a set
-abbrev pub IsIn : List Bool → ℕ → Type 0
-IsIn set server = IsTrue (has set server)
+abbrev pub IsIn : ℕ → ℕ → Type 0
+IsIn marks server = IsTrue (has marks server)
 
 -- a set has one server more where it is wanted
-abbrev pub IsMore : ℕ → Bool → List Bool → List Bool → Type 0
+abbrev pub IsMore : ℕ → Bool → ℕ → ℕ → Type 0
 IsMore server wanted old new = (other : ℕ) → IsIn new other ↔ (IsIn old other ⊎ (IsTrue wanted × (other ≡ server)))

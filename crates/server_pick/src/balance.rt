@@ -31,6 +31,9 @@ pub fn pick<H: Drop>(ledger: &Ledger<H>, cursor: &mut Cursor, among: &Set64) -> 
     ensures picked { MatchOption result ((server : ℕ) → IsIn among.now server → ⊥) (λ server. IsPick (scene_of ledger.now) cursor.old (IsIn among.now) server) }
     ensures moved { IsMoved cursor.old cursor.new result }
 {
+    if among.is_empty() {
+        return None;
+    }
     let best = best_of(ledger, *cursor, among);
     if let Some(server) = best {
         cursor.move_to(server);

@@ -16,7 +16,7 @@ pub use cursor::Cursor;
 pub use heads::Heads;
 pub use placement::{Placement, place};
 pub use server_set::Set64;
-pub use takers::next_take;
+pub use takers::{next_queue, next_taker};
 
 #[cfg(test)]
 mod tests;

@@ -5,15 +5,16 @@ use std::marker::Model;
 /// A set of servers, by number from 0 to 63.
 #[derive(Clone, Debug, Drop)]
 pub struct Set64 {
-    has: [bool; 64],
+    // The bit of each server's number tells whether it is there.
+    marks: u64,
 }
 
 impl Model for Set64 {
-    ghost use Rattle.std.specs.Prelude.{List, Bool};
+    ghost use Rattle.std.specs.Prelude.{ℕ};
 
-    ghost Value = { List Bool };
+    ghost Value = { ℕ };
 
-    ghost view = { λ set. set.has };
+    ghost view = { λ set. set.marks };
 }
 
 impl Set64 {
@@ -23,7 +24,7 @@ impl Set64 {
     pub fn new() -> Set64
         ensures { (server : ℕ) → IsTrue (has result server) → ⊥ }
     {
-        Set64 { has: [false; 64] }
+        Set64 { marks: 0 }
     }
 
     /// This server alone.
@@ -40,14 +41,16 @@ impl Set64 {
     pub fn is_empty(&self) -> bool
         ensures { IsTrue result ↔ ((server : ℕ) → IsTrue (has self.now server) → ⊥) }
     {
-        !self.has.contains(&true)
+        self.marks == 0
     }
 
     /// Whether it has a server.
+    #[tactic(auto, using(crate::proofs::Marks::none_above))]
     pub fn contains(&self, server: usize) -> bool
         ensures { result ≡ has self.now server }
     {
-        self.has.get(server).copied().unwrap_or(false)
+        let marks = self.marks;
+        server < 64 && (marks >> server) & 1 == 1
     }
 
     /// One server more where it is wanted.
@@ -65,6 +68,6 @@ impl Set64 {
         requires { server < 64 }
         ensures { (other : ℕ) → IsTrue (has self.new other) ↔ (IsTrue (has self.old other) ⊎ (other ≡ server)) }
     {
-        self.has[server] = true;
+        self.marks |= 1 << server;
     }
 }

@@ -5,7 +5,7 @@ ghost use Rattle.dispatch_log.specs.States.{granted_by};
 ghost use Rattle.slot_ledger.specs.Ledgers.{scene_of};
 ghost use Rattle.slot_ledger.specs.Slots.{rows_in};
 ghost use Rattle.server_pick.specs.Heads.{AreHeads, IsLawfulTake, has_stay, queue_of, goes_first};
-ghost use Rattle.server_pick.specs.Picked.{IsTaken, IsFirstWeightless};
+ghost use Rattle.server_pick.specs.Picked.{IsFirstWeightless};
 ghost use Rattle.server_pick.specs.Sets.{IsIn};
 
 use crate::balance::pick;
@@ -17,61 +17,55 @@ use dispatch_log::Queue;
 use due_key::Key;
 use slot_ledger::Ledger;
 
-/// The server that takes next, and the queue whose head it takes: of weight 0 first, and else the
-/// pick of those that can take. `None` only where all is settled.
-pub fn next_take<H: Drop>(
-    ledger: &Ledger<H>,
-    cursor: &mut Cursor,
-    heads: &Heads,
-) -> Option<(usize, Queue)>
-    requires heads { AreHeads heads.now (length ledger.now.setup.servers) (rows_in ledger.now.slots) }
-    ensures taken { MatchOption result (IsSettled (scene_of ledger.now)) (λ it. IsLawfulTake (scene_of ledger.now) cursor.old heads.now it.0 it.1) }
-    ensures cursor { IsTaken ledger.now.setup cursor.old cursor.new result }
-{
-    let takers = takers(ledger, heads);
-    let server = next_taker(ledger, cursor, &takers)?;
-    Some((server, queue_of(ledger, heads, server)))
-}
-
-/// The server that takes next: of weight 0 first, and else the pick of those that can take.
-fn next_taker<H: Drop>(ledger: &Ledger<H>, cursor: &mut Cursor, takers: &Set64) -> Option<usize>
-    requires takers { (server : ℕ) → IsIn takers.now server ↔ CanTake (scene_of ledger.now) server }
+/// The server that takes next: of weight 0 first, and else the pick of those that can take. `None`
+/// only where all is settled.
+pub fn next_taker<H: Drop>(ledger: &Ledger<H>, cursor: &mut Cursor) -> Option<usize>
     ensures next { MatchOption result (IsSettled (scene_of ledger.now)) (IsNextTaker (scene_of ledger.now) cursor.old) }
     ensures cursor { MatchOption result (cursor.new ≡ cursor.old) (λ server. cursor.new ≡ granted_by ledger.now.setup server cursor.old) }
 {
-    if let Some(server) = first_weightless(ledger, takers) {
+    let takers = takers(ledger);
+    if takers.is_empty() {
+        return None;
+    }
+    if let Some(server) = first_weightless(ledger, &takers) {
         return Some(server);
     }
-    pick(ledger, cursor, takers)
+    pick(ledger, cursor, &takers)
+}
+
+/// The queue whose head the next taker takes: its own, or where it is usable and the key is smaller
+/// the backend's. `O(1)`.
+pub fn next_queue<H: Drop>(ledger: &Ledger<H>, heads: &Heads, server: usize) -> Queue
+    requires heads { AreHeads heads.now server (rows_in ledger.now.slots) }
+    ensures { (cursor : ℕ) → IsNextTaker (scene_of ledger.now) cursor server → IsLawfulTake (scene_of ledger.now) cursor heads.now server result }
+{
+    queue_of(ledger, heads, server)
 }
 
 /// The servers that can take.
-fn takers<H: Drop>(ledger: &Ledger<H>, heads: &Heads) -> Set64
-    requires heads { AreHeads heads.now (length ledger.now.setup.servers) (rows_in ledger.now.slots) }
+fn takers<H: Drop>(ledger: &Ledger<H>) -> Set64
     ensures { (server : ℕ) → IsIn result server ↔ CanTake (scene_of ledger.now) server }
 {
     let mut set = Set64::new();
     'filling: for server in 0..ledger.setup().servers.len() {
-        set.insert_if(server, can_take(ledger, heads, server));
+        set.insert_if(server, can_take(ledger, server));
     }
     set
 }
 
 /// Whether a server is free and has a request to take.
-fn can_take<H: Drop>(ledger: &Ledger<H>, heads: &Heads, server: usize) -> bool
-    requires heads { AreHeads heads.now (length ledger.now.setup.servers) (rows_in ledger.now.slots) }
-    requires within { server < length ledger.now.setup.servers }
+fn can_take<H: Drop>(ledger: &Ledger<H>, server: usize) -> bool
     ensures { IsTrue result ↔ CanTake (scene_of ledger.now) server }
 {
-    is_free(ledger, server) && has_stay(ledger, heads, server)
+    is_free(ledger, server) && has_stay(ledger, server)
 }
 
-/// Whether a queue has a head that a slot of the server may go to.
-fn has_stay<H: Drop>(ledger: &Ledger<H>, heads: &Heads, server: usize) -> bool
-    ensures { result ≡ has_stay (scene_of ledger.now) heads.now server }
+/// Whether a request waits in a queue that a slot of the server may go to.
+fn has_stay<H: Drop>(ledger: &Ledger<H>, server: usize) -> bool
+    ensures { result ≡ has_stay (scene_of ledger.now) server }
 {
-    ledger.up(server) && heads.get(Queue::Server(server)).is_some()
-        || is_usable(ledger, server) && heads.get(Queue::Backend).is_some()
+    ledger.up(server) && 0 < ledger.queued(Queue::Server(server))
+        || is_usable(ledger, server) && 0 < ledger.queued(Queue::Backend)
 }
 
 /// The first server of weight 0 in a set.
@@ -92,12 +86,10 @@ fn first_weightless<H: Drop>(ledger: &Ledger<H>, among: &Set64) -> Option<usize>
 fn queue_of<H: Drop>(ledger: &Ledger<H>, heads: &Heads, server: usize) -> Queue
     ensures { result ≡ queue_of (scene_of ledger.now) heads.now server }
 {
-    let own = Queue::Server(server);
-    let (head, other) = (heads.get(own), heads.get(Queue::Backend));
-    if is_usable(ledger, server) && goes_first(other, head) {
+    if is_usable(ledger, server) && goes_first(heads.backend, heads.own) {
         Queue::Backend
     } else {
-        own
+        Queue::Server(server)
     }
 }
 

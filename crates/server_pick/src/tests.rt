@@ -1,7 +1,7 @@
 ghost use Rattle.std.specs.Prelude.{◌≡◌, IfOk, length};
 ghost use Rattle.dispatch_log.specs.Setups.{IsSound};
 
-use crate::{Cursor, Heads, Placement, Set64, candidates, next_take, place};
+use crate::{Cursor, Heads, Placement, Set64, candidates, next_queue, next_taker, place};
 use dispatch_log::{Phase, Queue, Row, ServerSet, Servers, Setup};
 use due_key::{Class, Due, Key, Moment, Offset};
 use slot_ledger::Ledger;
@@ -26,16 +26,6 @@ fn sets_have_what_was_inserted(rt: HostRuntime) {
     assert!(rt; !set.contains(4));
     assert!(rt; !set.is_empty());
     assert!(rt; Set64::of(5).contains(5));
-}
-
-#[test]
-fn heads_are_kept_by_queue(rt: HostRuntime) -> Result<(), Fail> {
-    let mut heads = Heads::new();
-    heads.set(Queue::Server(2), Some(key(7)?));
-    assert_eq!(rt; heads.get(Queue::Server(2)), Some(key(7)?));
-    assert_eq!(rt; heads.get(Queue::Server(1)), None);
-    assert_eq!(rt; heads.get(Queue::Backend), None);
-    Ok(())
 }
 
 // Three servers of one slot each, and four places.
@@ -121,14 +111,14 @@ fn a_server_that_is_down_takes_nothing(rt: HostRuntime) -> Result<(), Fail> {
     };
     ledger.admit(row);
     ledger.set_up(0, false);
-    let mut heads = Heads::new();
-    heads.set(Queue::Backend, Some(row.key));
     let mut cursor = Cursor::new(3);
-    assert_eq!(rt;
-        next_take(&ledger, &mut cursor, &heads),
-        Some((1, Queue::Backend))
-    );
+    assert_eq!(rt; next_taker(&ledger, &mut cursor), Some(1));
     assert_eq!(rt; cursor.server(), 1);
+    let heads = Heads {
+        own: None,
+        backend: Some(row.key),
+    };
+    assert_eq!(rt; next_queue(&ledger, &heads, 1), Queue::Backend);
     Ok(())
 }
 

@@ -1,6 +1,6 @@
 -- The waiting requests after each call.
-use Rattle.std.proofs.Common.{◌≡◌, ℕ, zero, suc, replicate, slice_index_or, List, [], ◌∷◌, ◌++◌, Option, None}
-use Rattle.std.proofs.Common.{Some, MatchOption, option_map, drop, slice_get, length, Contains, refl, ap, sym, ◌∙◌, subst, arith, inl, inr, IsPermutation}
+use Rattle.std.proofs.Common.{◌≡◌, ◌<◌, ℕ, zero, suc, replicate, slice_index_or, List, [], ◌∷◌, ◌++◌, Option, None}
+use Rattle.std.proofs.Common.{Some, option_map, drop, slice_get, length, Contains, refl, ap, sym, ◌∙◌, subst, arith, inl, inr, IsPermutation}
 use Rattle.std.specs.List.{sum_by}
 use Rattle.std.specs.Option.{option_to_list}
 use Rattle.std.proofs.Math.ListN.{set, length-set}
@@ -19,13 +19,13 @@ use Rattle.list_facts.proofs.Members.{Contains-nil, Contains-head}
 use Rattle.pend_queue.proofs.Ascending.{IsAscending-drop, pair_at-member}
 use Rattle.pend_queue.proofs.Without.{IsAscending-without, IsPermutation-without}
 use Rattle.slot_ledger.specs.Counts.{IsQueueOf}
-use Rattle.server_pick.specs.Heads.{Held, head_at}
+use Rattle.server_pick.specs.declared.heads.Heads.{Heads}
 use Rattle.wait_queues.specs.declared.waiters.Waiter.{Waiter}
 use Rattle.wait_queues.specs.Kept.{weight_of, line_weight, AreLinedUp, AreWaiting}
-use Rattle.wait_queues.specs.Lines.{Line, Lined, line_at, with_line, with_moved, gathered}
+use Rattle.wait_queues.specs.Lines.{Line, Lined, line_at, first_key, with_line, with_moved, gathered}
 use Rattle.wait_queues.specs.Order.{Order, with_places}
 use Rattle.wait_queues.specs.Order.{without as without_place}
-use Rattle.wait_queues.specs.Waitlists.{Waitlist, Waiters, WaitsAt, HasNoKey, NoneWaitsIn, IsFirstIn, IsFirstKey, moved_waiter, with_waiter_anew}
+use Rattle.wait_queues.specs.Waitlists.{Waitlist, Waiters, WaitsAt, HasNoKey, IsFirstIn, IsHeadOf, AreFirst, moved_waiter, with_waiter_anew}
 use Rattle.wait_queues.proofs.Lineup.{IsWhole, gathered_whole, server_whole, gathered_up, joined_up, left_up, aside_up, first_in, none_in, waits_line}
 use Rattle.wait_queues.proofs.Lineup.{line_waits}
 use Rattle.wait_queues.proofs.Lining.{index-replicate}
@@ -37,18 +37,23 @@ gather_kept lined next ws order is merges =
     subst (λ (l : Lined). AreWaiting l ws order) (sym merges)
     (record { lined_up = gathered_up lined ws is.lined_up; order_room = is.order_room; in_order = is.in_order })
 
--- the heads of whole queues are their first requests' keys
-pub heads_first : (lined : Lined) (ws : Waiters) (heads : Held) → AreLinedUp lined ws → lined.moved ≡ []
-    → ((queue : Queue) → IsQueueOf (length lined.own) queue → head_at heads queue ≡ option_map (λ pair. pair.0) (slice_get (line_at lined queue) 0))
-    → (queue : Queue) → IsQueueOf (length lined.own) queue → MatchOption (head_at heads queue) (NoneWaitsIn queue ws) (IsFirstKey queue ws)
-heads_first lined ws heads is none told queue within =
-    subst (λ (head : Option Key). MatchOption head (NoneWaitsIn queue ws) (IsFirstKey queue ws)) (sym (told queue within))
-    (by_first (slice_get (line_at lined queue) 0) refl)
+-- the head of a whole queue is its first request's key
+head_first : (lined : Lined) (ws : Waiters) (head : Option Key) (queue : Queue) → AreLinedUp lined ws → lined.moved ≡ []
+    → IsQueueOf (length lined.own) queue → head ≡ first_key (line_at lined queue) → IsHeadOf head queue ws
+head_first lined ws head queue is none within told =
+    subst (λ (h : Option Key). IsHeadOf h queue ws) (sym told) (by_first (slice_get (line_at lined queue) 0) refl)
   where
-    by_first : (first : Option (Key × ℕ)) → slice_get (line_at lined queue) 0 ≡ first
-        → MatchOption (option_map (λ pair. pair.0) first) (NoneWaitsIn queue ws) (IsFirstKey queue ws)
+    by_first : (first : Option (Key × ℕ)) → slice_get (line_at lined queue) 0 ≡ first → IsHeadOf (option_map (λ pair. pair.0) first) queue ws
     by_first None e = none_in lined ws queue is (gathered_whole lined queue none) e
     by_first (Some pair) e = let it = first_in lined ws queue pair.0 pair.1 is within (gathered_whole lined queue none) e in (pair.1, it.0, it.1, it.2)
+
+pub heads_first : (lined : Lined) (order : Order) (list : Waitlist) (server : ℕ) (heads : Heads) → AreWaiting lined list.waiters order → lined.moved ≡ []
+    → server < length lined.own → heads.own ≡ first_key (line_at lined (Server server)) → heads.backend ≡ first_key lined.backend
+    → AreFirst server heads list
+heads_first lined order list server heads is none within own other = record {
+  own = head_first lined list.waiters heads.own (Server server) is.lined_up none within own;
+  backend = head_first lined list.waiters heads.backend Backend is.lined_up none tt other;
+}
 
 -- a request begins to wait
 pub join_kept : (lined next : Lined) (ws new : Waiters) (order after : Order) (p : ℕ) (w : Waiter) (pair : Key × ℕ) → AreWaiting lined ws order

@@ -1,22 +1,15 @@
 -- Queues of a list of queues.
-use Rattle.std.proofs.Common.{◌≡◌, ◌≢◌, ℕ, ◌+◌, ◌<◌, List, [], ◌∷◌, ◌++◌, Option, Some, option_map, get_or, slice_get}
-use Rattle.std.proofs.Common.{slice_index_or, map, replicate, length, refl, ap, sym, ◌∙◌, subst, arith, inl, inr, length-append}
+use Rattle.std.proofs.Common.{◌≡◌, ℕ, ◌+◌, ◌<◌, List, [], ◌∷◌, ◌++◌, Some, option_map, get_or, slice_get}
+use Rattle.std.proofs.Common.{slice_index_or, map, replicate, length, refl, ap, sym, ◌∙◌, subst, inl, inr, length-append}
 use Rattle.std.proofs.Math.ListN.{set}
 use Rattle.std.proofs.lemmas.List.{map-set, map-append, length-map, replicate_more}
 use Rattle.std.proofs.lemmas.Option.{slice_get-map, slice_get_read, get_or_from_slice_get}
-use Rattle.due_key.specs.declared.key.Key.{Key}
 use Rattle.dispatch_log.specs.declared.queue.Queue.{Queue}
 use Rattle.dispatch_log.specs.declared.queue.Queue.TheVariants.{Backend, Server}
 use Rattle.list_facts.proofs.Places.{get-set_cases}
 use Rattle.slot_ledger.proofs.Keeping.{get-push_cases}
 use Rattle.slot_ledger.specs.Counts.{IsQueueOf}
-use Rattle.server_pick.specs.Heads.{Held, head_at}
-use Rattle.server_pick.proofs.Preferred.{below_cases}
 use Rattle.wait_queues.specs.Lines.{Line, Lined, line_at, with_line, HaveRoom}
-
--- a queue's first key
-abbrev pub first_of : Lined → Queue → Option Key
-first_of lined queue = option_map (λ pair. pair.0) (slice_get (line_at lined queue) 0)
 
 module _ {Q : Type 0} (pairs : Q → Line) (room : Q → ℕ) where
   -- what is in one of the servers' queues
@@ -84,21 +77,6 @@ module _ {Q : Type 0} (pairs : Q → Line) (room : Q → ℕ) where
     backends = have.backends;
     moveds = have.moveds;
   }
-
--- the heads of one queue more
-pub heads_step : (heads next : Held) (first : Queue → Option Key) (server : ℕ) (head : Option Key) → head ≡ first (Server server)
-    → head_at next (Server server) ≡ head → ((other : Queue) → other ≢ Server server → head_at next other ≡ head_at heads other)
-    → ((queue : Queue) → IsQueueOf server queue → head_at heads queue ≡ first queue) → (queue : Queue) → IsQueueOf (server + 1) queue
-    → head_at next queue ≡ first queue
-heads_step heads next first server head is at others before Backend within = others Backend (λ e. cc) ∙ before Backend tt
-heads_step heads next first server head is at others before (Server k) within = elim (below_cases k server within) [
-  | inl e ↦ others (Server k) (λ same. let n : k ≡ server = server_of k server same in let l : k < server = e in absurd (omega arith))
-      ∙ before (Server k) e
-  | inr e ↦ subst (λ n. head_at next (Server n) ≡ first (Server n)) (sym e) (at ∙ is)
-]
-  where
-    server_of : (a b : ℕ) → Server a ≡ Server b → a ≡ b
-    server_of a b e = cc
 
 -- the number of a server's queue is one of them
 pub own_within : {Q : Type 0} (pairs : Q → Line) (items : List Q) (backend moved : Line) (places : ℕ) (now : Lined) (queue : Queue) (server : ℕ)

@@ -1,5 +1,5 @@
 -- The keys of the waiting requests with their places, queue by queue.
-use Rattle.std.specs.Prelude.{◌≡◌, ℕ, List, [], Some, slice_get, slice_index_or, slice_set}
+use Rattle.std.specs.Prelude.{◌≡◌, ℕ, List, [], Option, Some, option_map, slice_get, slice_index_or, slice_set}
 use Rattle.due_key.specs.declared.key.Key.{Key}
 use Rattle.due_key.specs.Order.{key_cmp}
 use Rattle.dispatch_log.specs.declared.queue.Queue.{Queue}
@@ -9,6 +9,10 @@ use Rattle.pend_queue.specs.Pairs.{merged}
 -- what a queue holds: keys with places
 abbrev pub Line : Type 0
 Line = List (Key × ℕ)
+
+-- the first key of a queue, where it has one
+abbrev pub first_key : Line → Option Key
+first_key line = option_map (λ pair. pair.0) (slice_get line 0)
 
 -- the servers' queues, the backend's, what was moved into it and isn't merged yet, and the room of each
 pub record Lined : Type 0 where

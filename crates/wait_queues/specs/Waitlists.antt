@@ -4,9 +4,8 @@ use Rattle.std.specs.declared.cmp.Ordering.TheVariants.{Greater}
 use Rattle.due_key.specs.declared.key.Key.{Key}
 use Rattle.due_key.specs.Order.{key_cmp}
 use Rattle.dispatch_log.specs.declared.queue.Queue.{Queue}
-use Rattle.dispatch_log.specs.declared.queue.Queue.TheVariants.{Backend}
-use Rattle.slot_ledger.specs.Counts.{IsQueueOf}
-use Rattle.server_pick.specs.Heads.{Held, head_at}
+use Rattle.dispatch_log.specs.declared.queue.Queue.TheVariants.{Backend, Server}
+use Rattle.server_pick.specs.declared.heads.Heads.{Heads}
 use Rattle.wait_queues.specs.declared.waiters.Waiter.{Waiter}
 use Rattle.list_facts.specs.Once.{ComeOnce}
 use Rattle.wait_queues.specs.Order.{without}
@@ -56,10 +55,14 @@ pub record IsFirstIn (queue : Queue) (waiters : Waiters) (place : ℕ) (waiter :
 abbrev pub IsFirstKey : Queue → Waiters → Key → Type 0
 IsFirstKey queue waiters key = (place : ℕ) × (waiter : Waiter) × IsFirstIn queue waiters place waiter × (waiter.key ≡ key)
 
--- heads are the keys of the queues' first requests
-abbrev pub AreFirst : Held → Waitlist → Type 0
-AreFirst heads list =
-    (queue : Queue) → IsQueueOf list.servers queue → MatchOption (head_at heads queue) (NoneWaitsIn queue list.waiters) (IsFirstKey queue list.waiters)
+-- a queue's head is the key of its first request, or none where nobody waits in it
+abbrev pub IsHeadOf : Option Key → Queue → Waiters → Type 0
+IsHeadOf head queue waiters = MatchOption head (NoneWaitsIn queue waiters) (IsFirstKey queue waiters)
+
+-- heads are those of a server's queue and of the backend's
+pub record AreFirst (server : ℕ) (heads : Heads) (list : Waitlist) : Type 0 where
+  pub own : IsHeadOf heads.own (Server server) list.waiters
+  pub backend : IsHeadOf heads.backend Backend list.waiters
 
 -- the order has just the places of those that wait, each once
 pub record IsOrderOf (waiters : Waiters) (order : List ℕ) : Type 0 where

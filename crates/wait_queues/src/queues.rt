@@ -1,5 +1,6 @@
-ghost use Rattle.std.specs.Prelude.{◌≡◌, ℕ, ◌+◌, ◌<◌, ◌≤◌, [], IfOk, length, replicate, drop, slice_get, option_map};
+ghost use Rattle.std.specs.Prelude.{◌≡◌, ◌+◌, ◌<◌, ◌≤◌, [], IfOk, length, replicate, drop, slice_get, option_map};
 ghost use Rattle.due_key.specs.Order.{key_cmp};
+ghost use Rattle.dispatch_log.specs.declared.queue.Queue.TheVariants.{Server};
 ghost use Rattle.slot_ledger.specs.Counts.{IsQueueOf};
 
 use dispatch_log::Queue;
@@ -31,8 +32,7 @@ impl<Q: PendQueue<Key, usize>> Model for Queues<Q> {
 }
 
 impl<Q: PendQueue<Key, usize>> Queues<Q> {
-    ghost use Rattle.wait_queues.specs.Lines.{line_at, with_line, with_moved, gathered};
-    ghost use Rattle.server_pick.specs.Heads.{head_at};
+    ghost use Rattle.wait_queues.specs.Lines.{line_at, first_key, with_line, with_moved, gathered};
     ghost use Rattle.pend_queue.specs.Pairs.{IsAbsent, HaveNoCommonKey, inserted, pair_at, without};
 
     /// Empty queues of so many servers and of the backend.
@@ -51,17 +51,16 @@ impl<Q: PendQueue<Key, usize>> Queues<Q> {
         })
     }
 
-    /// The least key of each queue.
-    pub(crate) fn heads(&self) -> Heads
-        requires { length self.now.own ≤ 64 }
-        ensures { (queue : Queue) → IsQueueOf (length self.now.own) queue → head_at result queue ≡ option_map (λ pair. pair.0) (slice_get (line_at self.now queue) 0) }
+    /// The least keys of a server's queue and of the backend's.
+    pub(crate) fn heads(&self, server: usize) -> Heads
+        requires { server < length self.now.own }
+        ensures own { result.own ≡ first_key (line_at self.now (Server server)) }
+        ensures backend { result.backend ≡ first_key self.now.backend }
     {
-        let mut heads = Heads::new();
-        heads.set(Queue::Backend, self.backend.first().copied());
-        for server in 0..self.own.len() {
-            heads.set(Queue::Server(server), self.own[server].first().copied());
+        Heads {
+            own: self.own[server].first().copied(),
+            backend: self.backend.first().copied(),
         }
-        heads
     }
 
     /// Puts a request in a queue.

@@ -84,7 +84,7 @@ fn waiter(key: Key, queue: Queue) -> Waiter
 fn nobody_waits_at_first(rt: HostRuntime) -> Result<(), Fail> {
     let mut waiting: OfLists = WaitQueues::new(rt.alloc(), 2, 4)?;
     assert_eq!(rt; waiting.oldest(), None);
-    assert_eq!(rt; waiting.heads().get(Queue::Backend), None);
+    assert_eq!(rt; waiting.heads(0).backend, None);
     assert_eq!(rt; waiting.shift(1, 9), None);
     assert!(rt; waiting.take(Queue::Server(0)).is_none());
     Ok(())
@@ -112,10 +112,11 @@ fn a_request_that_moves_waits_anew(rt: HostRuntime) -> Result<(), Fail> {
     let key = key(7);
     let node = ListQueue::node(alloc, key, 3)?;
     waiting.join(3, waiter(key, Queue::Server(1)), node);
-    assert_eq!(rt; waiting.heads().get(Queue::Server(1)), Some(key));
+    assert_eq!(rt; waiting.heads(1).own, Some(key));
     assert_eq!(rt; waiting.shift(1, 9), Some(3));
-    assert_eq!(rt; waiting.heads().get(Queue::Server(1)), None);
-    assert_eq!(rt; waiting.heads().get(Queue::Backend), Some(key));
+    let heads = waiting.heads(1);
+    assert_eq!(rt; heads.own, None);
+    assert_eq!(rt; heads.backend, Some(key));
     let Some(taken) = waiting.take(Queue::Backend) else {
         return Err(Fail::from("nobody waits"));
     };

@@ -1,4 +1,4 @@
-ghost use Rattle.std.specs.Prelude.{◌≡◌, ◌<◌, ◌≤◌, [], map, None, Some, IfOk, MatchOption, Contains, replicate, slice_get};
+ghost use Rattle.std.specs.Prelude.{◌≡◌, ◌<◌, [], map, None, Some, IfOk, MatchOption, Contains, replicate, slice_get};
 ghost use Rattle.dispatch_log.specs.declared.queue.Queue.TheVariants.{Server};
 ghost use Rattle.slot_ledger.specs.Counts.{IsQueueOf};
 ghost use Rattle.wait_queues.specs.Order.{next_after};
@@ -73,14 +73,14 @@ impl<Q: PendQueue<Key, usize>> WaitQueues<Q> {
         self.order.append(place);
     }
 
-    /// The key of each queue's first request. `O(s)` in the servers.
-    pub fn heads(&mut self) -> Heads
-        requires { self.old.servers ≤ 64 }
-        ensures heads { AreFirst result self.new }
+    /// The keys of the first requests of a server's queue and of the backend's. The queues' own cost.
+    pub fn heads(&mut self, server: usize) -> Heads
+        requires { server < self.old.servers }
+        ensures heads { AreFirst server result self.new }
         ensures same { self.new ≡ self.old }
     {
         self.queues.gather();
-        self.queues.heads()
+        self.queues.heads(server)
     }
 
     /// Takes the first request of a queue out; the queue's own cost beside `O(1)`. None only where

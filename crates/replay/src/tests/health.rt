@@ -1,4 +1,5 @@
 use super::expect;
+use std::alloc::Global;
 use std::test::Fail;
 
 #[test]
@@ -103,4 +104,32 @@ server c 1 0 1
   health a down
 ",
     )
+}
+
+// Arrivals that are bound to a server, one a millisecond, of which the first is served, and what is written of them.
+fn forty_pinned(alloc: Global) -> Result<(String, String), Fail> {
+    let mut script = String::new(alloc);
+    let mut trace = String::new(alloc);
+    for at in 1..41u32 {
+        script.push_str(&format!(in alloc; "{at} arrive 0 0 a\n")?)?;
+        trace.push_str(&format!(in alloc; "{at} arrive {at} 0 {at} a\n")?)?;
+        let place = if at == 1 { "direct" } else { "join" };
+        trace.push_str(&format!(in alloc; "  {place} {at} a\n")?)?;
+    }
+    Ok((script, trace))
+}
+
+#[test]
+fn a_long_queue_of_a_fallen_server_moves_by_ticket(rt: HostRuntime) -> Result<(), Fail> {
+    let alloc = rt.alloc();
+    let (arrivals, mut trace) = forty_pinned(alloc)?;
+    let header = "redispatch\nserver a 1 0 1 1 1\nserver b 1 0 1\nserver c 1 0 1\n";
+    let script = format!(in alloc; "{header}{arrivals}41 check a down\n")?;
+    trace.push_str("41 check a down\n  health a down\n")?;
+    for ticket in 2..41u32 {
+        trace.push_str(&format!(in alloc; "  move {ticket} a\n")?)?;
+    }
+    trace.push_str("  grant 2 * b\n  grant 3 * c\n")?;
+    trace.push_str("queue * class 0 granted 2 worst 39 due 2 after 0 to 122 critical 2\n")?;
+    expect(&rt, alloc, &script, &trace)
 }

@@ -1,13 +1,27 @@
-use crate::{Header, MOST_BYTES, Name, ScriptError, read};
+use crate::{Header, MOST_BYTES, Name, ScriptError, is_faulty, read};
 use dispatch_log::ServerSet;
+use proxy_words::Lines;
 use std::alloc::Global;
 use std::test::Fail;
 
+// The first faulty line of a script: of its header lines, or else of those behind them.
 fn fault(alloc: Global, script: &[u8]) -> Option<usize> {
     match read(alloc, script) {
         Err(ScriptError::Fault { line }) => Some(line),
-        Ok(_) | Err(ScriptError::NoMemory) => None,
+        Err(ScriptError::NoMemory) => None,
+        Ok((_, header)) => fault_from(script, header),
     }
+}
+
+fn fault_from(script: &[u8], header: usize) -> Option<usize> {
+    let mut number = 0usize;
+    for line in Lines::new(script) {
+        number = number.saturating_add(1);
+        if header < number && is_faulty(line) {
+            return Some(number);
+        }
+    }
+    None
 }
 
 #[test]
@@ -124,10 +138,11 @@ fn a_script_has_64_servers_at_most(rt: HostRuntime) -> Result<(), Fail> {
 
 #[test]
 fn a_header_says_what_its_lines_say(rt: HostRuntime) -> Result<(), Fail> {
-    let header: Header = read(
+    let (header, count): (Header, usize) = read(
         rt.alloc(),
         b"server b 2 3 4\nplaces 7\nplaces 8\nserver a 0 0 0 2 3\n\n0 arrive 0 0 a\n",
     )?;
+    assert_eq!(rt; count, 5);
     assert_eq!(rt; header.places(), Some(8));
     assert_eq!(rt; header.log(), None);
     let (names, servers) = header.into_servers();
@@ -157,7 +172,7 @@ fn a_header_says_what_its_lines_say(rt: HostRuntime) -> Result<(), Fail> {
 
 #[test]
 fn of_a_word_that_comes_again_the_last_line_stands(rt: HostRuntime) -> Result<(), Fail> {
-    let header = read(
+    let (header, _) = read(
         rt.alloc(),
         b"retries 5\nqueue-timeout 10\nredispatch\nretries 0\nredispatch\nqueue-timeout 07\nlog 9\n",
     )?;
@@ -171,7 +186,7 @@ fn of_a_word_that_comes_again_the_last_line_stands(rt: HostRuntime) -> Result<()
 
 #[test]
 fn what_no_line_says_is_not_set(rt: HostRuntime) -> Result<(), Fail> {
-    let header = read(rt.alloc(), b"places 8\n0 tick\n")?;
+    let (header, _) = read(rt.alloc(), b"places 8\n0 tick\n")?;
     assert_eq!(rt; header.retries(), None);
     assert!(rt; !header.redispatch());
     assert_eq!(rt; header.queue_timeout(), None);

@@ -1,4 +1,4 @@
-use Rattle.std.proofs.Common.{rules, ◌≡◌, ◌≢◌, ◌⊎◌, ◌∙◌, ℕ, suc, subst, sym, ap, inl, inr, arith, Greater, Some}
+use Rattle.std.proofs.Common.{rules, ◌≡◌, ◌≢◌, ◌∙◌, suc, subst, sym, inl, inr, arith, Greater, Some}
 use Rattle.std.specs.List.{AllByRecursion}
 use Rattle.std.specs.Box.{with_value}
 use Rattle.binom_queue.specs.declared.forest.Forest.TheVariants.{Of}

@@ -1,14 +1,17 @@
-use Rattle.std.proofs.Common.{ℕ, List, ◌++◌, length, filter_map, string_bytes}
+use Rattle.std.proofs.Common.{ℕ, List, ◌++◌, ◌≤◌, length, filter_map, string_bytes}
+use Rattle.std.specs.Str.Lines.{lines}
 use Rattle.dispatch_log.specs.Histories.{History}
 use Rattle.script.specs.Steps.{step_of, steps_of}
 use Rattle.script.specs.ScriptTexts.{IsScriptText}
+use Rattle.script.proofs.Bodies.{IsThrough}
 use Rattle.replay.proofs.run.run.Given as goal
 
--- what is written, and then a text of the lines that are left, is a text of all lines
+-- so many lines have no fault; and what is written, and then a text of the lines that are left, is a text of all lines
 abbrev pub invariant-lines : goal.invariant-lines
 invariant-lines g l =
-    (last : History) (rest : List ℕ) → IsScriptText l.names l.core (filter_map step_of l.lines) last rest
-    → IsScriptText l.names l.initial.core (steps_of l.script) last (string_bytes l.text ++ rest)
+    (length (lines l.script) ≤ length l.script) × IsThrough (lines l.script) l.lines l.header l.number
+    × ((last : History) (rest : List ℕ) → IsScriptText l.names l.core (filter_map step_of l.lines) last rest
+    → IsScriptText l.names l.initial.core (steps_of l.script) last (string_bytes l.text ++ rest))
 
 abbrev pub decreases-lines : goal.decreases-lines
 decreases-lines g l = length l.lines

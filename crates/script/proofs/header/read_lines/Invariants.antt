@@ -5,7 +5,7 @@ use Rattle.script.proofs.header.read_lines.Given as goal
 
 -- so many lines are read, and none of them is faulty
 abbrev pub invariant-lines : goal.invariant-lines
-invariant-lines l = (length (lines l.script) ≤ length l.script) × IsReadTo (lines l.script) l.lines l.header l.begun l.number
+invariant-lines l = (length (lines l.script) ≤ length l.script) × IsReadTo (lines l.script) l.lines l.header l.number
 
 abbrev pub decreases-lines : goal.decreases-lines
 decreases-lines l = length l.lines

@@ -3,8 +3,8 @@ use Rattle.slot_ledger.specs.Ledgers.{Kept}
 use Rattle.server_pick.proofs.Alone.{heads_of_one, one_stands}
 use Rattle.server_pick.proofs.tests.a_server_that_is_down_takes_nothing.Goals as goal
 
-pub next_take-requires : goal.next_take-requires
-next_take-requires g c =
+pub next_queue-requires : goal.next_queue-requires
+next_queue-requires g c =
     let now = ap (λ (k : Kept _). k.slots) c.set_up.ensures ∙ ap (λ (k : Kept _). k.slots) c.admit.ensures.admitted in
     let one = one_stands _ _ _ _ _ (ap (λ (k : Kept _). k.slots) c.in_ok-ledger.ensures) c.admit.ensures.vacant now in
-    record { heads = heads_of_one _ _ _ c.admit.result _ _ one.0 one.1 refl c.set.ensures.set (λ queue differs. c.set.ensures.others queue differs ∙ c.new-heads.ensures queue) }
+    record { heads = heads_of_one _ 1 _ c.admit.result _ _ one.0 one.1 refl refl refl }

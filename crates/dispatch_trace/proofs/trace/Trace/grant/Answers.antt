@@ -7,7 +7,7 @@ use Rattle.slot_ledger.specs.Counts.{IsQueueOf}
 use Rattle.slot_ledger.specs.Ledgers.{Kept, with_slots}
 use Rattle.slot_ledger.specs.Slots.{with_phase}
 use Rattle.slot_ledger.proofs.Standing.{still_stands}
-use Rattle.wait_queues.specs.Waitlists.{Waitlist, NoneWaitsIn, AreFirst, without_waiter}
+use Rattle.wait_queues.specs.Waitlists.{Waitlist, AreFirst, without_waiter}
 use Rattle.dispatch_trace.specs.Histories.{waiting_of, IsGrant}
 use Rattle.dispatch_trace.proofs.Grants.{kept_scene, heads_are, not_empty, grant_within, grant_row, grant_kept, is_grant, grant_room, grant_arrived}
 use Rattle.dispatch_trace.proofs.Grants.{grant_joined, grant_waits, grant_begun}
@@ -16,95 +16,95 @@ use Rattle.dispatch_trace.proofs.Within.{take_within}
 use Rattle.dispatch_trace.proofs.Grants.{grant_calls}
 use Rattle.dispatch_trace.proofs.trace.Trace.grant.Goals as goal
 
-pub next_take-requires : goal.next_take-requires
-next_take-requires g c =
+pub next_queue-queue-requires : goal.next_queue-queue-requires
+next_queue-queue-requires g c =
     record {
       heads =
-          heads_are _ _ c.heads-heads.result c.self.invariant (subst (AreFirst c.heads-heads.result) c.heads-heads.ensures.same c.heads-heads.ensures.heads);
+          heads_are _ _ c.heads-heads.result c.in-Some.server c.self.invariant
+          (subst (AreFirst c.in-Some.server c.heads-heads.result) c.heads-heads.ensures.same c.heads-heads.ensures.heads);
     }
 
 pub take-requires : goal.take-requires
 take-requires g c =
-    subst (λ n. IsQueueOf n c.in-Some.queue) (sym (ap (λ (l : Waitlist). l.servers) c.heads-heads.ensures.same ∙ c.self.invariant.servers))
-    (take_within (kept_scene c.self.inside.ledger) c.self.inside.position.cursor c.heads-heads.result c.in-Some.server c.in-Some.queue
-    c.in-Some.ensures.taken).1
+    subst (λ n. IsQueueOf n c.next_queue-queue.result) (sym (ap (λ (l : Waitlist). l.servers) c.heads-heads.ensures.same ∙ c.self.invariant.servers))
+    (take_within (kept_scene c.self.inside.ledger) c.self.inside.position.cursor c.heads-heads.result c.in-Some.server c.next_queue-queue.result
+    (c.next_queue-queue.ensures c.self.inside.position.cursor c.in-Some.ensures.next)).1
 
 pub unreachable-requires : goal.unreachable-requires
 unreachable-requires g c =
-    not_empty _ _ c.heads-heads.result c.in-Some.server c.self.inside.position.cursor c.in-Some.queue c.self.invariant
-    (subst (AreFirst c.heads-heads.result) c.heads-heads.ensures.same c.heads-heads.ensures.heads) c.in-Some.ensures.taken
-    (subst (λ (l : Waitlist). NoneWaitsIn c.in-Some.queue l.waiters) c.heads-heads.ensures.same c.in_default-take.ensures.first)
+    not_empty _ _ c.heads-heads.result c.in-Some.server c.self.inside.position.cursor c.next_queue-queue.result c.heads-heads.ensures.heads
+    (c.next_queue-queue.ensures c.self.inside.position.cursor c.in-Some.ensures.next) c.in_default-take.ensures.first
 
 pub loosen-requires : goal.loosen-requires
 loosen-requires g c =
     let calls =
-    grant_calls _ _ _ _ c.heads-heads.result c.in-Some.server c.in-Some.queue c.in-Some-take.taken.place c.in-Some-take.taken.waiter
-    c.self.invariant c.self.view_is c.requires.may_grant c.heads-heads.ensures.heads c.heads-heads.ensures.same c.in-Some.ensures.taken
-    c.in-Some-take.ensures.first in
+    grant_calls _ _ _ _ c.heads-heads.result c.in-Some.server c.next_queue-queue.result c.in-Some-take.taken.place c.in-Some-take.taken.waiter
+    c.self.invariant c.self.view_is c.requires.may_grant c.heads-heads.ensures.heads c.heads-heads.ensures.same
+    (c.next_queue-queue.ensures c.self.inside.position.cursor c.in-Some.ensures.next) c.in-Some-take.ensures.first in
     grant_row _ _ _ _ _ _ _ calls
 
 pub serve-requires-clause-row : goal.serve-requires-clause-row
 serve-requires-clause-row g c =
     let calls =
-    grant_calls _ _ _ _ c.heads-heads.result c.in-Some.server c.in-Some.queue c.in-Some-take.taken.place c.in-Some-take.taken.waiter
-    c.self.invariant c.self.view_is c.requires.may_grant c.heads-heads.ensures.heads c.heads-heads.ensures.same c.in-Some.ensures.taken
-    c.in-Some-take.ensures.first in
+    grant_calls _ _ _ _ c.heads-heads.result c.in-Some.server c.next_queue-queue.result c.in-Some-take.taken.place c.in-Some-take.taken.waiter
+    c.self.invariant c.self.view_is c.requires.may_grant c.heads-heads.ensures.heads c.heads-heads.ensures.same
+    (c.next_queue-queue.ensures c.self.inside.position.cursor c.in-Some.ensures.next) c.in-Some-take.ensures.first in
     still_stands _ _ _ c.in-Some-take.taken.place (grant_row _ _ _ _ _ _ _ calls) (ap (λ (k : Kept _). k.slots) c.loosen.ensures)
 
 pub serve-requires-clause-within : goal.serve-requires-clause-within
 serve-requires-clause-within g c =
     let calls =
-    grant_calls _ _ _ _ c.heads-heads.result c.in-Some.server c.in-Some.queue c.in-Some-take.taken.place c.in-Some-take.taken.waiter
-    c.self.invariant c.self.view_is c.requires.may_grant c.heads-heads.ensures.heads c.heads-heads.ensures.same c.in-Some.ensures.taken
-    c.in-Some-take.ensures.first in
+    grant_calls _ _ _ _ c.heads-heads.result c.in-Some.server c.next_queue-queue.result c.in-Some-take.taken.place c.in-Some-take.taken.waiter
+    c.self.invariant c.self.view_is c.requires.may_grant c.heads-heads.ensures.heads c.heads-heads.ensures.same
+    (c.next_queue-queue.ensures c.self.inside.position.cursor c.in-Some.ensures.next) c.in-Some-take.ensures.first in
     subst (λ (k : Kept _). c.in-Some.server < length k.setup.servers) (sym c.loosen.ensures) (grant_within _ _ _ _ _ _ _ calls)
 
 pub note_grant-requires-clause-room : goal.note_grant-requires-clause-room
 note_grant-requires-clause-room g c =
     let calls =
-    grant_calls _ _ _ _ c.heads-heads.result c.in-Some.server c.in-Some.queue c.in-Some-take.taken.place c.in-Some-take.taken.waiter
-    c.self.invariant c.self.view_is c.requires.may_grant c.heads-heads.ensures.heads c.heads-heads.ensures.same c.in-Some.ensures.taken
-    c.in-Some-take.ensures.first in
+    grant_calls _ _ _ _ c.heads-heads.result c.in-Some.server c.next_queue-queue.result c.in-Some-take.taken.place c.in-Some-take.taken.waiter
+    c.self.invariant c.self.view_is c.requires.may_grant c.heads-heads.ensures.heads c.heads-heads.ensures.same
+    (c.next_queue-queue.ensures c.self.inside.position.cursor c.in-Some.ensures.next) c.in-Some-take.ensures.first in
     grant_room _ _ _ _ _ _ _ calls (subst (λ (h : History). length h.log + waiting_of h ≤ h.setup.log) (sym c.self.view_is) c.requires.room)
 
 pub note_grant-requires-clause-begun : goal.note_grant-requires-clause-begun
 note_grant-requires-clause-begun g c =
     let calls =
-    grant_calls _ _ _ _ c.heads-heads.result c.in-Some.server c.in-Some.queue c.in-Some-take.taken.place c.in-Some-take.taken.waiter
-    c.self.invariant c.self.view_is c.requires.may_grant c.heads-heads.ensures.heads c.heads-heads.ensures.same c.in-Some.ensures.taken
-    c.in-Some-take.ensures.first in
+    grant_calls _ _ _ _ c.heads-heads.result c.in-Some.server c.next_queue-queue.result c.in-Some-take.taken.place c.in-Some-take.taken.waiter
+    c.self.invariant c.self.view_is c.requires.may_grant c.heads-heads.ensures.heads c.heads-heads.ensures.same
+    (c.next_queue-queue.ensures c.self.inside.position.cursor c.in-Some.ensures.next) c.in-Some-take.ensures.first in
     grant_begun _ _ _ _ _ _ _ calls
 
 pub note_grant-requires-clause-arrived : goal.note_grant-requires-clause-arrived
 note_grant-requires-clause-arrived g c =
     let calls =
-    grant_calls _ _ _ _ c.heads-heads.result c.in-Some.server c.in-Some.queue c.in-Some-take.taken.place c.in-Some-take.taken.waiter
-    c.self.invariant c.self.view_is c.requires.may_grant c.heads-heads.ensures.heads c.heads-heads.ensures.same c.in-Some.ensures.taken
-    c.in-Some-take.ensures.first in
+    grant_calls _ _ _ _ c.heads-heads.result c.in-Some.server c.next_queue-queue.result c.in-Some-take.taken.place c.in-Some-take.taken.waiter
+    c.self.invariant c.self.view_is c.requires.may_grant c.heads-heads.ensures.heads c.heads-heads.ensures.same
+    (c.next_queue-queue.ensures c.self.inside.position.cursor c.in-Some.ensures.next) c.in-Some-take.ensures.first in
     grant_arrived _ _ _ _ _ _ _ calls
 
 pub note_grant-requires-clause-joined : goal.note_grant-requires-clause-joined
 note_grant-requires-clause-joined g c =
     let calls =
-    grant_calls _ _ _ _ c.heads-heads.result c.in-Some.server c.in-Some.queue c.in-Some-take.taken.place c.in-Some-take.taken.waiter
-    c.self.invariant c.self.view_is c.requires.may_grant c.heads-heads.ensures.heads c.heads-heads.ensures.same c.in-Some.ensures.taken
-    c.in-Some-take.ensures.first in
+    grant_calls _ _ _ _ c.heads-heads.result c.in-Some.server c.next_queue-queue.result c.in-Some-take.taken.place c.in-Some-take.taken.waiter
+    c.self.invariant c.self.view_is c.requires.may_grant c.heads-heads.ensures.heads c.heads-heads.ensures.same
+    (c.next_queue-queue.ensures c.self.inside.position.cursor c.in-Some.ensures.next) c.in-Some-take.ensures.first in
     grant_joined _ _ _ _ _ _ _ calls
 
 pub note_grant-requires-clause-waits : goal.note_grant-requires-clause-waits
 note_grant-requires-clause-waits g c =
     let calls =
-    grant_calls _ _ _ _ c.heads-heads.result c.in-Some.server c.in-Some.queue c.in-Some-take.taken.place c.in-Some-take.taken.waiter
-    c.self.invariant c.self.view_is c.requires.may_grant c.heads-heads.ensures.heads c.heads-heads.ensures.same c.in-Some.ensures.taken
-    c.in-Some-take.ensures.first in
+    grant_calls _ _ _ _ c.heads-heads.result c.in-Some.server c.next_queue-queue.result c.in-Some-take.taken.place c.in-Some-take.taken.waiter
+    c.self.invariant c.self.view_is c.requires.may_grant c.heads-heads.ensures.heads c.heads-heads.ensures.same
+    (c.next_queue-queue.ensures c.self.inside.position.cursor c.in-Some.ensures.next) c.in-Some-take.ensures.first in
     grant_waits _ _ _ _ _ _ _ calls
 
-pub invariant_of-self-2 : goal.invariant_of-self-2
-invariant_of-self-2 g c =
+pub invariant_of-self : goal.invariant_of-self
+invariant_of-self g c =
     let calls =
-    grant_calls _ _ _ _ c.heads-heads.result c.in-Some.server c.in-Some.queue c.in-Some-take.taken.place c.in-Some-take.taken.waiter
-    c.self.invariant c.self.view_is c.requires.may_grant c.heads-heads.ensures.heads c.heads-heads.ensures.same c.in-Some.ensures.taken
-    c.in-Some-take.ensures.first in
+    grant_calls _ _ _ _ c.heads-heads.result c.in-Some.server c.next_queue-queue.result c.in-Some-take.taken.place c.in-Some-take.taken.waiter
+    c.self.invariant c.self.view_is c.requires.may_grant c.heads-heads.ensures.heads c.heads-heads.ensures.same
+    (c.next_queue-queue.ensures c.self.inside.position.cursor c.in-Some.ensures.next) c.in-Some-take.ensures.first in
     closed _ _ _ _ _ _ _ _
     (c.serve.ensures ∙ ap (λ (k : Kept _). with_slots k (with_phase (Serving c.in-Some.server) k.slots c.in-Some-take.taken.place)) c.loosen.ensures)
     c.note_grant.ensures
@@ -114,9 +114,9 @@ invariant_of-self-2 g c =
 pub returns-clause-granted : goal.returns-clause-granted
 returns-clause-granted g c =
     let calls =
-    grant_calls _ _ _ _ c.heads-heads.result c.in-Some.server c.in-Some.queue c.in-Some-take.taken.place c.in-Some-take.taken.waiter
-    c.self.invariant c.self.view_is c.requires.may_grant c.heads-heads.ensures.heads c.heads-heads.ensures.same c.in-Some.ensures.taken
-    c.in-Some-take.ensures.first in
+    grant_calls _ _ _ _ c.heads-heads.result c.in-Some.server c.next_queue-queue.result c.in-Some-take.taken.place c.in-Some-take.taken.waiter
+    c.self.invariant c.self.view_is c.requires.may_grant c.heads-heads.ensures.heads c.heads-heads.ensures.same
+    (c.next_queue-queue.ensures c.self.inside.position.cursor c.in-Some.ensures.next) c.in-Some-take.ensures.first in
     let setup =
     ap (λ (k : Kept _). k.setup)
     (c.serve.ensures ∙ ap (λ (k : Kept _). with_slots k (with_phase (Serving c.in-Some.server) k.slots c.in-Some-take.taken.place)) c.loosen.ensures) in
@@ -128,9 +128,9 @@ returns-clause-granted g c =
 pub returns-clause-judged : goal.returns-clause-judged
 returns-clause-judged g c =
     let calls =
-    grant_calls _ _ _ _ c.heads-heads.result c.in-Some.server c.in-Some.queue c.in-Some-take.taken.place c.in-Some-take.taken.waiter
-    c.self.invariant c.self.view_is c.requires.may_grant c.heads-heads.ensures.heads c.heads-heads.ensures.same c.in-Some.ensures.taken
-    c.in-Some-take.ensures.first in
+    grant_calls _ _ _ _ c.heads-heads.result c.in-Some.server c.next_queue-queue.result c.in-Some-take.taken.place c.in-Some-take.taken.waiter
+    c.self.invariant c.self.view_is c.requires.may_grant c.heads-heads.ensures.heads c.heads-heads.ensures.same
+    (c.next_queue-queue.ensures c.self.inside.position.cursor c.in-Some.ensures.next) c.in-Some-take.ensures.first in
     (closed _ _ _ _ _ _ _ _
     (c.serve.ensures ∙ ap (λ (k : Kept _). with_slots k (with_phase (Serving c.in-Some.server) k.slots c.in-Some-take.taken.place)) c.loosen.ensures)
     c.note_grant.ensures

@@ -1,5 +1,6 @@
-use Rattle.std.proofs.Common.{◌≡◌, [], ap}
+use Rattle.std.proofs.Common.{◌≡◌, ◌<◌, [], length, ap, sym, subst}
 use Rattle.wait_queues.specs.Lines.{Lined}
+use Rattle.wait_queues.specs.Waitlists.{Waitlist}
 use Rattle.wait_queues.proofs.Changes.{gather_kept, heads_first}
 use Rattle.wait_queues.proofs.Lineup.{gather_room}
 use Rattle.wait_queues.proofs.waiting.WaitQueues.heads.Goals as goal
@@ -13,4 +14,7 @@ invariant_of-self g c = gather_kept _ _ _ _ c.self.invariant c.gather.ensures
 pub returns-clause-heads : goal.returns-clause-heads
 returns-clause-heads g c =
     let none : c.gather.new.self.moved ≡ [] = ap (λ (l : Lined). l.moved) c.gather.ensures in
-    heads_first c.gather.new.self _ c.heads.result (gather_kept _ _ _ _ c.self.invariant c.gather.ensures).lined_up none c.heads.ensures
+    let within = subst (λ (l : Lined). c.args.server < length l.own) (sym c.gather.ensures)
+    (subst (λ (w : Waitlist). c.args.server < w.servers) (sym c.self.view_is) c.requires) in
+    heads_first c.gather.new.self c.self.inside.order _ c.args.server c.heads.result
+    (gather_kept _ _ _ _ c.self.invariant c.gather.ensures) none within c.heads.ensures.own c.heads.ensures.backend

@@ -1,8 +1,8 @@
 -- The same items in another order: parts of a list that change places.
-use Rattle.std.proofs.Common.{List, ◌++◌, IsPermutation, sym, subst}
+use Rattle.std.proofs.Common.{List, [], ◌∷◌, ◌++◌, IsPermutation, sym, subst}
 use Rattle.std.proofs.lemmas.List.{append_assoc}
 use Rattle.std.proofs.lemmas.List.Sorted.{IsPermutation-trans, IsPermutation-append_left, IsPermutation-append_right, IsPermutation-append}
-use Rattle.std.proofs.lemmas.List.Sorted.{IsPermutation-append_comm}
+use Rattle.std.proofs.lemmas.List.Sorted.{IsPermutation-append_comm, IsPermutation-sym, IsPermutation-cons, IsPermutation-middle}
 
 module _ {X : Type 0} where
   -- one part past another
@@ -43,3 +43,16 @@ module _ {X : Type 0} where
   -- one part that stays behind what was taken from the rest
   pub kept_aside : (xs ys us vs : List X) → IsPermutation ys (us ++ vs) → IsPermutation (xs ++ ys) (us ++ (xs ++ vs))
   kept_aside xs ys us vs parted = IsPermutation-trans _ _ _ (IsPermutation-append_right xs _ _ parted) (past xs us vs)
+
+  -- two items in front change places
+  exchanged : (x y : X) (xs : List X) → IsPermutation (x ∷ (y ∷ xs)) (y ∷ (x ∷ xs))
+  exchanged x y xs = IsPermutation-middle (x ∷ []) y xs
+
+  -- one item that goes to the front past another
+  pub through_front : (x y z : X) (us vs ws : List X) → IsPermutation (x ∷ us) (y ∷ vs) → IsPermutation (z ∷ (x ∷ (us ++ ws))) (y ∷ (z ∷ (vs ++ ws)))
+  through_front x y z us vs ws moved = IsPermutation-trans _ _ _ (IsPermutation-cons z _ _ (IsPermutation-append_left ws _ _ moved)) (exchanged z y (vs ++ ws))
+
+  -- and past a part
+  pub behind_part : (x y : X) (us vs ws : List X) → IsPermutation (x ∷ us) (y ∷ vs) → IsPermutation (x ∷ (ws ++ us)) (y ∷ (ws ++ vs))
+  behind_part x y us vs ws moved = IsPermutation-trans _ _ _ (IsPermutation-sym _ _ (IsPermutation-middle ws x us))
+      (IsPermutation-trans _ _ _ (IsPermutation-append_right ws _ _ moved) (IsPermutation-middle ws y vs))

@@ -5,12 +5,14 @@ mod defaults;
 mod ends;
 mod events;
 mod fault;
+mod laws;
 mod reports;
 mod run;
 mod streams;
 
 pub use events::{Replayed, replay_events};
 pub use fault::Fault;
+pub use laws::a_script_has_one_trace;
 pub use reports::reports_of;
 pub use streams::replay;
 

@@ -10,11 +10,12 @@ mod reports;
 mod run;
 mod streams;
 
+pub use ends::MOST_READS;
 pub use events::{Replayed, replay_events};
 pub use fault::Fault;
 pub use laws::a_script_has_one_trace;
 pub use reports::reports_of;
-pub use streams::replay;
+pub use streams::{replay, replay_between};
 
 #[cfg(test)]
 mod tests;

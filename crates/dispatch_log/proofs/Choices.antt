@@ -1,5 +1,5 @@
 -- What is chosen is one: the least key of some rows, the pick of some servers, the server that takes next.
-use Rattle.std.proofs.Common.{◌≡◌, ◌≢◌, ℕ, zero, suc, ◌+◌, ◌-◌, ◌<◌, ◌≤◌, ◌==◌, ◌||◌, nat_lt, Bool, true, false, cond, ◌⊎◌, inl, inr, IsTrue, Option, None, Some, MatchOption, length, slice_get, refl, ap, sym, ◌∙◌, subst, arith, Ordering, Less, Equal, Greater}
+use Rattle.std.proofs.Common.{◌≡◌, ◌≢◌, ℕ, zero, suc, ◌+◌, ◌-◌, ◌<◌, ◌≤◌, ◌==◌, ◌||◌, nat_lt, Bool, true, false, cond, Option, None, Some, MatchOption, length, slice_get, refl, ap, sym, ◌∙◌, subst, arith, Ordering, Less, Equal, Greater}
 use Rattle.std.specs.Option.{option_map_or}
 use Rattle.std.proofs.lemmas.Bool.{and_parts}
 use Rattle.std.proofs.lemmas.Bool.Decides.{Decides-eqb, nat_tests}
@@ -17,7 +17,7 @@ use Rattle.dispatch_log.specs.declared.row.Row.{Row}
 use Rattle.dispatch_log.specs.declared.setup.ServerSet.{ServerSet}
 use Rattle.dispatch_log.specs.Grants.{CanTake, IsNextTaker}
 use Rattle.dispatch_log.specs.Picks.{weight_of, steps_after, IsPick}
-use Rattle.dispatch_log.specs.Placement.{IsCandidate, IsChosen, IsDirect, IsJoining, IsTurnedAway}
+use Rattle.dispatch_log.specs.Placement.{IsCandidate, IsChosen, IsJoining, IsTurnedAway}
 use Rattle.dispatch_log.specs.Rows.{Rows, IsRow, queued, same_queue, phase_waits_in}
 use Rattle.dispatch_log.specs.Words.{Scene, of_server, is_up, is_usable, is_free, has_room, takes_pinned, working_pin, may_take, may_go_to}
 use Rattle.dispatch_log.proofs.RowLemmas.{HaveOwnTickets}

@@ -1,23 +1,21 @@
 -- Legal logs with the same events are one.
-use Rattle.std.proofs.Common.{◌≡◌, ◌≢◌, ℕ, ◌+◌, ◌<◌, ◌≤◌, Bool, true, false, cond, ◌⊎◌, inl, inr, List, [], ◌∷◌, Option, None, Some, map, length, refl, ap, sym, ◌∙◌, subst, arith}
-use Rattle.std.specs.List.{filter}
+use Rattle.std.proofs.Common.{◌≡◌, ◌≢◌, ℕ, ◌+◌, Bool, true, false, cond, ◌⊎◌, inl, inr, List, [], ◌∷◌, map, length, refl, ap, sym, ◌∙◌, subst}
 use Rattle.list_facts.proofs.Never.{false_true}
 use Rattle.dispatch_log.specs.declared.entry.Arrival.{Arrival}
 use Rattle.dispatch_log.specs.declared.entry.Entry.{Entry}
 use Rattle.dispatch_log.specs.declared.entry.Entry.TheVariants.{Arrive, Done, Fail, Abort, Tick, Check, Limit, Direct, Joined, Granted, Moved, Freed, Retried, Left, Health, Ended}
 use Rattle.dispatch_log.specs.declared.setup.Setup.{Setup}
-use Rattle.dispatch_log.specs.Determined.{events, unplaced, AreSameButForPlaces, HaveSameRows, IsSameButForPlaces}
+use Rattle.dispatch_log.specs.Determined.{events, unplaced, AreSameButForPlaces, IsSameButForPlaces}
 use Rattle.dispatch_log.specs.Grants.{IsSettled}
 use Rattle.dispatch_log.specs.Histories.{History, state_of, begins_event}
 use Rattle.dispatch_log.specs.Judgement.{Stage, granting, IsOver, MayCome, AllMayCome, next_stage, stage_after}
 use Rattle.dispatch_log.specs.Legal.{IsLegal}
-use Rattle.dispatch_log.specs.Rows.{Rows, IsVacant}
+use Rattle.dispatch_log.specs.Rows.{IsVacant}
 use Rattle.dispatch_log.specs.States.{State, scene, after, after_all}
 use Rattle.dispatch_log.proofs.Consistency.{IsConsistent}
 use Rattle.dispatch_log.proofs.Dispatched.{base_consistent}
 use Rattle.dispatch_log.proofs.Judged.{consistent_after}
 use Rattle.dispatch_log.proofs.OneEntry.{IsNext, granted_or_owed, same_entry, event_alone, event_begins}
-use Rattle.dispatch_log.proofs.RowLemmas.{HaveOwnTickets}
 use Rattle.dispatch_log.proofs.SameRows.{same_state-flip, same_state-itself, after-same, arrived-same}
 use Rattle.dispatch_log.proofs.SameScenes.{next_back}
 use Rattle.dispatch_log.proofs.Staying.{KeepsTo, keeps_after}
@@ -119,10 +117,10 @@ pub record MayEnd (setup : Setup) (s : State) (t : Stage) : Type 0 where
   pub over : IsOver setup s t
   pub settled : IsSettled (scene setup s)
 
-head_begins : (e : Entry) (es : List Entry) → begins_event e ≡ true → events (e ∷ es) ≡ e ∷ events es
+pub head_begins : (e : Entry) (es : List Entry) → begins_event e ≡ true → events (e ∷ es) ≡ e ∷ events es
 head_begins e es begins = ap (λ (b : Bool). cond b (e ∷ events es) (events es)) begins
 
-head_goes_on : (e : Entry) (es : List Entry) → begins_event e ≡ false → events (e ∷ es) ≡ events es
+pub head_goes_on : (e : Entry) (es : List Entry) → begins_event e ≡ false → events (e ∷ es) ≡ events es
 head_goes_on e es none = ap (λ (b : Bool). cond b (e ∷ events es) (events es)) none
 
 module _ (setup : Setup) where

@@ -18,5 +18,6 @@ pub mod WrongWindows
 pub mod OneEntry
 pub mod SameScenes
 pub mod Determined
+pub mod SameCalls
 pub mod Within
 pub mod Limiting

@@ -1,10 +1,10 @@
 -- At each stage one entry at most may come that begins no event, and where one may an event may not.
-use Rattle.std.proofs.Common.{◌≡◌, ◌≢◌, ℕ, ◌+◌, ◌<◌, ◌≤◌, ◌==◌, Bool, true, false, not, ◌||◌, ◌&&◌, ◌⊎◌, inl, inr, IsTrue, List, Option, None, Some, length, refl, ap, sym, ◌∙◌, subst, arith}
+use Rattle.std.proofs.Common.{◌≡◌, ◌≢◌, ℕ, ◌<◌, ◌≤◌, ◌==◌, true, false, ◌⊎◌, inl, inr, IsTrue, Option, None, Some, length, refl, ap, sym, ◌∙◌, subst, arith}
 use Rattle.std.proofs.lemmas.Bool.{and_parts}
 use Rattle.std.proofs.lemmas.Bool.Decides.{Decides-eqb, nat_tests}
 use Rattle.due_key.specs.declared.key.Key.{Key}
 use Rattle.verdict.specs.declared.cause.Cause.TheVariants.{Aborted, Timeout, Retries, NoServer}
-use Rattle.list_facts.proofs.Never.{false_true, none_some}
+use Rattle.list_facts.proofs.Never.{false_true}
 use Rattle.dispatch_log.specs.declared.entry.Entry.{Entry}
 use Rattle.dispatch_log.specs.declared.entry.Entry.TheVariants.{Arrive, Done, Fail, Abort, Tick, Check, Limit, Direct, Joined, Granted, Moved, Freed, Retried, Left, Health, Ended}
 use Rattle.dispatch_log.specs.declared.queue.Queue.{Queue}
@@ -15,11 +15,10 @@ use Rattle.dispatch_log.specs.declared.row.Row.{Row}
 use Rattle.dispatch_log.specs.declared.setup.Setup.{Setup}
 use Rattle.dispatch_log.specs.Grants.{IsSettled, IsLawfulGrant}
 use Rattle.dispatch_log.specs.Histories.{begins_event}
-use Rattle.dispatch_log.specs.Judgement.{IsInPhase, HasSlot, IsTold, IsFirstExpired, IsFirstIn, was_up, Stage, placing, returning, ending, failing, leaving, aborting, telling, checking, falling, granting, IsOver, MayGrant, MayBegin, IsPut, IsPutAnew, MayCome}
-use Rattle.dispatch_log.specs.Placement.{IsTurnedAway}
+use Rattle.dispatch_log.specs.Judgement.{IsInPhase, HasSlot, IsTold, IsFirstExpired, IsFirstIn, was_up, Stage, placing, returning, ending, failing, leaving, aborting, telling, checking, falling, granting, IsOver, MayGrant, IsPut, IsPutAnew, MayCome}
 use Rattle.dispatch_log.specs.Refusals.{is_waiting}
 use Rattle.dispatch_log.specs.Retries.{are_spent, are_redispatched, are_retried}
-use Rattle.dispatch_log.specs.Rows.{Rows, IsRow, phase_is_served_by, phase_is_told, phase_waits_in, pin_of, failures_of}
+use Rattle.dispatch_log.specs.Rows.{Rows, phase_is_served_by, phase_is_told, phase_waits_in, pin_of, failures_of}
 use Rattle.dispatch_log.specs.States.{State, scene}
 use Rattle.dispatch_log.specs.Words.{Scene, is_up, is_free, may_go_to}
 use Rattle.dispatch_log.proofs.Choices.{key_same, row_same, waits_same, goes, taker_same, chosen_same, chosen_not_backend, chosen_not_away}

@@ -1,9 +1,9 @@
 -- After any calls a log is legal.
-use Rattle.std.proofs.Common.{◌≡◌, ◌⊎◌, ℕ, zero, suc, ◌+◌, true, Option, List, [], ◌∷◌, ◌++◌, length, refl, ap, sym, ◌∙◌, subst, arith, inl, inr}
+use Rattle.std.proofs.Common.{◌≡◌, ℕ, ◌+◌, true, Option, List, [], ◌∷◌, ◌++◌, length, refl, ap, sym, ◌∙◌, subst, arith, inl, inr}
 use Rattle.dispatch_log.specs.declared.entry.Entry.{Entry}
 use Rattle.dispatch_log.specs.declared.entry.Entry.TheVariants.{Arrive, Done, Fail, Abort, Tick, Check, Limit, Granted}
 use Rattle.dispatch_log.specs.declared.setup.Setup.{Setup}
-use Rattle.dispatch_log.specs.Histories.{History, state_of, begins_event, first_window, next_window}
+use Rattle.dispatch_log.specs.Histories.{History, state_of, begins_event, first_window}
 use Rattle.dispatch_log.specs.Judgement.{Stage, granting, IsOver, MayBegin, MayCome, AllMayCome, AreLawful, next_stage, stage_after}
 use Rattle.dispatch_log.specs.Legal.{IsLegal, AddsEvent}
 use Rattle.dispatch_log.specs.Runs.{Call, event, roll, GoesOnBy, GoesBy, IsRun}
@@ -15,7 +15,7 @@ use Rattle.dispatch_log.specs.declared.refusal.Refusal.{Refusal}
 use Rattle.dispatch_log.proofs.Windows.{opening_base, empty_legal, next_legal}
 
 -- where all is settled an event alone may come
-is_event : (setup : Setup) (s : State) (n : ℕ) (e : Entry) → IsSettled (scene setup s) → MayCome setup s n granting e → begins_event e ≡ true
+pub is_event : (setup : Setup) (s : State) (n : ℕ) (e : Entry) → IsSettled (scene setup s) → MayCome setup s n granting e → begins_event e ≡ true
 is_event setup s n (Arrive m a) settled may = refl
 is_event setup s n (Done m u) settled may = refl
 is_event setup s n (Fail m u) settled may = refl

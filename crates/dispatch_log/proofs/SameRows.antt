@@ -1,21 +1,20 @@
 -- The same rows at other places, and what entries make of them.
-use Rattle.std.proofs.Common.{◌≡◌, ◌≢◌, ℕ, ◌+◌, Bool, false, Option, None, Some, slice_get, option_map, map, slice_set, count_by, refl, ap, sym, ◌∙◌, subst, arith, inl, inr}
-use Rattle.std.specs.Option.{option_and_then, option_map_or}
+use Rattle.std.proofs.Common.{◌≡◌, ◌≢◌, ℕ, ◌+◌, Option, None, Some, slice_get, option_map, slice_set, count_by, refl, ap, sym, ◌∙◌, subst, arith, inl, inr}
+use Rattle.std.specs.Option.{option_and_then}
 use Rattle.std.proofs.Math.ListN.{set}
 use Rattle.std.proofs.lemmas.Option.{same_Some, slice_get-map}
 use Rattle.list_facts.proofs.Counts.{count-map}
-use Rattle.list_facts.proofs.Never.{none_some, false_true}
+use Rattle.list_facts.proofs.Never.{none_some}
 use Rattle.list_facts.proofs.Places.{tally, get-set_same, get-set_other, get-set_cases, count-set}
 use Rattle.dispatch_log.specs.declared.entry.Arrival.{Arrival}
 use Rattle.dispatch_log.specs.declared.entry.Entry.{Entry}
 use Rattle.dispatch_log.specs.declared.entry.Entry.TheVariants.{Arrive, Done, Fail, Abort, Tick, Check, Limit, Direct, Joined, Granted, Moved, Freed, Retried, Left, Health, Ended}
-use Rattle.dispatch_log.specs.declared.queue.Queue.{Queue}
 use Rattle.dispatch_log.specs.declared.row.Phase.TheVariants.{Loose, Waiting, Serving, Told}
 use Rattle.dispatch_log.specs.declared.row.Row.{Row}
 use Rattle.dispatch_log.specs.declared.setup.Setup.{Setup}
 use Rattle.dispatch_log.specs.Determined.{HaveSameRows, IsSameButForPlaces}
 use Rattle.dispatch_log.specs.Retries.{failed}
-use Rattle.dispatch_log.specs.Rows.{Rows, StandsAt, IsRow, IsVacant, row_of, with_change, changed, in_phase, in_backend_since, gone, pin_of, failures_of, is_served_by, waits_in, served, queued}
+use Rattle.dispatch_log.specs.Rows.{Rows, IsRow, IsVacant, row_of, with_change, changed, in_phase, in_backend_since, gone, pin_of, is_served_by}
 use Rattle.dispatch_log.specs.States.{State, after, arrived, put_on, put_in}
 use Rattle.dispatch_log.proofs.Accepted.{row_of_found}
 use Rattle.dispatch_log.proofs.RowLemmas.{HaveOwnTickets, row_of_at, row_of_none}

@@ -1,5 +1,5 @@
 -- Where rows stand decides nothing: what may come next with these rows may come with the same ones at other places.
-use Rattle.std.proofs.Common.{◌≡◌, ℕ, ◌+◌, ◌*◌, ◌<◌, ◌≤◌, ◌==◌, ◌&&◌, ◌||◌, nat_lt, true, false, cond, Bool, IsTrue, Option, None, Some, MatchOption, slice_get, refl, ap, sym, ◌∙◌, subst, inl, inr}
+use Rattle.std.proofs.Common.{◌≡◌, ℕ, ◌+◌, ◌*◌, ◌≤◌, ◌==◌, ◌&&◌, ◌||◌, nat_lt, true, cond, Bool, Option, None, Some, MatchOption, refl, ap, sym, ◌∙◌, subst, inl, inr}
 use Rattle.std.specs.Option.{option_map_or}
 use Rattle.verdict.specs.declared.cause.Cause.TheVariants.{Aborted, Timeout, Retries, NoServer}
 use Rattle.dispatch_log.specs.declared.entry.Entry.{Entry}
@@ -13,9 +13,9 @@ use Rattle.dispatch_log.specs.Determined.{HaveSameRows}
 use Rattle.dispatch_log.specs.Grants.{CanTake, IsSettled, IsNextTaker, IsLawfulGrant}
 use Rattle.dispatch_log.specs.Judgement.{IsInPhase, IsFirstExpired, IsFirstIn, Stage, placing, returning, ending, failing, leaving, aborting, telling, checking, falling, granting, MayGrant, IsPut, IsPutAnew}
 use Rattle.dispatch_log.specs.Picks.{load, weight_of, IsNoMoreLoaded, IsPick}
-use Rattle.dispatch_log.specs.Placement.{IsCandidate, IsChosen, IsJoining, IsTurnedAway}
+use Rattle.dispatch_log.specs.Placement.{IsCandidate, IsChosen}
 use Rattle.dispatch_log.specs.Retries.{are_spent, are_redispatched, are_retried}
-use Rattle.dispatch_log.specs.Rows.{Rows, row_of, pin_of, failures_of, is_served_by, waits_in, served, queued}
+use Rattle.dispatch_log.specs.Rows.{Rows, pin_of, failures_of, is_served_by, waits_in, served, queued}
 use Rattle.dispatch_log.specs.States.{State, scene}
 use Rattle.dispatch_log.specs.Words.{Scene, limit_of, of_server, is_up, is_usable, is_free, has_room, takes_pinned, working_pin}
 use Rattle.dispatch_log.proofs.OneEntry.{Owed, MayBeGranted, IsNext}

@@ -1,8 +1,8 @@
 -- What every state of a log that is judged keeps within its setup: rows are at servers that are there, and one of them was picked
 -- last.
-use Rattle.std.proofs.Common.{◌≡◌, ◌≢◌, ℕ, zero, suc, ◌+◌, ◌<◌, ◌≤◌, ◌==◌, Bool, true, false, cond, List, [], ◌∷◌, Option, None, Some, replicate, length, slice_get, refl, ap, sym, ◌∙◌, subst, arith, inl, inr}
+use Rattle.std.proofs.Common.{◌≡◌, ℕ, ◌+◌, ◌<◌, ◌==◌, Bool, true, false, cond, List, [], ◌∷◌, Option, None, Some, length, slice_get, subst, inl, inr}
 use Rattle.std.specs.Option.{option_map_or}
-use Rattle.std.proofs.lemmas.Option.{same_Some, slice_get_within}
+use Rattle.std.proofs.lemmas.Option.{same_Some}
 use Rattle.std.proofs.Math.ListN.{set}
 use Rattle.verdict.specs.declared.cause.Cause.{Cause}
 use Rattle.verdict.specs.declared.cause.Cause.TheVariants.{NoServer}
@@ -10,7 +10,6 @@ use Rattle.list_facts.proofs.Never.{none_some}
 use Rattle.list_facts.proofs.Places.{get-set_cases}
 use Rattle.dispatch_log.specs.declared.entry.Entry.{Entry}
 use Rattle.dispatch_log.specs.declared.entry.Entry.TheVariants.{Arrive, Done, Fail, Abort, Tick, Check, Limit, Direct, Joined, Granted, Moved, Freed, Retried, Left, Health, Ended}
-use Rattle.dispatch_log.specs.declared.queue.Queue.{Queue}
 use Rattle.dispatch_log.specs.declared.queue.Queue.TheVariants.{Backend, Server}
 use Rattle.dispatch_log.specs.declared.row.Phase.{Phase}
 use Rattle.dispatch_log.specs.declared.row.Phase.TheVariants.{Loose, Waiting, Serving, Told}
@@ -19,10 +18,9 @@ use Rattle.dispatch_log.specs.declared.setup.ServerSet.{ServerSet}
 use Rattle.dispatch_log.specs.declared.setup.Setup.{Setup}
 use Rattle.dispatch_log.specs.Bounds.{IsAtOneOf}
 use Rattle.dispatch_log.specs.Judgement.{Stage, placing, leaving, IsPut, MayCome, AllMayCome, next_stage}
-use Rattle.dispatch_log.specs.Placement.{IsDirect, IsJoining}
 use Rattle.dispatch_log.specs.Retries.{failed}
-use Rattle.dispatch_log.specs.Rows.{Rows, IsRow, IsVacant, with_change, changed, in_phase, in_backend_since, gone, pin_of}
-use Rattle.dispatch_log.specs.States.{State, scene, after, after_all, arrived, put_on, put_in, granted_by}
+use Rattle.dispatch_log.specs.Rows.{Rows, IsRow, IsVacant, changed, in_phase, in_backend_since, gone, pin_of}
+use Rattle.dispatch_log.specs.States.{State, scene, after, after_all, arrived, put_on, granted_by}
 use Rattle.dispatch_log.proofs.Choices.{free_there, chosen_there}
 use Rattle.dispatch_log.proofs.SameRows.{changed_row}
 

@@ -1,5 +1,5 @@
 -- How often connections failed for a request: no more often than it is tried again, but for one that is told so.
-use Rattle.std.proofs.Common.{◌≡◌, ◌≢◌, ℕ, ◌+◌, ◌==◌, ◌≤◌, true, false, Bool, not, ◌||◌, ◌&&◌, IsTrue, List, [], ◌∷◌, Option, None, Some, refl, ap, sym, ◌∙◌, subst, arith, inl, inr}
+use Rattle.std.proofs.Common.{◌≡◌, ◌≢◌, ℕ, ◌+◌, ◌==◌, ◌≤◌, true, false, Bool, not, ◌||◌, IsTrue, List, [], ◌∷◌, Option, None, Some, refl, ap, sym, ◌∙◌, subst, arith, inl, inr}
 use Rattle.std.proofs.Math.ListN.{set}
 use Rattle.std.specs.Option.{option_map_or}
 use Rattle.std.proofs.lemmas.Option.{same_Some}
@@ -15,7 +15,7 @@ use Rattle.dispatch_log.specs.declared.row.Row.{Row}
 use Rattle.dispatch_log.specs.declared.setup.Setup.{Setup}
 use Rattle.dispatch_log.specs.declared.queue.Queue.{Queue}
 use Rattle.dispatch_log.specs.declared.queue.Queue.TheVariants.{Backend, Server}
-use Rattle.dispatch_log.specs.Judgement.{HasSlot, Stage, placing, returning, ending, failing, leaving, aborting, telling, checking, falling, granting, IsOver, MayGrant, IsPut, MayCome, has_expired, next_stage, stage_after, AllMayCome}
+use Rattle.dispatch_log.specs.Judgement.{HasSlot, Stage, placing, returning, ending, failing, leaving, aborting, telling, checking, falling, granting, IsOver, MayGrant, IsPut, MayCome, next_stage, stage_after, AllMayCome}
 use Rattle.dispatch_log.specs.Refusals.{is_waiting, has_a_slot}
 use Rattle.dispatch_log.specs.Retries.{are_redispatched, are_retried, are_spent, failed}
 use Rattle.dispatch_log.specs.Rows.{Rows, StandsAt, IsRow, IsVacant, changed, in_phase, in_backend_since, gone, pin_of, phase_is_told, phase_is_served_by, phase_waits_in, failures_of}

@@ -1,14 +1,11 @@
 -- The first window begins at a proper base, and so does each window after a legal log.
-use Rattle.std.proofs.Common.{◌≡◌, ℕ, zero, suc, ◌+◌, ◌<◌, ◌≤◌, ◌^◌, nat_le, nat_lt, Bool, true, false, List, [], ◌∷◌, Option, None, Some, length, replicate, slice_get, count_by, All, IsTrue, refl, ap, sym, ◌∙◌, subst, arith}
+use Rattle.std.proofs.Common.{◌≡◌, ℕ, zero, suc, ◌+◌, ◌<◌, ◌^◌, nat_le, nat_lt, Bool, true, false, List, [], ◌∷◌, Option, None, Some, length, replicate, count_by, All, IsTrue, refl, ap, sym, ◌∙◌, subst, arith}
 use Rattle.std.proofs.lemmas.Bool.Decides.{nat_tests}
 use Rattle.std.proofs.Math.ListN.{length-replicate}
 use Rattle.std.proofs.lemmas.List.{length-map}
 use Rattle.std.proofs.lemmas.List.Sums.{sum_by-cons}
 use Rattle.std.proofs.lemmas.Bool.{and_parts}
 use Rattle.list_facts.proofs.Places.{tally}
-use Rattle.list_facts.proofs.Never.{none_some}
-use Rattle.std.proofs.lemmas.Option.{same_Some}
-use Rattle.check_state.specs.Results.{is_up}
 use Rattle.check_state.proofs.Shortened.{same_up}
 use Rattle.dispatch_log.specs.declared.entry.Entry.{Entry}
 use Rattle.dispatch_log.specs.declared.entry.Entry.TheVariants.{Arrive, Done, Fail, Abort, Tick, Check, Limit, Direct, Joined, Granted, Moved, Freed, Retried, Left, Health, Ended}
@@ -16,21 +13,21 @@ use Rattle.dispatch_log.specs.declared.row.Row.{Row}
 use Rattle.dispatch_log.specs.declared.setup.ServerSet.{ServerSet}
 use Rattle.dispatch_log.specs.declared.setup.Setup.{Setup}
 use Rattle.dispatch_log.specs.declared.refusal.Refusal.TheVariants.{LogFull, NoSuchServer, TicketsSpent, PlacesFull}
-use Rattle.dispatch_log.specs.Dispatch.{KeepsLimits, IsInOnePlace, given_between}
+use Rattle.dispatch_log.specs.Dispatch.{given_between}
 use Rattle.dispatch_log.specs.Refusals.{lacks_room, pins_to_none, tickets_are_spent, is_full, arrival_refusal}
 use Rattle.dispatch_log.specs.Setups.{IsSound, is_within, checks_count}
 use Rattle.dispatch_log.specs.Grants.{IsSettled}
 use Rattle.dispatch_log.specs.Health.{is_up_by, ups_of, shortened_by, shortened_all}
 use Rattle.dispatch_log.specs.Histories.{History, state_of, rolled, next_window}
-use Rattle.dispatch_log.specs.Judgement.{AreLawful, Stage, MayBegin, MayCome, AllMayCome, granting, next_stage, stage_after}
+use Rattle.dispatch_log.specs.Judgement.{AreLawful, Stage, MayCome, AllMayCome, granting, next_stage, stage_after}
 use Rattle.dispatch_log.specs.Legal.{IsBase, IsLegal}
-use Rattle.dispatch_log.specs.Rows.{Rows, StandsAt, has_ticket, rows_of, is_served_by, served}
-use Rattle.dispatch_log.specs.States.{State, scene, after, after_all, opening_state, opening_limits}
+use Rattle.dispatch_log.specs.Rows.{StandsAt, has_ticket, rows_of, is_served_by, served}
+use Rattle.dispatch_log.specs.States.{State, after, after_all, opening_state}
 use Rattle.dispatch_log.proofs.Accepted.{none_refuses}
 use Rattle.dispatch_log.proofs.Dispatched.{dispatched, base_consistent}
-use Rattle.dispatch_log.proofs.Judged.{places_all, results_all, limits_all}
+use Rattle.dispatch_log.proofs.Judged.{places_all, limits_all}
 use Rattle.dispatch_log.proofs.Staying.{KeepsTo, keeps_all}
-use Rattle.dispatch_log.proofs.Tried.{AreTried, tried_all, tried_over}
+use Rattle.dispatch_log.proofs.Tried.{tried_all, tried_over}
 
 -- no row stands in an empty list of places
 pub none_stands : (n p : ℕ) (r : Row) → StandsAt (replicate n None) p r → ⊥

@@ -1,5 +1,5 @@
 -- Why the worked logs are not legal.
-use Rattle.std.proofs.Common.{◌≡◌, ◌≢◌, ℕ, ◌+◌, ◌*◌, ◌≤◌, pos, ◌∷◌, None, Some, refl, arith, Greater}
+use Rattle.std.proofs.Common.{◌≡◌, ◌≢◌, ◌+◌, ◌*◌, ◌≤◌, pos, None, Some, refl, arith, Greater}
 use Rattle.std.proofs.lemmas.Int.{ints}
 use Rattle.due_key.specs.Order.{key_cmp}
 use Rattle.dispatch_log.specs.declared.row.Phase.TheVariants.{Waiting}

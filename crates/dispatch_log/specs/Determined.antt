@@ -1,10 +1,10 @@
 -- What events alone determine: logs that are one but for the places of their requests.
-use Rattle.std.specs.Prelude.{◌≡◌, Bool, false, List, Option, None, count_by, map}
+use Rattle.std.specs.Prelude.{◌≡◌, ℕ, Bool, false, List, Option, None, count_by, map}
 use Rattle.std.specs.List.{filter}
 use Rattle.dispatch_log.specs.declared.entry.Entry.{Entry}
 use Rattle.dispatch_log.specs.declared.entry.Entry.TheVariants.{Arrive}
 use Rattle.dispatch_log.specs.declared.row.Row.{Row}
-use Rattle.dispatch_log.specs.Histories.{begins_event}
+use Rattle.dispatch_log.specs.Histories.{History, state_of, begins_event, refuses_arrival, refuses_done, refuses_failure, refuses_abort, refuses_tick, refuses_check, refuses_limit}
 use Rattle.dispatch_log.specs.Rows.{Rows, IsRow}
 use Rattle.dispatch_log.specs.States.{State}
 
@@ -31,3 +31,20 @@ pub record HaveSameRows (rows other : Rows) : Type 0 where
 pub record IsSameButForPlaces (state other : State) : Type 0 where
   pub rows : HaveSameRows state.rows other.rows
   pub rest : other ≡ record state { rows = other.rows }
+
+-- histories of one setup are the same but for places: their bases are, their logs, and what these leave
+pub record AreSameHistories (history other : History) : Type 0 where
+  pub setup : other.setup ≡ history.setup
+  pub base : IsSameButForPlaces history.base other.base
+  pub log : AreSameButForPlaces history.log other.log
+  pub state : IsSameButForPlaces (state_of history) (state_of other)
+
+-- whatever is asked is refused by both alike
+pub record AreRefusedAlike (history other : History) : Type 0 where
+  pub arrival : (pin : Option ℕ) → refuses_arrival history pin ≡ refuses_arrival other pin
+  pub done : (ticket : ℕ) → refuses_done history ticket ≡ refuses_done other ticket
+  pub failure : (ticket : ℕ) → refuses_failure history ticket ≡ refuses_failure other ticket
+  pub abort : (ticket : ℕ) → refuses_abort history ticket ≡ refuses_abort other ticket
+  pub tick : refuses_tick history ≡ refuses_tick other
+  pub check : (server : ℕ) → refuses_check history server ≡ refuses_check other server
+  pub limit : (server : ℕ) → refuses_limit history server ≡ refuses_limit other server

@@ -1,9 +1,9 @@
 ghost use Rattle.dispatch_log.specs.Bounds.{IsWithin};
-ghost use Rattle.dispatch_log.specs.Determined.{events, AreSameButForPlaces, IsSameButForPlaces};
+ghost use Rattle.dispatch_log.specs.Determined.{events, unplaced, AreSameButForPlaces, IsSameButForPlaces, AreSameHistories, AreRefusedAlike};
 ghost use Rattle.dispatch_log.specs.Dispatch.{IsDispatched};
 ghost use Rattle.dispatch_log.specs.Histories.{History, state_of, next_window, begins_event};
 ghost use Rattle.dispatch_log.specs.Judgement.{Stage, AllMayCome, stage_after};
-ghost use Rattle.dispatch_log.specs.Legal.{IsBase, IsLegal};
+ghost use Rattle.dispatch_log.specs.Legal.{AddsEvent, IsBase, IsLegal};
 ghost use Rattle.dispatch_log.specs.Setups.{IsSound};
 ghost use Rattle.dispatch_log.specs.States.{State, opening_state, after_all};
 ghost use Rattle.dispatch_log.specs.declared.entry.Entry.{Entry};
@@ -43,6 +43,15 @@ pub fn entries_go_on_from_entries()
 pub fn legal_logs_are_determined()
     ensures placed { (history other : History) → IsLegal history → IsLegal other → other.setup ≡ history.setup → other.base ≡ history.base → events other.log ≡ events history.log → other ≡ history }
     ensures unplaced { (history other : History) → IsLegal history → IsLegal other → other.setup ≡ history.setup → IsSameButForPlaces history.base other.base → AreSameButForPlaces (events history.log) (events other.log) → AreSameButForPlaces history.log other.log × IsSameButForPlaces (state_of history) (state_of other) }
+{}
+
+/// The law of determined calls: of legal histories that are the same but for the places of their rows
+/// each call is refused by both alike, and what an accepted one adds, or a roll begins with, is the same
+/// but for places. So the places in which requests are kept decide nothing.
+pub fn calls_are_determined()
+    ensures refused { (history other : History) → IsLegal history → IsLegal other → AreSameHistories history other → AreRefusedAlike history other }
+    ensures added { (history other next other_next : History) (event other_event : Entry) → IsLegal history → IsLegal other → AreSameHistories history other → AddsEvent history next event → AddsEvent other other_next other_event → unplaced event ≡ unplaced other_event → AreSameHistories next other_next }
+    ensures rolled { (history other : History) → AreSameHistories history other → AreSameHistories (next_window history) (next_window other) }
 {}
 
 /// The law of windows: a dispatcher's first one begins at a proper base, and so does the one after any

@@ -4,24 +4,17 @@ use Rattle.std.specs.List.{AllByRecursion, Contains, filter, fold}
 use Rattle.std.proofs.lemmas.Bool.Decides.{nat_tests}
 use Rattle.std.proofs.lemmas.Int.{ints}
 use Rattle.std.proofs.lemmas.List.Elements.{Contains-append_right}
-use Rattle.dispatch_log.specs.declared.entry.Entry.{Entry}
-use Rattle.dispatch_log.specs.declared.queue.Queue.{Queue}
 use Rattle.dispatch_log.specs.declared.setup.Setup.{Setup}
 use Rattle.dispatch_log.specs.States.{State}
-use Rattle.readable_log.specs.Grants.{is_of, grants, stays}
-use Rattle.readable_log.specs.Readable.{IsReadable}
-use Rattle.readable_log.specs.Timely.{IsTimely}
-use Rattle.readable_log.specs.declared.grant.Grant.{Grant}
+use Rattle.readable_log.specs.Grants.{stays}
 use Rattle.readable_log.specs.declared.grant.Stay.{Stay}
-use Rattle.readable_log.proofs.Timely.{timely}
 use Rattle.late_cert.specs.Lateness.{own_lateness}
 use Rattle.readable_log.specs.Ordered.{AllKeepOrder, HaveArrived}
 use Rattle.late_cert.specs.Reports.{is_within, last_cut, IsCritical, IsSound, IsChosen}
 use Rattle.late_cert.specs.declared.report.Report.{Report}
 use Rattle.late_cert.proofs.Fair.{AreFair, RisesFrom, rises_lower, fair_after, rises_after}
-use Rattle.list_facts.proofs.Members.{all_weaker, all_map, all_append, all_filter}
+use Rattle.list_facts.proofs.Members.{all_weaker, all_append}
 use Rattle.readable_log.specs.Windows.{Window}
-use Rattle.readable_log.specs.declared.base.BaseRow.{BaseRow}
 
 -- the cut, from a first one on
 abbrev cut_from : ℤ → ℕ → List Stay → ℕ

@@ -6,7 +6,6 @@ use Rattle.std.proofs.lemmas.Int.{ints}
 use Rattle.std.proofs.lemmas.List.Sorted.{sum_by-IsPermutation}
 use Rattle.std.proofs.lemmas.List.Sums.{sum_by-cons}
 use Rattle.list_facts.proofs.Places.{tally}
-use Rattle.dispatch_log.specs.declared.entry.Entry.{Entry}
 use Rattle.readable_log.specs.Grants.{moment_at}
 use Rattle.readable_log.specs.declared.grant.Stay.{Stay}
 use Rattle.late_cert.specs.Lateness.{lateness, own_slots, AreAfterJoining, latenesses, IsAssignment}

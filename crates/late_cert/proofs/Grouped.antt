@@ -8,7 +8,6 @@ use Rattle.std.proofs.lemmas.List.{length-map, map-append, take-append-drop, get
 use Rattle.std.proofs.lemmas.List.Elements.{recursion_from_All, All-from_recursion, filter-append}
 use Rattle.std.proofs.lemmas.List.Sorted.{All-permutation, IsPermutation-sym}
 use Rattle.std.proofs.lemmas.Option.{slice_get_within, get_or_from_slice_get}
-use Rattle.dispatch_log.specs.declared.entry.Entry.{Entry}
 use Rattle.dispatch_log.specs.declared.queue.Queue.{Queue}
 use Rattle.readable_log.specs.Grants.{is_of, grants}
 use Rattle.readable_log.specs.Readable.{IsReadable}

@@ -4,7 +4,6 @@ use Rattle.std.specs.List.{AllByRecursion, filter}
 use Rattle.std.specs.Int.{int_max}
 use Rattle.std.proofs.lemmas.Int.{ints, clamps}
 use Rattle.std.proofs.lemmas.List.Sorted.{IsPermutation-refl}
-use Rattle.dispatch_log.specs.declared.entry.Entry.{Entry}
 use Rattle.dispatch_log.specs.declared.queue.Queue.{Queue}
 use Rattle.readable_log.specs.declared.grant.Grant.{Grant}
 use Rattle.readable_log.specs.declared.grant.Stay.{Stay}

@@ -7,3 +7,4 @@ pub mod Grouped
 pub mod Fair
 pub mod Chosen
 pub mod Legal
+pub mod OneReport

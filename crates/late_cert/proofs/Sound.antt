@@ -7,7 +7,6 @@ use Rattle.std.proofs.lemmas.Bool.Decides.{nat_tests, Decides-and, Decides-eqb, 
 use Rattle.std.proofs.lemmas.Int.{ints}
 use Rattle.std.proofs.lemmas.List.{length-map, drop_all}
 use Rattle.std.proofs.lemmas.List.Sums.{length-filter}
-use Rattle.dispatch_log.specs.declared.entry.Entry.{Entry}
 use Rattle.readable_log.specs.Grants.{grants, stays}
 use Rattle.readable_log.specs.Readable.{IsReadable}
 use Rattle.readable_log.specs.Timely.{IsTimely}

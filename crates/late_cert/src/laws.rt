@@ -7,6 +7,7 @@ ghost use Rattle.readable_log.specs.Readable.{IsReadable};
 ghost use Rattle.late_cert.specs.declared.report.Report.{Report};
 ghost use Rattle.late_cert.specs.Reports.{IsChosen, IsSound, IsLeast, AreReports};
 ghost use Rattle.std.specs.List.{AllByRecursion};
+ghost use Rattle.dispatch_log.specs.Determined.{AreSameHistories};
 ghost use Rattle.dispatch_log.specs.Histories.{History};
 ghost use Rattle.dispatch_log.specs.Legal.{IsLegal};
 ghost use Rattle.readable_log.specs.Windows.{Window, window_in};
@@ -33,6 +34,12 @@ pub fn chosen_is_sound()
 pub fn reports_of_legal_logs_are_sound()
     ensures sound { (history : History) (reports : List Report) → IsLegal history → AreReports (window_in history) reports → AllByRecursion (IsSound (window_in history)) reports }
     ensures least { (history : History) (reports : List Report) → IsLegal history → AreReports (window_in history) reports → AllByRecursion (IsLeast (window_in history)) reports }
+{}
+
+/// The law of determined reports: what chosen reports say of legal histories that are the same but for
+/// places, or of one, is one list.
+pub fn reports_are_determined()
+    ensures { (history other : History) (reports others : List Report) → IsLegal history → IsLegal other → AreSameHistories history other → AreReports (window_in history) reports → AreReports (window_in other) others → others ≡ reports }
 {}
 
 /// The law of worked windows: the stays of one, the other assignment of their slots, one list that is

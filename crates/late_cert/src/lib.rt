@@ -9,7 +9,10 @@ mod making;
 mod report;
 
 pub use check::audit;
-pub use laws::{chosen_is_sound, reports_of_legal_logs_are_sound, sound_is_least, worked_reports};
+pub use laws::{
+    chosen_is_sound, reports_are_determined, reports_of_legal_logs_are_sound, sound_is_least,
+    worked_reports,
+};
 pub use making::certify;
 pub use readable_log::Stay;
 pub use report::{Report, Reports, Stays};

@@ -13,7 +13,7 @@ use Rattle.proxy_config.specs.declared.keywords.Keyword.TheVariants as keywords
 use Rattle.proxy_config.specs.declared.parts.Server.{Server}
 use Rattle.proxy_config.specs.declared.values.Shared.{Shared}
 use Rattle.proxy_config.specs.Outcomes.{◌>>=◌, unless}
-use Rattle.proxy_config.specs.Names.{is_name}
+use Rattle.proxy_words.specs.Names.{is_name}
 use Rattle.proxy_config.specs.Addresses.{address_of}
 use Rattle.proxy_config.specs.Rules.{server_index}
 use Rattle.proxy_config.specs.Keywords.{keyword_of}

@@ -14,7 +14,8 @@ use Rattle.proxy_config.specs.declared.values.Shared.{Shared}
 use Rattle.proxy_config.specs.declared.values.Shared.TheVariants as shared
 use Rattle.proxy_config.specs.Outcomes.{◌>>=◌, unless}
 use Rattle.proxy_config.specs.Pieces.{word_at, end_at}
-use Rattle.proxy_config.specs.Names.{is_acl_name, is_name}
+use Rattle.proxy_words.specs.Names.{is_name}
+use Rattle.proxy_config.specs.Names.{is_acl_name}
 use Rattle.proxy_config.specs.Samples as tests
 use Rattle.proxy_config.specs.Conditions as conditions
 use Rattle.proxy_config.specs.Rules as rules

@@ -12,7 +12,8 @@ use Rattle.proxy_config.specs.declared.parts.Operand.{Operand}
 use Rattle.proxy_config.specs.declared.parts.Operand.TheVariants as operands
 use Rattle.proxy_config.specs.declared.parts.Term.{Term}
 use Rattle.proxy_config.specs.Outcomes.{unless}
-use Rattle.proxy_config.specs.Names.{is_acl_name, is_name_byte}
+use Rattle.proxy_words.specs.Names.{is_name_byte}
+use Rattle.proxy_config.specs.Names.{is_acl_name}
 use Rattle.proxy_config.specs.Pieces.{word_at}
 use Rattle.proxy_config.specs.Samples.{test_in_braces}
 use Rattle.proxy_config.specs.Conditions.{acl_index, alternatives, condition, is_or, operand_at, term_at}

@@ -19,7 +19,7 @@ use Rattle.proxy_config.specs.declared.values.Shared.{Shared}
 use Rattle.proxy_config.specs.declared.wishes.Wish.{Wish}
 use Rattle.proxy_config.specs.Outcomes.{◌>>=◌, unless}
 use Rattle.proxy_config.specs.Pieces.{word_at, end_at}
-use Rattle.proxy_config.specs.Names.{is_name}
+use Rattle.proxy_words.specs.Names.{is_name}
 use Rattle.proxy_config.specs.Addresses.{bind_of, address_of}
 use Rattle.proxy_config.specs.Keywords.{keyword_of}
 use Rattle.proxy_config.specs.Rules.{acl_line, pin_line, rule_line, server_index}

@@ -19,7 +19,8 @@ use Rattle.proxy_config.specs.declared.parts.Term.{Term}
 use Rattle.proxy_config.specs.declared.parts.Test.{Test}
 use Rattle.proxy_config.specs.Outcomes.{unless}
 use Rattle.proxy_config.specs.Pieces.{word_at}
-use Rattle.proxy_config.specs.Names.{is_acl_name, is_name}
+use Rattle.proxy_words.specs.Names.{is_name}
+use Rattle.proxy_config.specs.Names.{is_acl_name}
 use Rattle.proxy_config.specs.Samples.{test_to_end, expression_of}
 use Rattle.proxy_config.specs.Conditions.{condition, guard_at, optional_guard}
 use Rattle.proxy_config.specs.ConditionGrammar.{IsOperand, IsSigned, AreTerms, AreSeparated}

@@ -21,7 +21,8 @@ use Rattle.proxy_config.specs.declared.values.Shared.{Shared}
 use Rattle.proxy_config.specs.declared.values.Shared.TheVariants as shared
 use Rattle.proxy_config.specs.Outcomes.{◌>>=◌, unless}
 use Rattle.proxy_config.specs.Pieces.{word_at, end_at}
-use Rattle.proxy_config.specs.Names.{is_acl_name, is_name}
+use Rattle.proxy_words.specs.Names.{is_name}
+use Rattle.proxy_config.specs.Names.{is_acl_name}
 use Rattle.proxy_config.specs.Addresses.{bind_of, address_of}
 use Rattle.proxy_config.specs.Keywords.{keyword_of}
 use Rattle.proxy_config.specs.Samples.{test_to_end, expression_of}

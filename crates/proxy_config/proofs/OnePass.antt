@@ -3,6 +3,7 @@ use Rattle.std.proofs.Common.{◌≡◌, ◌∙◌, ◌+◌, ◌++◌, ℕ, suc,
 use Rattle.proxy_config.specs.declared.faults.Cause.{Cause}
 use Rattle.proxy_config.specs.declared.faults.ConfigFault.{ConfigFault}
 use Rattle.proxy_config.specs.declared.draft.Draft.{Draft}
+use Rattle.proxy_config.specs.declared.keywords.Keyword.{Keyword}
 use Rattle.proxy_config.specs.declared.parts.Pin.{Pin}
 use Rattle.proxy_config.specs.declared.parts.Server.{Server}
 use Rattle.proxy_config.specs.declared.progress.Progress.{Progress}
@@ -11,7 +12,7 @@ use Rattle.proxy_config.specs.Outcomes.{◌>>=◌}
 use Rattle.proxy_config.specs.Wishes as wished
 use Rattle.proxy_config.specs.Wishes.{with_pins}
 use Rattle.proxy_config.specs.Progress.{settled, took, take_line, unless_known}
-use Rattle.proxy_config.specs.File.{is_line, run, then_lines}
+use Rattle.proxy_config.specs.File.{is_line, keyword_in, run, then_lines}
 use Rattle.proxy_config.proofs.Granted.{fit, granted, step_granted}
 use Rattle.proxy_config.proofs.Wished.{of_line}
 
@@ -79,20 +80,20 @@ then_granted servers ps n d wish k line = by_pin (wished.pin_of servers wish)
     by_pin (Err cause) = ap (λ (m : ℕ). Err (record { line = m; cause = cause })) (sym line)
 
 -- a line that is read makes no difference
-after_line : (servers : List Server) (long : Option ℕ) (p : Progress) (n : ℕ) (lines : List (List ℕ)) (known : Option ConfigFault) (r : Result (Draft × Option Wish) Cause)
+after_line : (servers : List Server) (long : Option ℕ) (p : Progress) (n : ℕ) (lines : List (List ℕ)) (keyword : Option Keyword) (known : Option ConfigFault) (r : Result (Draft × Option Wish) Cause)
     → p.fault ≡ known → ((d : Draft) (wish : Wish) → r ≡ Ok (d, Some wish) → wish.line ≡ n)
-    → with_pins servers p.wishes (λ ps. unless_known known (then_lines n (r >>= granted servers ps) (λ next. run servers long next (n + 1) lines))) ≡ coming servers long (took known p n r) (n + 1) lines
-after_line servers long p n lines None (Ok (d, None)) known line = rw known refl
-after_line servers long p n lines None (Ok (d, Some wish)) known line =
+    → with_pins servers p.wishes (λ ps. unless_known known (then_lines n (r >>= granted servers ps) (λ next. run servers long next (n + 1) lines))) ≡ coming servers long (took known p n keyword r) (n + 1) lines
+after_line servers long p n lines keyword None (Ok (d, None)) known line = rw known refl
+after_line servers long p n lines keyword None (Ok (d, Some wish)) known line =
     rw known (same_pins servers p.wishes _ _ (λ ps count. then_granted servers ps n d wish (λ next. run servers long next (n + 1) lines) (line d wish refl))
     ∙ sym (one_more servers p.wishes wish (λ ps. run servers long (fit ps d) (n + 1) lines)))
-after_line servers long p n lines None (Err cause) known line = refl
-after_line servers long p n lines (Some fault) (Ok (d, wish)) known line = rw known refl
-after_line servers long p n lines (Some fault) (Err cause) known line = rw known refl
+after_line servers long p n lines keyword None (Err cause) known line = refl
+after_line servers long p n lines keyword (Some fault) (Ok (d, wish)) known line = rw known refl
+after_line servers long p n lines keyword (Some fault) (Err cause) known line = rw known refl
 
 pub coming-take : (servers : List Server) (long : Option ℕ) (p : Progress) (n : ℕ) (line : List ℕ) (lines : List (List ℕ))
     → coming servers long p n (line ∷ lines) ≡ coming servers long (take_line (is_line long n) p n line) (n + 1) lines
 coming-take servers long p n line lines =
     same_pins servers p.wishes _ _ (λ ps count. ap (λ (r : Result Draft Cause). unless_known p.fault (then_lines n r (λ next. run servers long next (n + 1) lines)))
     (step_granted servers ps (is_line long n) p.draft n line ∙ ap (λ (m : ℕ). wished.step m (is_line long n) p.draft n line >>= granted servers ps) count))
-    ∙ after_line servers long p n lines p.fault (wished.step (length p.wishes) (is_line long n) p.draft n line) refl (λ d wish is. (of_line (length p.wishes) (is_line long n) p.draft d n line wish is).0)
+    ∙ after_line servers long p n lines (keyword_in line) p.fault (wished.step (length p.wishes) (is_line long n) p.draft n line) refl (λ d wish is. (of_line (length p.wishes) (is_line long n) p.draft d n line wish is).0)

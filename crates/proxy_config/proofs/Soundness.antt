@@ -1,9 +1,10 @@
 -- Each line that is taken in keeps what holds of accepted configurations.
-use Rattle.std.proofs.Common.{◌≡◌, inl, inr, ◌+◌, ◌<◌, ◌≤◌, ◌==◌, ℕ, Bool, true, false, cond, not, List, [], ◌∷◌, length, Option, Some, None, Result, Ok, Err, refl, sym, subst, arith, length-append}
+use Rattle.std.proofs.Common.{◌≡◌, inl, inr, ◌+◌, ◌<◌, ◌≤◌, ◌^◌, ◌==◌, ℕ, Bool, true, false, cond, not, List, [], ◌∷◌, length, Option, Some, None, Result, Ok, Err, refl, sym, subst, arith, length-append}
 use Rattle.std.specs.Option.{ok_or, is_some, option_and_then, IfSome}
 use Rattle.std.specs.List.{AllByRecursion, list_any}
 use Rattle.std.specs.Str.Lines.{lines}
-use Rattle.std.specs.Prelude.{nat_le, nat_lt}
+use Rattle.std.specs.Prelude.{nat_le, nat_lt, codes}
+use Rattle.std.specs.Str.{bytes_eq}
 use Rattle.std.proofs.lemmas.List.Elements.{All-from_recursion}
 use Rattle.std.specs.Result.{IfOk}
 use Rattle.std.proofs.lemmas.Bool.Decides.{nat_tests}
@@ -30,11 +31,17 @@ use Rattle.proxy_config.specs.declared.parts.Server.{Server}
 use Rattle.proxy_config.specs.declared.settings.Settings.{Settings}
 use Rattle.proxy_config.specs.declared.settings.Setting.{Setting}
 use Rattle.proxy_config.specs.declared.settings.Setting.TheVariants.{Weight, Maxconn, Maxqueue, Inter, Rise, Fall}
+use Rattle.proxy_config.specs.declared.values.Switch.{Switch}
+use Rattle.proxy_config.specs.declared.values.Switch.TheVariants as switches
+use Rattle.proxy_config.specs.declared.values.Timeout.{Timeout}
+use Rattle.proxy_config.specs.declared.values.Timeout.TheVariants as timeouts
 use Rattle.proxy_config.specs.declared.values.Values.{Values}
+use Rattle.proxy_config.specs.declared.values.Shared.TheVariants as shared
+use Rattle.proxy_words.proofs.Limits.{numeral_small, time_small}
 use Rattle.proxy_config.specs.declared.values.Shared.{Shared}
 use Rattle.proxy_config.specs.Outcomes.{unless}
 use Rattle.proxy_config.specs.Pieces.{word_at, end_at, number_in, number_from, time_from}
-use Rattle.proxy_config.specs.Names.{is_name}
+use Rattle.proxy_words.specs.Names.{is_name}
 use Rattle.proxy_config.specs.Addresses.{bind_of, address_of}
 use Rattle.proxy_config.specs.Keywords.{keyword_of}
 use Rattle.proxy_config.specs.Settings as server
@@ -43,7 +50,7 @@ use Rattle.proxy_config.specs.Rules.{acl_line, rule_line, pin_line, server_index
 use Rattle.proxy_config.specs.Draft as draft
 use Rattle.proxy_config.specs.File.{Answers, declared_servers, is_line, long_line, reading, whole}
 use Rattle.proxy_config.specs.Laws.{TakenIn, Says}
-use Rattle.proxy_config.specs.Sound.{IsSoundCheck, IsSoundGuard, IsSoundServer, IsSound}
+use Rattle.proxy_config.specs.Sound.{IsSoundCheck, IsSoundGuard, IsSoundServer, IsSoundTime, IsSound}
 use Rattle.proxy_config.proofs.Outcomes.{bind_ok, chosen, from_ok, ok_or_ok, unless_ok}
 use Rattle.proxy_config.proofs.FirstFaults.{reading-ok}
 use Rattle.proxy_config.proofs.GuardRanges.{acls_longer, more_pins, more_rules, pin_sound, rule_sound}
@@ -121,6 +128,72 @@ checks_sound false s sound = tt
 server_sound : (name : List ℕ) (address : Address) (s : Settings) → SoundSettings s → IsSoundServer (draft.server_of name address s)
 server_sound name address s sound = record { weight = sound.weight; check = checks_sound s.check s sound }
 
+-- what holds of the values of a section
+record SoundValues (v : Values) : Type 0 where
+  retries : v.retries ≤ 999999999
+  queue : v.queue < 2 ^ 62
+  connect : v.connect < 2 ^ 62
+  client : v.client < 2 ^ 62
+  server : v.server < 2 ^ 62
+
+built_in_sound : SoundValues values.built_in
+built_in_sound = record { retries = omega arith; queue = omega arith; connect = omega arith; client = omega arith; server = omega arith }
+
+set_sound : (timeout : Timeout) (t : ℕ) (v : Values) → t < 2 ^ 62 → SoundValues v → SoundValues (values.with_timeout timeout t v)
+set_sound timeouts.Queue t v small sound = record { retries = sound.retries; queue = small; connect = sound.connect; client = sound.client; server = sound.server }
+set_sound timeouts.Connect t v small sound = record { retries = sound.retries; queue = sound.queue; connect = small; client = sound.client; server = sound.server }
+set_sound timeouts.Client t v small sound = record { retries = sound.retries; queue = sound.queue; connect = sound.connect; client = small; server = sound.server }
+set_sound timeouts.Server t v small sound = record { retries = sound.retries; queue = sound.queue; connect = sound.connect; client = sound.client; server = small }
+
+switched_sound : (switch : Switch) (v : Values) → SoundValues v → SoundValues (values.switched switch v)
+switched_sound switches.Redispatch v sound = record { retries = sound.retries; queue = sound.queue; connect = sound.connect; client = sound.client; server = sound.server }
+switched_sound switches.Abortonclose v sound = record { retries = sound.retries; queue = sound.queue; connect = sound.connect; client = sound.client; server = sound.server }
+switched_sound switches.Unused v sound = sound
+
+fixed_sound : (only : List ℕ) (v w : Values) (words : List (List ℕ)) → values.fixed_line only v words ≡ Ok w → SoundValues v → SoundValues w
+unfolding values.fixed_line
+fixed_sound only v w words is sound =
+    let word = bind_ok (word_at words) _ w is in
+    let other = bind_ok (unless (not (bytes_eq word.0.0 only)) causes.Keyword) _ w word.2 in
+    let end = bind_ok (end_at word.0.1) _ w other.2 in
+    subst SoundValues (from_ok _ w end.2) sound
+
+retries_sound : (v w : Values) (words : List (List ℕ)) → values.retries_line v words ≡ Ok w → SoundValues v → SoundValues w
+unfolding values.retries_line
+retries_sound v w words is sound =
+    let word = bind_ok (word_at words) _ w is in
+    let n = bind_ok (ok_or (numeral 9 word.0.0) causes.Number) _ w word.2 in
+    let end = bind_ok (end_at word.0.1) _ w n.2 in
+    let small : n.0 < 10 ^ 9 = numeral_small 9 word.0.0 n.0 (ok_or_ok _ causes.Number n.0 n.1) in
+    subst SoundValues (from_ok _ w end.2) (record { retries = omega (arith, small); queue = sound.queue; connect = sound.connect; client = sound.client; server = sound.server })
+
+option_sound : (v w : Values) (words : List (List ℕ)) → values.option_line v words ≡ Ok w → SoundValues v → SoundValues w
+unfolding values.option_line
+option_sound v w words is sound =
+    let word = bind_ok (word_at words) _ w is in
+    let switch = bind_ok (ok_or (values.switch_of word.0.0) causes.Keyword) _ w word.2 in
+    let end = bind_ok (end_at word.0.1) _ w switch.2 in
+    subst SoundValues (from_ok _ w end.2) (switched_sound switch.0 v sound)
+
+timeout_line_sound : (v w : Values) (words : List (List ℕ)) → values.timeout_line v words ≡ Ok w → SoundValues v → SoundValues w
+unfolding values.timeout_line
+timeout_line_sound v w words is sound =
+    let first = bind_ok (word_at words) _ w is in
+    let timeout = bind_ok (ok_or (values.timeout_of first.0.0) causes.Keyword) _ w first.2 in
+    let second = bind_ok (word_at first.0.1) _ w timeout.2 in
+    let t = bind_ok (ok_or (time second.0.0) causes.Number) _ w second.2 in
+    let end = bind_ok (end_at second.0.1) _ w t.2 in
+    let small : t.0 < 2 ^ 57 = time_small second.0.0 t.0 (ok_or_ok _ causes.Number t.0 t.1) in
+    subst SoundValues (from_ok _ w end.2) (set_sound timeout.0 t.0 v (omega (arith, small)) sound)
+
+shared_sound : (kind : Shared) (v w : Values) (words : List (List ℕ)) → values.shared_line kind v words ≡ Ok w → SoundValues v → SoundValues w
+shared_sound shared.Mode v w words is sound = fixed_sound (codes "http") v w words is sound
+shared_sound shared.Balance v w words is sound = fixed_sound (codes "leastconn") v w words is sound
+shared_sound shared.Retries v w words is sound = retries_sound v w words is sound
+shared_sound shared.Option v w words is sound = option_sound v w words is sound
+shared_sound shared.Timeout v w words is sound = timeout_line_sound v w words is sound
+shared_sound shared.Note v w words is sound = subst SoundValues (from_ok v w is) sound
+
 -- what holds of each draft
 record SoundDraft (known : List Server) (d : Draft) : Type 0 where
   most : length d.servers ≤ 64
@@ -129,18 +202,20 @@ record SoundDraft (known : List Server) (d : Draft) : Type 0 where
   pins : AllByRecursion (λ pin. pin.server < length known) d.pins
   rule_guards : AllByRecursion (λ rule. IfSome rule.guard (IsSoundGuard (length d.acls))) d.rules
   pin_guards : AllByRecursion (λ pin. IsSoundGuard (length d.acls) pin.guard) d.pins
+  defaults : SoundValues d.defaults
+  values : SoundValues d.values
 
 global_keeps : (known : List Server) (d e : Draft) (words : List (List ℕ)) → draft.global_line d words ≡ Ok e → SoundDraft known d → SoundDraft known e
 unfolding draft.global_line
 global_keeps known d e words is sound =
     let end = bind_ok (end_at words) _ e is in
-    subst (SoundDraft known) (from_ok _ e end.2) (record { most = sound.most; servers = sound.servers; rules = sound.rules; pins = sound.pins; rule_guards = sound.rule_guards; pin_guards = sound.pin_guards })
+    subst (SoundDraft known) (from_ok _ e end.2) (record { most = sound.most; servers = sound.servers; rules = sound.rules; pins = sound.pins; rule_guards = sound.rule_guards; pin_guards = sound.pin_guards; defaults = sound.defaults; values = sound.values })
 
 defaults_keep : (known : List Server) (d e : Draft) (words : List (List ℕ)) → draft.defaults_line d words ≡ Ok e → SoundDraft known d → SoundDraft known e
 unfolding draft.defaults_line
 defaults_keep known d e words is sound =
     let name = bind_ok (draft.optional_name words) _ e is in
-    subst (SoundDraft known) (from_ok _ e name.2) (record { most = sound.most; servers = sound.servers; rules = sound.rules; pins = sound.pins; rule_guards = sound.rule_guards; pin_guards = sound.pin_guards })
+    subst (SoundDraft known) (from_ok _ e name.2) (record { most = sound.most; servers = sound.servers; rules = sound.rules; pins = sound.pins; rule_guards = sound.rule_guards; pin_guards = sound.pin_guards; defaults = built_in_sound; values = sound.values })
 
 listen_keeps : (known : List Server) (d e : Draft) (n : ℕ) (words : List (List ℕ)) → draft.listen_line d n words ≡ Ok e → SoundDraft known d → SoundDraft known e
 unfolding draft.listen_line
@@ -149,7 +224,7 @@ listen_keeps known d e n words is sound =
     let name = bind_ok (word_at words) _ e again.2 in
     let named = bind_ok (unless (not (is_name name.0.0)) causes.Name) _ e name.2 in
     let end = bind_ok (end_at name.0.1) _ e named.2 in
-    subst (SoundDraft known) (from_ok _ e end.2) (record { most = sound.most; servers = sound.servers; rules = sound.rules; pins = sound.pins; rule_guards = sound.rule_guards; pin_guards = sound.pin_guards })
+    subst (SoundDraft known) (from_ok _ e end.2) (record { most = sound.most; servers = sound.servers; rules = sound.rules; pins = sound.pins; rule_guards = sound.rule_guards; pin_guards = sound.pin_guards; defaults = sound.defaults; values = sound.defaults })
 
 value_keeps : (known : List Server) (d e : Draft) (kind : Shared) (words : List (List ℕ)) (section : Section) → d.section ≡ section → draft.value_line d kind words ≡ Ok e → SoundDraft known d → SoundDraft known e
 unfolding draft.value_line
@@ -157,10 +232,10 @@ value_keeps known d e kind words sections.Outside at_ is sound = let fault : (le
 value_keeps known d e kind words sections.Global at_ is sound = let fault : (let one : Result Draft Cause = Err causes.Place in one ≡ Ok e) = (rw at_ at is) in absurd (let none = fault in cc)
 value_keeps known d e kind words sections.Defaults at_ is sound =
     let v = bind_ok (values.shared_line kind d.defaults words) _ e (rw at_ at is) in
-    subst (SoundDraft known) (from_ok _ e v.2) (record { most = sound.most; servers = sound.servers; rules = sound.rules; pins = sound.pins; rule_guards = sound.rule_guards; pin_guards = sound.pin_guards })
+    subst (SoundDraft known) (from_ok _ e v.2) (record { most = sound.most; servers = sound.servers; rules = sound.rules; pins = sound.pins; rule_guards = sound.rule_guards; pin_guards = sound.pin_guards; defaults = shared_sound kind d.defaults v.0 words v.1 sound.defaults; values = sound.values })
 value_keeps known d e kind words sections.Listen at_ is sound =
     let v = bind_ok (values.shared_line kind d.values words) _ e (rw at_ at is) in
-    subst (SoundDraft known) (from_ok _ e v.2) (record { most = sound.most; servers = sound.servers; rules = sound.rules; pins = sound.pins; rule_guards = sound.rule_guards; pin_guards = sound.pin_guards })
+    subst (SoundDraft known) (from_ok _ e v.2) (record { most = sound.most; servers = sound.servers; rules = sound.rules; pins = sound.pins; rule_guards = sound.rule_guards; pin_guards = sound.pin_guards; defaults = sound.defaults; values = shared_sound kind d.values v.0 words v.1 sound.values })
 
 bind_keeps : (known : List Server) (d e : Draft) (words : List (List ℕ)) → draft.bind_line d words ≡ Ok e → SoundDraft known d → SoundDraft known e
 unfolding draft.bind_line
@@ -170,7 +245,7 @@ bind_keeps known d e words is sound =
     let word = bind_ok (word_at words) _ e again.2 in
     let bind = bind_ok (ok_or (bind_of word.0.0) causes.Address) _ e word.2 in
     let end = bind_ok (end_at word.0.1) _ e bind.2 in
-    subst (SoundDraft known) (from_ok _ e end.2) (record { most = sound.most; servers = sound.servers; rules = sound.rules; pins = sound.pins; rule_guards = sound.rule_guards; pin_guards = sound.pin_guards })
+    subst (SoundDraft known) (from_ok _ e end.2) (record { most = sound.most; servers = sound.servers; rules = sound.rules; pins = sound.pins; rule_guards = sound.rule_guards; pin_guards = sound.pin_guards; defaults = sound.defaults; values = sound.values })
 
 test_keeps : (known : List Server) (d e : Draft) (words : List (List ℕ)) → draft.test_line d words ≡ Ok e → SoundDraft known d → SoundDraft known e
 unfolding draft.test_line
@@ -186,6 +261,8 @@ test_keeps known d e words is sound =
       pins = sound.pins;
       rule_guards = more_rules (length d.acls) (length acls.0) longer d.rules sound.rule_guards;
       pin_guards = more_pins (length d.acls) (length acls.0) longer d.pins sound.pin_guards;
+      defaults = sound.defaults;
+      values = sound.values;
     })
 
 request_keeps : (known : List Server) (d e : Draft) (words : List (List ℕ)) → draft.request_line d words ≡ Ok e → SoundDraft known d → SoundDraft known e
@@ -202,6 +279,8 @@ request_keeps known d e words is sound =
       pins = sound.pins;
       rule_guards = all_push (λ rule. IfSome rule.guard (IsSoundGuard (length d.acls))) d.rules rule.0 sound.rule_guards (rule_sound d.acls words rule.0 rule.1);
       pin_guards = sound.pin_guards;
+      defaults = sound.defaults;
+      values = sound.values;
     })
 
 use_keeps : (known : List Server) (d e : Draft) (words : List (List ℕ)) → draft.use_line known d words ≡ Ok e → SoundDraft known d → SoundDraft known e
@@ -219,6 +298,8 @@ use_keeps known d e words is sound =
       pins = all_push (λ pin. pin.server < length known) d.pins pin.0 sound.pins one.0;
       rule_guards = sound.rule_guards;
       pin_guards = all_push (λ pin. IsSoundGuard (length d.acls) pin.guard) d.pins pin.0 sound.pin_guards one.1;
+      defaults = sound.defaults;
+      values = sound.values;
     })
 
 server_keeps : (known : List Server) (d e : Draft) (words : List (List ℕ)) → draft.server_line d words ≡ Ok e → SoundDraft known d → SoundDraft known e
@@ -242,6 +323,8 @@ server_keeps known d e words is sound =
       pins = sound.pins;
       rule_guards = sound.rule_guards;
       pin_guards = sound.pin_guards;
+      defaults = sound.defaults;
+      values = sound.values;
     })
 
 line_keeps : (known : List Server) (d e : Draft) (n : ℕ) (keyword : Keyword) (words : List (List ℕ)) → draft.keyword_line known d n keyword words ≡ Ok e → SoundDraft known d → SoundDraft known e
@@ -278,16 +361,19 @@ taken_keep known long d e n [] taken sound = subst (SoundDraft known) (sym taken
 taken_keep known long d e n (line ∷ lines) taken sound =
     taken_keep known long taken.0 e (n + 1) lines taken.2 (step_keeps known (is_line long n) d taken.0 n line taken.1 sound)
 
-timeout_sound : (v : Values) → IfSome (values.queue_timeout v) (λ t. 0 < t)
-timeout_sound v = of_queue (nat_lt 0 v.queue) refl
+time_sound : (t : ℕ) → t < 2 ^ 62 → IfSome (values.set_time t) IsSoundTime
+time_sound t small = by_test (nat_lt 0 t) refl
   where
-    of_connect : (b : Bool) → nat_lt 0 v.connect ≡ b → IfSome (cond b (Some v.connect) None) (λ t. 0 < t)
-    of_connect true above = ltb-true 0 v.connect above
-    of_connect false above = tt
+    by_test : (b : Bool) → nat_lt 0 t ≡ b → IfSome (cond b (Some t) None) IsSoundTime
+    by_test true above = record { some = ltb-true 0 t above; within = small }
+    by_test false above = tt
 
-    of_queue : (b : Bool) → nat_lt 0 v.queue ≡ b → IfSome (cond b (Some v.queue) (cond (nat_lt 0 v.connect) (Some v.connect) None)) (λ t. 0 < t)
-    of_queue true above = ltb-true 0 v.queue above
-    of_queue false above = of_connect (nat_lt 0 v.connect) refl
+timeout_sound : (v : Values) → SoundValues v → IfSome (values.queue_timeout v) IsSoundTime
+timeout_sound v sound = of_queue (nat_lt 0 v.queue) refl
+  where
+    of_queue : (b : Bool) → nat_lt 0 v.queue ≡ b → IfSome (cond b (Some v.queue) (values.set_time v.connect)) IsSoundTime
+    of_queue true above = record { some = ltb-true 0 v.queue above; within = sound.queue }
+    of_queue false above = time_sound v.connect sound.connect
 
 whole_sound : (listen : Option ℕ) (bind : Option Bind) (d : Draft) (config : Config) → whole listen bind d ≡ Ok config → SoundDraft d.servers d → IsSound config
 whole_sound None bind d config is sound = absurd (let none = is in cc)
@@ -304,7 +390,11 @@ whole_sound (Some line) (Some bind) d config is sound = elim (chosen (length d.s
         pins = All-from_recursion (λ pin. pin.server < length d.servers) d.pins sound.pins;
         rule_guards = All-from_recursion (λ rule. IfSome rule.guard (IsSoundGuard (length d.acls))) d.rules sound.rule_guards;
         pin_guards = All-from_recursion (λ pin. IsSoundGuard (length d.acls) pin.guard) d.pins sound.pin_guards;
-        queue_timeout = timeout_sound d.values;
+        retries = sound.values.retries;
+        queue_timeout = timeout_sound d.values sound.values;
+        connect_timeout = time_sound d.values.connect sound.values.connect;
+        client_timeout = time_sound d.values.client sound.values.client;
+        server_timeout = time_sound d.values.server sound.values.server;
       })
 ]
   where
@@ -318,7 +408,7 @@ whole_sound (Some line) (Some bind) d config is sound = elim (chosen (length d.s
 pub says-sound : (bytes : List ℕ) (config : Config) → Says bytes config → IsSound config
 says-sound bytes config says =
     let known = declared_servers bytes in
-    let start : SoundDraft known draft.start = record { most = omega arith; servers = tt; rules = omega arith; pins = tt; rule_guards = tt; pin_guards = tt } in
+    let start : SoundDraft known draft.start = record { most = omega arith; servers = tt; rules = omega arith; pins = tt; rule_guards = tt; pin_guards = tt; defaults = built_in_sound; values = built_in_sound } in
     let same : known ≡ says.draft.servers = survey-taken known (long_line bytes) draft.start says.draft 1 (lines bytes) says.taken_in in
     whole_sound says.draft.listen says.draft.bind says.draft config says.whole
     (subst (λ (servers : List Server). SoundDraft servers says.draft) same

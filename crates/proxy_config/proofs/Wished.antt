@@ -1,5 +1,5 @@
 -- A line that asks for a pin has its number, and leaves the draft.
-use Rattle.std.proofs.Common.{◌≡◌, ℕ, Bool, not, List, [], ◌∷◌, Option, Some, None, Result, Ok, Err, inl, inr, sym, ap, subst}
+use Rattle.std.proofs.Common.{◌≡◌, ℕ, Bool, not, List, [], ◌∷◌, Option, Some, None, false, Result, Ok, Err, inl, inr, refl, sym, ap, subst}
 use Rattle.std.specs.Option.{ok_or}
 use Rattle.std.specs.List.{list_any}
 use Rattle.proxy_words.specs.Text.{uncommented, words}
@@ -10,11 +10,12 @@ use Rattle.proxy_config.specs.declared.keywords.Keyword.{Keyword}
 use Rattle.proxy_config.specs.declared.keywords.Keyword.TheVariants as keywords
 use Rattle.proxy_config.specs.declared.parts.Acl.{Acl}
 use Rattle.proxy_config.specs.declared.wishes.Wish.{Wish}
-use Rattle.proxy_config.specs.Outcomes.{unless}
 use Rattle.proxy_config.specs.Pieces.{word_at}
-use Rattle.proxy_config.specs.Names.{is_name}
+use Rattle.proxy_words.specs.Names.{is_name}
 use Rattle.proxy_config.specs.Keywords.{keyword_of}
 use Rattle.proxy_config.specs.Draft as draft
+use Rattle.proxy_config.specs.File.{first_keyword, keyword_in, ends_listen}
+use Rattle.proxy_config.specs.Outcomes.{◌>>=◌, unless}
 use Rattle.proxy_config.specs.Wishes as wished
 use Rattle.proxy_config.proofs.Outcomes.{bind_ok, chosen, from_ok}
 
@@ -85,4 +86,29 @@ of_line pins too_long d e n line wish is = elim (chosen (draft.is_ignored d.sect
       let quoted = bind_ok (unless (list_any draft.is_quoting (uncommented line)) causes.Quoting) _ (e, Some wish) heeded.1 in
       let short = bind_ok (unless too_long causes.Limit) _ (e, Some wish) quoted.2 in
       of_words pins d e n (words (uncommented line)) wish short.2
+]
+
+-- and ends no section
+keyword_ends_none : (pins : ℕ) (d e : Draft) (n : ℕ) (keyword : Keyword) (ws : List (List ℕ)) (wish : Wish) → wished.keyword_line pins d n keyword ws ≡ Ok (e, Some wish) → ends_listen d (Some keyword) ≡ false
+keyword_ends_none pins d e n keywords.Refused ws wish is = absurd (let none = is in cc)
+keyword_ends_none pins d e n keywords.Listen ws wish is = absurd (plain_none _ e wish is)
+keyword_ends_none pins d e n keyword ws wish is = refl
+
+words_end_none : (pins : ℕ) (d e : Draft) (n : ℕ) (ws : List (List ℕ)) (wish : Wish) → wished.words_line pins d n ws ≡ Ok (e, Some wish) → ends_listen d (first_keyword ws) ≡ false
+unfolding wished.words_line
+words_end_none pins d e n [] wish is = refl
+words_end_none pins d e n (word ∷ ws) wish is = by_keyword (keyword_of word) is
+  where
+    by_keyword : (known : Option Keyword) → (ok_or known causes.Keyword >>= λ keyword. wished.keyword_line pins d n keyword ws) ≡ Ok (e, Some wish) → ends_listen d known ≡ false
+    by_keyword None is = refl
+    by_keyword (Some keyword) is = keyword_ends_none pins d e n keyword ws wish is
+
+pub asks_ends_none : (pins : ℕ) (too_long : Bool) (d e : Draft) (n : ℕ) (line : List ℕ) (wish : Wish) → wished.step pins too_long d n line ≡ Ok (e, Some wish) → ends_listen d (keyword_in line) ≡ false
+unfolding wished.step
+asks_ends_none pins too_long d e n line wish is = elim (chosen (draft.is_ignored d.section (words (uncommented line))) _ _ _ is) [
+  | inl ignored ↦ let short = bind_ok (unless too_long causes.Limit) _ (e, Some wish) ignored.1 in absurd (no_wish d e wish short.2)
+  | inr heeded ↦
+      let quoted = bind_ok (unless (list_any draft.is_quoting (uncommented line)) causes.Quoting) _ (e, Some wish) heeded.1 in
+      let short = bind_ok (unless too_long causes.Limit) _ (e, Some wish) quoted.2 in
+      words_end_none pins d e n (words (uncommented line)) wish short.2
 ]

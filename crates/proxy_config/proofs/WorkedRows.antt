@@ -3,7 +3,8 @@ use Rattle.std.proofs.Common.{◌≡◌, ◌++◌, ℕ, true, false, List, [], �
 use Rattle.proxy_words.specs.Text.{words}
 use Rattle.proxy_config.specs.declared.faults.Cause.TheVariants as causes
 use Rattle.proxy_config.specs.declared.parts.Expression.TheVariants.{Int, HeaderValue}
-use Rattle.proxy_config.specs.Names.{is_name, is_acl_name}
+use Rattle.proxy_words.specs.Names.{is_name}
+use Rattle.proxy_config.specs.Names.{is_acl_name}
 use Rattle.proxy_config.specs.Addresses.{ip, bind_of, address_of}
 use Rattle.proxy_config.specs.Samples.{expression_of, head_at, test_in_braces}
 use Rattle.proxy_config.specs.Conditions.{alternatives, condition, operand_at, term_at}

@@ -17,7 +17,7 @@ use Rattle.proxy_config.specs.declared.values.Shared.{Shared}
 use Rattle.proxy_config.specs.Outcomes.{◌>>=◌, unless}
 use Rattle.proxy_config.specs.Keywords.{keyword_of, section_of}
 use Rattle.proxy_config.specs.Pieces.{word_at, end_at}
-use Rattle.proxy_config.specs.Names.{is_name, is_in}
+use Rattle.proxy_words.specs.Names.{is_name, is_in}
 use Rattle.proxy_config.specs.Addresses.{bind_of, address_of}
 use Rattle.proxy_config.specs.Settings as server
 use Rattle.proxy_config.specs.Values as values

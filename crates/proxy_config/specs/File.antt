@@ -1,18 +1,22 @@
 -- What a whole file says.
-use Rattle.std.specs.Prelude.{◌≡◌, ℕ, ◌+◌, ◌==◌, Bool, false, nat_lt, if◌then◌else◌, List, [], ◌∷◌, length, take, count_by, Option, Some, None, Result, Ok, Err}
+use Rattle.std.specs.Prelude.{◌≡◌, ℕ, ◌+◌, ◌==◌, Bool, true, false, nat_lt, is_some, if◌then◌else◌, List, [], ◌∷◌, length, take, count_by, Option, Some, None, Result, Ok, Err}
 use Rattle.std.specs.Str.Lines.{lines}
-use Rattle.proxy_words.specs.Text.{is_line_feed}
+use Rattle.proxy_words.specs.Text.{is_line_feed, words, uncommented}
 use Rattle.proxy_config.specs.declared.faults.Cause.{Cause}
 use Rattle.proxy_config.specs.declared.faults.Cause.TheVariants as causes
 use Rattle.proxy_config.specs.declared.faults.ConfigFault.{ConfigFault}
 use Rattle.proxy_config.specs.declared.faults.ReadError.{ReadError}
 use Rattle.proxy_config.specs.declared.faults.ReadError.TheVariants as errors
 use Rattle.proxy_config.specs.declared.draft.Draft.{Draft}
+use Rattle.proxy_config.specs.declared.draft.Section.TheVariants as sections
+use Rattle.proxy_config.specs.declared.keywords.Keyword.{Keyword}
+use Rattle.proxy_config.specs.declared.keywords.Keyword.TheVariants as keywords
 use Rattle.proxy_config.specs.declared.parts.Bind.{Bind}
 use Rattle.proxy_config.specs.declared.parts.Config.{Config}
 use Rattle.proxy_config.specs.declared.parts.Server.{Server}
 use Rattle.proxy_config.specs.Draft.{start, step}
-use Rattle.proxy_config.specs.Values.{queue_timeout}
+use Rattle.proxy_config.specs.Keywords.{keyword_of}
+use Rattle.proxy_config.specs.Values.{queue_timeout, set_time}
 
 -- how many bytes a file may have
 abbrev pub most_bytes : ℕ
@@ -36,15 +40,33 @@ abbrev pub run : List Server → Option ℕ → Draft → ℕ → List (List ℕ
 run servers long d n [] = Ok d
 run servers long d n (line ∷ lines) = then_lines n (step servers (is_line long n) d n line) (λ next. run servers long next (n + 1) lines)
 
--- a faulty line changes nothing
-abbrev pub unless_faulty : Draft → Result Draft Cause → Draft
-unless_faulty d (Ok next) = next
-unless_faulty d (Err cause) = d
+-- the keyword that a line begins with
+abbrev pub first_keyword : List (List ℕ) → Option Keyword
+first_keyword [] = None
+first_keyword (word ∷ words) = keyword_of word
+
+abbrev pub keyword_in : List ℕ → Option Keyword
+keyword_in line = first_keyword (words (uncommented line))
+
+-- a section that is refused, or a second `listen`
+abbrev pub ends_listen : Draft → Option Keyword → Bool
+ends_listen d (Some keywords.Refused) = true
+ends_listen d (Some keywords.Listen) = is_some d.listen
+ends_listen d other = false
+
+-- a faulty line changes nothing, but one that begins such a section ends the `listen`: what follows it belongs to no section that
+-- counts, up to the next section word
+abbrev pub after_fault : Draft → Option Keyword → Draft
+after_fault d keyword = if ends_listen d keyword then record d { section = sections.Outside } else d
+
+abbrev pub unless_faulty : Draft → Option Keyword → Result Draft Cause → Draft
+unless_faulty d keyword (Ok next) = next
+unless_faulty d keyword (Err cause) = after_fault d keyword
 
 -- the draft after all lines, faulty ones aside: its servers may be named anywhere in the file
 abbrev pub survey : Option ℕ → Draft → ℕ → List (List ℕ) → Draft
 survey long d n [] = d
-survey long d n (line ∷ lines) = survey long (unless_faulty d (step [] (is_line long n) d n line)) (n + 1) lines
+survey long d n (line ∷ lines) = survey long (unless_faulty d (keyword_in line) (step [] (is_line long n) d n line)) (n + 1) lines
 
 abbrev pub declared_servers : List ℕ → List Server
 declared_servers bytes = (survey (long_line bytes) start 1 (lines bytes)).servers
@@ -63,6 +85,9 @@ whole (Some line) (Some bind) d = if length d.servers == 0 then missing line els
   redispatch = d.values.redispatch;
   abortonclose = d.values.abortonclose;
   queue_timeout = queue_timeout d.values;
+  connect_timeout = set_time d.values.connect;
+  client_timeout = set_time d.values.client;
+  server_timeout = set_time d.values.server;
   acls = d.acls;
   rules = d.rules;
   pins = d.pins;

@@ -1,19 +1,9 @@
--- Which words are names.
-use Rattle.std.specs.Prelude.{ℕ, Bool, ◌||◌, ◌&&◌, ◌==◌, not, nat_le, List, length, codes}
-use Rattle.std.specs.List.{list_any, list_all}
+-- Which words are names, beside those of sections and servers.
+use Rattle.std.specs.Prelude.{ℕ, Bool, ◌||◌, ◌&&◌, ◌==◌, not, List, length, codes}
+use Rattle.std.specs.List.{list_all}
 use Rattle.std.specs.Char.{is_ascii_alphanumeric}
 use Rattle.std.specs.Str.{bytes_eq}
-
--- one of these bytes
-abbrev pub is_in : List ℕ → ℕ → Bool
-is_in bytes byte = list_any (λ x. x == byte) bytes
-
-abbrev pub is_name_byte : ℕ → Bool
-is_name_byte byte = is_ascii_alphanumeric byte || is_in (codes "-_.:") byte
-
--- the name of a section or a server
-abbrev pub is_name : List ℕ → Bool
-is_name word = not (length word == 0) && nat_le (length word) 32 && list_all is_name_byte word
+use Rattle.proxy_words.specs.Names.{is_in, is_name}
 
 -- the name of an ACL: `or` is none, since it separates alternatives
 abbrev pub is_acl_name : List ℕ → Bool

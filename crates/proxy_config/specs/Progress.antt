@@ -3,26 +3,28 @@ use Rattle.std.specs.Prelude.{ℕ, Bool, List, [], ◌∷◌, ◌++◌, length, 
 use Rattle.proxy_config.specs.declared.faults.Cause.{Cause}
 use Rattle.proxy_config.specs.declared.faults.ConfigFault.{ConfigFault}
 use Rattle.proxy_config.specs.declared.draft.Draft.{Draft}
+use Rattle.proxy_config.specs.declared.keywords.Keyword.{Keyword}
 use Rattle.proxy_config.specs.declared.parts.Server.{Server}
 use Rattle.proxy_config.specs.declared.progress.Progress.{Progress}
 use Rattle.proxy_config.specs.declared.wishes.Wish.{Wish}
 use Rattle.proxy_config.specs.Draft as draft
+use Rattle.proxy_config.specs.File.{keyword_in, after_fault}
 use Rattle.proxy_config.specs.Wishes.{step, with_pins}
 
 -- before the first line
 abbrev pub start : Progress
 start = record { draft = draft.start; wishes = []; fault = None }
 
--- a line's outcome, with its number: past a fault no pin counts, and no other fault
-abbrev pub took : Option ConfigFault → Progress → ℕ → Result (Draft × Option Wish) Cause → Progress
-took None p n (Ok (d, None)) = record p { draft = d }
-took None p n (Ok (d, Some wish)) = record p { draft = d; wishes = p.wishes ++ wish ∷ [] }
-took None p n (Err cause) = record p { fault = Some (record { line = n; cause = cause }) }
-took (Some fault) p n (Ok (d, wish)) = record p { draft = d }
-took (Some fault) p n (Err cause) = p
+-- a line's outcome, with its number and its keyword: past a fault no pin counts, and no other fault
+abbrev pub took : Option ConfigFault → Progress → ℕ → Option Keyword → Result (Draft × Option Wish) Cause → Progress
+took None p n keyword (Ok (d, None)) = record p { draft = d }
+took None p n keyword (Ok (d, Some wish)) = record p { draft = d; wishes = p.wishes ++ wish ∷ [] }
+took None p n keyword (Err cause) = record p { draft = after_fault p.draft keyword; fault = Some (record { line = n; cause = cause }) }
+took (Some fault) p n keyword (Ok (d, wish)) = record p { draft = d }
+took (Some fault) p n keyword (Err cause) = record p { draft = after_fault p.draft keyword }
 
 abbrev pub take_line : Bool → Progress → ℕ → List ℕ → Progress
-take_line too_long p n line = took p.fault p n (step (length p.wishes) too_long p.draft n line)
+take_line too_long p n line = took p.fault p n (keyword_in line) (step (length p.wishes) too_long p.draft n line)
 
 -- the fault that is known, or else what follows
 abbrev pub unless_known : {A : Type 0} → Option ConfigFault → Result A ConfigFault → Result A ConfigFault

@@ -1,5 +1,5 @@
 -- What holds of each configuration that is accepted.
-use Rattle.std.specs.Prelude.{ℕ, ◌+◌, ◌<◌, ◌≤◌, length, All, IfSome}
+use Rattle.std.specs.Prelude.{ℕ, ◌+◌, ◌<◌, ◌≤◌, ◌^◌, length, All, IfSome}
 use Rattle.proxy_config.specs.declared.parts.Checks.{Checks}
 use Rattle.proxy_config.specs.declared.parts.Condition.{Condition}
 use Rattle.proxy_config.specs.declared.parts.Config.{Config}
@@ -31,6 +31,11 @@ abbrev pub IsSoundGuard : ℕ → Guard → Type 0
 IsSoundGuard acls (guards.If condition) = IsSoundCondition acls condition
 IsSoundGuard acls (guards.Unless condition) = IsSoundCondition acls condition
 
+-- a time that is set: not 0, and few enough milliseconds for a dispatcher
+pub record IsSoundTime (milliseconds : ℕ) : Type 0 where
+  pub some : 0 < milliseconds
+  pub within : milliseconds < 2 ^ 62
+
 pub record IsSound (config : Config) : Type 0 where
   pub some : 0 < length config.servers
   pub most : length config.servers ≤ 64
@@ -39,4 +44,8 @@ pub record IsSound (config : Config) : Type 0 where
   pub pins : All (λ pin. pin.server < length config.servers) config.pins
   pub rule_guards : All (λ rule. IfSome rule.guard (IsSoundGuard (length config.acls))) config.rules
   pub pin_guards : All (λ pin. IsSoundGuard (length config.acls) pin.guard) config.pins
-  pub queue_timeout : IfSome config.queue_timeout (λ t. 0 < t)
+  pub retries : config.retries ≤ 999999999
+  pub queue_timeout : IfSome config.queue_timeout IsSoundTime
+  pub connect_timeout : IfSome config.connect_timeout IsSoundTime
+  pub client_timeout : IfSome config.client_timeout IsSoundTime
+  pub server_timeout : IfSome config.server_timeout IsSoundTime

@@ -18,7 +18,7 @@ use Rattle.proxy_config.specs.Pieces.{word_at, end_at}
 
 -- before any line
 abbrev pub built_in : Values
-built_in = record { retries = 3; redispatch = false; abortonclose = false; queue = 0; connect = 0 }
+built_in = record { retries = 3; redispatch = false; abortonclose = false; queue = 0; connect = 0; client = 0; server = 0 }
 
 -- a line whose only word after the first is this one
 unfoldable pub fixed_line : List ℕ → Values → List (List ℕ) → Result Values Cause
@@ -61,14 +61,15 @@ abbrev pub timeout_of : List ℕ → Option Timeout
 timeout_of word =
     if bytes_eq word (codes "queue") then Some timeouts.Queue
     else if bytes_eq word (codes "connect") then Some timeouts.Connect
-    else if bytes_eq word (codes "client") then Some timeouts.Unused
-    else if bytes_eq word (codes "server") then Some timeouts.Unused
+    else if bytes_eq word (codes "client") then Some timeouts.Client
+    else if bytes_eq word (codes "server") then Some timeouts.Server
     else None
 
 abbrev pub with_timeout : Timeout → ℕ → Values → Values
 with_timeout timeouts.Queue t v = record v { queue = t }
 with_timeout timeouts.Connect t v = record v { connect = t }
-with_timeout timeouts.Unused t v = v
+with_timeout timeouts.Client t v = record v { client = t }
+with_timeout timeouts.Server t v = record v { server = t }
 
 -- `timeout NAME T`
 unfoldable pub timeout_line : Values → List (List ℕ) → Result Values Cause
@@ -89,6 +90,10 @@ shared_line shared.Option v words = option_line v words
 shared_line shared.Timeout v words = timeout_line v words
 shared_line shared.Note v words = Ok v
 
+-- a time that is set; 0 is none
+abbrev pub set_time : ℕ → Option ℕ
+set_time t = if nat_lt 0 t then Some t else None
+
 -- the longest stay in a queue: without a time of its own that of a connect, and 0 is none
 abbrev pub queue_timeout : Values → Option ℕ
-queue_timeout v = if nat_lt 0 v.queue then Some v.queue else if nat_lt 0 v.connect then Some v.connect else None
+queue_timeout v = if nat_lt 0 v.queue then Some v.queue else set_time v.connect

@@ -15,7 +15,7 @@ use Rattle.proxy_config.specs.declared.parts.Pin.{Pin}
 use Rattle.proxy_config.specs.declared.parts.Server.{Server}
 use Rattle.proxy_config.specs.declared.wishes.Wish.{Wish}
 use Rattle.proxy_config.specs.Outcomes.{◌>>=◌, unless}
-use Rattle.proxy_config.specs.Names.{is_name}
+use Rattle.proxy_words.specs.Names.{is_name}
 use Rattle.proxy_config.specs.Pieces.{word_at}
 use Rattle.proxy_config.specs.Keywords.{keyword_of}
 use Rattle.proxy_config.specs.Conditions.{guard_at}

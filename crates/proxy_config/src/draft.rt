@@ -6,11 +6,11 @@ ghost use Rattle.proxy_words.specs.Text.{words as words_of, uncommented};
 ghost use Rattle.proxy_config.specs.Outcomes.{Becomes, Gives, Leaves, Sees};
 ghost use Rattle.proxy_config.specs.Draft as grammar;
 ghost use Rattle.proxy_config.specs.Wishes as wished;
+ghost use Rattle.proxy_config.specs.File as file;
 
 use crate::addresses::{address, bind};
 use crate::faults::{Cause, LineError};
 use crate::keywords::{Keyword, keyword_of, section_of};
-use crate::names::is_name;
 use crate::parts::{Acl, Bind, Pin, Rule, Server};
 use crate::pieces::{end, word};
 use crate::rules::{acl_line, rule_line, server_index};
@@ -18,7 +18,7 @@ use crate::settings::{Settings, settings_to_end};
 use crate::values::{Shared, Values, shared_line};
 use crate::wishes::{Wish, wish_line};
 use list_facts::Items;
-use proxy_words::{Words, without_comment};
+use proxy_words::{Words, is_name, without_comment};
 use std::alloc::Global;
 
 /// The most servers.
@@ -98,6 +98,26 @@ impl Draft {
             return Ok(None);
         }
         self.take_words(alloc, pins, number, Words::new(text))
+    }
+
+    /// Leaves the `listen` where a faulty line begins a section that is refused, or a second `listen`: what follows
+    /// belongs to no section that counts.
+    pub(crate) fn leave_behind(&mut self, line: &[u8])
+        ensures { self.new ≡ file.after_fault self.old (file.keyword_in line.now) }
+    {
+        if self.is_ended_by(keyword_in(line)) {
+            self.section = Section::Outside;
+        }
+    }
+
+    fn is_ended_by(&self, keyword: Option<Keyword>) -> bool
+        ensures { result ≡ file.ends_listen self.now keyword }
+    {
+        match keyword {
+            Some(Keyword::Refused) => true,
+            Some(Keyword::Listen) => self.listen.is_some(),
+            _ => false,
+        }
     }
 
     #[tactic(auto, unfolding(crate::specs::Wishes::words_line))]
@@ -287,6 +307,21 @@ impl Draft {
             return Err(Cause::Limit);
         }
         Ok(())
+    }
+}
+
+fn keyword_in(line: &[u8]) -> Option<Keyword>
+    ensures { result ≡ file.keyword_in line.now }
+{
+    first_keyword(Words::new(without_comment(line)))
+}
+
+fn first_keyword(mut words: Words) -> Option<Keyword>
+    ensures { result ≡ file.first_keyword words.entry }
+{
+    match words.next() {
+        None => None,
+        Some(word) => keyword_of(word),
     }
 }
 

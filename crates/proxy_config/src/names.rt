@@ -1,16 +1,11 @@
-//! Which words are names.
+//! Which words are names, beside those of sections and servers.
 
 ghost use Rattle.std.specs.Prelude.{◌≡◌};
 ghost use Rattle.std.specs.List.{list_all};
 ghost use Rattle.proxy_config.specs.Names as names;
 
 use crate::pieces::is;
-
-pub(crate) fn is_name(word: &[u8]) -> bool
-    ensures { result ≡ names.is_name word.now }
-{
-    !word.is_empty() && word.len() <= 32 && all_name_bytes(word)
-}
+use proxy_words::is_name;
 
 pub(crate) fn is_acl_name(word: &[u8]) -> bool
     ensures { result ≡ names.is_acl_name word.now }
@@ -30,12 +25,6 @@ pub(crate) fn is_host(word: &[u8]) -> bool
     !word.is_empty() && all_host_bytes(word)
 }
 
-fn all_name_bytes(word: &[u8]) -> bool
-    ensures { result ≡ list_all names.is_name_byte word.now }
-{
-    word.iter().all(|byte| is_name_byte(*byte))
-}
-
 fn all_token_bytes(word: &[u8]) -> bool
     ensures { result ≡ list_all names.is_token_byte word.now }
 {
@@ -46,12 +35,6 @@ fn all_host_bytes(word: &[u8]) -> bool
     ensures { result ≡ list_all names.is_host_byte word.now }
 {
     word.iter().all(|byte| is_host_byte(*byte))
-}
-
-fn is_name_byte(byte: u8) -> bool
-    ensures { result ≡ names.is_name_byte byte }
-{
-    byte.is_ascii_alphanumeric() || b"-_.:".contains(&byte)
 }
 
 fn is_token_byte(byte: u8) -> bool

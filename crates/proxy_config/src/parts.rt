@@ -18,8 +18,15 @@ pub struct Config {
     pub redispatch: bool,
     /// `option abortonclose`: a client's end of input while it waits is an abort.
     pub abortonclose: bool,
-    /// The longest stay in a queue, in milliseconds; never 0.
+    /// The longest stay in a queue, in milliseconds; never 0, and below 2^57. Without a time of its own that of a
+    /// connect (HAProxy's `timeout queue`).
     pub queue_timeout: Option<u64>,
+    /// The longest wait for a connection to a server, in milliseconds; never 0 (`timeout connect`).
+    pub connect_timeout: Option<u64>,
+    /// The longest time in which a client neither sends nor takes a byte, in milliseconds; never 0 (`timeout client`).
+    pub client_timeout: Option<u64>,
+    /// The same of a server (`timeout server`).
+    pub server_timeout: Option<u64>,
     /// In the order of their first lines.
     pub acls: Items<Acl>,
     /// The `http-request` rules in the file's order.

@@ -8,6 +8,7 @@ ghost use Rattle.proxy_config.specs.Progress as grammar;
 use crate::draft::Draft;
 use crate::faults::{Cause, ConfigFault, LineError, ReadError};
 use crate::parts::Config;
+use crate::values::set_time;
 use crate::wishes::{Wish, pins_of};
 use list_facts::Items;
 use std::alloc::Global;
@@ -49,13 +50,15 @@ impl Progress {
             Ok(Some(wish)) if self.fault.is_none() => self.wishes.push(wish)?,
             Ok(_) => {}
             Err(LineError::NoMemory) => return Err(ReadError::NoMemory),
-            Err(LineError::Fault(cause)) if self.fault.is_none() => {
-                self.fault = Some(ConfigFault {
-                    line: number,
-                    cause,
-                });
+            Err(LineError::Fault(cause)) => {
+                self.draft.leave_behind(line);
+                if self.fault.is_none() {
+                    self.fault = Some(ConfigFault {
+                        line: number,
+                        cause,
+                    });
+                }
             }
-            Err(LineError::Fault(_)) => {}
         }
         Ok(())
     }
@@ -121,6 +124,9 @@ fn whole(draft: Draft) -> Result<Config, ReadError>
         redispatch: values.redispatch,
         abortonclose: values.abortonclose,
         queue_timeout: values.queue_timeout(),
+        connect_timeout: set_time(values.connect),
+        client_timeout: set_time(values.client),
+        server_timeout: set_time(values.server),
         acls,
         rules,
         pins,

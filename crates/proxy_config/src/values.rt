@@ -18,6 +18,10 @@ pub(crate) struct Values {
     pub queue: u64,
     /// Milliseconds; 0 where it is unset.
     pub connect: u64,
+    /// Milliseconds; 0 where it is unset.
+    pub client: u64,
+    /// Milliseconds; 0 where it is unset.
+    pub server: u64,
 }
 
 /// The first word of a line that both sections take.
@@ -43,7 +47,8 @@ pub(crate) enum Switch {
 pub(crate) enum Timeout {
     Queue,
     Connect,
-    Unused,
+    Client,
+    Server,
 }
 
 impl Values {
@@ -56,6 +61,8 @@ impl Values {
             abortonclose: false,
             queue: 0,
             connect: 0,
+            client: 0,
+            server: 0,
         }
     }
 
@@ -65,12 +72,17 @@ impl Values {
     {
         if self.queue > 0 {
             Some(self.queue)
-        } else if self.connect > 0 {
-            Some(self.connect)
         } else {
-            None
+            set_time(self.connect)
         }
     }
+}
+
+/// A time that is set; 0 is none.
+pub(crate) fn set_time(time: u64) -> Option<u64>
+    ensures { result ≡ grammar.set_time time }
+{
+    if time > 0 { Some(time) } else { None }
 }
 
 /// The values after a line, by its first word and the others.
@@ -168,8 +180,10 @@ fn timeout_of(word: &[u8]) -> Option<Timeout>
         Some(Timeout::Queue)
     } else if is(word, "connect") {
         Some(Timeout::Connect)
-    } else if is(word, "client") || is(word, "server") {
-        Some(Timeout::Unused)
+    } else if is(word, "client") {
+        Some(Timeout::Client)
+    } else if is(word, "server") {
+        Some(Timeout::Server)
     } else {
         None
     }
@@ -187,6 +201,13 @@ fn with_timeout(timeout: Timeout, time: u64, values: Values) -> Values
             connect: time,
             ..values
         },
-        Timeout::Unused => values,
+        Timeout::Client => Values {
+            client: time,
+            ..values
+        },
+        Timeout::Server => Values {
+            server: time,
+            ..values
+        },
     }
 }

@@ -7,12 +7,11 @@ ghost use Rattle.proxy_config.specs.Wishes as grammar;
 
 use crate::conditions::guard;
 use crate::faults::{Cause, ConfigFault, LineError, ReadError};
-use crate::names::is_name;
 use crate::parts::{Acl, Guard, Pin, Server, Text};
 use crate::pieces::word;
 use crate::rules::server_index;
 use list_facts::Items;
-use proxy_words::Words;
+use proxy_words::{Words, is_name};
 use std::alloc::Global;
 
 /// A `use-server` line as long as not all servers are known.

@@ -1,3 +1,4 @@
 pub mod Cuts
 pub mod Rows
 pub mod Values
+pub mod Limits

@@ -1,5 +1,5 @@
 -- What a base tells of its live requests: their keys, and where they wait.
-use Rattle.std.proofs.Common.{◌≡◌, ◌≢◌, ℕ, zero, suc, ◌==◌, ◌&&◌, ◌||◌, nat_lt, Bool, true, false, cond, List, [], ◌∷◌, Option, None, Some, IsTrue, refl, ap, sym, ◌∙◌, subst, arith}
+use Rattle.std.proofs.Common.{◌≡◌, ◌≢◌, ℕ, zero, suc, ◌==◌, ◌&&◌, ◌||◌, nat_lt, Bool, true, false, cond, [], ◌∷◌, Option, None, Some, IsTrue, refl, ap, sym, ◌∙◌, subst, arith}
 use Rattle.std.specs.List.{fold}
 use Rattle.std.specs.Option.{option_map_or, IsSomeAnd}
 use Rattle.std.proofs.lemmas.Bool.Decides.{Decides-eqb}
@@ -30,7 +30,7 @@ other_step t before w differs = by_test (w.key.ticket == t) refl
     by_test true e = absurd (differs ((Decides-eqb w.key.ticket t).0 e))
     by_test false e = refl
 
-other_rows : (t : ℕ) (before : Option Key) (rows : Rows) → ((p : ℕ) (w : Row) → StandsAt rows p w → w.key.ticket ≢ t) → key_by t before rows ≡ before
+pub other_rows : (t : ℕ) (before : Option Key) (rows : Rows) → ((p : ℕ) (w : Row) → StandsAt rows p w → w.key.ticket ≢ t) → key_by t before rows ≡ before
 other_rows t before [] others = refl
 other_rows t before (None ∷ rows) others = other_rows t before rows (λ p w at. others (suc p) w at)
 other_rows t before (Some w ∷ rows) others =
@@ -42,7 +42,7 @@ same_suc k l e = omega arith
 later : (cell : Option Row) (rows : Rows) → HaveOwnTickets (cell ∷ rows) → HaveOwnTickets rows
 later cell rows own = record { own = λ k l u v a b e. same_suc k l (own.own (suc k) (suc l) u v a b e) }
 
-known_row : (t : ℕ) (before : Option Key) (rows : Rows) (p : ℕ) (r : Row) → StandsAt rows p r → r.key.ticket ≡ t → HaveOwnTickets rows → key_by t before rows ≡ Some r.key
+pub known_row : (t : ℕ) (before : Option Key) (rows : Rows) (p : ℕ) (r : Row) → StandsAt rows p r → r.key.ticket ≡ t → HaveOwnTickets rows → key_by t before rows ≡ Some r.key
 known_row t before [] p r at named own = cc
 known_row t before (None ∷ rows) zero r at named own = cc
 known_row t before (None ∷ rows) (suc p) r at named own = known_row t before rows p r at named (later None rows own)

@@ -12,8 +12,8 @@ use Rattle.dispatch_log.specs.declared.entry.Entry.TheVariants.{Arrive, Joined, 
 use Rattle.dispatch_log.specs.declared.queue.Queue.{Queue}
 use Rattle.dispatch_log.specs.declared.queue.Queue.TheVariants.{Backend, Server}
 use Rattle.dispatch_log.specs.Rows.{same_queue}
-use Rattle.readable_log.specs.Grants.{Wait, arrival_in, joining_in, newer_key, key_known, joining_of, has_joined, server_of}
-use Rattle.readable_log.specs.Windows.{waited, base_key, newer_base_key}
+use Rattle.readable_log.specs.Grants.{Wait, arrival_in, joining_in, key_known, joining_of, has_joined, server_of}
+use Rattle.readable_log.specs.Windows.{waited, newer_base_key}
 use Rattle.readable_log.specs.declared.base.BaseRow.{BaseRow}
 use Rattle.due_key.specs.declared.key.Key.{Key}
 use Rattle.dispatch_log.specs.States.{key_of}

@@ -1,5 +1,5 @@
 -- Logs that are judged entry by entry keep the order of their queues, and are readable.
-use Rattle.std.proofs.Common.{◌≡◌, ℕ, ◌+◌, ◌<◌, ◌≤◌, true, List, [], ◌∷◌, ◌++◌, Option, None, Some, IsSome, is_some, length, IsTrue, refl, ap, sym, subst, arith, inl, inr, append_assoc, length-append}
+use Rattle.std.proofs.Common.{◌≡◌, ℕ, ◌+◌, ◌≤◌, true, List, [], ◌∷◌, ◌++◌, Option, None, Some, IsSome, is_some, length, IsTrue, refl, ap, sym, subst, arith, inl, inr, append_assoc, length-append}
 use Rattle.std.specs.Option.{unwrap_or, IfSome, IsSomeAnd}
 use Rattle.std.proofs.lemmas.Bool.{false≢true}
 use Rattle.std.proofs.lemmas.List.{append-nil}
@@ -23,7 +23,7 @@ use Rattle.dispatch_log.specs.States.{State, scene, after}
 use Rattle.dispatch_log.specs.Words.{Scene, may_take, may_go_to}
 use Rattle.dispatch_log.proofs.Dispatched.{base_consistent}
 use Rattle.readable_log.specs.Grants.{Wait, arrival_in, moment_in, grant_in, moment_of, key_known, has_joined}
-use Rattle.readable_log.specs.Windows.{Window, base_rows}
+use Rattle.readable_log.specs.Windows.{base_rows}
 use Rattle.readable_log.specs.declared.base.BaseRow.{BaseRow}
 use Rattle.readable_log.proofs.Based.{base_arrived, base_joined}
 use Rattle.readable_log.specs.Ordered.{TakesLeast, KeepsOrder, AllKeepOrder, HaveArrived, HaveJoined}

@@ -8,3 +8,4 @@ pub mod Bases
 pub mod Based
 pub mod Judged
 pub mod Indexed
+pub mod Placeless

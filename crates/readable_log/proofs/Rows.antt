@@ -8,7 +8,6 @@ use Rattle.dispatch_log.specs.declared.setup.Setup.{Setup}
 use Rattle.dispatch_log.specs.Rows.{phase_waits_in}
 use Rattle.dispatch_log.specs.States.{State, after, after_all}
 use Rattle.readable_log.specs.Grants.{joins, has_joined}
-use Rattle.readable_log.specs.Windows.{waited}
 use Rattle.readable_log.specs.declared.base.BaseRow.{BaseRow}
 use Rattle.readable_log.specs.Ordered.{AllKeepOrder, HaveArrived, HaveJoined}
 use Rattle.readable_log.proofs.Back.{WasThere, origin, have_arrived_after, loose_nowhere}

@@ -1,5 +1,5 @@
 -- How a base keeps the results of the checks.
-use Rattle.std.specs.Prelude.{ℕ, Bool, true, false, List, [], ◌++◌, Option, None, Some, replicate, if◌then◌else◌}
+use Rattle.std.specs.Prelude.{Bool, true, false, List, [], ◌++◌, Option, None, Some, replicate, if◌then◌else◌}
 use Rattle.check_state.specs.Standing.{Standing}
 
 -- the shortest results that leave a health; of a server that has none, none

@@ -6,7 +6,7 @@ use Rattle.readable_log.specs.Grants.{moment_of, grants}
 use Rattle.readable_log.specs.declared.base.BaseRow.{BaseRow}
 use Rattle.readable_log.specs.Readable.{IsReadable}
 use Rattle.dispatch_log.specs.States.{State}
-use Rattle.readable_log.specs.Windows.{Window, base_rows}
+use Rattle.readable_log.specs.Windows.{base_rows}
 
 -- a base with its live requests, for which there is room in any base of so many places
 pub record IsLog (base : State) (listed : List BaseRow) (capacity : ℕ) : Type 0 where

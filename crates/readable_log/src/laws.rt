@@ -5,10 +5,12 @@ ghost use Rattle.dispatch_log.specs.declared.queue.Queue.{Queue};
 ghost use Rattle.dispatch_log.specs.declared.setup.Setup.{Setup};
 ghost use Rattle.dispatch_log.specs.Judgement.{AllMayCome, granting};
 ghost use Rattle.dispatch_log.specs.States.{State, after_all};
-ghost use Rattle.dispatch_log.specs.Legal.{IsBase};
+ghost use Rattle.dispatch_log.specs.Determined.{AreSameHistories};
+ghost use Rattle.dispatch_log.specs.Histories.{History};
+ghost use Rattle.dispatch_log.specs.Legal.{IsBase, IsLegal};
 ghost use Rattle.readable_log.specs.Grants.{moment_at, grants, key_known, newer_key, joins, joining_of};
 ghost use Rattle.readable_log.specs.Ordered.{AllKeepOrder, HaveArrived, HaveJoined};
-ghost use Rattle.readable_log.specs.Windows.{Window, base_rows};
+ghost use Rattle.readable_log.specs.Windows.{Window, base_rows, window_in};
 ghost use Rattle.readable_log.specs.declared.base.BaseRow.{BaseRow};
 ghost use Rattle.readable_log.specs.Readable.{IsReadable};
 ghost use Rattle.readable_log.specs.Timely.{IsTimely};
@@ -40,6 +42,13 @@ pub fn rows_have_arrived()
 pub fn judged_logs_are_readable()
     ensures order { (setup : Setup) (base : State) (log : List Entry) → IsBase setup base → AllMayCome setup base 0 granting log → AllKeepOrder setup base log }
     ensures readable { (setup : Setup) (base : State) (log : List Entry) → IsBase setup base → AllMayCome setup base 0 granting log → IsReadable (record { base = base_rows base.rows; entries = log }) }
+{}
+
+/// The law of places: windows of legal histories that are the same but for places have the same grants,
+/// and the same moment at each position.
+pub fn grants_tell_no_place()
+    ensures grants { (history other : History) → IsLegal history → IsLegal other → AreSameHistories history other → grants (window_in other) ≡ grants (window_in history) }
+    ensures moments { (history other : History) (position : ℕ) → AreSameHistories history other → moment_at other.log position ≡ moment_at history.log position }
 {}
 
 /// The law of worked windows: two that are readable, with their grants, and others, each wrong in one

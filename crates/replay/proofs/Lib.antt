@@ -2,3 +2,4 @@ mod Fronts
 mod Runs
 mod Certified
 mod Rows
+mod OneTrace

@@ -1,5 +1,5 @@
 -- What a replay does to the bytes that a writer holds, where they are known.
-use Rattle.std.specs.Prelude.{◌≡◌, ℕ, List, Option, None}
+use Rattle.std.specs.Prelude.{◌≡◌, ◌⊎◌, ℕ, ◌≤◌, List, length, Option, None}
 use Rattle.std.specs.Io.KnownBytes.{Appends}
 use Rattle.script.specs.Faults.{fault_of}
 use Rattle.replay.specs.Ends.{WritesFront}
@@ -18,3 +18,7 @@ pub record WritesFrontOfTrace (script : List ℕ) (old new : Option (List ℕ)) 
   pub trace : List ℕ
   pub is_trace : IsTraceOf script trace
   pub written : WritesFront old new trace
+
+-- so many writes are no more than the script's trace has bytes; where it has none, none was made
+abbrev pub AreFewWrites : List ℕ → ℕ → Type 0
+AreFewWrites script writes = (writes ≡ 0) ⊎ ((trace : List ℕ) × IsTraceOf script trace × (writes ≤ length trace))

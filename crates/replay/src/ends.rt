@@ -1,30 +1,34 @@
-ghost use Rattle.std.specs.Prelude.{◌≡◌, ◌≢◌, ℕ, ◌<◌, ◌≤◌, length, IfOk, IfErr, IfSome, OnOk, vec_len};
+ghost use Rattle.std.specs.Prelude.{◌≡◌, ◌≢◌, ℕ, ◌+◌, ◌<◌, ◌≤◌, length, IfOk, IfErr, IfSome, OnOk, vec_len};
 ghost use Rattle.std.specs.Io.KnownBytes.{Appends, Consumes, IsAtEnd};
-ghost use Rattle.replay.specs.Ends.{WritesFront};
+ghost use Rattle.replay.specs.Ends.{WritesFront, read_failures, write_failures};
 
 use crate::fault::Fault;
+use counted_io::{Sink, Source};
 use script::MOST_BYTES;
 use std::alloc::Global;
-use std::io::{Read, Write};
 
-// As many as it takes to read one byte too many, a byte at a time.
-const MOST_READS: usize = 4_194_305;
+/// The most reads of a script: as many as it takes to read one byte too many, a byte at a time.
+pub const MOST_READS: usize = 4_194_305;
 
 const PIECE: usize = 65_536;
 
 /// Reads to the end, unless more bytes come than a script may have.
-pub(crate) fn read_whole<R: Read>(alloc: Global, reader: &mut R) -> Result<Vec<u8>, Fault>
-    ensures read { IfOk result (λ all. Consumes (R.remaining reader.old) (R.remaining reader.new) all.items) }
-    ensures to_the_end { OnOk result (IsAtEnd (R.remaining reader.new)) }
+pub(crate) fn read_whole<S: Source>(alloc: Global, source: &mut S) -> Result<Vec<u8>, Fault>
+    requires fresh { (S.stream source.old).calls ≡ 0 }
+    ensures read { IfOk result (λ all. Consumes (S.stream source.old).bytes (S.stream source.new).bytes all.items) }
+    ensures to_the_end { OnOk result (IsAtEnd (S.stream source.new).bytes) }
     ensures short { IfOk result (λ all. vec_len all ≤ MOST_BYTES) }
     ensures too_long { IfErr result (λ fault. (line : ℕ) → fault ≡ Fault.Script line
-        → (line ≡ 0) × IfSome (R.remaining reader.old) (λ script. MOST_BYTES < length script)) }
+        → (line ≡ 0) × IfSome (S.stream source.old).bytes (λ script. MOST_BYTES < length script)) }
     ensures of_reading { IfErr result (λ fault. fault ≢ Fault.Write) }
+    ensures failed { (S.stream source.new).failures ≡ (S.stream source.old).failures + read_failures result }
+    ensures few { (S.stream source.new).calls ≤ MOST_READS }
+    ensures same { (S.stream source.new).name ≡ (S.stream source.old).name }
 {
     let mut all = Vec::new(alloc);
     let mut piece = [0u8; PIECE];
     'reading: for turn in 0..MOST_READS {
-        let Ok(read) = reader.read(&mut piece) else {
+        let Ok(read) = source.take(&mut piece) else {
             return Err(Fault::Read);
         };
         if read == 0 {
@@ -41,21 +45,22 @@ pub(crate) fn read_whole<R: Read>(alloc: Global, reader: &mut R) -> Result<Vec<u
 }
 
 /// Writes the text, in at most as many writes as it has bytes.
-pub(crate) fn write_whole<W: Write>(writer: &mut W, text: &[u8]) -> Result<(), Fault>
-    ensures ok { OnOk result (Appends (W.contents writer.old) (W.contents writer.new) text.now) }
-    ensures err { IfErr result (λ fault. (fault ≡ Fault.Write) × WritesFront (W.contents writer.old) (W.contents writer.new) text.now) }
+pub(crate) fn write_whole<K: Sink>(sink: &mut K, text: &[u8]) -> Result<(), Fault>
+    requires fresh { (K.stream sink.old).calls ≡ 0 }
+    ensures ok { OnOk result (Appends (K.stream sink.old).bytes (K.stream sink.new).bytes text.now) }
+    ensures err { IfErr result (λ fault. (fault ≡ Fault.Write) × WritesFront (K.stream sink.old).bytes (K.stream sink.new).bytes text.now) }
+    ensures failed { (K.stream sink.new).failures ≡ (K.stream sink.old).failures + write_failures result }
+    ensures few { (K.stream sink.new).calls ≤ length text.now }
+    ensures same { (K.stream sink.new).name ≡ (K.stream sink.old).name }
 {
     let mut at = 0;
     'writing: for turn in 0..text.len() {
         if at == text.len() {
             return Ok(());
         }
-        let Ok(count) = writer.write(&text[at..]) else {
+        let Ok(count) = sink.put(&text[at..]) else {
             return Err(Fault::Write);
         };
-        if count == 0 {
-            return Err(Fault::Write);
-        }
         at += count;
     }
     Ok(())

@@ -5,14 +5,17 @@ mod defaults;
 mod ends;
 mod events;
 mod fault;
+mod laws;
 mod reports;
 mod run;
 mod streams;
 
+pub use ends::MOST_READS;
 pub use events::{Replayed, replay_events};
 pub use fault::Fault;
+pub use laws::a_script_has_one_trace;
 pub use reports::reports_of;
-pub use streams::replay;
+pub use streams::{replay, replay_between};
 
 #[cfg(test)]
 mod tests;

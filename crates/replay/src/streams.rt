@@ -1,14 +1,16 @@
-ghost use Rattle.std.specs.Prelude.{◌≡◌, ◌≢◌, ℕ, Some, None, IfOk, IfErr, IfSome, OnOk, OnErr, string_bytes};
+ghost use Rattle.std.specs.Prelude.{◌≡◌, ◌≢◌, ℕ, ◌+◌, ◌≤◌, Some, None, Err, IfOk, IfErr, IfSome, OnOk, OnErr, string_bytes};
 ghost use Rattle.std.specs.Io.KnownBytes.{IsAtEnd, Keeps};
 ghost use Rattle.script.specs.Faults.{fault_of};
-ghost use Rattle.replay.specs.Replays.{WritesTrace, WritesFrontOfTrace};
+ghost use Rattle.replay.specs.Ends.{read_failures, write_failures};
+ghost use Rattle.replay.specs.Replays.{WritesTrace, WritesFrontOfTrace, AreFewWrites};
 ghost use Rattle.replay.specs.TraceTexts.{IsTraceOf};
 
-use crate::ends::{read_whole, write_whole};
+use crate::ends::{MOST_READS, read_whole, write_whole};
 use crate::events::{Replayed, replay_events};
 use crate::fault::Fault;
 use crate::reports::report;
 use binom_queue::BinomQueue;
+use counted_io::{Counted, Sink, Source};
 use due_key::Key;
 use pend_queue::PendQueue;
 use std::alloc::Global;
@@ -17,7 +19,9 @@ use std::io::{Read, Write};
 /// Reads a script to its end, runs its events in order, and writes their trace and the reports of its log.
 ///
 /// At most 4,194,305 reads are made, of which each but the last gives a byte at least, and at most as many writes as
-/// the trace has bytes. Nothing is written before the whole script was read and run. The writer is not flushed.
+/// the trace has bytes. Nothing is written before the whole script was read and run. The writer is not flushed. Of
+/// readers and writers that don't tell their bytes, such as the standard streams, these clauses say nothing;
+/// `replay_between` has those on the calls.
 pub fn replay<R: Read, W: Write>(alloc: Global, reader: &mut R, writer: &mut W) -> Result<(), Fault>
     ensures read { OnOk result (IsAtEnd (R.remaining reader.new)) }
     ensures ok { OnOk result (IfSome (R.remaining reader.old) (λ script. WritesTrace script (W.contents writer.old) (W.contents writer.new))) }
@@ -29,9 +33,37 @@ pub fn replay<R: Read, W: Write>(alloc: Global, reader: &mut R, writer: &mut W) 
         → IfSome (R.remaining reader.old) (λ script. WritesFrontOfTrace script (W.contents writer.old) (W.contents writer.new)) }
     ensures nothing { result ≢ Err Fault.Write → OnErr result (Keeps (W.contents writer.old) (W.contents writer.new)) }
 {
-    let script = read_whole(alloc, reader)?;
+    let mut source = Counted::new(reader);
+    let mut sink = Counted::new(writer);
+    replay_between(alloc, &mut source, &mut sink)
+}
+
+/// `replay` from a source to a sink that count, of which nothing was asked before. A read failed exactly where the
+/// fault is `Read`, and a write exactly where it is `Write`.
+pub fn replay_between<S: Source, K: Sink>(
+    alloc: Global,
+    source: &mut S,
+    sink: &mut K,
+) -> Result<(), Fault>
+    requires unread { (S.stream source.old).calls ≡ 0 }
+    requires unwritten { (K.stream sink.old).calls ≡ 0 }
+    ensures read { OnOk result (IsAtEnd (S.stream source.new).bytes) }
+    ensures ok { OnOk result (IfSome (S.stream source.old).bytes (λ script. WritesTrace script (K.stream sink.old).bytes (K.stream sink.new).bytes)) }
+    ensures script { IfErr result (λ fault. (line : ℕ) → fault ≡ Fault.Script line
+        → IfSome (S.stream source.old).bytes (λ script. fault_of script ≡ Some line)) }
+    ensures write { result ≡ Err Fault.Write
+        → IfSome (S.stream source.old).bytes (λ script. WritesFrontOfTrace script (K.stream sink.old).bytes (K.stream sink.new).bytes) }
+    ensures nothing { result ≢ Err Fault.Write → OnErr result (Keeps (K.stream sink.old).bytes (K.stream sink.new).bytes) }
+    ensures read_failed { (S.stream source.new).failures ≡ (S.stream source.old).failures + read_failures result }
+    ensures write_failed { (K.stream sink.new).failures ≡ (K.stream sink.old).failures + write_failures result }
+    ensures few_reads { (S.stream source.new).calls ≤ MOST_READS }
+    ensures few_writes { IfSome (S.stream source.old).bytes (λ script. AreFewWrites script (K.stream sink.new).calls) }
+    ensures same_source { (S.stream source.new).name ≡ (S.stream source.old).name }
+    ensures same_sink { (K.stream sink.new).name ≡ (K.stream sink.old).name }
+{
+    let script = read_whole(alloc, source)?;
     let trace = trace_of::<BinomQueue<Key, usize>>(alloc, &script)?;
-    write_whole(writer, trace.as_bytes())
+    write_whole(sink, trace.as_bytes())
 }
 
 // The trace of a script and its reports, by a dispatcher over such queues.
@@ -43,6 +75,7 @@ pub(crate) fn trace_of<Q: PendQueue<Key, usize>>(
     ensures ok { IfOk result (λ trace. IsTraceOf script.now (string_bytes trace)) }
     ensures fault { IfErr result (λ fault. (line : ℕ) → fault ≡ Fault.Script line → fault_of script.now ≡ Some line) }
     ensures of_script { IfErr result (λ fault. fault ≢ Fault.Write) }
+    ensures not_of_reading { IfErr result (λ fault. fault ≢ Fault.Read) }
 {
     let Replayed {
         core,

@@ -88,12 +88,27 @@ fn listen_takes_the_values_of_defaults(rt: HostRuntime) -> Result<(), Fail> {
 }
 
 #[test]
+fn each_timeout_is_kept(rt: HostRuntime) -> Result<(), Fail> {
+    let text =
+        b"defaults\ntimeout connect 4s\ntimeout client 5s\nlisten w\nbind :80\nserver a h:80\ntimeout server 6s\n";
+    let config = read(rt.alloc(), text)?;
+    assert_eq!(rt; config.queue_timeout, Some(4000));
+    assert_eq!(rt; config.connect_timeout, Some(4000));
+    assert_eq!(rt; config.client_timeout, Some(5000));
+    assert_eq!(rt; config.server_timeout, Some(6000));
+    Ok(())
+}
+
+#[test]
 fn no_timeout_is_no_limit(rt: HostRuntime) -> Result<(), Fail> {
     let config = read(
         rt.alloc(),
         b"listen w\nbind :80\nserver a h:80\ntimeout queue 0\ntimeout connect 0\n",
     )?;
     assert_eq!(rt; config.queue_timeout, None);
+    assert_eq!(rt; config.connect_timeout, None);
+    assert_eq!(rt; config.client_timeout, None);
+    assert_eq!(rt; config.server_timeout, None);
     Ok(())
 }
 

@@ -23,6 +23,19 @@ fn a_pin_may_stand_before_its_server(rt: HostRuntime) -> Result<(), Fail> {
 }
 
 #[test]
+fn a_refused_section_declares_no_server(rt: HostRuntime) {
+    let rows = [
+        "use-server b if x\nbackend y\nserver b h:80",
+        "use-server b if x\nlisten y\nserver b h:80",
+        "use-server b if x\nfrontend \"y\"\nserver b h:80",
+        "use-server b if x\nbackend y\ncookie\nserver b h:80\ndefaults\nserver b h:80",
+    ];
+    for lines in rows {
+        pinned(&rt, rt.alloc(), lines, 4, Cause::Unknown);
+    }
+}
+
+#[test]
 fn a_server_counts_past_a_faulty_line(rt: HostRuntime) {
     let alloc = rt.alloc();
     pinned(

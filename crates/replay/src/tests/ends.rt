@@ -131,3 +131,19 @@ fn a_script_has_four_mebibytes_at_most(rt: HostRuntime) -> Result<(), Fail> {
     );
     Ok(())
 }
+
+#[test]
+fn each_fault_has_its_text(rt: HostRuntime) -> Result<(), Fail> {
+    let rows = [
+        (Fault::NoMemory, "no memory"),
+        (Fault::Script { line: 0 }, "script line 0"),
+        (Fault::Script { line: 12 }, "script line 12"),
+        (Fault::Read, "read fault"),
+        (Fault::Write, "write fault"),
+    ];
+    for (fault, line) in rows {
+        let text = format!(in rt.alloc(); "{fault}")?;
+        assert_eq!(rt; text.as_str(), line);
+    }
+    Ok(())
+}

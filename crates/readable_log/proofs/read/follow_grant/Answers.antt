@@ -1,4 +1,4 @@
-use Rattle.std.proofs.Common.{◌≡◌, ℕ, zero, suc, List, Option, Some, is_some, true, IsTrue, length, sym, ap, ◌∙◌, ◌<◌, subst, refl, arith}
+use Rattle.std.proofs.Common.{◌≡◌, ℕ, zero, suc, List, Option, Some, is_some, IsTrue, length, sym, ap, ◌∙◌, ◌<◌, subst, refl, arith}
 use Rattle.std.specs.BTreeMap.{get}
 use Rattle.std.specs.Option.{unwrap_or, IsSomeAnd}
 use Rattle.dispatch_log.specs.declared.entry.Entry.{Entry}

@@ -1,4 +1,4 @@
-use Rattle.std.proofs.Common.{◌≤◌, vec_len}
+use Rattle.std.proofs.Common.{◌≡◌, ◌≤◌, vec_len}
 use Rattle.std.specs.Io.KnownBytes.{Consumes}
 use Rattle.script.specs.declared.header.TheConstants.{MOST_BYTES}
 use Rattle.replay.proofs.ends.read_whole.Given as goal
@@ -8,5 +8,8 @@ abbrev pub invariant-reading : goal.invariant-reading
 invariant-reading g l = record {
   counted : l.turn ≤ vec_len l.all;
   short : vec_len l.all ≤ MOST_BYTES;
-  consumed : Consumes (g.R.Read.remaining l.initial.reader) (g.R.Read.remaining l.reader) l.all.items;
+  consumed : Consumes (g.S.Source.stream l.initial.source).bytes (g.S.Source.stream l.source).bytes l.all.items;
+  same : (g.S.Source.stream l.source).name ≡ (g.S.Source.stream l.initial.source).name;
+  calls : (g.S.Source.stream l.source).calls ≡ l.turn;
+  failures : (g.S.Source.stream l.source).failures ≡ (g.S.Source.stream l.initial.source).failures;
 }

@@ -4,7 +4,8 @@ use Rattle.std.specs.Prelude.{slice_range}
 use Rattle.std.proofs.Math.Seq.{take-add}
 use Rattle.std.proofs.lemmas.List.{drop-take, drop-drop}
 
-pub window_drop : {A : Type 0} (xs : List A) (start end count : ℕ) → start + count ≤ end → slice_range xs (start + count) end ≡ drop count (slice_range xs start end)
+pub window_drop : {A : Type 0} (xs : List A) (start end count : ℕ) → start + count ≤ end
+    → slice_range xs (start + count) end ≡ drop count (slice_range xs start end)
 window_drop xs start end count here =
     let rest = end - (start + count) in
     let whole : count + rest ≡ end - start = omega arith in
@@ -12,7 +13,8 @@ window_drop xs start end count here =
     ∙ sym (drop-take count rest (drop start xs))
     ∙ ap (λ n. drop count (take n (drop start xs))) whole
 
-pub window_more : {A : Type 0} (xs : List A) (held count : ℕ) (old : List A) → take held xs ≡ old → slice_range xs 0 (held + count) ≡ old ++ take count (drop held xs)
+pub window_more : {A : Type 0} (xs : List A) (held count : ℕ) (old : List A) → take held xs ≡ old
+    → slice_range xs 0 (held + count) ≡ old ++ take count (drop held xs)
 window_more xs held count old e =
     let whole : (held + count) - 0 ≡ held + count = omega arith in
     ap (λ n. take n xs) whole ∙ take-add held count xs ∙ ap (λ l. l ++ take count (drop held xs)) e

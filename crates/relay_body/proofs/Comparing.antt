@@ -1,10 +1,11 @@
 -- Parts of a body at the front of one input, and what they become.
-use Rattle.std.proofs.Common.{◌≡◌, ◌∙◌, ℕ, ◌<◌, ◌≤◌, Bool, List, [], ◌∷◌, ◌++◌, length, refl, sym, ap, arith, append_assoc, append-nil, subst, inl, inr}
+use Rattle.std.proofs.Common.{◌≡◌, ◌∙◌, ℕ, ◌<◌, Bool, List, [], ◌∷◌, ◌++◌, length, refl, sym, ap, arith, append_assoc, subst, inl, inr}
 use Rattle.std.specs.List.{flat_map, AllByRecursion}
 use Rattle.httparse.specs.Ascii.{crlf_bytes}
 use Rattle.httparse.specs.Grammar.{ChunkLine, print_chunk_line, chunk_size}
 use Rattle.list_facts.specs.Fronts.{IsFront, AreComparable}
-use Rattle.list_facts.proofs.Fronts.{front_more, front_under, front_nil, front_same, front_as, under, comparable_as, two_fronts, short_front, same_front, same_behind}
+use Rattle.list_facts.proofs.Fronts.{front_more, front_under, front_nil, front_same, front_as}
+use Rattle.list_facts.proofs.Fronts.{under, comparable_as, two_fronts, short_front, same_front, same_behind}
 use Rattle.relay_body.specs.Bodies.{ChunkedBody, PartOfChunked, last_text, print_chunked}
 use Rattle.relay_body.specs.Bodies.PartOfChunked.{some_chunks, all_of_it}
 use Rattle.relay_body.specs.Chunks.{IsSizeLine, Chunk, IsChunk, print_chunk, chunk_text, size_text, end_text, PartOfData, PartOfChunk}

@@ -1,11 +1,13 @@
 -- Answers at worked examples: what must hold, and what must not.
-use Rattle.std.proofs.Common.{◌≡◌, ◌∙◌, ℕ, ◌+◌, ◌≤◌, true, false, List, [], ◌∷◌, ◌++◌, Some, None, codes, length, refl, sym, ap, subst, arith, append-nil, append_assoc}
+use Rattle.std.proofs.Common.{◌≡◌, ◌∙◌, ℕ, ◌+◌, ◌≤◌, true, false, List, [], ◌∷◌, ◌++◌}
+use Rattle.std.proofs.Common.{Some, None, codes, length, refl, sym, ap, subst, arith, append-nil, append_assoc}
 use Rattle.std.specs.Char.{is_ascii_digit}
 use Rattle.std.specs.Fmt.{digits}
 use Rattle.std.specs.List.{All, AllByRecursion, list_all}
 use Rattle.std.proofs.lemmas.List.Elements.{All-nil, All-cons}
 use Rattle.std.proofs.lemmas.List.Sums.{AllPass-from_list_all}
-use Rattle.httparse.specs.Grammar.{Field, IsField, ResponseHead, crlf, print_blank, print_end, print_reason, print_response, print_section, is_token_byte, is_value_byte, trim_ows}
+use Rattle.httparse.specs.Grammar.{Field, IsField, ResponseHead, crlf, print_blank, print_end}
+use Rattle.httparse.specs.Grammar.{print_reason, print_response, print_section, is_token_byte, is_value_byte, trim_ows}
 use Rattle.httparse.proofs.GrammarLemmas.{print_response-append}
 use Rattle.relay_body.specs.Framings.{IsBody, LacksBody}
 use Rattle.relay_body.specs.declared.framing.Framing.{Framing}
@@ -76,7 +78,8 @@ ok_length = refl
 ok_is_answer : IsAnswer ok
 unfolding ok
 ok_is_answer =
-    is_head (codes "200") (codes "OK") (two_bytes ∷ []) refl refl refl (All-cons IsField two_bytes [] is_two_bytes (All-nil IsField)) (omega (arith, ok_length)) (omega arith)
+    let one_field = All-cons IsField two_bytes [] is_two_bytes (All-nil IsField) in
+    is_head (codes "200") (codes "OK") (two_bytes ∷ []) refl refl refl one_field (omega (arith, ok_length)) (omega arith)
 
 ok_is_final : IsFinal (codes "GET") ok (record { body = Length 2; stated = Length 2 })
 unfolding ok head two_bytes trim_ows
@@ -159,7 +162,8 @@ answered_to_old = record {
 }
 
 -- the answer without its last byte is no answer, whatever it becomes
-two_wanted : (h : ResponseHead) (plan : Plan) (body text : List ℕ) → h ≡ ok → codes "a" ≡ body → IsFinal (codes "GET") h plan → IsBody plan.body true body text → ⊥
+two_wanted : (h : ResponseHead) (plan : Plan) (body text : List ℕ) → h ≡ ok → codes "a" ≡ body → IsFinal (codes "GET") h plan
+    → IsBody plan.body true body text → ⊥
 two_wanted h plan body text same is final passes =
     let plans : Some plan ≡ Some (record { body = Length 2; stated = Length 2 }) =
     sym final.planned ∙ ap (λ (k : ResponseHead). answer_plan (codes "GET") (answer_of k)) same ∙ ok_is_final.planned in
@@ -167,7 +171,8 @@ two_wanted h plan body text same is final passes =
     let length_is = (subst (λ (f : Framing). IsBody f true body text) bodies passes).0 in
     omega (arith, length_is, ap length is)
 
-first_is_ok : (hs : List ResponseHead) (h : ResponseHead) (plan : Plan) (body text : List ℕ) → AllByRecursion (IsInterim (codes "GET")) hs → IsFinal (codes "GET") h plan
+first_is_ok : (hs : List ResponseHead) (h : ResponseHead) (plan : Plan) (body text : List ℕ) → AllByRecursion (IsInterim (codes "GET")) hs
+    → IsFinal (codes "GET") h plan
     → IsBody plan.body true body text
     → print_response ok ++ codes "a" ≡ print_heads hs ++ (print_response h ++ body) → ⊥
 first_is_ok [] h plan body text each final passes e =
@@ -185,7 +190,8 @@ part_answered : PartOfAnswered (codes "GET") true (codes "HTTP/1.1 200 OK\r\nCon
     (codes "HTTP/1.1 200 OK\r\nContent-Length: 2\r\nConnection: close\r\n\r\na")
 unfolding ok head two_bytes trim_ows digits print_response
 part_answered =
-    head_and_body [] ok (record { body = Length 2; stated = Length 2 }) (codes "a") (codes "a") (record { each = tt; few = omega arith }) ok_is_final (omega arith, refl)
+    let none : AreInterims (codes "GET") [] = record { each = tt; few = omega arith } in
+    head_and_body [] ok (record { body = Length 2; stated = Length 2 }) (codes "a") (codes "a") none ok_is_final (omega arith, refl)
 
 -- and so are the heads before it alone
 heads_alone : PartOfAnswered (codes "GET") true (codes "HTTP/1.1 100 Continue\r\n\r\nHTTP/1.1 103 X\r\n\r\n") (codes "HTTP/1.1 103 X\r\n\r\n")
@@ -222,7 +228,9 @@ ends_in_body = no_body ok (record { body = Length 2; stated = Length 2 }) (codes
 
 -- a whole answer doesn't end too early
 ends : (input : List ℕ) → input ≡ print_response ok ++ codes "ab" → EndsEarly (codes "GET") input → ⊥
-ends input is (no_head rest none) = none ok (codes "ab") (record { reads = (ok_is_answer.reads.0, is); few_bytes = ok_is_answer.few_bytes; few_fields = ok_is_answer.few_fields })
+ends input is (no_head rest none) =
+    none ok (codes "ab")
+    (record { reads = (ok_is_answer.reads.0, is); few_bytes = ok_is_answer.few_bytes; few_fields = ok_is_answer.few_fields })
 ends input is (no_body h plan rest final lacks) =
     let same = same_head ok h (codes "ab") rest ok_is_answer final.head (sym is) in
     let plans : Some plan ≡ Some (record { body = Length 2; stated = Length 2 }) =

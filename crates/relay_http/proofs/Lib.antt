@@ -9,3 +9,4 @@ pub mod Putting
 pub mod Rows
 pub mod Standing
 pub mod Thinning
+pub mod Turning

@@ -4,6 +4,7 @@ use base.Fml.{GName}
 use Rattle.std.specs.Fmt.{digits}
 use Rattle.relay_body.specs.declared.framing.Framing.TheVariants.{Empty, Length, Chunked, ToEnd}
 use Rattle.relay_http.specs.Framings.{request_framing, answer_plan, bare}
+use Rattle.counted_io.specs.Streams.{Stream}
 use Rattle.relay_body.specs.Framings.{IsBody, PartOfBody, LacksBody}
 use Rattle.relay_body.specs.Steps.{Ends}
 use Rattle.relay_body.specs.declared.framing.Framing.{Framing}
@@ -246,12 +247,16 @@ slot = tt
 no_slot : ¬ (Serves (Told Aborted))
 no_slot serves = serves
 
+stream : GName → List ℕ → ℕ → Stream
+stream end bytes calls = record { name = end; bytes = Some bytes; calls = calls; failures = 0 }
+
 -- before a byte went out nothing was written, and where one did something was
-silent : (end : GName) → Marks (record { name = end; bytes = Some []; calls = 0; failures = 0 }) (record { name = end; bytes = Some []; calls = 1; failures = 1 }) false false
+silent : (end : GName) → Marks (stream end [] 0) (stream end [] 1) false false
+unfolding stream
 silent end = record { stays = λ yes. yes; unset = λ no. refl; rose = λ no yes. let wrong : false ≡ true = yes in cc }
 
-not_silent : (end : GName)
-    → ¬ (Marks (record { name = end; bytes = Some []; calls = 0; failures = 0 }) (record { name = end; bytes = Some (codes "a"); calls = 1; failures = 0 }) false false)
+not_silent : (end : GName) → ¬ (Marks (stream end [] 0) (stream end (codes "a") 1) false false)
+unfolding stream
 not_silent end marks = omega (arith, ap (length {A = ℕ}) (marks.unset refl))
 
 -- turns aren't spent while one is left

@@ -1,4 +1,4 @@
-ghost use Rattle.std.specs.Prelude.{◌≡◌, ◌≢◌, ℕ, List, [], Err, IfOk, OnOk, IfErr, OnErr, IsSome, IsTrue, IsFalse, false, Option};
+ghost use Rattle.std.specs.Prelude.{◌≡◌, ◌≢◌, ◌≤◌, ℕ, List, [], Err, IfOk, OnOk, IfErr, OnErr, IsSome, IsTrue, IsFalse, false, Option};
 ghost use Rattle.std.specs.Io.KnownBytes.{Appends, Keeps, IsAtEnd};
 ghost use Rattle.httparse.specs.Grammar.{RequestHead, print_request};
 ghost use Rattle.relay_http.specs.Failures.{Passes, Misses, NoCause, WrotePrefix};
@@ -36,6 +36,8 @@ impl Exchange {
         ensures untouched { self.old.stage ≡ Stage.Failed → (self.new ≡ self.old) × (R.remaining reader.new ≡ R.remaining reader.old) }
         ensures err { self.old.stage ≢ Stage.Failed → (w : Option (List ℕ)) → IfErr result (Misses self.old.pipe.inbox (R.remaining reader.old) (R.remaining reader.new) w w [] [] LacksRequest) }
         ensures failed { OnErr result (self.new.stage ≡ Stage.Failed) }
+        ensures turns { self.new.pipe.turns ≤ self.old.pipe.turns }
+        ensures spent { result ≡ Err Fault.Turns → self.new.pipe.turns ≡ 0 }
         ensures most { self.new.most ≡ self.old.most }
         ensures begun { self.new.begun ≡ self.old.begun }
     {
@@ -65,6 +67,8 @@ impl Exchange {
         ensures err { self.old.stage ≢ Stage.Failed → IfErr result (λ fault. (used : List ℕ) × (text : List ℕ) × messages.PartOfForwarded view.now used text
             × Misses self.old.pipe.inbox (R.remaining reader.old) (R.remaining reader.new) (W.contents writer.old) (W.contents writer.new) used text (messages.LacksForwarded view.now) fault) }
         ensures failed { OnErr result (self.new.stage ≡ Stage.Failed) }
+        ensures turns { self.new.pipe.turns ≤ self.old.pipe.turns }
+        ensures spent { result ≡ Err Fault.Turns → self.new.pipe.turns ≡ 0 }
         ensures most { self.new.most ≡ self.old.most }
         ensures begun { self.new.begun ≡ self.old.begun }
     {
@@ -85,6 +89,8 @@ impl Exchange {
         ensures untouched { self.old.stage ≡ Stage.Failed → (self.new ≡ self.old) × (W.contents writer.new ≡ W.contents writer.old) }
         ensures err { self.old.stage ≢ Stage.Failed → (r : Option (List ℕ)) → IfErr result (Misses self.old.pipe.inbox r r (W.contents writer.old) (W.contents writer.new) [] (leave_text view.now) NoCause) }
         ensures failed { OnErr result (self.new.stage ≡ Stage.Failed) }
+        ensures turns { self.new.pipe.turns ≤ self.old.pipe.turns }
+        ensures spent { result ≡ Err Fault.Turns → self.new.pipe.turns ≡ 0 }
         ensures most { self.new.most ≡ self.old.most }
         ensures begun { self.new.begun ≡ self.old.begun }
     {
@@ -119,6 +125,8 @@ impl Exchange {
             × messages.PartOfAnswered view.now.method (framed_for view.now.version) used text
             × Misses [] (R.remaining reader.old) (R.remaining reader.new) (W.contents writer.old) (W.contents writer.new) used text (messages.LacksAnswer view.now.method) fault) }
         ensures failed { OnErr result (self.new.stage ≡ Stage.Failed) }
+        ensures turns { self.new.pipe.turns ≤ self.old.pipe.turns }
+        ensures spent { result ≡ Err Fault.Turns → self.new.pipe.turns ≡ 0 }
         ensures most { self.new.most ≡ self.old.most }
         ensures begun { OnOk result (IsTrue self.new.begun) }
         ensures stays { IsTrue self.old.begun → IsTrue self.new.begun }

@@ -1,4 +1,4 @@
-ghost use Rattle.std.specs.Prelude.{◌≡◌, ◌≢◌, ◌+◌, ◌^◌, ◌<◌, ℕ, Bool, ◌||◌, nat_lt, List, [], Err, IfOk, OnOk, IfErr, OnErr, IsSome, IsTrue};
+ghost use Rattle.std.specs.Prelude.{◌≡◌, ◌≢◌, ◌+◌, ◌^◌, ◌<◌, ◌≤◌, ℕ, Bool, ◌||◌, nat_lt, List, [], Err, IfOk, OnOk, IfErr, OnErr, IsSome, IsTrue};
 ghost use Rattle.std.specs.Io.KnownBytes.{IsAtEnd};
 ghost use Rattle.counted_io.specs.Streams.{Stream};
 ghost use Rattle.httparse.specs.Grammar.{RequestHead, print_request};
@@ -40,6 +40,8 @@ impl Exchange {
         ensures untouched { self.old.stage ≡ Stage.Failed → (self.new ≡ self.old) × (S.stream source.new ≡ S.stream source.old) }
         ensures err { self.old.stage ≢ Stage.Failed → (w : Stream) → IfErr result (Fails (ends self.old.pipe (S.stream source.old) w) (ends self.new.pipe (S.stream source.new) w) [] [] LacksRequest) }
         ensures failed { OnErr result (self.new.stage ≡ Stage.Failed) }
+        ensures turns { self.new.pipe.turns ≤ self.old.pipe.turns }
+        ensures spent { result ≡ Err Fault.Turns → self.new.pipe.turns ≡ 0 }
         ensures same_source { (S.stream source.new).name ≡ (S.stream source.old).name }
         ensures most { self.new.most ≡ self.old.most }
         ensures begun { self.new.begun ≡ self.old.begun }
@@ -70,6 +72,8 @@ impl Exchange {
         ensures untouched { self.old.stage ≡ Stage.Failed → (self.new ≡ self.old) × (K.stream sink.new ≡ K.stream sink.old) }
         ensures err { self.old.stage ≢ Stage.Failed → (s : Stream) → IfErr result (Fails (ends self.old.pipe s (K.stream sink.old)) (ends self.new.pipe s (K.stream sink.new)) [] (leave_text view.now) NoCause) }
         ensures failed { OnErr result (self.new.stage ≡ Stage.Failed) }
+        ensures turns { self.new.pipe.turns ≤ self.old.pipe.turns }
+        ensures spent { result ≡ Err Fault.Turns → self.new.pipe.turns ≡ 0 }
         ensures same_sink { (K.stream sink.new).name ≡ (K.stream sink.old).name }
         ensures most { self.new.most ≡ self.old.most }
         ensures begun { self.new.begun ≡ self.old.begun }
@@ -106,6 +110,8 @@ impl Exchange {
         ensures err { self.old.stage ≢ Stage.Failed → IfErr result (λ fault. (used : List ℕ) × (text : List ℕ) × messages.PartOfForwarded view.now used text
             × Fails (ends self.old.pipe (S.stream source.old) (K.stream sink.old)) (ends self.new.pipe (S.stream source.new) (K.stream sink.new)) used text (messages.LacksForwarded view.now) fault) }
         ensures failed { OnErr result (self.new.stage ≡ Stage.Failed) }
+        ensures turns { self.new.pipe.turns ≤ self.old.pipe.turns }
+        ensures spent { result ≡ Err Fault.Turns → self.new.pipe.turns ≡ 0 }
         ensures same_source { (S.stream source.new).name ≡ (S.stream source.old).name }
         ensures same_sink { (K.stream sink.new).name ≡ (K.stream sink.old).name }
         ensures most { self.new.most ≡ self.old.most }
@@ -150,6 +156,8 @@ impl Exchange {
             × messages.PartOfAnswered view.now.method (framed_for view.now.version) used text
             × Fails (ends (emptied self.old.pipe) (S.stream source.old) (K.stream sink.old)) (ends self.new.pipe (S.stream source.new) (K.stream sink.new)) used text (messages.LacksAnswer view.now.method) fault) }
         ensures failed { OnErr result (self.new.stage ≡ Stage.Failed) }
+        ensures turns { self.new.pipe.turns ≤ self.old.pipe.turns }
+        ensures spent { result ≡ Err Fault.Turns → self.new.pipe.turns ≡ 0 }
         ensures same_source { (S.stream source.new).name ≡ (S.stream source.old).name }
         ensures same_sink { (K.stream sink.new).name ≡ (K.stream sink.old).name }
         ensures most { self.new.most ≡ self.old.most }

@@ -41,40 +41,42 @@ fn is_over(alloc: Global, exchange: &mut Exchange, view: &View) -> bool {
     exchange.refuse(Code::Unavailable, &mut writer) == Ok(()) && 0 < writer.bytes
 }
 
+// requests, the turns that there are, and the fault
+const REQUESTS: [(&[u8], u64, Fault); 8] = [
+    (b"GET / HTTP/2.0\r\n", TURNS, Fault::Head),
+    (b"GET / HTTP/1.1\r\n", TURNS, Fault::Read),
+    (GET, 0, Fault::Turns),
+    (
+        b"GET / HTTP/1.1\r\nHost: h\r\nContent-Length: x\r\n\r\n",
+        TURNS,
+        Fault::Framing,
+    ),
+    (GET, 1, Fault::Turns),
+    (
+        b"GET / HTTP/1.1\r\nHost: h\r\nContent-Length: 1\r\n\r\n",
+        TURNS,
+        Fault::Read,
+    ),
+    (
+        b"GET / HTTP/1.1\r\nHost: h\r\nTransfer-Encoding: chunked\r\n\r\nx",
+        TURNS,
+        Fault::Framing,
+    ),
+    (
+        b"GET / HTTP/1.1\r\nHost: h\r\nContent-Length: 2\r\n\r\na",
+        2,
+        Fault::Turns,
+    ),
+];
+
 #[test]
 fn each_fault_of_a_request_closes_the_exchange(rt: HostRuntime) -> Result<(), Fail> {
-    let rows: [(&[u8], u64, Fault); 8] = [
-        (b"GET / HTTP/2.0\r\n", TURNS, Fault::Head),
-        (b"GET / HTTP/1.1\r\n", TURNS, Fault::Read),
-        (GET, 0, Fault::Turns),
-        (
-            b"GET / HTTP/1.1\r\nHost: h\r\nContent-Length: x\r\n\r\n",
-            TURNS,
-            Fault::Framing,
-        ),
-        (GET, 1, Fault::Turns),
-        (
-            b"GET / HTTP/1.1\r\nHost: h\r\nContent-Length: 1\r\n\r\n",
-            TURNS,
-            Fault::Read,
-        ),
-        (
-            b"GET / HTTP/1.1\r\nHost: h\r\nTransfer-Encoding: chunked\r\n\r\nx",
-            TURNS,
-            Fault::Framing,
-        ),
-        (
-            b"GET / HTTP/1.1\r\nHost: h\r\nContent-Length: 2\r\n\r\na",
-            2,
-            Fault::Turns,
-        ),
-    ];
     let mut other = Exchange::new(rt.alloc(), TURNS)?;
     let mut request = GET;
     let Ok(view) = other.read_request(rt.alloc(), &mut request) else {
         return Err(Fail::from("no request"));
     };
-    for (input, turns, fault) in rows {
+    for (input, turns, fault) in REQUESTS {
         let mut exchange = Exchange::new(rt.alloc(), turns)?;
         let mut reader = input;
         let seen = forwarded_from(rt.alloc(), &mut exchange, &mut reader);
@@ -85,34 +87,36 @@ fn each_fault_of_a_request_closes_the_exchange(rt: HostRuntime) -> Result<(), Fa
     Ok(())
 }
 
+// the same of answers, and whether a byte of one went out; the request takes two turns
+const ANSWERS: [(&[u8], u64, Fault, bool); 8] = [
+    (b"HTTP/2.0 200 OK\r\n", TURNS, Fault::Head, false),
+    (b"", TURNS, Fault::Read, false),
+    (b"HTTP/1.1 101 X\r\n\r\n", TURNS, Fault::Framing, false),
+    (b"HTTP/1.1 200 OK\r\n\r\n", 2, Fault::Turns, false),
+    (b"HTTP/1.1 200 OK\r\n\r\n", 3, Fault::Turns, false),
+    (
+        b"HTTP/1.1 103 X\r\n\r\nHTTP/1.1 101 X\r\n\r\n",
+        TURNS,
+        Fault::Framing,
+        true,
+    ),
+    (
+        b"HTTP/1.1 200 OK\r\nContent-Length: 3\r\n\r\nab",
+        TURNS,
+        Fault::Read,
+        true,
+    ),
+    (b"HTTP/1.1 200 OK\r\n\r\nab", 4, Fault::Turns, true),
+];
+
 #[test]
 fn each_fault_of_an_answer_closes_the_exchange(rt: HostRuntime) -> Result<(), Fail> {
-    let rows: [(&[u8], u64, Fault, bool); 8] = [
-        (b"HTTP/2.0 200 OK\r\n", TURNS, Fault::Head, false),
-        (b"", TURNS, Fault::Read, false),
-        (b"HTTP/1.1 101 X\r\n\r\n", TURNS, Fault::Framing, false),
-        (b"HTTP/1.1 200 OK\r\n\r\n", 2, Fault::Turns, false),
-        (b"HTTP/1.1 200 OK\r\n\r\n", 3, Fault::Turns, false),
-        (
-            b"HTTP/1.1 103 X\r\n\r\nHTTP/1.1 101 X\r\n\r\n",
-            TURNS,
-            Fault::Framing,
-            true,
-        ),
-        (
-            b"HTTP/1.1 200 OK\r\nContent-Length: 3\r\n\r\nab",
-            TURNS,
-            Fault::Read,
-            true,
-        ),
-        (b"HTTP/1.1 200 OK\r\n\r\nab", 4, Fault::Turns, true),
-    ];
     let mut other = Exchange::new(rt.alloc(), TURNS)?;
     let mut request = GET;
     let Ok(view) = other.read_request(rt.alloc(), &mut request) else {
         return Err(Fail::from("no request"));
     };
-    for (input, turns, fault, begun) in rows {
+    for (input, turns, fault, begun) in ANSWERS {
         let mut exchange = Exchange::new(rt.alloc(), turns)?;
         let mut reader = input;
         let mut writer = Tally::new();

@@ -3,6 +3,7 @@ use Rattle.std.proofs.Common.{◌<◌, ℕ, length, arith, ap, length-append}
 use Rattle.relay_http.specs.Messages.{LacksAnswer}
 use Rattle.relay_http.proofs.Failing.{fails_after}
 use Rattle.relay_http.proofs.Marking.{marks, begun_by, pipe_emptied, answered_some}
+use Rattle.relay_http.proofs.Turning.{moves_turns, fails_turns, fails_spent}
 use Rattle.relay_http.proofs.exchange.Exchange.answer_between.Goals as goal
 
 pub returns-in-Ok-clause-ok : goal.returns-in-Ok-clause-ok
@@ -65,3 +66,16 @@ returns-in-Err-clause-same_source g c = c.in-Err.ensures.err.3.reads.same_source
 
 pub returns-in-Err-clause-same_sink : goal.returns-in-Err-clause-same_sink
 returns-in-Err-clause-same_sink g c = c.in-Err.ensures.err.3.reads.same_sink
+
+pub returns-in-Ok-clause-turns : goal.returns-in-Ok-clause-turns
+returns-in-Ok-clause-turns g c = omega (arith, moves_turns c.in-Ok.ensures.ok.3, c.hold.ensures.turns)
+
+pub returns-in-Err-clause-turns : goal.returns-in-Err-clause-turns
+returns-in-Err-clause-turns g c =
+    let after = fails_after (LacksAnswer c.args.view.now.method) c.forget_waiting.new.self c.forget_waiting.ensures.turns c.in-Err.ensures.err.3 in
+    omega (arith, fails_turns after, c.hold.ensures.turns)
+
+pub returns-in-Err-clause-spent : goal.returns-in-Err-clause-spent
+returns-in-Err-clause-spent g c = λ is.
+    let after = fails_after (LacksAnswer c.args.view.now.method) c.forget_waiting.new.self c.forget_waiting.ensures.turns c.in-Err.ensures.err.3 in
+    fails_spent c.in-Err.fault after is

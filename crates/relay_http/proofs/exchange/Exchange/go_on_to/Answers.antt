@@ -1,5 +1,6 @@
 use Rattle.relay_http.specs.Failures.{NoCause}
 use Rattle.relay_http.proofs.Failing.{fails_after}
+use Rattle.relay_http.proofs.Turning.{moves_turns, fails_turns, fails_spent}
 use Rattle.relay_http.proofs.exchange.Exchange.go_on_to.Goals as goal
 
 pub returns-in-Err-clause-err : goal.returns-in-Err-clause-err
@@ -10,3 +11,16 @@ returns-in-Ok-clause-same_sink g c = (c.in-Ok.ensures.ok (g.K.Sink.stream c.args
 
 pub returns-in-Err-clause-same_sink : goal.returns-in-Err-clause-same_sink
 returns-in-Err-clause-same_sink g c = (c.in-Err.ensures.err (g.K.Sink.stream c.args.sink.now)).reads.same_sink
+
+pub returns-in-Ok-clause-turns : goal.returns-in-Ok-clause-turns
+returns-in-Ok-clause-turns g c = moves_turns (c.in-Ok.ensures.ok (g.K.Sink.stream c.args.sink.now))
+
+pub returns-in-Err-clause-turns : goal.returns-in-Err-clause-turns
+returns-in-Err-clause-turns g c =
+    let after = fails_after NoCause c.forget_waiting.new.self c.forget_waiting.ensures.turns (c.in-Err.ensures.err (g.K.Sink.stream c.args.sink.now)) in
+    fails_turns after
+
+pub returns-in-Err-clause-spent : goal.returns-in-Err-clause-spent
+returns-in-Err-clause-spent g c = λ is.
+    let after = fails_after NoCause c.forget_waiting.new.self c.forget_waiting.ensures.turns (c.in-Err.ensures.err (g.K.Sink.stream c.args.sink.now)) in
+    fails_spent c.in-Err.fault after is

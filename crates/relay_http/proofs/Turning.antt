@@ -1,0 +1,21 @@
+-- Turns are spent and never won.
+use Rattle.std.proofs.Common.{◌≡◌, ℕ, ◌≤◌, List, ◌++◌, subst, arith}
+use Rattle.std.specs.Prelude.{Err, Result}
+use Rattle.relay_body.specs.Steps.{Ends, Moves}
+use Rattle.relay_http.specs.Failures.{Fails, Blames}
+use Rattle.relay_http.specs.declared.fault.Fault.{Fault}
+use Rattle.relay_http.specs.declared.fault.Fault.TheVariants.{Turns}
+
+pub moves_turns : {a b : Ends} {used text : List ℕ} → Moves a b used text → b.pipe.turns ≤ a.pipe.turns
+moves_turns m = omega (arith, m.reads.reads, m.reads.writes, m.reads.spent)
+
+pub fails_turns : {a b : Ends} {used text : List ℕ} {Why : Fault → List ℕ → Type 0} {fault : Fault} → Fails a b used text Why fault
+    → b.pipe.turns ≤ a.pipe.turns
+fails_turns f = omega (arith, f.reads.reads, f.reads.writes, f.reads.spent)
+
+-- where they are wanting, none is left
+pub fails_spent : {T : Type 0} {a b : Ends} {used text : List ℕ} {Why : Fault → List ℕ → Type 0} (fault : Fault) → Fails a b used text Why fault
+    → ◌≡◌ {A = Result T Fault} (Err fault) (Err Turns) → b.pipe.turns ≡ 0
+fails_spent {a = a} {b} {Why = Why} fault f is =
+    let same : fault ≡ Turns = cc in
+    (subst (λ (g : Fault). Blames a b Why (a.pipe.inbox ++ f.taken) g) same f.blames).1

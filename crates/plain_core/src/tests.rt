@@ -5,12 +5,15 @@ mod events;
 mod state;
 mod words;
 
-use self::calls::{Call, OfLists, ask, made};
+use self::calls::{Call, ask, made};
 use self::chance::Chance;
 use self::events::Stage;
 use self::state::Plain;
+use binom_queue::BinomQueue;
+use dispatch_core::Core;
 use dispatch_log::{Entry, Queue, ServerSet, Servers, Setup};
-use due_key::Moment;
+use due_key::{Key, Moment};
+use pend_queue::{ListQueue, PendQueue};
 use std::alloc::Global;
 use std::process::Abort;
 use std::test::Fail;
@@ -88,10 +91,10 @@ fn follow(rt: &impl Abort, plain: &mut Plain, event: Entry, written: &[Entry]) -
 }
 
 // A call is answered as the definitions say.
-fn agree(
+fn agree<Q: PendQueue<Key, usize>>(
     rt: &impl Abort,
     alloc: Global,
-    core: &mut OfLists,
+    core: &mut Core<Q>,
     plain: &mut Plain,
     moment: Moment,
     call: &Call,
@@ -114,7 +117,7 @@ fn agree(
 }
 
 // Whether the log's base has the requests that are there.
-fn has_base(core: &OfLists, plain: &Plain) -> bool {
+fn has_base<Q: PendQueue<Key, usize>>(core: &Core<Q>, plain: &Plain) -> bool {
     let base = core.log().base();
     let rows = plain.rows.iter().flatten();
     let same = plain.rows.iter().flatten().zip(base).all(|(row, it)| {
@@ -136,7 +139,12 @@ struct Course {
 
 impl Course {
     // The window ends here, and the next one begins with what it leaves.
-    fn roll(&mut self, rt: &impl Abort, core: &mut OfLists, plain: &mut Plain) -> Result<(), Fail> {
+    fn roll<Q: PendQueue<Key, usize>>(
+        &mut self,
+        rt: &impl Abort,
+        core: &mut Core<Q>,
+        plain: &mut Plain,
+    ) -> Result<(), Fail> {
         self.entries.extend_from_slice(core.log().entries())?;
         self.windows = self.windows.saturating_add(1);
         if !core.has_room() {
@@ -150,10 +158,10 @@ impl Course {
 }
 
 // So many calls are, and before each of them it is told whether a stay has expired. Now and then the next window begins.
-fn agree_on_all(
+fn agree_on_all<Q: PendQueue<Key, usize>>(
     rt: &impl Abort,
     alloc: Global,
-    core: &mut OfLists,
+    core: &mut Core<Q>,
     plain: &mut Plain,
     calls: u32,
 ) -> Result<Course, Fail> {
@@ -176,14 +184,14 @@ fn agree_on_all(
 }
 
 // So many calls are answered by a dispatcher of a setup, which is given twice, as the definitions say.
-fn both_agree(
+fn both_agree<Q: PendQueue<Key, usize>>(
     rt: &impl Abort,
     alloc: Global,
     setup: Setup,
     same: Setup,
     calls: u32,
 ) -> Result<Course, Fail> {
-    let mut core = made(alloc, setup)?;
+    let mut core = made::<Q>(alloc, setup)?;
     let mut plain = Plain::new(alloc, same)?;
     agree_on_all(rt, alloc, &mut core, &mut plain, calls)
 }
@@ -209,29 +217,48 @@ fn has_left_for(rt: &impl Abort, log: &[Entry], cause: Cause) {
     assert!(rt; log.iter().any(|it| matches!(it, Entry::Left(_, of_it) if *of_it == cause)));
 }
 
-#[test]
-fn the_log_is_that_of_the_definitions(rt: HostRuntime) -> Result<(), Fail> {
-    let alloc = rt.alloc();
-    let course = both_agree(&rt, alloc, many_checks(alloc)?, many_checks(alloc)?, 20_000)?;
+// Of servers that are checked, over such queues.
+fn follows_the_definitions<Q: PendQueue<Key, usize>>(
+    rt: &impl Abort,
+    alloc: Global,
+) -> Result<(), Fail> {
+    let (setup, same) = (many_checks(alloc)?, many_checks(alloc)?);
+    let course = both_agree::<Q>(rt, alloc, setup, same, 20_000)?;
     let log = course.entries.as_slice();
-    has_every_kind(&rt, log);
+    has_every_kind(rt, log);
     for cause in [
         Cause::Aborted,
         Cause::Timeout,
         Cause::Retries,
         Cause::NoServer,
     ] {
-        has_left_for(&rt, log, cause);
+        has_left_for(rt, log, cause);
     }
     assert!(rt; course.windows > 8);
     assert!(rt; course.full > 0 && course.full < course.windows);
     Ok(())
 }
 
-#[test]
-fn full_logs_are_those_of_the_definitions(rt: HostRuntime) -> Result<(), Fail> {
-    let alloc = rt.alloc();
-    let course = both_agree(&rt, alloc, few_checks(alloc)?, few_checks(alloc)?, 5000)?;
+// Where logs fill, over such queues.
+fn fills_logs<Q: PendQueue<Key, usize>>(rt: &impl Abort, alloc: Global) -> Result<(), Fail> {
+    let (setup, same) = (few_checks(alloc)?, few_checks(alloc)?);
+    let course = both_agree::<Q>(rt, alloc, setup, same, 5000)?;
     assert!(rt; course.full > 1);
     Ok(())
+}
+
+#[test]
+fn the_log_over_lists_is_that_of_the_definitions(rt: HostRuntime) -> Result<(), Fail> {
+    follows_the_definitions::<ListQueue<Key, usize>>(&rt, rt.alloc())
+}
+
+#[test]
+fn the_log_over_trees_is_that_of_the_definitions(rt: HostRuntime) -> Result<(), Fail> {
+    follows_the_definitions::<BinomQueue<Key, usize>>(&rt, rt.alloc())
+}
+
+#[test]
+fn full_logs_are_those_of_the_definitions(rt: HostRuntime) -> Result<(), Fail> {
+    fills_logs::<ListQueue<Key, usize>>(&rt, rt.alloc())?;
+    fills_logs::<BinomQueue<Key, usize>>(&rt, rt.alloc())
 }

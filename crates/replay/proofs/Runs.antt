@@ -22,7 +22,8 @@ pub steps_from_line : (line : List ℕ) (lines rest : List (List ℕ)) (asked : 
 steps_from_line line lines rest asked step cut is some = ap (filter_map step_of) cut ∙ ap (λ o. cons_option o (filter_map step_of rest)) (sym is ∙ some)
 
 -- and of which it asks for none
-pub steps_past_line : (line : List ℕ) (lines rest : List (List ℕ)) (asked : Option Step) → lines ≡ line ∷ rest → asked ≡ step_of line → asked ≡ None → filter_map step_of lines ≡ filter_map step_of rest
+pub steps_past_line : (line : List ℕ) (lines rest : List (List ℕ)) (asked : Option Step) → lines ≡ line ∷ rest → asked ≡ step_of line → asked ≡ None
+    → filter_map step_of lines ≡ filter_map step_of rest
 steps_past_line line lines rest asked cut is none = ap (filter_map step_of) cut ∙ ap (λ o. cons_option o (filter_map step_of rest)) (sym is ∙ none)
 
 -- a text of the first step, and then one of the others, is a text of all

@@ -1,5 +1,7 @@
 -- What stands behind a script's header lines.
-use Rattle.std.proofs.Common.{◌≡◌, ℕ, zero, suc, ◌+◌, ◌<◌, ◌≤◌, nat_le, Bool, true, false, ◌||◌, not, List, [], ◌∷◌, ◌++◌, length, take, drop, filter_map, Option, Some, None, is_some, option_map, option_and_then, if◌then◌else◌, codes, refl, sym, ap, ◌∙◌, subst, arith, append_assoc, append-nil, length-append, ◌⊎◌, inl, inr}
+use Rattle.std.proofs.Common.{◌≡◌, ℕ, ◌+◌, ◌<◌, ◌≤◌, nat_le, Bool, true, false, ◌||◌, not, List, [], ◌∷◌, ◌++◌, length, take, drop, filter_map}
+use Rattle.std.proofs.Common.{Option, Some, None, is_some, option_map, option_and_then, if◌then◌else◌, codes, refl, sym, ap, ◌∙◌, arith}
+use Rattle.std.proofs.Common.{append_assoc, append-nil, length-append}
 use Rattle.std.specs.List.{cons_option, list_any}
 use Rattle.std.specs.Option.{option_map_or}
 use Rattle.std.specs.Str.{bytes_eq}
@@ -13,8 +15,8 @@ use Rattle.proxy_words.specs.Text.{words}
 use Rattle.script.specs.declared.setting.Setting.{Setting}
 use Rattle.script.specs.declared.step.Step.{Step}
 use Rattle.script.specs.declared.step.Step.TheVariants.{Tick, Roll}
-use Rattle.script.specs.Steps.{is_skipped, named, ticketed, arrival_of, arrival_line, return_of, failure_of, abort_of, tick_of, check_of, limit_of, roll_of, asked_by}
-use Rattle.script.specs.Headers.{Settings, all_of, settings_of, setting_of, set_by, places_line, log_line, retries_line, redispatch_line, timeout_line, server_line}
+use Rattle.script.specs.Steps.{is_skipped, named, ticketed, arrival_line, tick_of, check_of, limit_of, asked_by}
+use Rattle.script.specs.Headers.{Settings, all_of, settings_of, setting_of, set_by}
 use Rattle.script.specs.Faults.{clashes, is_step, is_faulty, fault_behind}
 use Rattle.script.specs.Reading.{IsHeader}
 use Rattle.script.proofs.Headers.{parted}
@@ -128,7 +130,8 @@ fine_sets_nothing settings line fine = by_setting (setting_of line) refl
     by_setting : (o : Option Setting) → setting_of line ≡ o → setting_of line ≡ None
     by_setting None e = e
     by_setting (Some setting) e =
-        let bad : is_faulty settings true line ≡ true = ap (λ o. option_map_or (λ its. true || clashes settings its) o (not (is_step line || is_skipped line))) e in
+        let bad : is_faulty settings true line ≡ true =
+        ap (λ o. option_map_or (λ its. true || clashes settings its) o (not (is_step line || is_skipped line))) e in
         let no : true ≡ false = sym bad ∙ fine in
         cc
 
@@ -154,10 +157,12 @@ first_fine : (before : List (List ℕ)) (line : List ℕ) (rest : List (List ℕ
     → is_faulty (settings_of before) (list_any is_step before) line ≡ false
 first_fine before line rest none = by_test (is_faulty (settings_of before) (list_any is_step before) line) refl
   where
-    by_test : (b : Bool) → is_faulty (settings_of before) (list_any is_step before) line ≡ b → is_faulty (settings_of before) (list_any is_step before) line ≡ false
+    by_test : (b : Bool) → is_faulty (settings_of before) (list_any is_step before) line ≡ b
+        → is_faulty (settings_of before) (list_any is_step before) line ≡ false
     by_test false e = e
     by_test true e =
-        let some : fault_behind before (line ∷ rest) ≡ Some (length before + 1) = ap (λ b. if b then Some (length before + 1) else fault_behind (before ++ line ∷ []) rest) e in
+        let some : fault_behind before (line ∷ rest) ≡ Some (length before + 1) =
+        ap (λ b. if b then Some (length before + 1) else fault_behind (before ++ line ∷ []) rest) e in
         cc
 
 -- lines behind a step that have no fault set nothing
@@ -173,7 +178,8 @@ none_set before (line ∷ rest) begun none =
 pub settings_whole : (all : List (List ℕ)) (count : ℕ) → IsHeader all count → fault_behind [] all ≡ None → settings_of all ≡ settings_of (take count all)
 settings_whole all count is none =
     ap settings_of (sym (take-append-drop count all))
-    ∙ ap all_of (filter_map-append setting_of (take count all) (drop count all) ∙ ap (λ l. filter_map setting_of (take count all) ++ l) (by_rest (drop count all) refl) ∙ append-nil (filter_map setting_of (take count all)))
+    ∙ ap all_of (filter_map-append setting_of (take count all) (drop count all)
+    ∙ ap (λ l. filter_map setting_of (take count all) ++ l) (by_rest (drop count all) refl) ∙ append-nil (filter_map setting_of (take count all)))
   where
     by_rest : (rest : List (List ℕ)) → drop count all ≡ rest → filter_map setting_of rest ≡ []
     by_rest [] e = refl
@@ -204,7 +210,15 @@ module _ (all left rest : List (List ℕ)) (line : List ℕ) (header number : �
 
   through_more : (before : List (List ℕ)) → AreThrough all before left header number → left ≡ line ∷ rest
       → (header ≤ number → is_faulty (settings_of before) (list_any is_step before) line ≡ false) → IsThrough all rest header (number + 1)
-  through_more before are cut fine = (before ++ line ∷ [], record { cut = whole; count = more; faultless = λ low. by_place (nat_le header number) refl low; begun = λ low. by_begin (nat_le number header) refl low })
+  through_more before are cut fine = (
+    before ++ line ∷ [],
+    record {
+      cut = whole;
+      count = more;
+      faultless = λ low. by_place (nat_le header number) refl low;
+      begun = λ low. by_begin (nat_le number header) refl low;
+    },
+  )
     where
       whole : all ≡ (before ++ line ∷ []) ++ rest
       whole = are.cut ∙ ap (λ l. before ++ l) cut ∙ sym (append_assoc before (line ∷ []) rest)
@@ -248,12 +262,14 @@ module _ (all left rest : List (List ℕ)) (line : List ℕ) (header number : �
       by_place true e = let step = first_step before are cut (grind (arith, nat_tests, e, low)) in cc
       by_place false e =
           let begun = are.begun (grind (arith, nat_tests, e)) in
-          let bad : is_faulty (settings_of before) (list_any is_step before) line ≡ true = ap (λ b. is_faulty (settings_of before) b line) begun ∙ faulty (settings_of before) in
+          let bad : is_faulty (settings_of before) (list_any is_step before) line ≡ true =
+          ap (λ b. is_faulty (settings_of before) b line) begun ∙ faulty (settings_of before) in
           are.faultless (omega (arith, low)) ∙ ap (fault_behind before) cut
           ∙ ap (λ b. if b then Some (length before + 1) else fault_behind (before ++ line ∷ []) rest) bad ∙ ap (λ n. Some (n + 1)) (sym are.count)
 
 -- at the end there is none
-pub all_through : (all left : List (List ℕ)) (header number : ℕ) → IsHeader all header → IsThrough all left header number → left ≡ [] → fault_behind [] all ≡ None
+pub all_through : (all left : List (List ℕ)) (header number : ℕ) → IsHeader all header → IsThrough all left header number → left ≡ []
+    → fault_behind [] all ≡ None
 all_through all left header number is (before, are) cut = by_place (nat_le header number) refl
   where
     by_place : (b : Bool) → nat_le header number ≡ b → fault_behind [] all ≡ None

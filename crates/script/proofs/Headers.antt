@@ -66,7 +66,8 @@ none_read all header is = ([], record { cut = refl; settings = is; stepless = re
 
 test_of : (all before left : List (List ℕ)) (line : List ℕ) (header : Settings) (number : ℕ) → AreRead all before left header number
     → is_faulty header false line ≡ is_faulty (settings_of before) (list_any is_step before) line
-test_of all before left line header number are = ap (λ h. is_faulty h false line) are.settings ∙ ap (λ b. is_faulty (settings_of before) b line) (sym are.stepless)
+test_of all before left line header number are =
+    ap (λ h. is_faulty h false line) are.settings ∙ ap (λ b. is_faulty (settings_of before) b line) (sym are.stepless)
 
 pub one_more : (all left rest : List (List ℕ)) (line : List ℕ) (header next : Settings) (number : ℕ) → IsReadTo all left header number → left ≡ line ∷ rest
     → is_step line ≡ false → is_faulty header false line ≡ false → next ≡ with_line header line → IsReadTo all rest next (number + 1)
@@ -90,7 +91,8 @@ faulty_next all left rest line header number (before, are) cut bad =
     ∙ ap (λ n. Some (n + 1)) (sym are.count)
 
 -- what is read, and what is left
-pub parted : (all before left : List (List ℕ)) (number : ℕ) → all ≡ before ++ left → number ≡ length before → (take number all ≡ before) × (drop number all ≡ left)
+pub parted : (all before left : List (List ℕ)) (number : ℕ) → all ≡ before ++ left → number ≡ length before
+    → (take number all ≡ before) × (drop number all ≡ left)
 parted all before left number cut count = (
   ap (take number) cut ∙ take_at before left number (sym count),
   ap (drop number) cut ∙ drop_at before left number (sym count),

@@ -1,10 +1,8 @@
 use dispatch_core::{Core, Refusal, Setup};
 use due_key::{Class, Key, Moment, Offset};
-use pend_queue::ListQueue;
+use pend_queue::PendQueue;
 use std::alloc::Global;
 use std::test::Fail;
-
-pub type OfLists = Core<ListQueue<Key, usize>>;
 
 /// What is asked of a dispatcher.
 #[derive(Clone, Copy, Debug)]
@@ -19,9 +17,9 @@ pub enum Call {
 }
 
 /// Asks a call of the dispatcher, and tells the place of an arrival.
-pub fn ask(
+pub fn ask<Q: PendQueue<Key, usize>>(
     alloc: Global,
-    core: &mut OfLists,
+    core: &mut Core<Q>,
     moment: Moment,
     call: Call,
 ) -> Result<usize, Refusal> {
@@ -41,7 +39,7 @@ pub fn ask(
 }
 
 /// A dispatcher without a request.
-pub fn made(alloc: Global, setup: Setup) -> Result<OfLists, Fail> {
+pub fn made<Q: PendQueue<Key, usize>>(alloc: Global, setup: Setup) -> Result<Core<Q>, Fail> {
     if !setup.sound() {
         return Err(Fail::from("not a sound setup"));
     }

@@ -13,11 +13,14 @@ use Rattle.replay.proofs.events.replay_events.Goals as goal
 pub returns-clause-ok : goal.returns-clause-ok
 returns-clause-ok g c =
     let whole : c.in_ok-header.header ≡ settings_of (lines c.args.script.now) =
-    c.in_ok-header.ensures.settings ∙ sym (settings_whole (lines c.args.script.now) c.in_ok-header.before c.in_ok-header.ensures.header c.in_ok-text.ensures.faultless) in
+    c.in_ok-header.ensures.settings
+    ∙ sym (settings_whole (lines c.args.script.now) c.in_ok-header.before c.in_ok-header.ensures.header c.in_ok-text.ensures.faultless) in
     record {
       faultless = c.in_ok-header.ensures.short ∙ c.in_ok-text.ensures.faultless;
       named = c.in-Ok.ensures.names ∙ ap names_of whole;
-      answered = subst (λ (settings : Settings). IsScriptText c.in-Ok.names (opening settings) (steps_of c.args.script.now) c.run.new.core (string_bytes c.in_ok-text.text)) whole
+      answered = subst
+          (λ (settings : Settings). IsScriptText c.in-Ok.names (opening settings) (steps_of c.args.script.now) c.run.new.core (string_bytes c.in_ok-text.text))
+          whole
           (subst (λ (history : History). IsScriptText c.in-Ok.names history (steps_of c.args.script.now) c.run.new.core (string_bytes c.in_ok-text.text))
           (c.in-Ok-new.ensures ∙ ap (λ (setup : Setup). first_window setup []) c.in-Ok.ensures.setup) c.in_ok-text.ensures.ok);
     }

@@ -18,11 +18,13 @@ lines-preserved-in-Continue-1 g c = (
   (λ last rest more.
       let answered = c.in_ok-take_step-in-Some-step_of.ensures.ok in
       let all = λ (text : List ℕ). IsScriptText c.args.names.now c.args.core.now (steps_of c.args.script.now) last text in
-      let steps = steps_from_line c.in-Some.line.now c.lines.lines c.next.new.self c.step_of.result c.in-Some-step_of.step c.in-Some.ensures.steps c.step_of.ensures c.in-Some-step_of.is in
+      let steps = steps_from_line c.in-Some.line.now c.lines.lines c.next.new.self c.step_of.result c.in-Some-step_of.step c.in-Some.ensures.steps
+      c.step_of.ensures c.in-Some-step_of.is in
       subst (λ (text : List ℕ). all (text ++ rest)) (sym answered.2)
       (subst all (sym (append_assoc (string_bytes c.lines.text) answered.0 rest))
       (c.lines.invariant.2 last (answered.0 ++ rest)
-      (text_from_step c.args.names.now c.lines.core c.take_step.new.core last c.in-Some-step_of.step (filter_map step_of c.lines.lines) (filter_map step_of c.next.new.self) answered.0 rest steps answered.1 more)))),
+      (text_from_step c.args.names.now c.lines.core c.take_step.new.core last c.in-Some-step_of.step (filter_map step_of c.lines.lines)
+      (filter_map step_of c.next.new.self) answered.0 rest steps answered.1 more)))),
 )
 
 -- the line asks for no step, and isn't faulty

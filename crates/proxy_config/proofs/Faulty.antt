@@ -1,11 +1,7 @@
 -- Each cause stands where it is said to.
-use Rattle.std.proofs.Common.{◌≡◌, ℕ, ◌+◌, nat_le, Bool, true, false, is_some, not, List, [], ◌∷◌, length, Option, Some, None, Result, Ok, Err, codes, refl, sym, ap, ◌∙◌, subst}
+use Rattle.std.proofs.Common.{◌≡◌, ℕ, true, List, [], ◌∷◌, Option, Some, None, Err, refl, ap, ◌∙◌}
 use Rattle.std.specs.Option.{ok_or}
-use Rattle.std.specs.Str.{bytes_eq}
 use Rattle.list_facts.proofs.Never.{false_true}
-use Rattle.proxy_words.specs.Names.{is_name}
-use Rattle.proxy_words.specs.Numerals.{numeral}
-use Rattle.proxy_words.specs.Times.{time}
 use Rattle.proxy_config.specs.declared.draft.Draft.{Draft}
 use Rattle.proxy_config.specs.declared.draft.Section.{Section}
 use Rattle.proxy_config.specs.declared.draft.Section.TheVariants as sections

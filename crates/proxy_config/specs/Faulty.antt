@@ -1,5 +1,5 @@
 -- Where each cause stands that the words of a line decide: the words that have it, whatever words follow them.
-use Rattle.std.specs.Prelude.{◌≡◌, ℕ, ◌+◌, nat_le, Bool, true, false, is_some, List, [], ◌∷◌, length, Option, Some, None, codes}
+use Rattle.std.specs.Prelude.{◌≡◌, ℕ, ◌+◌, nat_le, true, false, is_some, List, [], ◌∷◌, length, Option, Some, None, codes}
 use Rattle.std.specs.Str.{bytes_eq}
 use Rattle.proxy_words.specs.Names.{is_name}
 use Rattle.proxy_words.specs.Numerals.{numeral}

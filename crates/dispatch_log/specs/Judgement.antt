@@ -78,21 +78,27 @@ pub record IsFirstIn (queue : Queue) (rows : Rows) (ticket : ℕ) : Type 0 where
 abbrev pub was_up : Setup → State → ℕ → Bool
 was_up setup state server = option_map_or (λ it. is_up_by it.rise_fall (without_last (results_of state.results server))) (slice_get setup.servers server) false
 
--- what comes next in an event: the placement of a request that is in no place; what the return of a ticket's slot opens
--- with; its end; what the failure of a ticket's connection opens with, and where its slot at a server was given back what
--- becomes of it; what an abort opens with; the requests that expired, one by one; whether a check changed a server's
--- health, and where it went down the requests of its queue, one by one; or grants, as long as one is lawful, and then
--- another event
+-- what comes next in an event
 pub data Stage : Type 0 where
+  -- the placement of this ticket, which has just come
   placing : ℕ → Stage
+  -- what the return of this ticket's slot opens with: the slot is given back, or where the ticket was told why it has none, it ends
   returning : ℕ → Stage
+  -- the end of this ticket
   ending : ℕ → Stage
+  -- what the failure of this ticket's connection opens with: it is tried again, or its slot is given back
   failing : ℕ → Stage
+  -- what becomes of this ticket, whose slot at this server was given back
   leaving : ℕ → ℕ → Stage
+  -- what the abort of this ticket opens with
   aborting : ℕ → Stage
+  -- the requests that expired, one by one
   telling : Stage
+  -- whether a check changed the health of this server
   checking : ℕ → Stage
+  -- the requests that wait at this server, which went down, one by one
   falling : ℕ → Stage
+  -- grants, as long as one is lawful, and then another event
   granting : Stage
 
 -- an event owes nothing any more but grants: no expired request, no word of a change of health, no request in the

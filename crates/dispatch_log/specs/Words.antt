@@ -37,7 +37,7 @@ is_usable scene server = is_up scene server && of_server scene server (λ it. na
 abbrev pub is_free : Scene → ℕ → Bool
 is_free scene server = of_server scene server (λ it. (limit_of scene server == 0) || nat_lt (served server scene.rows) (limit_of scene server))
 
--- room: a balanced request may be put on the server, to be served or to wait in its queue
+-- room: the server is usable, and has no limit, or serves and queues fewer than its limit plus maxqueue
 abbrev pub has_room : Scene → ℕ → Bool
 has_room scene server =
     is_usable scene server

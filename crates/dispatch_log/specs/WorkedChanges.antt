@@ -47,7 +47,7 @@ redispatch_keeps_the_pin = two_are_bound ++ Fail 3 1 ∷ Freed 1 0 ∷ Granted 3
 abbrev pub redispatch_to_the_failed_server : List Entry
 redispatch_to_the_failed_server = Arrive 0 (bound 1 (pos 0) 0) ∷ Direct 1 0 ∷ Fail 1 1 ∷ Freed 1 0 ∷ Direct 1 0 ∷ []
 
--- a slot comes back, and the redispatched request takes it before those that wait for it
+-- a slot of the first server comes back, and before it goes to 3, the redispatched request takes one of the second
 abbrev pub redispatch_before_the_grant : List Entry
 redispatch_before_the_grant = two_are_bound ++ Fail 3 1 ∷ Freed 1 0 ∷ Direct 1 1 ∷ Granted 3 (Server 0) 0 ∷ []
 
@@ -121,7 +121,7 @@ moved_without_a_fall =
     ∷ Arrive 1 (bound 3 (pos 1) 2) ∷ Joined 3 (Server 0)
     ∷ Moved 3 0 ∷ []
 
--- the first server is down, and 2 waits for the second; then the first is checked, and answers
+-- the first server is down, 1 is served by the second and 2 waits in the backend's queue; then the first is checked, and answers
 abbrev pub first_server_answers : List Entry
 first_server_answers =
     Check 1 0 false ∷ Health 0 false

@@ -3,6 +3,7 @@ ghost use Rattle.std.specs.Prelude.{◌≡◌};
 ghost use Rattle.dueproxy.specs.Checks.{IsCheckOf};
 ghost use Rattle.dueproxy.specs.Statuses.{status_of_check};
 
+use crate::explain::{Explanation, explain};
 use proxy_config::{ConfigFault, ReadError, read};
 use std::alloc::Global;
 use std::io::{ErrorKind, Read};
@@ -31,6 +32,37 @@ pub(crate) fn check<R: Files + Print + Eprint + AllocGlobal>(rt: &R, file: &str)
         Err(_) => Checked::Unread,
     };
     print(rt, checked)
+}
+
+/// The same, with every faulty line and what takes its place before it.
+pub(crate) fn check_in_full<R: Files + Print + Eprint + AllocGlobal>(rt: &R, file: &str) -> u8 {
+    let explained = match read_file(rt, file) {
+        Ok(bytes) => explain(rt.alloc(), &bytes),
+        Err(error) if error.kind() == ErrorKind::OutOfMemory => {
+            return print(rt, Checked::NoMemory);
+        }
+        Err(_) => return print(rt, Checked::Unread),
+    };
+    match explained {
+        Err(_) => print(rt, Checked::NoMemory),
+        Ok(Explanation { whole: true, .. }) => check(rt, file),
+        Ok(
+            Explanation {
+                faulty,
+                text,
+                whole: false,
+            },
+        ) => print_all(rt, faulty, &text),
+    }
+}
+
+// The explanation, and how many lines would have to change.
+fn print_all(rt: &(impl Print + Eprint), faulty: usize, text: &str) -> u8 {
+    if rt.print(text).is_err() || println!(rt; "lines to change: {faulty}").is_err() {
+        let _ = rt.eprintln("write fault");
+        return 1;
+    }
+    3
 }
 
 fn read_file<R: Files + AllocGlobal>(rt: &R, file: &str) -> io::Result<Vec<u8>> {

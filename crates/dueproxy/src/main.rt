@@ -7,15 +7,17 @@
 ghost use Rattle.std.specs.Prelude.{◌≡◌};
 ghost use Rattle.dueproxy.specs.Statuses.{status_of};
 
+mod advice;
 mod check;
-mod words;
+mod command;
+mod explain;
 
-use check::check;
+use check::{check, check_in_full};
+use command::{Asked, ask};
 use replay::{Fault, replay};
 use std::env;
 use std::io::{Read, Write};
 use std::process::ExitCode;
-use words::{Asked, ask};
 
 const USAGE: u8 = 2;
 
@@ -30,6 +32,7 @@ fn main(rt: HostRuntime) -> ExitCode {
     let status = match ask(&rt, &words) {
         Asked::Replay => replay_streams(&rt, &mut rt.stdin(), &mut rt.stdout()),
         Asked::Check(file) => check(&rt, &file),
+        Asked::Explain(file) => check_in_full(&rt, &file),
         Asked::Later => {
             let _ = rt.eprintln("run isn't there yet: replay and check are");
             USAGE

@@ -19,3 +19,4 @@ pub mod Wished
 pub mod OnePass
 pub mod Surveys
 pub mod WorkedRows
+pub mod Faulty

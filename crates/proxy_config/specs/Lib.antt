@@ -15,5 +15,6 @@ pub mod Progress
 pub mod Laws
 pub mod ConditionGrammar
 pub mod Rows
+pub mod Faulty
 pub mod Sound
 pub mod LeftToRight

@@ -4,11 +4,13 @@ ghost use Rattle.std.specs.Prelude.{◌≡◌, ℕ, Bool, List, Option, Ok, Err}
 ghost use Rattle.proxy_config.specs.Conditions.{condition};
 ghost use Rattle.proxy_config.specs.ConditionGrammar.{IsCondition};
 ghost use Rattle.proxy_config.specs.Draft.{start, words_line};
+ghost use Rattle.proxy_config.specs.Faulty.{HasFault};
 ghost use Rattle.proxy_config.specs.File.{run};
 ghost use Rattle.proxy_config.specs.Laws.{FirstFault};
 ghost use Rattle.proxy_config.specs.LeftToRight.{IsLeftToRight};
 ghost use Rattle.proxy_config.specs.Rows.{EachInItsRow};
 ghost use Rattle.proxy_config.specs.declared.draft.Draft.{Draft};
+ghost use Rattle.proxy_config.specs.declared.faults.Cause.{Cause};
 ghost use Rattle.proxy_config.specs.declared.faults.ConfigFault.{ConfigFault};
 ghost use Rattle.proxy_config.specs.declared.parts.Acl.{Acl};
 ghost use Rattle.proxy_config.specs.declared.parts.Condition.{Condition};
@@ -34,6 +36,13 @@ pub fn a_faulty_line_names_itself()
 pub fn each_cause_stands_in_its_row()
     ensures { (servers : List Server) (too_long : Bool) (draft : Draft) (n : ℕ) (line : List ℕ) →
         EachInItsRow servers too_long draft n line }
+{}
+
+/// The other causes stand where their rows say: `keyword`, `words`, `number`, `address`, `name`, `twice`, `unknown`,
+/// `condition` and `limit`, each for the words that have it, whatever words follow them.
+pub fn each_cause_has_its_words()
+    ensures { (servers : List Server) (draft : Draft) (n : ℕ) (words : List (List ℕ)) (cause : Cause) →
+        HasFault servers draft words cause → words_line servers draft n words ≡ Err cause }
 {}
 
 /// The words of a line are read from the left: a fault other than `words` is that of a word that can't stand

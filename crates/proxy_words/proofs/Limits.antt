@@ -1,5 +1,5 @@
 -- How great a number and a time can be that a word is.
-use Rattle.std.proofs.Common.{◌≡◌, ℕ, suc, ◌+◌, ◌-◌, ◌*◌, ◌/◌, ◌^◌, ◌<◌, ◌≤◌, ◌&&◌, not, nat_le, ◌==◌, Bool, true, false, cond, List, [], ◌∷◌, length, drop, Option, Some, None, take_while, codes, refl, subst, arith}
+use Rattle.std.proofs.Common.{◌≡◌, ℕ, ◌+◌, ◌-◌, ◌*◌, ◌/◌, ◌^◌, ◌<◌, ◌≤◌, ◌&&◌, not, nat_le, ◌==◌, Bool, true, false, cond, List, [], ◌∷◌, length, drop, Option, Some, None, take_while, codes, refl, subst, arith}
 use Rattle.std.specs.List.{list_all}
 use Rattle.std.specs.Option.{option_and_then}
 use Rattle.std.specs.Str.{bytes_eq}

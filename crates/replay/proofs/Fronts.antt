@@ -4,7 +4,7 @@ use Rattle.std.proofs.lemmas.List.{take-take}
 use Rattle.std.proofs.Math.Seq.{take-add}
 use Rattle.std.proofs.KnownBytes.{Appends-trans}
 use Rattle.std.specs.Io.KnownBytes.{Appends}
-use Rattle.replay.specs.Ends.{WritesFront}
+use Rattle.replay.specs.Transfers.{WritesFront}
 
 -- so many more bytes of what is left
 pub front_more : (text : List ℕ) (at count : ℕ) → count ≤ length text - at → take at text ++ take count (take (length text - at) (drop at text)) ≡ take (at + count) text

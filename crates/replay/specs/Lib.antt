@@ -1,4 +1,4 @@
 pub mod Defaults
 pub mod TraceTexts
-pub mod Ends
+pub mod Transfers
 pub mod Replays

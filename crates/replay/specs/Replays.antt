@@ -2,7 +2,7 @@
 use Rattle.std.specs.Prelude.{◌≡◌, ◌⊎◌, ℕ, ◌≤◌, List, length, Option, None}
 use Rattle.std.specs.Io.KnownBytes.{Appends}
 use Rattle.script.specs.Faults.{fault_of}
-use Rattle.replay.specs.Ends.{WritesFront}
+use Rattle.replay.specs.Transfers.{WritesFront}
 use Rattle.replay.specs.TraceTexts.{IsTraceOf}
 
 -- the script is faultless, and its trace is written

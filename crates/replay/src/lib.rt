@@ -2,20 +2,20 @@
 #![tactic(auto)]
 
 mod defaults;
-mod ends;
 mod events;
 mod fault;
 mod laws;
 mod reports;
 mod run;
 mod streams;
+mod transfers;
 
-pub use ends::MOST_READS;
 pub use events::{Replayed, replay_events};
 pub use fault::Fault;
 pub use laws::a_script_has_one_trace;
 pub use reports::reports_of;
 pub use streams::{replay, replay_between};
+pub use transfers::MOST_READS;
 
 #[cfg(test)]
 mod tests;

@@ -1,15 +1,15 @@
 ghost use Rattle.std.specs.Prelude.{◌≡◌, ◌≢◌, ℕ, ◌+◌, ◌≤◌, Some, None, Err, IfOk, IfErr, IfSome, OnOk, OnErr, string_bytes};
 ghost use Rattle.std.specs.Io.KnownBytes.{IsAtEnd, Keeps};
 ghost use Rattle.script.specs.Faults.{fault_of};
-ghost use Rattle.replay.specs.Ends.{read_failures, write_failures};
+ghost use Rattle.replay.specs.Transfers.{read_failures, write_failures};
 ghost use Rattle.replay.specs.Replays.{WritesTrace, WritesFrontOfTrace, AreFewWrites};
 ghost use Rattle.replay.specs.TraceTexts.{IsTraceOf};
 
-use crate::ends::{MOST_READS, read_whole, write_whole};
 use crate::events::{Replayed, replay_events};
 use crate::fault::Fault;
 use crate::reports::report;
 use binom_queue::BinomQueue;
+use crate::transfers::{MOST_READS, read_whole, write_whole};
 use counted_io::{Counted, Sink, Source};
 use due_key::Key;
 use pend_queue::PendQueue;

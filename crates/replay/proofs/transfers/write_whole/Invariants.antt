@@ -1,6 +1,6 @@
 use Rattle.std.proofs.Common.{◌≡◌, ◌≤◌, length, take}
 use Rattle.std.specs.Io.KnownBytes.{Appends}
-use Rattle.replay.proofs.ends.write_whole.Given as goal
+use Rattle.replay.proofs.transfers.write_whole.Given as goal
 
 -- each write took a byte at least, and the bytes so far are written
 abbrev pub invariant-writing : goal.invariant-writing

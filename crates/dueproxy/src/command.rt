@@ -8,6 +8,8 @@ pub(crate) enum Asked {
     Replay,
     /// Look at the configuration in the file of this name.
     Check(String),
+    /// The same, with every faulty line and what takes its place.
+    Explain(String),
     /// A subcommand that is not there yet.
     Later,
     /// Nothing more: help was printed, or a fault in the words, and this is the status.
@@ -34,6 +36,8 @@ The events:
   M abort T              the client of ticket T, which waits, gave up
   M tick                 time has passed: stays that lasted too long end
   M check NAME up|down   a check of the server was answered, or not
+  M limit NAME MAXCONN   the server may serve so many at once from now on
+  roll                   the reports so far, and the next window of the log
 
 For example, dueproxy replay reads
   0 arrive 0 0
@@ -48,25 +52,33 @@ Prints one of
   config line L: CAUSE   line L is the first faulty one: status 3
   read fault             the file can't be read: status 1
 
+With --explain each faulty line is named, the word at fault marked, and it is said
+what takes the place of a keyword of HAProxy that isn't there; at the end stands
+  lines to change: N
+
 For example, dueproxy check examples/shop.cfg";
 
 /// Reads the words, and prints help or what is wrong with them.
 pub(crate) fn ask(rt: &(impl Print + Eprint + AllocGlobal), words: &[String]) -> Asked {
-    let Ok(command) = command(rt.alloc()) else {
+    let Ok(command) = dueproxy(rt.alloc()) else {
         return no_memory(rt);
     };
     match command.try_get_matches_from(words) {
         Err(error) => refuse(rt, error),
         Ok(matches) => match matches.subcommand() {
             Some(("replay", _)) => Asked::Replay,
-            Some(("check", words)) => check_of(rt, words.get_str("FILE").unwrap_or_default()),
+            Some(("check", words)) => {
+                let file = words.get_str("FILE").unwrap_or_default();
+                check_of(rt, file, words.get_flag("explain"))
+            }
             _ => Asked::Later,
         },
     }
 }
 
-fn check_of(rt: &(impl Eprint + AllocGlobal), file: &str) -> Asked {
+fn check_of(rt: &(impl Eprint + AllocGlobal), file: &str, explain: bool) -> Asked {
     match String::from_str(rt.alloc(), file) {
+        Ok(file) if explain => Asked::Explain(file),
         Ok(file) => Asked::Check(file),
         Err(_) => no_memory(rt),
     }
@@ -85,7 +97,7 @@ fn no_memory(rt: &impl Eprint) -> Asked {
     Asked::Nothing(1)
 }
 
-fn command<'a>(alloc: Global) -> Result<Command<'a>, AllocError> {
+fn dueproxy<'a>(alloc: Global) -> Result<Command<'a>, AllocError> {
     Command::new(alloc, "dueproxy")
         .about("Queues requests by class and due date")
         .after_help(SCRIPT_HELP)
@@ -107,6 +119,7 @@ fn check<'a>(alloc: Global) -> Result<Command<'a>, AllocError> {
             "Reads a configuration, and prints how many servers it has, or its first faulty line",
         )
         .after_help(CHECK_HELP)
+        .arg(explain(alloc))?
         .arg(file(alloc))
 }
 
@@ -117,6 +130,13 @@ fn run<'a>(alloc: Global) -> Result<Command<'a>, AllocError> {
         .arg(number(alloc, "workers", "64", 1, 256))?
         .arg(number(alloc, "places", "1024", 1, 4096))?
         .arg(number(alloc, "requests", "0", 0, 999_999_999))
+}
+
+fn explain<'a>(alloc: Global) -> Arg<'a> {
+    Arg::new(alloc, "explain")
+        .long("explain")
+        .action(ArgAction::SetTrue)
+        .help("Names every faulty line, and what takes the place of HAProxy's keywords")
 }
 
 fn file<'a>(alloc: Global) -> Arg<'a> {
@@ -155,6 +175,11 @@ mod tests {
         assert_eq!(rt;
             asked(&rt, &["dueproxy", "check", "file"])?,
             Asked::Check(file)
+        );
+        let file = String::from_str(rt.alloc(), "file")?;
+        assert_eq!(rt;
+            asked(&rt, &["dueproxy", "check", "--explain", "file"])?,
+            Asked::Explain(file)
         );
         assert_eq!(rt; asked(&rt, &["dueproxy", "check"])?, Asked::Nothing(2));
         assert_eq!(rt;

@@ -1,6 +1,6 @@
 ghost use Rattle.std.specs.Prelude.{◌≡◌, ◌≢◌, ℕ, ◌+◌, ◌<◌, ◌≤◌, length, IfOk, IfErr, IfSome, OnOk, vec_len};
 ghost use Rattle.std.specs.Io.KnownBytes.{Appends, Consumes, IsAtEnd};
-ghost use Rattle.replay.specs.Ends.{WritesFront, read_failures, write_failures};
+ghost use Rattle.replay.specs.Transfers.{WritesFront, read_failures, write_failures};
 
 use crate::fault::Fault;
 use counted_io::{Sink, Source};

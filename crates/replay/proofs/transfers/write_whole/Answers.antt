@@ -1,7 +1,7 @@
 use Rattle.std.proofs.Common.{◌+◌, ◌-◌, ◌≤◌, length, drop, refl, ◌∙◌, arith, length-take}
 use Rattle.std.proofs.KnownBytes.{Appends-kept}
 use Rattle.replay.proofs.Fronts.{written_more, front_written}
-use Rattle.replay.proofs.ends.write_whole.Goals as goal
+use Rattle.replay.proofs.transfers.write_whole.Goals as goal
 
 -- a write that failed took nothing
 pub returns-in_default-clause-err : goal.returns-in_default-clause-err

@@ -1,7 +1,7 @@
 use Rattle.std.proofs.Common.{◌≡◌, ◌≤◌, vec_len}
 use Rattle.std.specs.Io.KnownBytes.{Consumes}
 use Rattle.script.specs.declared.header.TheConstants.{MOST_BYTES}
-use Rattle.replay.proofs.ends.read_whole.Given as goal
+use Rattle.replay.proofs.transfers.read_whole.Given as goal
 
 -- each read gave a byte at least, and all that was read is there
 abbrev pub invariant-reading : goal.invariant-reading

@@ -1,0 +1,227 @@
+//! What is said of a faulty line: its cause in a sentence, and what takes the place of HAProxy's keywords that the profile leaves out.
+
+use proxy_config::Cause;
+
+/// The cause in a sentence.
+pub(crate) fn sentence(cause: Cause) -> &'static str {
+    match cause {
+        Cause::Quoting =>
+            "Quotes and backslashes have no meaning here, and can't stand before a comment.",
+        Cause::Section => "Of sections there are global, defaults and one listen.",
+        Cause::Keyword => "This word isn't one that can stand here.",
+        Cause::Place => "This line can't stand in this section.",
+        Cause::Words => "The line has too few words, or one too many.",
+        Cause::Number => "This isn't a number or a time, or it is out of range.",
+        Cause::Address =>
+            "This isn't an address: *:PORT, :PORT, HOST:PORT or four numbers and a PORT.",
+        Cause::Name => "This isn't a name: 1 to 32 letters, digits, -, _, . and :.",
+        Cause::Twice => "This stands there already.",
+        Cause::Unknown => "No ACL or no server of this name is declared.",
+        Cause::Condition => "This isn't a condition, a test or an expression of the profile.",
+        Cause::Missing => "The listen lacks a bind or a server, or there is no listen.",
+        Cause::Limit => "This is one server, ACL line or rule too many, or the file is too long.",
+    }
+}
+
+/// Keywords of HAProxy that the profile leaves out, and what takes their place.
+const KEYWORDS: [(&str, &str); 30] = [
+    (
+        "errorfile",
+        "Leave it out: what the proxy says itself has no body.",
+    ),
+    (
+        "errorloc",
+        "Leave it out: what the proxy says itself has no body.",
+    ),
+    (
+        "frontend",
+        "Put what stands in frontend and backend into one listen, bind and server lines together.",
+    ),
+    (
+        "backend",
+        "Put what stands in frontend and backend into one listen, bind and server lines together.",
+    ),
+    (
+        "listen",
+        "Put both into one listen, or run one proxy for each.",
+    ),
+    (
+        "default_backend",
+        "Leave it out: all servers stand in the one listen.",
+    ),
+    (
+        "use_backend",
+        "Leave it out, or bind requests to a server by use-server and an acl.",
+    ),
+    (
+        "default-server",
+        "Write these settings on each server line.",
+    ),
+    (
+        "maxconn",
+        "Leave it out: maxconn stands on server lines, and --places bounds the live requests.",
+    ),
+    (
+        "fullconn",
+        "Leave it out: a server's maxconn is its limit, however many wait.",
+    ),
+    (
+        "cookie",
+        "Leave it out, or bind requests to a server by use-server and an acl.",
+    ),
+    (
+        "appsession",
+        "Leave it out, or bind requests to a server by use-server and an acl.",
+    ),
+    (
+        "stick-table",
+        "Leave it out: no request is bound to a server by those before it.",
+    ),
+    (
+        "stick",
+        "Leave it out: no request is bound to a server by those before it.",
+    ),
+    ("stats", "Leave it out: there are no pages of statistics."),
+    (
+        "monitor-uri",
+        "Leave it out: there is no page that monitors ask for.",
+    ),
+    ("dispatch", "Write it as a server."),
+    ("redirect", "Leave it out, or let the server answer so."),
+    ("reqadd", "Leave it out: heads are handed on as they came."),
+    ("rspadd", "Leave it out: heads are handed on as they came."),
+    (
+        "http-response",
+        "Leave it out: heads are handed on as they came.",
+    ),
+    (
+        "tcp-request",
+        "Leave it out: only http-request is there, for the class and the offset.",
+    ),
+    (
+        "http-check",
+        "Leave it out: a check is a connection that is taken.",
+    ),
+    ("capture", "Leave it out: no log of requests is written."),
+    ("log-format", "Leave it out: no log of requests is written."),
+    (
+        "compression",
+        "Leave it out: bodies are handed on as they came.",
+    ),
+    ("filter", "Leave it out: bodies are handed on as they came."),
+    ("hash-type", "Leave it out: balance is leastconn."),
+    (
+        "source",
+        "Leave it out: connections begin at the address that the system chooses.",
+    ),
+    (
+        "backlog",
+        "Leave it out: it is as long as the system allows.",
+    ),
+];
+
+/// The same of the words behind `option`.
+const OPTIONS: [(&str, &str); 11] = [
+    (
+        "forwardfor",
+        "Leave it out: no field is added that names the client.",
+    ),
+    (
+        "httpclose",
+        "Leave it out: each connection carries one request.",
+    ),
+    (
+        "http-server-close",
+        "Leave it out: each connection carries one request.",
+    ),
+    (
+        "forceclose",
+        "Leave it out: each connection carries one request.",
+    ),
+    (
+        "http-keep-alive",
+        "Leave it out: each connection carries one request.",
+    ),
+    (
+        "httpchk",
+        "Leave it out: a check is a connection that is taken.",
+    ),
+    ("tcplog", "Leave it out: no log of requests is written."),
+    ("log-health-checks", "Leave it out: no log is written."),
+    (
+        "persist",
+        "Leave it out: a server that is down takes no request.",
+    ),
+    (
+        "allbackups",
+        "Leave it out: there are no backup servers, but weight 0 takes pinned requests alone.",
+    ),
+    (
+        "transparent",
+        "Leave it out: requests go to the servers that are declared.",
+    ),
+];
+
+/// Words that have others beside them in HAProxy, and which ones are there.
+const CHOICES: [(&str, &str); 6] = [
+    (
+        "option",
+        "Of options there are redispatch, abortonclose, httplog and dontlognull.",
+    ),
+    (
+        "timeout",
+        "Of times there are queue, connect, client and server.",
+    ),
+    (
+        "balance",
+        "leastconn is the only one: the least load by weight.",
+    ),
+    ("mode", "http is the only one."),
+    (
+        "server",
+        "Of settings there are weight, maxconn, maxqueue, check, inter, rise and fall.",
+    ),
+    (
+        "http-request",
+        "Of actions there are set-priority-class and set-priority-offset.",
+    ),
+];
+
+/// What takes the place of a line that begins with these words, or where there is none, what there is.
+pub(crate) fn advice(
+    cause: Cause,
+    first: &[u8],
+    second: &[u8],
+    at_fault: &[u8],
+) -> Option<&'static str> {
+    if is(first, "option") {
+        if let Some(advice) = found(&OPTIONS, second) {
+            return Some(advice);
+        }
+    }
+    if is(first, "bind") && !is(at_fault, "bind") {
+        return Some(
+            "Of a bind only the address is there: TLS ends before the proxy, and ssl, crt and other words go.",
+        );
+    }
+    if let Some(advice) = found(&KEYWORDS, first) {
+        return Some(advice);
+    }
+    match cause {
+        Cause::Keyword | Cause::Words => found(&CHOICES, first),
+        _ => None,
+    }
+}
+
+fn found(rows: &[(&'static str, &'static str)], word: &[u8]) -> Option<&'static str> {
+    for (name, advice) in rows {
+        if is(word, name) {
+            return Some(*advice);
+        }
+    }
+    None
+}
+
+fn is(word: &[u8], name: &str) -> bool {
+    word == name.as_bytes()
+}

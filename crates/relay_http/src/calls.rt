@@ -46,8 +46,8 @@ impl Exchange {
         self.read_request_from(alloc, &mut source)
     }
 
-    /// Hands the request on to the server: its head, the bytes held, and the rest of its body (RFC 9112, sections 6 and 7). The pass is the
-    /// right to do so, and that of a slot at a server.
+    /// Hands the request on to the server: its head, the bytes held, and the rest of its body (RFC 9112, sections 6 and 7). The pass is
+    /// that of a slot at a server.
     ///
     /// Faults: `Framing` once the bytes can be no such body, `Read`, `Write` and `Turns`. It takes no memory.
     pub fn forward<R: Read, W: Write>(
@@ -100,7 +100,7 @@ impl Exchange {
     }
 
     /// Hands the server's answer on to the client: at most eight heads before it, its own, and its body (RFC 9110, section 15;
-    /// RFC 9112, sections 6 and 7). The pass is the one on which the request was handed on, so that nobody posted it meanwhile.
+    /// RFC 9112, sections 6 and 7). The pass has the ticket and the verdict of that on which the request was handed on.
     ///
     /// Faults: `Head` once no head can come of the bytes, `Framing` where a head frames its body badly or is the ninth before an answer, or once
     /// the bytes behind it can be no such body, `Read`, `Write`, `Turns`, and `NoMemory` where a whole head finds none.

@@ -20,9 +20,9 @@ pub enum Stage {
 
 /// One request and its answer, between a client and a server.
 ///
-/// Its calls are `read_request`, `go_on` or not, `forward` and `answer`, in this order and each once at most. The last two are
-/// made on one pass that serves: whoever has lent it can't post it before the answer is done. After a fault they answer `Closed`, and
-/// `refuse` works as long as no byte of an answer went out.
+/// Its calls are `read_request`, `go_on` or not, `forward` and `answer`, in this order and each once at most. The last two ask
+/// for a pass that gives a slot, of the same ticket and verdict; while one of them runs, its pass is lent and can't be posted. After a
+/// fault they answer `Closed`, and `refuse` works as long as no byte of an answer went out.
 #[derive(Drop)]
 pub struct Exchange {
     pub(crate) pipe: Pipe,

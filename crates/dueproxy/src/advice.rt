@@ -24,7 +24,7 @@ pub(crate) fn sentence(cause: Cause) -> &'static str {
 }
 
 /// Keywords of HAProxy that the profile leaves out, and what takes their place.
-const KEYWORDS: [(&str, &str); 30] = [
+const KEYWORDS: [(&str, &str); 29] = [
     (
         "errorfile",
         "Leave it out: what the proxy says itself has no body.",
@@ -67,10 +67,6 @@ const KEYWORDS: [(&str, &str); 30] = [
     ),
     (
         "cookie",
-        "Leave it out, or bind requests to a server by use-server and an acl.",
-    ),
-    (
-        "appsession",
         "Leave it out, or bind requests to a server by use-server and an acl.",
     ),
     (

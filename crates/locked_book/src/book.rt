@@ -83,6 +83,7 @@ impl<Q: PendQueue<Key, usize>, N: BoardName> Book<Q, N> {
     ) -> Result<Ticketed, Refusal>
         requires { board.now ≡ N.board }
         ensures ok { IfOk result (λ it. AddsEvent self.old.history self.new.history (Arrive (effective self.old.history moment) (record { ticket = it.ticket; class = wanted.class; due = pos (effective self.old.history moment) +ℤ wanted.offset; pin = wanted.pin; place = it.place }))) }
+        ensures place { IfOk result (λ it. it.place < N.terms.places) }
         ensures err { IfErr result (RefusedOrNoMemory (refuses_arrival self.old.history wanted.pin)) }
         ensures carried { OnOk result (CarriesOut self.old self.new woken.old woken.new) }
         ensures unchanged { OnErr result ((self.new ≡ self.old) × (woken.new ≡ woken.old)) }

@@ -1,5 +1,5 @@
 -- Events that a book makes: what they owe, and that it is paid.
-use Rattle.std.proofs.Common.{◌≡◌, ℕ, zero, suc, ◌+◌, ◌==◌, max, cond, replicate, Bool, true, false, List, [], ◌∷◌, ◌++◌, All, Option, None, Some, map, drop, length, refl, ap, sym, ◌∙◌, subst, arith}
+use Rattle.std.proofs.Common.{◌≡◌, ◌<◌, ℕ, zero, suc, ◌+◌, ◌==◌, max, cond, replicate, Bool, true, false, List, [], ◌∷◌, ◌++◌, All, Option, None, Some, map, drop, length, refl, ap, sym, ◌∙◌, subst, arith}
 use Rattle.std.specs.List.{cons_option}
 use Rattle.std.proofs.lemmas.List.{append_assoc, append-nil}
 use Rattle.std.proofs.Math.Seq.{drop-append_seam}
@@ -29,6 +29,9 @@ use Rattle.outstanding.proofs.Owing.{owes, paid, owes_rest, offered, state_on}
 use Rattle.outstanding.proofs.Turning.{back}
 use Rattle.locked_book.specs.Books.{IsKeptBook}
 use Rattle.atomic_table.specs.Seated.{TableId}
+use Rattle.std.proofs.lemmas.Option.{slice_get_within}
+use Rattle.dispatch_log.specs.declared.entry.Arrival.{Arrival}
+use Rattle.dispatch_log.proofs.Within.{within}
 use Rattle.grant_board.specs.Views.{Terms}
 
 -- once all is offered nothing is owed
@@ -144,3 +147,10 @@ first_book setup = record {
   offers = ([], refl);
   returns = ([], refl);
 }
+
+-- an arrival's place is one of the board's
+pub arrival_place : (board : TableId) (terms : Terms) (h new : History) (keeper : Keeper) (m : ℕ) (a : Arrival) → IsLegal h → IsKeptBook board terms h keeper → AddsEvent h new (Arrive m a) → a.place < terms.places
+arrival_place board terms h new keeper m a legal is adds =
+    let low : a.place < length (state_of h).rows = slice_get_within (state_of h).rows a.place None adds.lawful.judged.0.1.vacant in
+    let same : h.setup.places ≡ terms.places = ap (λ (t : Terms). t.places) (sym is.book.terms ∙ is.of_terms) in
+    omega (arith, low, (within h legal).places, same)

@@ -5,6 +5,7 @@ ghost use Rattle.dispatch_log.specs.Dispatch.{bound_by};
 ghost use Rattle.dispatch_log.specs.Rows.{served};
 ghost use Rattle.list_facts.specs.Weights.{AreIn};
 ghost use Rattle.outstanding.specs.Outstanding.{outstanding};
+ghost use Rattle.outstanding.specs.Turns.{VisitsSome, Turns};
 ghost use Rattle.locked_book.specs.Ends.{IsAcceptable};
 ghost use Rattle.dispatch_log.specs.Histories.{first_window, next_window, state_of, effective, refuses_arrival, refuses_abort, refuses_tick, refuses_check, refuses_limit, SomeExpires, RefusedOrNoMemory};
 ghost use Rattle.dispatch_log.specs.Legal.{AddsEvent, IsLegal};
@@ -82,6 +83,7 @@ impl<Q: PendQueue<Key, usize>, N: BoardName> Book<Q, N> {
     ) -> Result<Ticketed, Refusal>
         requires { board.now ≡ N.board }
         ensures ok { IfOk result (λ it. AddsEvent self.old.history self.new.history (Arrive (effective self.old.history moment) (record { ticket = it.ticket; class = wanted.class; due = pos (effective self.old.history moment) +ℤ wanted.offset; pin = wanted.pin; place = it.place }))) }
+        ensures place { IfOk result (λ it. it.place < N.terms.places) }
         ensures err { IfErr result (RefusedOrNoMemory (refuses_arrival self.old.history wanted.pin)) }
         ensures carried { OnOk result (CarriesOut self.old self.new woken.old woken.new) }
         ensures unchanged { OnErr result ((self.new ≡ self.old) × (woken.new ≡ woken.old)) }
@@ -225,6 +227,30 @@ impl<Q: PendQueue<Key, usize>, N: BoardName> Book<Q, N> {
         ensures vouched { Vouches self.old.view self.new.view relay.view.passes }
     {
         self.keeping.vouch(board, relay)
+    }
+
+    /// Looks at each place that is out, by rising number, and takes what came back there; then a tick, where a request has waited too long.
+    /// Refused where the log is full: what was taken until then stays taken. `O(1)` for each place that is out, beside the events.
+    pub fn turn(
+        &mut self,
+        board: &Board,
+        moment: Moment,
+        woken: &mut PlaceSet,
+    ) -> Result<(), Refusal>
+        requires { board.now ≡ N.board }
+        ensures ok { OnOk result (Turns moment self.old woken.old self.new woken.new) }
+        ensures err { IfErr result (λ refusal. (refusal ≡ LogFull) × (refuses_tick self.new.history ≡ Some LogFull)) }
+        ensures stopped { OnErr result (VisitsSome moment self.old woken.old self.new woken.new) }
+    {
+        let mut from = 0;
+        while let Some(place) = self.keeping.next(from) {
+            self.collect_at(board, moment, place, woken)?;
+            from = place + 1;
+        }
+        if self.core.expired(moment) {
+            self.tick(board, moment, woken)?;
+        }
+        Ok(())
     }
 
     /// Whether a tick at this moment would tell a timeout. `O(1)`.

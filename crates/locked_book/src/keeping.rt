@@ -44,6 +44,7 @@ impl Keeping {
     pub fn next(&self, from: usize) -> Option<usize>
         ensures next { IsBusyNext self.now.view.out from result }
         ensures in_range { IfSome result (λ place. place < self.now.view.terms.places) }
+        ensures fits { IfSome result (λ place. place < 4096) }
     {
         self.out.next(from)
     }

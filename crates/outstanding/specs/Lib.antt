@@ -2,3 +2,4 @@ pub mod Verdicts
 pub mod Outstanding
 pub mod Books
 pub mod Calls
+pub mod Turns

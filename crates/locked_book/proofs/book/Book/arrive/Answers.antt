@@ -5,7 +5,7 @@ use Rattle.dispatch_log.specs.Histories.{effective}
 use Rattle.dispatch_log.specs.Legal.{AddsEvent}
 use Rattle.outstanding.specs.Books.{IsOwing}
 use Rattle.outstanding.specs.Calls.{added}
-use Rattle.locked_book.proofs.Events.{plain_owes, kept_again, carried}
+use Rattle.locked_book.proofs.Events.{plain_owes, kept_again, carried, arrival_place}
 use Rattle.locked_book.proofs.book.Book.arrive.Given as given
 use Rattle.locked_book.proofs.book.Book.arrive.Goals as goal
 
@@ -25,3 +25,9 @@ pub returns-clause-carried : goal.returns-clause-carried
 returns-clause-carried g c =
     carried c.args.self.now c.self.inside.core c.arrive.new.self c.self.inside.keeping c.offer_from.new.keeping c.args.woken.now c.offer_from.new.woken c.len-from.result c.self.view_is
     (c.len-from.ensures ∙ ap length c.log.ensures.entries) c.offer_from.ensures.offered c.offer_from.ensures.woken
+
+pub returns-clause-place : goal.returns-clause-place
+returns-clause-place g c =
+    arrival_place g.N.BoardName.board g.N.BoardName.terms c.self.inside.core c.arrive.new.self c.self.inside.keeping (effective c.self.inside.core c.args.moment)
+    (record { ticket = c.in_ok-it.it.ticket; class = c.args.wanted.class; due = pos (effective c.self.inside.core c.args.moment) +ℤ c.args.wanted.offset; pin = c.args.wanted.pin; place = c.in_ok-it.it.place }) c.log.ensures.legal c.self.invariant
+    c.in_ok-it.ensures.ok

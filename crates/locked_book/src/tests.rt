@@ -1,4 +1,4 @@
-ghost use Rattle.std.specs.Prelude.{◌≡◌, ◌∷◌, [], IfOk};
+ghost use Rattle.std.specs.Prelude.{◌≡◌, ◌<◌, ◌∷◌, [], IfOk};
 ghost use Rattle.dispatch_log.specs.Histories.{first_window};
 ghost use Rattle.grant_board.specs.KeeperCalls.{new_keeper};
 ghost use Rattle.grant_board.specs.RelayCalls.{new_relay};
@@ -8,6 +8,7 @@ ghost use Rattle.outstanding.specs.Books.{terms_of};
 use crate::{Book, Wanted};
 use dispatch_core::Core;
 use dispatch_log::{ServerSet, Servers, Setup};
+use dispatch_trace::Ticketed;
 use due_key::{Class, Key, Moment, Offset};
 use grant_board::{Board, BoardName, KeeperSeat, RelaySeat, Taking};
 use pend_queue::ListQueue;
@@ -53,6 +54,20 @@ fn nothing_special() -> Wanted {
     }
 }
 
+// Takes the request's verdict where it is offered, and posts that the exchange is over.
+fn serve_one(board: &Board, relay: &mut RelaySeat, it: Ticketed) -> bool
+    requires same_board { relay.old.board ≡ board.now }
+    requires in_range { it.place < relay.old.view.terms.places }
+{
+    match relay.try_take(board, it.place, it.ticket) {
+        Taking::Taken(pass) => {
+            relay.post(board, pass, Ending::Done);
+            true
+        }
+        Taking::NotYet => false,
+    }
+}
+
 // Two requests arrive; the second one is served once the first one is over.
 fn serve_two<N: BoardName>(
     alloc: Global,
@@ -74,9 +89,8 @@ fn serve_two<N: BoardName>(
     let Ok(_) = book.arrive(alloc, board, Moment::zero(), nothing_special(), &mut woken) else {
         return Err(Fail::from("refused"));
     };
-    match relay.try_take(board, first.place, first.ticket) {
-        Taking::Taken(pass) => relay.post(board, pass, Ending::Done),
-        Taking::NotYet => return Err(Fail::from("not offered")),
+    if !serve_one(board, &mut relay, first) {
+        return Err(Fail::from("not offered"));
     }
     woken.remove(0);
     let Ok(()) = book.turn(board, Moment::zero(), &mut woken) else {

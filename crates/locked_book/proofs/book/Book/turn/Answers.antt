@@ -18,7 +18,7 @@ pub returns-in_err-collect_at-clause-stopped : goal.returns-in_err-collect_at-cl
 returns-in_err-collect_at-clause-stopped g c =
     on_err c.from_residual.result
     (stopped c.args.moment c.args.self.now c.args.woken.now c.loop-place.self c.loop-place.woken c.loop-place.from c.collect_at.new.self c.collect_at.new.woken c.loop-place.invariant
-        c.in_err-collect_at.ensures.unchanged.0 c.in_err-collect_at.ensures.unchanged.1)
+    c.in_err-collect_at.ensures.unchanged.0 c.in_err-collect_at.ensures.unchanged.1)
 
 pub overflow_add-from : goal.overflow_add-from
 overflow_add-from g c = omega (arith, c.in-Some.ensures.fits)
@@ -36,7 +36,7 @@ loop-place-preserved g c =
     turn_goes c.args.moment c.args.self.now c.args.woken.now c.loop-place.self c.loop-place.woken c.loop-place.from c.in-Some.place c.collect_at.new.self c.collect_at.new.woken c.loop-place.invariant next.0
     (λ other high low. subst (λ (v : KeeperView). count_at other v.out ≡ 0) views (next.2 other high low))
     (visit_of c.args.moment c.in-Some.place c.loop-place.self c.loop-place.woken c.collect_at.new.self c.collect_at.new.woken c.in_ok-collect_at.field-0 (subst (λ (v : KeeperView). 0 < count_at c.in-Some.place v.out) views next.1)
-        c.in_ok-collect_at.ensures.some c.in_ok-collect_at.ensures.none)
+    c.in_ok-collect_at.ensures.some c.in_ok-collect_at.ensures.none)
 
 pub returns-in_err-tick-clause-stopped : goal.returns-in_err-tick-clause-stopped
 returns-in_err-tick-clause-stopped g c =

@@ -2,7 +2,7 @@ mod calls;
 mod setups;
 
 use self::calls::{
-    Call, after, arrive, ask, ends_with, go_on, goes_on_with, is_refused, made, moment, pinned,
+    Call, after, arrive, ends_with, go_on, goes_on_with, is_refused, made, moment, pinned,
 };
 use self::setups::{alone, checked, of_servers, patient, server};
 use crate::{Phase, Queue, Refusal};
@@ -54,7 +54,7 @@ fn a_grant_is_noted(rt: HostRuntime) -> Result<(), Fail> {
     let alloc = rt.alloc();
     let calls = [(0, arrive(0, 0)), (1, arrive(0, 0)), (10, Call::Done(1))];
     let core = after(&rt, alloc, alone(alloc)?, &calls)?;
-    let grant = core.log().grants().first().copied();
+    let grant = core.lists.log().grants().first().copied();
     assert_eq!(rt; grant.map(|it| it.class), Some(Class::clamp(0)));
     assert_eq!(rt; grant.map(|it| it.moment), Some(moment(10)));
     assert_eq!(rt; grant.map(|it| it.stay.joined), Some(4));
@@ -113,16 +113,16 @@ fn tells_where_requests_stand(rt: HostRuntime) -> Result<(), Fail> {
         alone(alloc)?,
         &[(0, arrive(0, 0)), (3, arrive(0, 0))],
     )?;
-    assert_eq!(rt; core.phase(1), Some(Phase::Serving(0)));
+    assert_eq!(rt; core.lists.phase(1), Some(Phase::Serving(0)));
     assert_eq!(rt;
-        core.phase(2),
+        core.lists.phase(2),
         Some(Phase::Waiting(Queue::Backend, moment(3)))
     );
-    assert_eq!(rt; core.phase(3), None);
-    assert_eq!(rt; core.served(0), 1);
-    assert_eq!(rt; core.queued(Queue::Backend), 1);
-    assert_eq!(rt; core.queued(Queue::Server(0)), 0);
-    assert!(rt; core.has_room());
+    assert_eq!(rt; core.lists.phase(3), None);
+    assert_eq!(rt; core.lists.served(0), 1);
+    assert_eq!(rt; core.lists.queued(Queue::Backend), 1);
+    assert_eq!(rt; core.lists.queued(Queue::Server(0)), 0);
+    assert!(rt; core.lists.has_room());
     Ok(())
 }
 
@@ -131,14 +131,14 @@ fn tells_the_places_of_live_requests(rt: HostRuntime) -> Result<(), Fail> {
     let alloc = rt.alloc();
     let calls = [(0, arrive(0, 0)), (0, arrive(0, 0)), (0, arrive(0, 0))];
     let mut core = after(&rt, alloc, alone(alloc)?, &calls)?;
-    assert_eq!(rt; core.places(), 8);
-    assert_eq!(rt; core.place(1), Some(0));
-    assert_eq!(rt; core.place(2), Some(1));
-    assert_eq!(rt; core.place(3), Some(2));
-    assert_eq!(rt; core.place(4), None);
+    assert_eq!(rt; core.lists.places(), 8);
+    assert_eq!(rt; core.lists.place(1), Some(0));
+    assert_eq!(rt; core.lists.place(2), Some(1));
+    assert_eq!(rt; core.lists.place(3), Some(2));
+    assert_eq!(rt; core.lists.place(4), None);
     go_on(&rt, alloc, &mut core, &[(1, Call::Done(1))]);
-    assert_eq!(rt; core.place(1), None);
-    assert_eq!(rt; core.place(2), Some(1));
+    assert_eq!(rt; core.lists.place(1), None);
+    assert_eq!(rt; core.lists.place(2), Some(1));
     Ok(())
 }
 
@@ -146,10 +146,10 @@ fn tells_the_places_of_live_requests(rt: HostRuntime) -> Result<(), Fail> {
 fn tells_which_servers_are_up(rt: HostRuntime) -> Result<(), Fail> {
     let alloc = rt.alloc();
     let core = after(&rt, alloc, checked(alloc)?, &[(0, Call::Check(0, false))])?;
-    assert_eq!(rt; core.servers(), 2);
-    assert_eq!(rt; core.up(0), false);
-    assert!(rt; core.up(1));
-    assert_eq!(rt; core.up(2), false);
+    assert_eq!(rt; core.lists.servers(), 2);
+    assert_eq!(rt; core.lists.up(0), false);
+    assert!(rt; core.lists.up(1));
+    assert_eq!(rt; core.lists.up(2), false);
     Ok(())
 }
 
@@ -170,7 +170,7 @@ fn refusals_come_in_order(rt: HostRuntime) -> Result<(), Fail> {
         Refusal::NoSuchTicket,
     );
     go_on(&rt, alloc, &mut core, &[(0, Call::Done(1))]);
-    assert_eq!(rt; core.has_room(), false);
+    assert_eq!(rt; core.lists.has_room(), false);
     is_refused(&rt, alloc, &mut core, 0, Call::Done(9), Refusal::LogFull);
     is_refused(&rt, alloc, &mut core, 0, arrive(0, 0), Refusal::LogFull);
     Ok(())
@@ -179,8 +179,8 @@ fn refusals_come_in_order(rt: HostRuntime) -> Result<(), Fail> {
 #[test]
 fn a_new_core_serves_nothing(rt: HostRuntime) -> Result<(), Fail> {
     let core = made(rt.alloc(), alone(rt.alloc())?)?;
-    assert_eq!(rt; core.served(0), 0);
-    assert!(rt; core.log().is_empty());
+    assert_eq!(rt; core.lists.served(0), 0);
+    assert!(rt; core.lists.log().is_empty());
     Ok(())
 }
 
@@ -210,7 +210,7 @@ fn a_request_that_no_server_takes_is_told_so(rt: HostRuntime) -> Result<(), Fail
         &[(0, arrive(0, 0))],
     )?;
     ends_with(&rt, &core, &[Entry::Left(1, Cause::NoServer)]);
-    assert_eq!(rt; core.phase(1), Some(Phase::Told(Cause::NoServer)));
+    assert_eq!(rt; core.lists.phase(1), Some(Phase::Told(Cause::NoServer)));
     go_on(&rt, alloc, &mut core, &[(1, Call::Done(1))]);
     ends_with(&rt, &core, &[Entry::Ended(1)]);
     Ok(())
@@ -229,7 +229,7 @@ fn a_pin_to_no_server_is_refused(rt: HostRuntime) -> Result<(), Fail> {
         Refusal::NoSuchServer,
     );
     go_on(&rt, alloc, &mut core, &[(0, pinned(0, 0))]);
-    assert_eq!(rt; core.log().len(), 2);
+    assert_eq!(rt; core.lists.log().len(), 2);
     Ok(())
 }
 
@@ -240,7 +240,7 @@ fn aborts(rt: HostRuntime) -> Result<(), Fail> {
     let mut core = after(&rt, alloc, alone(alloc)?, &calls)?;
     let expected = [Entry::Abort(moment(1), 2), Entry::Left(2, Cause::Aborted)];
     goes_on_with(&rt, &core, 4, &expected);
-    assert_eq!(rt; core.queued(Queue::Backend), 0);
+    assert_eq!(rt; core.lists.queued(Queue::Backend), 0);
     is_refused(
         &rt,
         alloc,
@@ -276,12 +276,12 @@ fn a_stay_ends_at_the_first_tick_after_its_timeout(rt: HostRuntime) -> Result<()
     let calls = [(0, arrive(0, 0)), (5, arrive(0, 0)), (14, Call::Tick)];
     let mut core = after(&rt, alloc, patient(alloc)?, &calls)?;
     ends_with(&rt, &core, &[Entry::Tick(moment(14))]);
-    assert_eq!(rt; core.expired(moment(14)), false);
-    assert!(rt; core.expired(moment(15)));
+    assert_eq!(rt; core.lists.expired(moment(14)), false);
+    assert!(rt; core.lists.expired(moment(15)));
     go_on(&rt, alloc, &mut core, &[(15, Call::Tick)]);
     let expected = [Entry::Tick(moment(15)), Entry::Left(2, Cause::Timeout)];
     goes_on_with(&rt, &core, 5, &expected);
-    assert_eq!(rt; core.expired(moment(99)), false);
+    assert_eq!(rt; core.lists.expired(moment(99)), false);
     Ok(())
 }
 
@@ -304,7 +304,7 @@ fn timeouts_are_told_by_ticket(rt: HostRuntime) -> Result<(), Fail> {
         Entry::Left(4, Cause::Timeout),
     ];
     goes_on_with(&rt, &core, 10, &expected);
-    assert_eq!(rt; core.queued(Queue::Backend), 1);
+    assert_eq!(rt; core.lists.queued(Queue::Backend), 1);
     Ok(())
 }
 
@@ -474,7 +474,7 @@ fn a_lowered_limit_stops_nobody(rt: HostRuntime) -> Result<(), Fail> {
             Entry::Ended(1),
         ],
     );
-    assert_eq!(rt; core.served(0), 1);
+    assert_eq!(rt; core.lists.served(0), 1);
     go_on(&rt, alloc, &mut core, &[(4, Call::Done(2))]);
     ends_with(&rt, &core, &[Entry::Granted(3, Queue::Backend, 0)]);
     Ok(())
@@ -486,9 +486,9 @@ fn a_roll_keeps_who_waits_and_is_served(rt: HostRuntime) -> Result<(), Fail> {
     let calls = [(0, arrive(0, 0)), (1, arrive(0, 0)), (2, arrive(0, -5))];
     let mut core = after(&rt, alloc, alone(alloc)?, &calls)?;
     core.roll();
-    assert!(rt; core.log().is_empty());
-    assert_eq!(rt; core.served(0), 1);
-    assert_eq!(rt; core.queued(Queue::Backend), 2);
+    assert!(rt; core.lists.log().is_empty());
+    assert_eq!(rt; core.lists.served(0), 1);
+    assert_eq!(rt; core.lists.queued(Queue::Backend), 2);
     go_on(&rt, alloc, &mut core, &[(10, Call::Done(1))]);
     let expected = [
         Entry::Done(moment(10), 1),
@@ -497,7 +497,7 @@ fn a_roll_keeps_who_waits_and_is_served(rt: HostRuntime) -> Result<(), Fail> {
         Entry::Granted(3, Queue::Backend, 0),
     ];
     goes_on_with(&rt, &core, 0, &expected);
-    let grant = core.log().grants().first().copied();
+    let grant = core.lists.log().grants().first().copied();
     assert_eq!(rt; grant.map(|it| it.stay.joined), Some(0));
     assert_eq!(rt; grant.map(|it| it.stay.slot), Some(4));
     Ok(())
@@ -512,8 +512,8 @@ fn a_full_log_has_room_after_a_roll(rt: HostRuntime) -> Result<(), Fail> {
     go_on(&rt, alloc, &mut core, &[(0, Call::Done(1))]);
     is_refused(&rt, alloc, &mut core, 0, Call::Tick, Refusal::LogFull);
     core.roll();
-    assert!(rt; core.has_room());
+    assert!(rt; core.lists.has_room());
     go_on(&rt, alloc, &mut core, &[(0, Call::Tick)]);
-    assert_eq!(rt; core.log().base().len(), 1);
+    assert_eq!(rt; core.lists.log().base().len(), 1);
     Ok(())
 }

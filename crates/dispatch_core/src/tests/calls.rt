@@ -1,12 +1,27 @@
+use super::setups::copied;
 use crate::{Core, Refusal, Setup};
+use binom_queue::BinomQueue;
 use dispatch_log::Entry;
 use due_key::{Class, Key, Moment, Offset};
-use pend_queue::ListQueue;
+use pend_queue::{ListQueue, PendQueue};
 use std::alloc::Global;
 use std::process::Abort;
 use std::test::Fail;
 
-pub type OfLists = Core<ListQueue<Key, usize>>;
+/// Two dispatchers of one setup, one over each kind of queue. They are asked the same calls.
+#[derive(Drop)]
+pub struct Both {
+    pub lists: Core<ListQueue<Key, usize>>,
+    pub trees: Core<BinomQueue<Key, usize>>,
+}
+
+impl Both {
+    /// The next window begins, for both.
+    pub fn roll(&mut self) {
+        self.lists.roll();
+        self.trees.roll();
+    }
+}
 
 /// What is asked of a dispatcher.
 #[derive(Clone, Copy, Debug)]
@@ -35,10 +50,10 @@ pub fn moment(number: u64) -> Moment {
     Moment::new(number).unwrap_or(Moment::zero())
 }
 
-/// Asks a call of the dispatcher, and tells the place of an arrival.
-pub fn ask(
+/// Asks a call of a dispatcher, and tells the place of an arrival.
+fn ask_one<Q: PendQueue<Key, usize>>(
     alloc: Global,
-    core: &mut OfLists,
+    core: &mut Core<Q>,
     moment: Moment,
     call: Call,
 ) -> Result<usize, Refusal> {
@@ -57,44 +72,64 @@ pub fn ask(
     Ok(0)
 }
 
-/// A dispatcher without a request.
-pub fn made(alloc: Global, setup: Setup) -> Result<OfLists, Fail> {
-    if !setup.sound() {
+/// Asks a call of both dispatchers, whose answers and logs are the same.
+fn ask(
+    rt: &impl Abort,
+    alloc: Global,
+    core: &mut Both,
+    at: u64,
+    call: &Call,
+) -> Result<usize, Refusal> {
+    let answer = ask_one(alloc, &mut core.lists, moment(at), *call);
+    let same = ask_one(alloc, &mut core.trees, moment(at), *call);
+    assert_eq!(rt; same.ok(), answer.ok());
+    assert_eq!(rt; same.err(), answer.err());
+    assert_eq!(rt; core.trees.log().entries(), core.lists.log().entries());
+    answer
+}
+
+/// Dispatchers without a request.
+pub fn made(alloc: Global, setup: Setup) -> Result<Both, Fail> {
+    let same = copied(alloc, &setup)?;
+    if !setup.sound() || !same.sound() {
         return Err(Fail::from("not a sound setup"));
     }
-    Ok(Core::new(alloc, setup)?)
+    Ok(Both {
+        lists: Core::new(alloc, setup)?,
+        trees: Core::new(alloc, same)?,
+    })
 }
 
 /// These calls are accepted, each at its moment.
-pub fn go_on(rt: &impl Abort, alloc: Global, core: &mut OfLists, calls: &[(u64, Call)]) {
+pub fn go_on(rt: &impl Abort, alloc: Global, core: &mut Both, calls: &[(u64, Call)]) {
     for (at, call) in calls {
-        assert_eq!(rt; ask(alloc, core, moment(*at), *call).err(), None);
+        assert_eq!(rt; ask(rt, alloc, core, *at, call).err(), None);
     }
 }
 
-/// A dispatcher that has accepted these calls.
+/// Dispatchers that have accepted these calls.
 pub fn after(
     rt: &impl Abort,
     alloc: Global,
     setup: Setup,
     calls: &[(u64, Call)],
-) -> Result<OfLists, Fail> {
+) -> Result<Both, Fail> {
     let mut core = made(alloc, setup)?;
     go_on(rt, alloc, &mut core, calls);
     Ok(core)
 }
 
 /// The log has just these entries from a position on.
-pub fn goes_on_with(rt: &impl Abort, core: &OfLists, from: usize, entries: &[Entry]) {
-    assert_eq!(rt; core.log().entries().get(from..), Some(entries));
+pub fn goes_on_with(rt: &impl Abort, core: &Both, from: usize, entries: &[Entry]) {
+    assert_eq!(rt; core.lists.log().entries().get(from..), Some(entries));
 }
 
 /// The log ends with these entries.
-pub fn ends_with(rt: &impl Abort, core: &OfLists, entries: &[Entry]) {
+pub fn ends_with(rt: &impl Abort, core: &Both, entries: &[Entry]) {
     goes_on_with(
         rt,
         core,
-        core.log().len().saturating_sub(entries.len()),
+        core.lists.log().len().saturating_sub(entries.len()),
         entries,
     );
 }
@@ -103,12 +138,12 @@ pub fn ends_with(rt: &impl Abort, core: &OfLists, entries: &[Entry]) {
 pub fn is_refused(
     rt: &impl Abort,
     alloc: Global,
-    core: &mut OfLists,
+    core: &mut Both,
     at: u64,
     call: Call,
     refusal: Refusal,
 ) {
-    let before = core.log().len();
-    assert_eq!(rt; ask(alloc, core, moment(at), call), Err(refusal));
-    assert_eq!(rt; core.log().len(), before);
+    let before = core.lists.log().len();
+    assert_eq!(rt; ask(rt, alloc, core, at, &call), Err(refusal));
+    assert_eq!(rt; core.lists.log().len(), before);
 }

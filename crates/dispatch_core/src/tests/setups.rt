@@ -26,6 +26,17 @@ pub fn of_servers(alloc: Global, list: &[ServerSet]) -> Result<Setup, Fail> {
     })
 }
 
+/// The same setup.
+pub fn copied(alloc: Global, setup: &Setup) -> Result<Setup, Fail> {
+    let mut same = of_servers(alloc, setup.servers.as_slice())?;
+    same.places = setup.places;
+    same.log = setup.log;
+    same.retries = setup.retries;
+    same.redispatch = setup.redispatch;
+    same.queue_timeout = setup.queue_timeout;
+    Ok(same)
+}
+
 /// One server that takes one request at a time.
 pub fn alone(alloc: Global) -> Result<Setup, Fail> {
     of_servers(alloc, &[server(1, 0, 1)])

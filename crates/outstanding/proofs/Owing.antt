@@ -101,8 +101,8 @@ owes h new view bounds e legal is event adds none nothing bounded = record {
 pub out_row : (h : History) (view : KeeperView) (g : Grant) → IsBook h view → Contains view.out g → IsOutAt (state_of h).rows g.place g
 out_row h view g is there =
     let within_all = λ (weight : Grant → ℕ).
-        (let e : total weight view.out ≡ total weight (outstanding (state_of h).rows) = is.out weight in
-        let le : total weight view.out ≤ total weight (outstanding (state_of h).rows) = omega (arith, e) in le)
+    (let e : total weight view.out ≡ total weight (outstanding (state_of h).rows) = is.out weight in
+    let le : total weight view.out ≤ total weight (outstanding (state_of h).rows) = omega (arith, e) in le)
     in
     let it = is_out 0 (state_of h).rows g (AreIn-Contains same_grant grants_tell view.out (outstanding (state_of h).rows) g within_all there) in
     let at : it.0 ≡ g.place = omega (arith, it.1) in
@@ -116,10 +116,10 @@ owes_end h new old view place it e legal is collects event adds ends backs limit
     let g = grant place it.ticket collects.verdict in
     let row = out_row h old g is collects.was_out in
     let weighs = λ (weight : Grant → ℕ).
-        (let own : total (only it.ticket weight) (outstanding (state_of h).rows) ≡ weigh weight place (Some row.row) = of_ticket weight (state_of h).rows place it.ticket row.row (own_tickets h legal) row.stands row.named in
-        let there : weigh weight place (Some row.row) ≡ weight (grant place row.row.key.ticket collects.verdict) + 0 = ap (λ (v : Option Verdict). total weight (granted place row.row.key.ticket v)) row.verdict in
-        let ticket : weight (grant place row.row.key.ticket collects.verdict) ≡ weight g = ap (λ n. weight (grant place n collects.verdict)) row.named in
-        let sum : back weight e (state_of h).rows ≡ weight g = omega (arith, own, there, ticket, backs weight) in sum)
+    (let own : total (only it.ticket weight) (outstanding (state_of h).rows) ≡ weigh weight place (Some row.row) = of_ticket weight (state_of h).rows place it.ticket row.row (own_tickets h legal) row.stands row.named in
+    let there : weigh weight place (Some row.row) ≡ weight (grant place row.row.key.ticket collects.verdict) + 0 = ap (λ (v : Option Verdict). total weight (granted place row.row.key.ticket v)) row.verdict in
+    let ticket : weight (grant place row.row.key.ticket collects.verdict) ≡ weight g = ap (λ n. weight (grant place n collects.verdict)) row.named in
+    let sum : back weight e (state_of h).rows ≡ weight g = omega (arith, own, there, ticket, backs weight) in sum)
     in
     record {
       terms = ap (λ (v : KeeperView). v.terms) collects.after ∙ is.terms ∙ ap terms_of (sym adds.setup);
@@ -129,7 +129,7 @@ owes_end h new old view place it e legal is collects event adds ends backs limit
       returns = (
         is.returns.0,
         ap (λ (v : KeeperView). returned v.returns) collects.after ∙ map-append _ old.returns (return_of g it.ending ∷ []) ∙ ap (λ (o : Option (ℕ × Ending)). returned old.returns ++ cons_option o []) (sym ends)
-        ∙ endings_on h new e adds (returned old.returns) is.returns.0 is.returns.1,
+            ∙ endings_on h new e adds (returned old.returns) is.returns.0 is.returns.1,
       );
     }
 
@@ -170,7 +170,7 @@ owed_at h view e es it legal is told =
     let g = grant place it.0 it.1 in
     let same : verdicts (e ∷ es) ≡ it ∷ verdicts es = ap (λ (o : Option (ℕ × Verdict)). cons_option o (verdicts es)) told in
     let more = λ (weight : Grant → ℕ). let whole : total weight (grants_of rows (verdicts (e ∷ es))) ≡ weight g + total weight (grants_of rows (verdicts es)) = ap (λ l. total weight (grants_of rows l)) same in
-        (let le : total weight view.out + weight g ≤ total weight (outstanding rows) = omega (arith, is.out weight, whole) in le)
+    (let le : total weight view.out + weight g ≤ total weight (outstanding rows) = omega (arith, is.out weight, whole) in le)
     in
     let there = has_one same_grant grants_tell (outstanding rows) g (omega (arith, more (one same_grant g), one-same same_grant grants_tell g)) in
     let out = is_out 0 rows g there in
@@ -215,11 +215,13 @@ may_offer h view es place ticket it legal is owed = record {
     room (Serve s) phase more =
         let there : s < length h.setup.servers = subst (IsAtOneOf (length h.setup.servers)) (serving_phase owed.row.phase s phase) (bounds.servers owed.row (place, owed.stands)) in
         let terms : length view.terms.limits ≡ length h.setup.servers = ap (λ (t : Terms). length t.limits) is.terms ∙ length-map h.setup.servers (λ server. server.limit) in
-        let bound : slice_index view.bounds s ≡ bound_of (state_of h) s = ap (λ l. slice_index l s) is.bounds ∙ bound_at (state_of h).limits s in
-        (omega (arith, there, terms), λ some.
-        let limit : served s rows ≤ bound_of (state_of h) s = (dispatched h legal).limits s (omega (arith, some, bound)) in
-        let more_there : count_of s view.out + serves_at s (Serve s) ≤ count_of s (outstanding rows) = more (λ g. serves_at s g.verdict) in
-        omega (arith, limit, bound, more_there, serves_at-same s, count_of_served s 0 rows))
+        let bound : slice_index view.bounds s ≡ bound_of (state_of h) s = ap (λ l. slice_index l s) is.bounds ∙ bound_at (state_of h).limits s in (
+          omega (arith, there, terms),
+          λ some.
+              let limit : served s rows ≤ bound_of (state_of h) s = (dispatched h legal).limits s (omega (arith, some, bound)) in
+              let more_there : count_of s view.out + serves_at s (Serve s) ≤ count_of s (outstanding rows) = more (λ g. serves_at s g.verdict) in
+              omega (arith, limit, bound, more_there, serves_at-same s, count_of_served s 0 rows),
+        )
 
 -- and is paid so
 pub offered : (h : History) (view : KeeperView) (e : Entry) (es : List Entry) (it : ℕ × Verdict) (place : ℕ) → IsOwing h view (e ∷ es) → verdict_in e ≡ Some it → place_in it.0 (state_of h).rows ≡ place
@@ -233,11 +235,11 @@ offered h view e es it place is told at =
           (let whole : total weight (grants_of (state_of h).rows (verdicts (e ∷ es))) ≡ weight (grant (place_in it.0 (state_of h).rows) it.0 it.1) + total weight (grants_of (state_of h).rows (verdicts es)) = ap (λ l. total weight (grants_of (state_of h).rows l)) same in
           let here : weight (grant (place_in it.0 (state_of h).rows) it.0 it.1) ≡ weight (grant place it.0 it.1) = ap (λ p. weight (grant p it.0 it.1)) at in
           let sum : total weight (view.out ++ grant place it.0 it.1 ∷ []) + total weight (grants_of (state_of h).rows (verdicts es)) ≡ total weight (outstanding (state_of h).rows) =
-              omega (arith, is.out weight, whole, here, total-push weight view.out (grant place it.0 it.1)) in sum);
+          omega (arith, is.out weight, whole, here, total-push weight view.out (grant place it.0 it.1)) in sum);
       offers = (
         is.offers.0,
         ap (λ l. l ++ verdicts es) (map-append (λ (g : Grant). (g.ticket, g.verdict)) view.offers (grant place it.0 it.1 ∷ [])) ∙ append_assoc (unplaced view.offers) (it ∷ []) (verdicts es)
-        ∙ ap (λ l. unplaced view.offers ++ l) (sym same) ∙ is.offers.1,
+            ∙ ap (λ l. unplaced view.offers ++ l) (sym same) ∙ is.offers.1,
       );
       returns = is.returns;
     }

@@ -155,7 +155,7 @@ pub count_of_served : (s i : ℕ) (rows : Rows) → count_of s (outstanding_from
 count_of_served s i [] = refl
 count_of_served s i (cell ∷ rows) =
     let whole : count_of s (outstanding_from i (cell ∷ rows)) ≡ count_of s (grants_at i cell) + count_of s (outstanding_from (suc i) rows) =
-        total-append (λ g. serves_at s g.verdict) (grants_at i cell) (outstanding_from (suc i) rows) in
+    total-append (λ g. serves_at s g.verdict) (grants_at i cell) (outstanding_from (suc i) rows) in
     let count : served s (cell ∷ rows) ≡ tally (is_served_by s cell) + served s rows = sum_by-cons (λ x. tally (is_served_by s x)) cell rows in
     let rest = count_of_served s (suc i) rows in
     let here = cell_served s i cell in

@@ -64,6 +64,7 @@ impl<Q: PendQueue<Key, usize>, N: BoardName> Book<Q, N> {
         requires seat { seat.view ≡ new_keeper N.terms }
         ensures { result ≡ record { history = core; view = seat.view } }
     {
+        // Says that there are at most 4,096 places, which is what the set of those that are out has room for.
         core.places();
         Book {
             core,

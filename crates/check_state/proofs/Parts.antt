@@ -13,7 +13,8 @@ beq_is true false is = cc
 beq_is false true is = cc
 
 -- what begins with a run is the run and a rest
-begin_parts : (count : ℕ) (which : Bool) (results : List Bool) → begins_with count which results ≡ true → (rest : List Bool) × (results ≡ replicate count which ++ rest)
+begin_parts : (count : ℕ) (which : Bool) (results : List Bool) → begins_with count which results ≡ true
+    → (rest : List Bool) × (results ≡ replicate count which ++ rest)
 begin_parts zero which results begins = (results, refl)
 begin_parts (suc count) which [] begins = cc
 begin_parts (suc count) which (result ∷ later) begins =
@@ -37,14 +38,18 @@ run_after count which [] rest run = run
 run_after count which (result ∷ before) rest run = or_right _ _ (run_after count which before rest run)
 
 pub run_from_parts : (count : ℕ) (which : Bool) (results : List Bool) → StandInARow count which results → has_run count which results ≡ true
-run_from_parts count which results parts = ap (has_run count which) parts.2 ∙ run_after count which parts.0 (replicate count which ++ parts.1) (enough_run count which parts.1)
+run_from_parts count which results parts = ap (has_run count which) parts.2
+    ∙ run_after count which parts.0 (replicate count which ++ parts.1) (enough_run count which parts.1)
 
 module _ (rise fall : ℕ) (some_rise : 0 < rise) (some_fall : 0 < fall) where
   -- after a run of failures at the front no run of successes
-  none_after : (result : Bool) (later rest : List Bool) → result ≡ false → result ∷ later ≡ replicate fall false ++ rest → has_run rise true later ≡ false → ¬ (StandInARow rise true rest)
+  none_after : (result : Bool) (later rest : List Bool) → result ≡ false → result ∷ later ≡ replicate fall false ++ rest → has_run rise true later ≡ false
+      → ¬ (StandInARow rise true rest)
   none_after result later rest failure parts none run =
-      let in_all : has_run rise true (result ∷ later) ≡ true = ap (has_run rise true) parts ∙ failures_in_run rise fall rest some_rise ∙ run_from_parts rise true rest run in
-      let in_later : has_run rise true (result ∷ later) ≡ has_run rise true later = ap (λ b. has_run rise true (b ∷ later)) failure ∙ failure_in_run rise later some_rise in
+      let in_all : has_run rise true (result ∷ later) ≡ true = ap (has_run rise true) parts ∙ failures_in_run rise fall rest some_rise
+      ∙ run_from_parts rise true rest run in
+      let in_later : has_run rise true (result ∷ later) ≡ has_run rise true later = ap (λ b. has_run rise true (b ∷ later)) failure
+      ∙ failure_in_run rise later some_rise in
       cc
 
   pub down_parts : (results : List Bool) → is_down rise fall results ≡ true → HasFallen rise fall results
@@ -63,4 +68,5 @@ module _ (rise fall : ℕ) (some_rise : 0 < rise) (some_fall : 0 < fall) where
 
   pub down_from_parts : (results : List Bool) → HasFallen rise fall results → is_down rise fall results ≡ true
   down_from_parts results parts =
-      ap (is_down rise fall) parts.2 ∙ down_after parts.0 (replicate fall false ++ parts.1) (enough_down rise fall parts.1 some_rise some_fall (false_from_ne_true _ (λ run. parts.3 (run_parts rise true parts.1 run))))
+      ap (is_down rise fall) parts.2 ∙ down_after parts.0 (replicate fall false ++ parts.1)
+      (enough_down rise fall parts.1 some_rise some_fall (false_from_ne_true _ (λ run. parts.3 (run_parts rise true parts.1 run))))

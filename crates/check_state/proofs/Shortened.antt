@@ -69,31 +69,41 @@ module _ (rise fall : ℕ) where
         at (walk rise fall (true, 0) results) refl (within_walk results (true, 0) some_fall) (is_up rise fall results) refl
       where
         at : (state : State) → walk rise fall (true, 0) results ≡ state → IsWithin state → (up : Bool) → is_up rise fall results ≡ up
-            → walk rise fall (true, 0) (cond up (replicate (run_at_end false results) false) (replicate fall false ++ replicate (run_at_end true results) true)) ≡ walk rise fall (true, 0) results
+            → walk rise fall (true, 0) (cond up (replicate (run_at_end false results) false) (replicate fall false ++ replicate (run_at_end true results) true))
+            ≡ walk rise fall (true, 0) results
         at (true, against) ends few true up =
-            let counted : against ≡ run_at_end false results = subst (λ (s : State). s.1 ≡ run_at_end (not s.0) results) ends (walk_counts rise fall some_rise some_fall results) in
-            ap (λ n. walk rise fall (true, 0) (replicate n false)) (sym counted) ∙ failures_from against 0 (omega arith) ∙ ap (λ n. (true, n)) (from_none against) ∙ sym ends
+            let counted : against ≡ run_at_end false results =
+            subst (λ (s : State). s.1 ≡ run_at_end (not s.0) results) ends (walk_counts rise fall some_rise some_fall results) in
+            ap (λ n. walk rise fall (true, 0) (replicate n false)) (sym counted) ∙ failures_from against 0 (omega arith)
+            ∙ ap (λ n. (true, n)) (from_none against) ∙ sym ends
         at (false, against) ends few false up =
-            let counted : against ≡ run_at_end true results = subst (λ (s : State). s.1 ≡ run_at_end (not s.0) results) ends (walk_counts rise fall some_rise some_fall results) in
+            let counted : against ≡ run_at_end true results =
+            subst (λ (s : State). s.1 ≡ run_at_end (not s.0) results) ends (walk_counts rise fall some_rise some_fall results) in
             walk_on (true, 0) (replicate fall false) (replicate (run_at_end true results) true)
             ∙ ap (λ (s : State). walk rise fall s (replicate (run_at_end true results) true)) (falls fall refl some_fall)
-            ∙ ap (λ n. walk rise fall (false, 0) (replicate n true)) (sym counted) ∙ successes_from against 0 (omega arith) ∙ ap (λ n. (false, n)) (from_none against) ∙ sym ends
-        at (true, against) ends few false up = let it : true ≡ false = sym (ap (λ (s : State). s.0) ends) ∙ walk_stands rise fall some_rise some_fall results ∙ up in cc
-        at (false, against) ends few true up = let it : false ≡ true = sym (ap (λ (s : State). s.0) ends) ∙ walk_stands rise fall some_rise some_fall results ∙ up in cc
+            ∙ ap (λ n. walk rise fall (false, 0) (replicate n true)) (sym counted) ∙ successes_from against 0 (omega arith)
+            ∙ ap (λ n. (false, n)) (from_none against) ∙ sym ends
+        at (true, against) ends few false up = let it : true ≡ false = sym (ap (λ (s : State). s.0) ends) ∙ walk_stands rise fall some_rise some_fall results
+            ∙ up in cc
+        at (false, against) ends few true up = let it : false ≡ true = sym (ap (λ (s : State). s.0) ends) ∙ walk_stands rise fall some_rise some_fall results
+            ∙ up in cc
 
     -- whatever follows, the server is up after the one list where it is after the other
     pub same_later : (results later : List Bool) → is_up rise fall (shortened rise fall results ++ later) ≡ is_up rise fall (results ++ later)
     same_later results later =
         sym (walk_stands rise fall some_rise some_fall (shortened rise fall results ++ later))
-        ∙ ap (λ (s : State). s.0) (walk_on (true, 0) (shortened rise fall results) later ∙ ap (λ (s : State). walk rise fall s later) (same_walk results) ∙ sym (walk_on (true, 0) results later))
+        ∙ ap (λ (s : State). s.0) (walk_on (true, 0) (shortened rise fall results) later ∙ ap (λ (s : State). walk rise fall s later) (same_walk results)
+        ∙ sym (walk_on (true, 0) results later))
         ∙ walk_stands rise fall some_rise some_fall (results ++ later)
 
     pub same_up : (results : List Bool) → is_up rise fall (shortened rise fall results) ≡ is_up rise fall results
     same_up results =
-        sym (walk_stands rise fall some_rise some_fall (shortened rise fall results)) ∙ ap (λ (s : State). s.0) (same_walk results) ∙ walk_stands rise fall some_rise some_fall results
+        sym (walk_stands rise fall some_rise some_fall (shortened rise fall results)) ∙ ap (λ (s : State). s.0) (same_walk results)
+        ∙ walk_stands rise fall some_rise some_fall results
 
     -- a health of the one list is of the other
-    pub same_health : (results : List Bool) (health : Standing) → IsHealthOf rise fall results health → IsHealthOf rise fall (shortened rise fall results) health
+    pub same_health : (results : List Bool) (health : Standing) → IsHealthOf rise fall results health
+        → IsHealthOf rise fall (shortened rise fall results) health
     same_health results health is = record {
       own_rise = is.own_rise;
       own_fall = is.own_fall;
@@ -102,5 +112,6 @@ module _ (rise fall : ℕ) where
           let up : (walk rise fall (true, 0) results).0 ≡ health.up = walk_stands rise fall some_rise some_fall results ∙ sym is.stands in
           is.counted ∙ ap (λ b. run_at_end (not b) results) (sym up) ∙ sym (walk_counts rise fall some_rise some_fall results)
           ∙ ap (λ (s : State). s.1) (sym (same_walk results)) ∙ walk_counts rise fall some_rise some_fall (shortened rise fall results)
-          ∙ ap (λ (s : State). run_at_end (not s.0) (shortened rise fall results)) (same_walk results) ∙ ap (λ b. run_at_end (not b) (shortened rise fall results)) up;
+          ∙ ap (λ (s : State). run_at_end (not s.0) (shortened rise fall results)) (same_walk results)
+          ∙ ap (λ b. run_at_end (not b) (shortened rise fall results)) up;
     }

@@ -1,5 +1,6 @@
 -- What a result makes of a health.
-use Rattle.std.proofs.Common.{◌≡◌, ℕ, suc, ◌+◌, ◌<◌, ◌≤◌, Bool, true, false, not, List, [], ◌∷◌, ◌++◌, cond, ltb, reverse, refl, ap, sym, ◌∙◌, subst, arith, add-one, append-nil}
+use Rattle.std.proofs.Common.{◌≡◌, ℕ, suc, ◌+◌, ◌<◌, ◌≤◌, Bool, true, false, not, List, [], ◌∷◌}
+use Rattle.std.proofs.Common.{◌++◌, cond, ltb, reverse, refl, ap, sym, ◌∙◌, subst, arith, add-one, append-nil}
 use Rattle.std.specs.Bool.{beq}
 use Rattle.std.proofs.lemmas.Bool.{lt-ltb, le-ltb}
 use Rattle.std.proofs.lemmas.List.{reverse-append, append_assoc}
@@ -50,9 +51,11 @@ module _ (rise fall : ℕ) where
   counts_on : (before results : List Bool) (state : State) → Counts before state → Counts (before ++ results) (walk rise fall state results)
   counts_on before [] state counts = subst (λ l. Counts l state) (sym (append-nil before)) counts
   counts_on before (result ∷ later) state counts =
-      subst (λ l. Counts l (walk rise fall (step rise fall state result) later)) (append_assoc before (result ∷ []) later) (counts_on (before ++ result ∷ []) later (step rise fall state result) (counts_step before state counts result))
+      subst (λ l. Counts l (walk rise fall (step rise fall state result) later)) (append_assoc before (result ∷ []) later)
+      (counts_on (before ++ result ∷ []) later (step rise fall state result) (counts_step before state counts result))
 
-  walk_more : (results : List Bool) (state : State) (result : Bool) → walk rise fall state (results ++ result ∷ []) ≡ step rise fall (walk rise fall state results) result
+  walk_more : (results : List Bool) (state : State) (result : Bool)
+      → walk rise fall state (results ++ result ∷ []) ≡ step rise fall (walk rise fall state results) result
   walk_more [] state result = refl
   walk_more (first ∷ later) state result = walk_more later (step rise fall state first) result
 
@@ -71,9 +74,12 @@ module _ (rise fall : ℕ) where
         ap (λ b. (b, (walk rise fall (true, 0) results).1)) up ∙ ap (λ n. (health.up, n)) against
 
     -- the state after a further result
-    pub stepped : (results : List Bool) (health : Standing) (result : Bool) (up : Bool) (against : ℕ) → IsHealthOf rise fall results health → step rise fall (health.up, health.against) result ≡ (up, against) → IsHealthOf rise fall (results ++ result ∷ []) (record { rise = health.rise; fall = health.fall; up = up; against = against })
+    pub stepped : (results : List Bool) (health : Standing) (result : Bool) (up : Bool) (against : ℕ) → IsHealthOf rise fall results health
+        → step rise fall (health.up, health.against) result ≡ (up, against)
+        → IsHealthOf rise fall (results ++ result ∷ []) (record { rise = health.rise; fall = health.fall; up = up; against = against })
     stepped results health result up against is leads =
-        let more : walk rise fall (true, 0) (results ++ result ∷ []) ≡ (up, against) = walk_more results (true, 0) result ∙ ap (λ (s : State). step rise fall s result) (walked results health is) ∙ leads in
+        let more : walk rise fall (true, 0) (results ++ result ∷ []) ≡ (up, against) = walk_more results (true, 0) result
+        ∙ ap (λ (s : State). step rise fall s result) (walked results health is) ∙ leads in
         record {
           own_rise = is.own_rise;
           own_fall = is.own_fall;
@@ -89,13 +95,15 @@ module _ (rise fall : ℕ) where
   step_same true against false same = cc
   step_same false against true same = cc
 
-  step_more : (up : Bool) (against : ℕ) (result : Bool) → beq result up ≡ false → against + 1 < (if up then fall else rise) → step rise fall (up, against) result ≡ (up, against + 1)
+  step_more : (up : Bool) (against : ℕ) (result : Bool) → beq result up ≡ false → against + 1 < (if up then fall else rise)
+      → step rise fall (up, against) result ≡ (up, against + 1)
   step_more true against true other few = cc
   step_more false against false other few = cc
   step_more true against false other few = rw add-one (ap (λ b. cond b (true, suc against) (false, 0)) (lt-ltb (suc against) fall (omega arith)))
   step_more false against true other few = rw add-one (ap (λ b. cond b (false, suc against) (true, 0)) (lt-ltb (suc against) rise (omega arith)))
 
-  step_turn : (up : Bool) (against : ℕ) (result : Bool) → beq result up ≡ false → (if up then fall else rise) ≤ against + 1 → step rise fall (up, against) result ≡ (result, 0)
+  step_turn : (up : Bool) (against : ℕ) (result : Bool) → beq result up ≡ false → (if up then fall else rise) ≤ against + 1
+      → step rise fall (up, against) result ≡ (result, 0)
   step_turn true against true other all = cc
   step_turn false against false other all = cc
   step_turn true against false other all = ap (λ b. cond b (true, suc against) (false, 0)) (le-ltb (suc against) fall (omega arith))
@@ -119,20 +127,32 @@ pub record IsResult (rise fall : ℕ) (results : List Bool) (result : Bool) (nex
   pub health : IsHealthOf rise fall (results ++ result ∷ []) next
   pub change_is : change ≡ change_between (is_up rise fall results) (is_up rise fall (results ++ result ∷ []))
 
-module _ (rise fall : ℕ) (results : List Bool) (health : Standing) (result : Bool) (is : IsHealthOf rise fall results health) (standing : IsStanding health) where
-  leads_to : (up : Bool) (against : ℕ) → step health.rise health.fall (health.up, health.against) result ≡ (up, against) → (change : Change) → change ≡ change_between health.up up → IsResult rise fall results result (with_state health up against) change
+module _ (rise fall : ℕ) (results : List Bool) (health : Standing) (result : Bool) (is : IsHealthOf rise fall results health)
+    (standing : IsStanding health) where
+  leads_to : (up : Bool) (against : ℕ) → step health.rise health.fall (health.up, health.against) result ≡ (up, against) → (change : Change)
+      → change ≡ change_between health.up up → IsResult rise fall results result (with_state health up against) change
   leads_to up against leads change is_change =
       let own : step rise fall (health.up, health.against) result ≡ (up, against) =
-      ap (λ n. step n fall (health.up, health.against) result) (sym is.own_rise) ∙ ap (λ n. step health.rise n (health.up, health.against) result) (sym is.own_fall) ∙ leads
+      ap (λ n. step n fall (health.up, health.against) result) (sym is.own_rise)
+      ∙ ap (λ n. step health.rise n (health.up, health.against) result) (sym is.own_fall) ∙ leads
       in
-      let next = stepped rise fall (subst (λ n. 0 < n) is.own_rise standing.some_rise) (subst (λ n. 0 < n) is.own_fall standing.some_fall) results health result up against is own in
-      record { health = next; change_is = is_change ∙ ap (λ b. change_between b up) is.stands ∙ ap (λ b. change_between (is_up rise fall results) b) next.stands }
+      let next = stepped rise fall (subst (λ n. 0 < n) is.own_rise standing.some_rise)
+      (subst (λ n. 0 < n) is.own_fall standing.some_fall) results health result up against is own in
+      record {
+        health = next;
+        change_is = is_change ∙ ap (λ b. change_between b up) is.stands
+            ∙ ap (λ b. change_between (is_up rise fall results) b) next.stands;
+      }
 
   pub same_result : beq result health.up ≡ true → IsResult rise fall results result (with_state health health.up 0) Stay
   same_result same = leads_to health.up 0 (step_same health.rise health.fall health.up health.against result same) Stay (change_stays health.up)
 
-  pub further_result : beq result health.up ≡ false → health.against + 1 < limit_of health → IsResult rise fall results result (with_state health health.up (health.against + 1)) Stay
-  further_result other few = leads_to health.up (health.against + 1) (step_more health.rise health.fall health.up health.against result other few) Stay (change_stays health.up)
+  pub further_result : beq result health.up ≡ false → health.against + 1 < limit_of health
+      → IsResult rise fall results result (with_state health health.up (health.against + 1)) Stay
+  further_result other few = leads_to health.up (health.against + 1) (step_more health.rise health.fall health.up health.against result other few) Stay
+      (change_stays health.up)
 
-  pub turning_result : beq result health.up ≡ false → limit_of health ≤ health.against + 1 → IsResult rise fall results result (with_state health result 0) (if result then WentUp else WentDown)
-  turning_result other all = leads_to result 0 (step_turn health.rise health.fall health.up health.against result other all) (if result then WentUp else WentDown) (change_turns health.up result other)
+  pub turning_result : beq result health.up ≡ false → limit_of health ≤ health.against + 1
+      → IsResult rise fall results result (with_state health result 0) (if result then WentUp else WentDown)
+  turning_result other all = leads_to result 0 (step_turn health.rise health.fall health.up health.against result other all)
+      (if result then WentUp else WentDown) (change_turns health.up result other)

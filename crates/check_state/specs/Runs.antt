@@ -7,4 +7,5 @@ StandInARow count which results = (before : List Bool) × (after : List Bool) ×
 
 -- `fall` failures stand in a row with no `rise` successes in a row after them
 abbrev pub HasFallen : ℕ → ℕ → List Bool → Type 0
-HasFallen rise fall results = (before : List Bool) × (after : List Bool) × (results ≡ before ++ (replicate fall false ++ after)) × ¬ (StandInARow rise true after)
+HasFallen rise fall results = (before : List Bool) × (after : List Bool) × (results ≡ before ++ (replicate fall false ++ after))
+    × ¬ (StandInARow rise true after)

@@ -7,7 +7,8 @@ use Rattle.std.proofs.lemmas.Option.{slice_get_within, slice_get-get_or}
 use Rattle.check_state.specs.declared.health.Change.{Change}
 use Rattle.check_state.specs.Standing.{Standing, change_between}
 use Rattle.dispatch_log.specs.declared.entry.Entry.{Entry}
-use Rattle.dispatch_log.specs.declared.entry.Entry.TheVariants.{Arrive, Done, Fail, Abort, Tick, Check, Limit, Direct, Joined, Granted, Moved, Freed, Retried, Left}
+use Rattle.dispatch_log.specs.declared.entry.Entry.TheVariants.{Arrive, Done, Fail, Abort, Tick, Check, Limit}
+use Rattle.dispatch_log.specs.declared.entry.Entry.TheVariants.{Direct, Joined, Granted, Moved, Freed, Retried, Left}
 use Rattle.dispatch_log.specs.declared.entry.Entry.TheVariants.{Health, Ended}
 use Rattle.dispatch_log.specs.declared.refusal.Refusal.TheVariants.{LogFull, NoSuchServer, WrongPhase}
 use Rattle.dispatch_log.specs.declared.setup.ServerSet.{ServerSet}
@@ -78,7 +79,8 @@ pub spare_base : (setup : Setup) (base : State) → IsBase setup base → IsSpar
 spare_base setup base is = record { rows = is.places; results = is.checked; limits = is.limited }
 
 -- a core after an event
-pub core_goes : (h now : History) (event : Entry) (healths next : List (Option Standing)) (expiring ready : Held ℕ ℕ) {spare : State} → IsCore h healths expiring spare
+pub core_goes : (h now : History) (event : Entry) (healths next : List (Option Standing)) (expiring ready : Held ℕ ℕ) {spare : State}
+    → IsCore h healths expiring spare
     → AddsEvent h now event
     → AreHealths h.setup.servers (after h.setup (state_of h) event).results next → ready.pairs ≡ [] → ready.room ≡ expiring.room
     → IsCore now next ready spare
@@ -96,7 +98,8 @@ core_goes h now event healths next expiring ready {spare} is added healthy none 
 }
 
 -- where the event is no check, the healths stay
-pub core_kept : (h now : History) (event : Entry) (healths : List (Option Standing)) (expiring ready : Held ℕ ℕ) {spare : State} → IsCore h healths expiring spare
+pub core_kept : (h now : History) (event : Entry) (healths : List (Option Standing)) (expiring ready : Held ℕ ℕ) {spare : State}
+    → IsCore h healths expiring spare
     → AddsEvent h now event
     → (after h.setup (state_of h) event).results ≡ (state_of h).results → ready.pairs ≡ [] → ready.room ≡ expiring.room → IsCore now healths ready spare
 core_kept h now event healths expiring ready {spare} is added same none kept =
@@ -163,7 +166,8 @@ without_push [] b = refl
 without_push (x ∷ []) b = refl
 without_push (x ∷ y ∷ l) b = ap (λ (r : List Bool). x ∷ r) (without_push (y ∷ l) b)
 
-module _ (h one : History) (m server : ℕ) (ok : Bool) (legal : IsLegal h) (accepted : refuses_check h server ≡ None) (begun : one ≡ with_entry h (Check m server ok)) where
+module _ (h one : History) (m server : ℕ) (ok : Bool) (legal : IsLegal h) (accepted : refuses_check h server ≡ None)
+    (begun : one ≡ with_entry h (Check m server ok)) where
   checked_setup : one.setup ≡ h.setup
   checked_setup = same_setup h one (Check m server ok) begun
 

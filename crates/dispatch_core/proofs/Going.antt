@@ -79,7 +79,8 @@ carries a b goes n stage few room has = record {
 }
 
 -- an event whole: its first entry, what that brings, and grants
-pub adds : (h one last now : History) (event : Entry) → begins_event event ≡ true → one ≡ with_entry h event → GoesOn one last → IsOverNext last → Settles last now
+pub adds : (h one last now : History) (event : Entry) → begins_event event ≡ true → one ≡ with_entry h event → GoesOn one last → IsOverNext last
+    → Settles last now
     → AddsEvent h now event
 adds h one last now event begins begun goes over settled =
     let all = goes_then one last now goes settled.goes in

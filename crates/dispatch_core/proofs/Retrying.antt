@@ -128,7 +128,8 @@ module _ (one two : History) (t server : ℕ) (stage : stage_of one ≡ failing 
         let few = settled_few room in
         let long : length (settled_goes.entries ++ placed.placement ∷ []) ≡ length settled_goes.entries + 1 =
         length-append settled_goes.entries (placed.placement ∷ []) in
-        carries one four (goes_then one three four settled_goes (goes_places three four placed)) (one.setup.places + 2) placed.over (omega arith) (omega arith) room.places
+        carries one four (goes_then one three four settled_goes (goes_places three four placed)) (one.setup.places + 2) placed.over (omega arith)
+        (omega arith) room.places
 
 -- a row under the same ticket
 pub own_kept : (rows : Rows) (p : ℕ) (r s : Row) → HaveOwnTickets rows → StandsAt rows p r → s.key.ticket ≡ r.key.ticket

@@ -1,5 +1,6 @@
 -- The next window of a core.
-use Rattle.std.proofs.Common.{◌≡◌, ℕ, zero, suc, ◌+◌, ◌<◌, Bool, true, false, not, cond, List, [], ◌∷◌, ◌++◌, Option, None, Some, map, length, replicate, slice_get, slice_index_or, All, IsTrue, nat_le, nat_lt}
+use Rattle.std.proofs.Common.{◌≡◌, ℕ, zero, suc, ◌+◌, ◌<◌, Bool, true, false, not, cond, List, [], ◌∷◌}
+use Rattle.std.proofs.Common.{◌++◌, Option, None, Some, map, length, replicate, slice_get, slice_index_or, All, IsTrue, nat_le, nat_lt}
 use Rattle.std.proofs.Common.{refl, ap, sym, ◌∙◌, subst, arith}
 use Rattle.std.proofs.lemmas.Bool.{and_parts}
 use Rattle.std.proofs.lemmas.Bool.Decides.{nat_tests}
@@ -28,12 +29,14 @@ saved_one rise fall results s of = by_up s.up refl
     by_up true e =
         ap (λ b. cond b (replicate s.against false) (replicate s.fall false ++ replicate s.against true)) e
         ∙ ap (λ n. replicate n false) (of.counted ∙ ap (λ b. run_at_end (not b) results) e)
-        ∙ sym (ap (λ b. cond b (replicate (run_at_end false results) false) (replicate fall false ++ replicate (run_at_end true results) true)) (sym of.stands ∙ e))
+        ∙ sym (ap (λ b. cond b (replicate (run_at_end false results) false) (replicate fall false ++ replicate (run_at_end true results) true)) (sym of.stands
+        ∙ e))
     by_up false e =
         ap (λ b. cond b (replicate s.against false) (replicate s.fall false ++ replicate s.against true)) e
         ∙ ap (λ n. replicate n false ++ replicate s.against true) of.own_fall
         ∙ ap (λ n. replicate fall false ++ replicate n true) (of.counted ∙ ap (λ b. run_at_end (not b) results) e)
-        ∙ sym (ap (λ b. cond b (replicate (run_at_end false results) false) (replicate fall false ++ replicate (run_at_end true results) true)) (sym of.stands ∙ e))
+        ∙ sym (ap (λ b. cond b (replicate (run_at_end false results) false) (replicate fall false ++ replicate (run_at_end true results) true)) (sym of.stands
+        ∙ e))
 
 saved_by : (it : Option (ℕ × ℕ)) (results : List Bool) (health : Option Standing) → IsHealthBy it results health → results_by health ≡ shortened_by it results
 saved_by None results health is = ap results_by is
@@ -75,7 +78,8 @@ still_healths servers results healths within are = record {
   many = shortened_length servers results;
   each_one = are.each_one;
   each = λ k it stands.
-      let its = subst (λ (x : ServerSet). IsTrue (is_within x)) (get_or_from_slice_get servers k it it stands) (within k it (slice_get_within servers k it stands)) in
+      let its = subst (λ (x : ServerSet). IsTrue (is_within x)) (get_or_from_slice_get servers k it it stands)
+      (within k it (slice_get_within servers k it stands)) in
       let counts = (and_parts (nat_le it.weight 256) (checks_count it.rise_fall) its).1 in
       subst (λ r. IsHealthBy it.rise_fall r (slice_index_or healths k None)) (sym (at_shortened servers results k it stands))
       (still_by it.rise_fall (results_of results k) (slice_index_or healths k None) counts (are.each k it stands));

@@ -31,7 +31,11 @@ row_of_found (Some x ∷ rows) u r e = by_test (x.key.ticket == u) refl e (λ fo
     by_test : (b : Bool) → (x.key.ticket == u) ≡ b → row_of u (Some x ∷ rows) ≡ Some r → (row_of u rows ≡ Some r → Stands rows u r) → Stands (Some x ∷ rows) u r
     by_test true test e later =
         let it : x ≡ r = same_Some x r (subst (λ (b : Bool). cond {A = Option Row} b (Some x) (row_of u rows) ≡ Some r) test e) in
-        record { place = 0; stands = ap (λ (w : Row). Some (Some w)) it; named = subst (λ (w : Row). w.key.ticket ≡ u) it ((Decides-eqb (x.key.ticket) u).0 test) }
+        record {
+          place = 0;
+          stands = ap (λ (w : Row). Some (Some w)) it;
+          named = subst (λ (w : Row). w.key.ticket ≡ u) it ((Decides-eqb (x.key.ticket) u).0 test);
+        }
     by_test false test e later =
         let it = later (subst (λ (b : Bool). cond {A = Option Row} b (Some x) (row_of u rows) ≡ Some r) test e) in
         record { place = suc it.place; stands = it.stands; named = it.named }
@@ -53,7 +57,8 @@ row_of_accepted wrong setup s n u e =
     let right = none_refuses wrongly WrongPhase [] there.1 in
     by_row (row_of u s.rows) refl there.0 right.0
   where
-    by_row : (row : Option Row) → row_of u s.rows ≡ row → is_none row ≡ false → option_map_or (λ (it : Row). wrong it.phase) row false ≡ false → Accepted wrong s.rows u
+    by_row : (row : Option Row) → row_of u s.rows ≡ row → is_none row ≡ false → option_map_or (λ (it : Row). wrong it.phase) row false ≡ false
+        → Accepted wrong s.rows u
     by_row None e there right = cc
     by_row (Some row) e there right =
         let it = row_of_found s.rows u row e in
@@ -62,4 +67,5 @@ row_of_accepted wrong setup s n u e =
 -- the log has room for an event that nothing refuses
 pub accepted_room : (wrong : Phase → Bool) (setup : Setup) (s : State) (n u : ℕ) → ticket_refusal wrong setup s n u ≡ None → lacks_room setup n ≡ false
 accepted_room wrong setup s n u e =
-    (none_refuses (lacks_room setup n) LogFull ((is_none (row_of u s.rows), NoSuchTicket) ∷ (option_map_or (λ (it : Row). wrong it.phase) (row_of u s.rows) false, WrongPhase) ∷ []) e).0
+    (none_refuses (lacks_room setup n) LogFull
+    ((is_none (row_of u s.rows), NoSuchTicket) ∷ (option_map_or (λ (it : Row). wrong it.phase) (row_of u s.rows) false, WrongPhase) ∷ []) e).0

@@ -1,5 +1,6 @@
 -- What is chosen is one: the least key of some rows, the pick of some servers, the server that takes next.
-use Rattle.std.proofs.Common.{◌≡◌, ◌≢◌, ℕ, zero, suc, ◌+◌, ◌-◌, ◌<◌, ◌≤◌, ◌==◌, ◌||◌, nat_lt, Bool, true, false, cond, Option, None, Some, MatchOption, length, slice_get, refl, ap, sym, ◌∙◌, subst, arith, Ordering, Less, Equal, Greater}
+use Rattle.std.proofs.Common.{◌≡◌, ◌≢◌, ℕ, zero, suc, ◌+◌, ◌-◌, ◌<◌, ◌≤◌, ◌==◌, ◌||◌, nat_lt, Bool, true, false, cond}
+use Rattle.std.proofs.Common.{Option, None, Some, MatchOption, length, slice_get, refl, ap, sym, ◌∙◌, subst, arith, Ordering, Less, Equal, Greater}
 use Rattle.std.specs.Option.{option_map_or}
 use Rattle.std.proofs.lemmas.Bool.{and_parts}
 use Rattle.std.proofs.lemmas.Bool.Decides.{Decides-eqb, nat_tests}
@@ -79,7 +80,8 @@ pub pinned_there : (scene : Scene) (pin : Option ℕ) (v : ℕ) → working_pin 
 pinned_there scene None v works = none_some works
 pinned_there scene (Some p) v works = by_test (takes_pinned scene p) refl works
   where
-    by_free : (b : Bool) → is_free scene p ≡ b → (b || of_server scene p (λ it. (it.maxqueue == 0) || nat_lt (queued (Server p) scene.rows) it.maxqueue)) ≡ true → p < length scene.servers
+    by_free : (b : Bool) → is_free scene p ≡ b → (b || of_server scene p (λ it. (it.maxqueue == 0) || nat_lt (queued (Server p) scene.rows) it.maxqueue)) ≡ true
+        → p < length scene.servers
     by_free true e holds = free_there scene p e
     by_free false e holds = there scene p _ holds
 
@@ -90,11 +92,13 @@ pinned_there scene (Some p) v works = by_test (takes_pinned scene p) refl works
     by_test false e found = none_some found
 
 -- servers as far after the cursor as one another are one
-steps_same : (n cursor a b : ℕ) → cursor < n → a < n → b < n → cond (nat_lt cursor a) (a - cursor) ((a + n) - cursor) ≡ cond (nat_lt cursor b) (b - cursor) ((b + n) - cursor) → a ≡ b
+steps_same : (n cursor a b : ℕ) → cursor < n → a < n → b < n
+    → cond (nat_lt cursor a) (a - cursor) ((a + n) - cursor) ≡ cond (nat_lt cursor b) (b - cursor) ((b + n) - cursor) → a ≡ b
 steps_same n cursor a b within first second same = grind (arith, nat_tests)
 
 module _ (scene : Scene) (cursor : ℕ) (within : 0 < length scene.servers → cursor < length scene.servers) where
-  pub pick_same : (among : ℕ → Type 0) (a b : ℕ) → ((v : ℕ) → among v → v < length scene.servers) → IsPick scene cursor among a → IsPick scene cursor among b → a ≡ b
+  pub pick_same : (among : ℕ → Type 0) (a b : ℕ) → ((v : ℕ) → among v → v < length scene.servers) → IsPick scene cursor among a → IsPick scene cursor among b
+      → a ≡ b
   pick_same among a b is_there first second =
       let nearer : steps_after scene cursor a ≤ steps_after scene cursor b = first.nearest b second.member second.least in
       let farther : steps_after scene cursor b ≤ steps_after scene cursor a = second.nearest a first.member first.least in
@@ -123,14 +127,16 @@ module _ (scene : Scene) (cursor : ℕ) (within : 0 < length scene.servers → c
   pub chosen_same : (pin avoid : Option ℕ) (a b : ℕ) → IsChosen scene cursor pin avoid a → IsChosen scene cursor pin avoid b → a ≡ b
   chosen_same pin avoid a b first second = by_pin (working_pin scene pin) first second
     where
-      by_pin : (o : Option ℕ) → MatchOption o (IsPick scene cursor (IsCandidate scene avoid) a) (λ own. own ≡ a) → MatchOption o (IsPick scene cursor (IsCandidate scene avoid) b) (λ own. own ≡ b) → a ≡ b
+      by_pin : (o : Option ℕ) → MatchOption o (IsPick scene cursor (IsCandidate scene avoid) a) (λ own. own ≡ a)
+          → MatchOption o (IsPick scene cursor (IsCandidate scene avoid) b) (λ own. own ≡ b) → a ≡ b
       by_pin None first second = pick_same (IsCandidate scene avoid) a b (λ v it. room_there scene v it.0) first second
       by_pin (Some own) first second = sym first ∙ second
 
   pub chosen_there : (pin avoid : Option ℕ) (v : ℕ) → IsChosen scene cursor pin avoid v → v < length scene.servers
   chosen_there pin avoid v chosen = by_pin (working_pin scene pin) refl chosen
     where
-      by_pin : (o : Option ℕ) → working_pin scene pin ≡ o → MatchOption o (IsPick scene cursor (IsCandidate scene avoid) v) (λ own. own ≡ v) → v < length scene.servers
+      by_pin : (o : Option ℕ) → working_pin scene pin ≡ o → MatchOption o (IsPick scene cursor (IsCandidate scene avoid) v) (λ own. own ≡ v)
+          → v < length scene.servers
       by_pin None e it = room_there scene v it.member.0
       by_pin (Some own) e it = pinned_there scene pin v (e ∙ ap Some it)
 

@@ -37,7 +37,8 @@ abbrev IsOf : ℕ → Option Row → Type 0
 IsOf ticket cell = (row : Row) → cell ≡ Some row → row.key.ticket ≡ ticket
 
 -- before a write each row was there, under its ticket
-before : (rows : Rows) (p : ℕ) (r : Row) (cell : Option Row) → StandsAt rows p r → IsOf r.key.ticket cell → (k : ℕ) (u : Row) → StandsAt (set rows p cell) k u → (w : Row) × StandsAt rows k w × (w.key.ticket ≡ u.key.ticket)
+before : (rows : Rows) (p : ℕ) (r : Row) (cell : Option Row) → StandsAt rows p r → IsOf r.key.ticket cell → (k : ℕ) (u : Row) → StandsAt (set rows p cell) k u
+    → (w : Row) × StandsAt rows k w × (w.key.ticket ≡ u.key.ticket)
 before rows p r cell stands named k u there =
     elim (get-set_cases rows p k (Some r) cell (Some u) stands there) [
       | inl e ↦ (r, subst (λ n. StandsAt rows n r) (sym e.0) stands, sym (named u e.1))
@@ -45,7 +46,8 @@ before rows p r cell stands named k u there =
     ]
 
 -- a write at the place of a row keeps what is said of tickets
-write : (rows : Rows) (last : ℕ) (old new : Stage) (p : ℕ) (r : Row) (cell : Option Row) → IsConsistent rows last old → StandsAt rows p r → IsOf r.key.ticket cell
+write : (rows : Rows) (last : ℕ) (old new : Stage) (p : ℕ) (r : Row) (cell : Option Row) → IsConsistent rows last old → StandsAt rows p r
+    → IsOf r.key.ticket cell
     → ((k : ℕ) (u : Row) → StandsAt (set rows p cell) k u → u.phase ≡ Loose → loose_ticket new ≡ Some u.key.ticket)
     → ((t : ℕ) → loose_ticket new ≡ Some t → IsLoose (set rows p cell) t)
     → IsConsistent (set rows p cell) last new
@@ -71,7 +73,8 @@ at_stage rows last old new is same = record {
 }
 
 -- the row that was in no place gets one
-pub placed : (rows : Rows) (last t p : ℕ) (old new : Stage) (r s : Row) → IsConsistent rows last old → loose_ticket old ≡ Some t → loose_ticket new ≡ None → StandsAt rows p r → r.key.ticket ≡ t → s.key.ticket ≡ r.key.ticket → s.phase ≢ Loose → IsConsistent (set rows p (Some s)) last new
+pub placed : (rows : Rows) (last t p : ℕ) (old new : Stage) (r s : Row) → IsConsistent rows last old → loose_ticket old ≡ Some t → loose_ticket new ≡ None
+    → StandsAt rows p r → r.key.ticket ≡ t → s.key.ticket ≡ r.key.ticket → s.phase ≢ Loose → IsConsistent (set rows p (Some s)) last new
 placed rows last t p old new r s is one none stands named same firm =
     write rows last old new p r (Some s) is stands (λ u e. ap (λ (x : Row). x.key.ticket) (sym (same_Some s u e)) ∙ same)
     (λ k u there loose.
@@ -82,7 +85,8 @@ placed rows last t p old new r s is one none stands named same firm =
     (λ t e. none_some (sym none ∙ e))
 
 -- a row that has a place changes and keeps one
-pub moved : (rows : Rows) (last p : ℕ) (old new : Stage) (r s : Row) → IsConsistent rows last old → loose_ticket old ≡ loose_ticket new → StandsAt rows p r → s.key.ticket ≡ r.key.ticket → r.phase ≢ Loose → s.phase ≢ Loose → IsConsistent (set rows p (Some s)) last new
+pub moved : (rows : Rows) (last p : ℕ) (old new : Stage) (r s : Row) → IsConsistent rows last old → loose_ticket old ≡ loose_ticket new → StandsAt rows p r
+    → s.key.ticket ≡ r.key.ticket → r.phase ≢ Loose → s.phase ≢ Loose → IsConsistent (set rows p (Some s)) last new
 moved rows last p old new r s is stay stands same was firm =
     write rows last old new p r (Some s) is stands (λ u e. ap (λ (x : Row). x.key.ticket) (sym (same_Some s u e)) ∙ same)
     (λ k u there loose.
@@ -92,11 +96,13 @@ moved rows last p old new r s is stay stands same was firm =
     ])
     (λ t e.
     let it = is.owed t (stay ∙ e) in
-    let other : it.place ≢ p = λ here. was (ap (λ (x : Row). x.phase) (same_Some r it.row (same_Some (Some r) (Some it.row) (sym stands ∙ subst (λ k. StandsAt rows k it.row) here it.stands))) ∙ it.loose) in
+    let other : it.place ≢ p = λ here. was (ap (λ (x : Row). x.phase)
+    (same_Some r it.row (same_Some (Some r) (Some it.row) (sym stands ∙ subst (λ k. StandsAt rows k it.row) here it.stands))) ∙ it.loose) in
     record { row = it.row; place = it.place; stands = get-set_other rows p it.place (Some s) other ∙ it.stands; named = it.named; loose = it.loose })
 
 -- a row loses its slot
-pub loosened : (rows : Rows) (last t p : ℕ) (old new : Stage) (r s : Row) → IsConsistent rows last old → loose_ticket old ≡ None → loose_ticket new ≡ Some t → StandsAt rows p r → r.key.ticket ≡ t → s.key.ticket ≡ r.key.ticket → s.phase ≡ Loose → IsConsistent (set rows p (Some s)) last new
+pub loosened : (rows : Rows) (last t p : ℕ) (old new : Stage) (r s : Row) → IsConsistent rows last old → loose_ticket old ≡ None → loose_ticket new ≡ Some t
+    → StandsAt rows p r → r.key.ticket ≡ t → s.key.ticket ≡ r.key.ticket → s.phase ≡ Loose → IsConsistent (set rows p (Some s)) last new
 loosened rows last t p old new r s is none one stands named same loose =
     write rows last old new p r (Some s) is stands (λ u e. ap (λ (x : Row). x.key.ticket) (sym (same_Some s u e)) ∙ same)
     (λ k u there free.
@@ -113,7 +119,8 @@ loosened rows last t p old new r s is none one stands named same loose =
     })
 
 -- a row that is in no place goes
-pub removed : (rows : Rows) (last t p : ℕ) (old new : Stage) (r : Row) → IsConsistent rows last old → loose_ticket old ≡ Some t → loose_ticket new ≡ None → StandsAt rows p r → r.key.ticket ≡ t → IsConsistent (set rows p None) last new
+pub removed : (rows : Rows) (last t p : ℕ) (old new : Stage) (r : Row) → IsConsistent rows last old → loose_ticket old ≡ Some t → loose_ticket new ≡ None
+    → StandsAt rows p r → r.key.ticket ≡ t → IsConsistent (set rows p None) last new
 removed rows last t p old new r is one none stands named =
     write rows last old new p r None is stands (λ u e. none_some e)
     (λ k u there loose.
@@ -124,7 +131,8 @@ removed rows last t p old new r is one none stands named =
     (λ t e. none_some (sym none ∙ e))
 
 -- a row that is told goes
-pub dismissed : (rows : Rows) (last p : ℕ) (old new : Stage) (r : Row) → IsConsistent rows last old → loose_ticket old ≡ None → loose_ticket new ≡ None → StandsAt rows p r → IsConsistent (set rows p None) last new
+pub dismissed : (rows : Rows) (last p : ℕ) (old new : Stage) (r : Row) → IsConsistent rows last old → loose_ticket old ≡ None → loose_ticket new ≡ None
+    → StandsAt rows p r → IsConsistent (set rows p None) last new
 dismissed rows last p old new r is free none stands =
     write rows last old new p r None is stands (λ u e. none_some e)
     (λ k u there loose.
@@ -135,7 +143,8 @@ dismissed rows last p old new r is free none stands =
     (λ t e. none_some (sym none ∙ e))
 
 -- a row comes under the next ticket
-pub admitted : (rows : Rows) (last p : ℕ) (old : Stage) (s : Row) → IsConsistent rows last old → loose_ticket old ≡ None → IsVacant rows p → s.key.ticket ≡ last + 1 → s.phase ≡ Loose → IsConsistent (set rows p (Some s)) s.key.ticket (placing s.key.ticket)
+pub admitted : (rows : Rows) (last p : ℕ) (old : Stage) (s : Row) → IsConsistent rows last old → loose_ticket old ≡ None → IsVacant rows p
+    → s.key.ticket ≡ last + 1 → s.phase ≡ Loose → IsConsistent (set rows p (Some s)) s.key.ticket (placing s.key.ticket)
 admitted rows last p old s is none vacant next loose = record {
   tickets = record {
     own = λ k l u v a b e.

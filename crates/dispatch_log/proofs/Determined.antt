@@ -3,7 +3,8 @@ use Rattle.std.proofs.Common.{◌≡◌, ◌≢◌, ℕ, ◌+◌, Bool, true, fa
 use Rattle.list_facts.proofs.Never.{false_true}
 use Rattle.dispatch_log.specs.declared.entry.Arrival.{Arrival}
 use Rattle.dispatch_log.specs.declared.entry.Entry.{Entry}
-use Rattle.dispatch_log.specs.declared.entry.Entry.TheVariants.{Arrive, Done, Fail, Abort, Tick, Check, Limit, Direct, Joined, Granted, Moved, Freed, Retried, Left, Health, Ended}
+use Rattle.dispatch_log.specs.declared.entry.Entry.TheVariants.{Arrive, Done, Fail, Abort, Tick, Check, Limit, Direct}
+use Rattle.dispatch_log.specs.declared.entry.Entry.TheVariants.{Joined, Granted, Moved, Freed, Retried, Left, Health, Ended}
 use Rattle.dispatch_log.specs.declared.setup.Setup.{Setup}
 use Rattle.dispatch_log.specs.Determined.{events, unplaced, AreSameButForPlaces, IsSameButForPlaces}
 use Rattle.dispatch_log.specs.Grants.{IsSettled}
@@ -72,18 +73,21 @@ pub record IsLeft (setup : Setup) (s : State) (t : Stage) : Type 0 where
   pub consistent : IsConsistent s.rows s.ticket t
   pub keeps : KeepsTo (length setup.servers) s
 
-left_after : (setup : Setup) (s : State) (n : ℕ) (t : Stage) (e : Entry) → IsLeft setup s t → MayCome setup s n t e → IsLeft setup (after setup s e) (next_stage t e)
+left_after : (setup : Setup) (s : State) (n : ℕ) (t : Stage) (e : Entry) → IsLeft setup s t → MayCome setup s n t e
+    → IsLeft setup (after setup s e) (next_stage t e)
 left_after setup s n t e is may = record { consistent = consistent_after setup s n t e is.consistent may; keeps = keeps_after setup s n t e is.keeps may }
 
 module _ (setup : Setup) (s other : State) (n : ℕ) (t : Stage) (is : IsLeft setup s t) (its : IsLeft setup other t) (same : IsSameButForPlaces s other) where
   quiet_back : (e : Entry) → IsNext setup other t e → IsNext setup s t e
-  quiet_back e next = next_back setup s other.rows same.rows is.consistent.tickets its.consistent.tickets t e (subst (λ (x : State). IsNext setup x t e) same.rest next)
+  quiet_back e next = next_back setup s other.rows same.rows is.consistent.tickets its.consistent.tickets t e
+      (subst (λ (x : State). IsNext setup x t e) same.rest next)
 
   -- the same entry, but for its place, leaves the same, but for places
   vacant_at : (state : State) (e : Entry) (m : ℕ) (a : Arrival) → e ≡ Arrive m a → MayCome setup state n t e → IsVacant state.rows a.place
   vacant_at state e m a is_arrival may = let it : MayCome setup state n t (Arrive m a) = subst (MayCome setup state n t) is_arrival may in it.1.vacant
 
-  arrivals_leave : (e f : Entry) → AreArrivals e f → MayCome setup s n t e → MayCome setup other n t f → IsSameButForPlaces (after setup s e) (after setup other f)
+  arrivals_leave : (e f : Entry) → AreArrivals e f → MayCome setup s n t e → MayCome setup other n t f
+      → IsSameButForPlaces (after setup s e) (after setup other f)
   arrivals_leave e f it may might =
       subst (λ x. IsSameButForPlaces (after setup s x) (after setup other f)) (sym it.is_first)
       (subst (λ y. IsSameButForPlaces (after setup s (Arrive it.moment it.first)) (after setup other y)) (sym it.is_second)
@@ -95,14 +99,17 @@ module _ (setup : Setup) (s other : State) (n : ℕ) (t : Stage) (is : IsLeft se
   same_leaves e may might =
       elim (arrival_or_not e) [
         | inl a ↦ arrivals_leave e e (record { moment = a.0; first = a.1; second = a.1; is_first = a.2; is_second = a.2; alike = refl }) may might
-        | inr a ↦ subst (λ (z : State). IsSameButForPlaces (after setup s e) (after setup z e)) (sym same.rest) (after-same setup s other.rows same.rows is.consistent.tickets its.consistent.tickets e a.1)
+        | inr a ↦ subst (λ (z : State). IsSameButForPlaces (after setup s e) (after setup z e)) (sym same.rest)
+            (after-same setup s other.rows same.rows is.consistent.tickets its.consistent.tickets e a.1)
       ]
 
-  leaves : (e f : Entry) → unplaced e ≡ unplaced f → MayCome setup s n t e → MayCome setup other n t f → IsSameButForPlaces (after setup s e) (after setup other f)
+  leaves : (e f : Entry) → unplaced e ≡ unplaced f → MayCome setup s n t e → MayCome setup other n t f
+      → IsSameButForPlaces (after setup s e) (after setup other f)
   leaves e f alike may might =
       elim (same_or_arrivals e f alike) [
         | inl it ↦ arrivals_leave e f it may might
-        | inr it ↦ subst (λ x. IsSameButForPlaces (after setup s e) (after setup other x)) it (same_leaves e may (subst (MayCome setup other n t) (sym it) might))
+        | inr it ↦ subst (λ x. IsSameButForPlaces (after setup s e) (after setup other x)) it
+            (same_leaves e may (subst (MayCome setup other n t) (sym it) might))
       ]
 
   next_same : (e f : Entry) → unplaced e ≡ unplaced f → next_stage t f ≡ next_stage t e
@@ -128,18 +135,23 @@ module _ (setup : Setup) where
   AreOne s other es fs = AreSameButForPlaces es fs × IsSameButForPlaces (after_all setup s es) (after_all setup other fs)
 
   -- an entry more at the end of one of them
-  none_more : (s other : State) (n : ℕ) (t : Stage) (f : Entry) (fs : List Entry) → IsLeft setup s t → IsLeft setup other t → IsSameButForPlaces s other → MayEnd setup s t → MayCome setup other n t f → [] ≡ map unplaced (events (f ∷ fs)) → ⊥
+  none_more : (s other : State) (n : ℕ) (t : Stage) (f : Entry) (fs : List Entry) → IsLeft setup s t → IsLeft setup other t → IsSameButForPlaces s other
+      → MayEnd setup s t → MayCome setup other n t f → [] ≡ map unplaced (events (f ∷ fs)) → ⊥
   none_more s other n t f fs is its same ends may none = by_kind (begins_event f) refl
     where
       by_kind : (b : Bool) → begins_event f ≡ b → ⊥
       by_kind true begins = let e : [] ≡ unplaced f ∷ map unplaced (events fs) = none ∙ ap (map unplaced) (head_begins f fs begins) in cc
-      by_kind false quiet = event_alone setup s is.consistent.tickets is.keeps.cursor t f ends.over ends.settled (quiet_back setup s other n t is its same f (granted_or_owed setup other n t f quiet may))
+      by_kind false quiet = event_alone setup s is.consistent.tickets is.keeps.cursor t f ends.over ends.settled
+          (quiet_back setup s other n t is its same f (granted_or_owed setup other n t f quiet may))
 
-  pub determined : (es fs : List Entry) (s other : State) (n : ℕ) (t : Stage) → IsLeft setup s t → IsLeft setup other t → IsSameButForPlaces s other → AllMayCome setup s n t es → AllMayCome setup other n t fs
-      → MayEnd setup (after_all setup s es) (stage_after t es) → MayEnd setup (after_all setup other fs) (stage_after t fs) → AreSameButForPlaces (events es) (events fs) → AreOne s other es fs
+  pub determined : (es fs : List Entry) (s other : State) (n : ℕ) (t : Stage) → IsLeft setup s t → IsLeft setup other t → IsSameButForPlaces s other
+      → AllMayCome setup s n t es → AllMayCome setup other n t fs
+      → MayEnd setup (after_all setup s es) (stage_after t es) → MayEnd setup (after_all setup other fs) (stage_after t fs)
+      → AreSameButForPlaces (events es) (events fs) → AreOne s other es fs
   determined [] [] s other n t is its same all each ends too events = (refl, same)
   determined [] (f ∷ fs) s other n t is its same all each ends too events = absurd (none_more s other n t f fs is its same ends each.0 events)
-  determined (e ∷ es) [] s other n t is its same all each ends too events = absurd (none_more other s n t e es its is (same_state-flip s other same) too all.0 (sym events))
+  determined (e ∷ es) [] s other n t is its same all each ends too events =
+      absurd (none_more other s n t e es its is (same_state-flip s other same) too all.0 (sym events))
   determined (e ∷ es) (f ∷ fs) s other n t is its same all each ends too alike =
       by_kinds (begins_event e) (begins_event f) refl refl
       (λ one tails.
@@ -153,21 +165,27 @@ module _ (setup : Setup) where
       with_heads : unplaced e ≡ unplaced f → AreOne (after setup s e) (after setup other f) es fs → AreOne s other (e ∷ es) (f ∷ fs)
       with_heads one rest = let tails : map unplaced es ≡ map unplaced fs = rest.0 in (cc, rest.1)
 
-      by_kinds : (b c : Bool) → begins_event e ≡ b → begins_event f ≡ c → (unplaced e ≡ unplaced f → AreSameButForPlaces (events es) (events fs) → AreOne (after setup s e) (after setup other f) es fs) → AreOne s other (e ∷ es) (f ∷ fs)
+      by_kinds : (b c : Bool) → begins_event e ≡ b → begins_event f ≡ c
+          → (unplaced e ≡ unplaced f → AreSameButForPlaces (events es) (events fs) → AreOne (after setup s e) (after setup other f) es fs)
+          → AreOne s other (e ∷ es) (f ∷ fs)
       by_kinds true true begins starts later =
-          let both : unplaced e ∷ map unplaced (events es) ≡ unplaced f ∷ map unplaced (events fs) = sym (ap (map unplaced) (head_begins e es begins)) ∙ alike ∙ ap (map unplaced) (head_begins f fs starts) in
+          let both : unplaced e ∷ map unplaced (events es) ≡ unplaced f ∷ map unplaced (events fs) = sym (ap (map unplaced) (head_begins e es begins)) ∙ alike
+          ∙ ap (map unplaced) (head_begins f fs starts) in
           let one : unplaced e ≡ unplaced f = cc in
           let tails : map unplaced (events es) ≡ map unplaced (events fs) = cc in
           with_heads one (later one tails)
       by_kinds true false begins quiet later =
           let may = event_begins setup s n t e begins all.0 in
-          absurd (event_alone setup s is.consistent.tickets is.keeps.cursor t f may.0 may.1 (quiet_back setup s other n t is its same f (granted_or_owed setup other n t f quiet each.0)))
+          absurd (event_alone setup s is.consistent.tickets is.keeps.cursor t f may.0 may.1
+          (quiet_back setup s other n t is its same f (granted_or_owed setup other n t f quiet each.0)))
       by_kinds false true quiet starts later =
           let may = event_begins setup other n t f starts each.0 in
-          absurd (event_alone setup other its.consistent.tickets its.keeps.cursor t e may.0 may.1 (quiet_back setup other s n t its is (same_state-flip s other same) e (granted_or_owed setup s n t e quiet all.0)))
+          absurd (event_alone setup other its.consistent.tickets its.keeps.cursor t e may.0 may.1
+          (quiet_back setup other s n t its is (same_state-flip s other same) e (granted_or_owed setup s n t e quiet all.0)))
       by_kinds false false quiet still later =
           let same_one : e ≡ f =
-          same_entry setup s is.consistent.tickets is.keeps.cursor t e f (granted_or_owed setup s n t e quiet all.0) (quiet_back setup s other n t is its same f (granted_or_owed setup other n t f still each.0)) in
+          same_entry setup s is.consistent.tickets is.keeps.cursor t e f (granted_or_owed setup s n t e quiet all.0)
+          (quiet_back setup s other n t is its same f (granted_or_owed setup other n t f still each.0)) in
           let one : unplaced e ≡ unplaced f = ap unplaced same_one in
           with_heads one (later one (sym (ap (map unplaced) (head_goes_on e es quiet)) ∙ alike ∙ ap (map unplaced) (head_goes_on f fs still)))
 
@@ -205,15 +223,21 @@ placed_alike (e ∷ es) (f ∷ fs) alike same =
         ]
 
 base_left : (h : History) → IsLegal h → IsLeft h.setup h.base granting
-base_left h legal = record { consistent = base_consistent h.setup h.base legal.begins; keeps = record { rows = legal.begins.at_servers; cursor = legal.begins.cursor } }
+base_left h legal = record {
+  consistent = base_consistent h.setup h.base legal.begins;
+  keeps = record { rows = legal.begins.at_servers; cursor = legal.begins.cursor };
+}
 
 -- legal logs whose events are the same but for places, from bases that are
-pub legal_determined : (h other : History) → IsLegal h → IsLegal other → other.setup ≡ h.setup → IsSameButForPlaces h.base other.base → AreSameButForPlaces (events h.log) (events other.log)
+pub legal_determined : (h other : History) → IsLegal h → IsLegal other → other.setup ≡ h.setup → IsSameButForPlaces h.base other.base
+    → AreSameButForPlaces (events h.log) (events other.log)
     → AreSameButForPlaces h.log other.log × IsSameButForPlaces (state_of h) (state_of other)
 legal_determined h other legal its setups same alike = at_setup other.setup (sym setups) its
   where
-    at_setup : (setup : Setup) → h.setup ≡ setup → IsLegal (record other { setup = setup }) → AreSameButForPlaces h.log other.log × IsSameButForPlaces (state_of h) (after_all setup other.base other.log)
-    at_setup setup is = subst (λ (x : Setup). IsLegal (record other { setup = x }) → AreSameButForPlaces h.log other.log × IsSameButForPlaces (state_of h) (after_all x other.base other.log)) is
+    at_setup : (setup : Setup) → h.setup ≡ setup → IsLegal (record other { setup = setup })
+        → AreSameButForPlaces h.log other.log × IsSameButForPlaces (state_of h) (after_all setup other.base other.log)
+    at_setup setup is = subst (λ (x : Setup). IsLegal (record other { setup = x })
+        → AreSameButForPlaces h.log other.log × IsSameButForPlaces (state_of h) (after_all x other.base other.log)) is
         (λ theirs.
         determined h.setup h.log other.log h.base other.base 0 granting (base_left h legal) (base_left (record other { setup = h.setup }) theirs) same
         legal.lawful.judged theirs.lawful.judged
@@ -221,7 +245,8 @@ legal_determined h other legal its setups same alike = at_setup other.setup (sym
 
 pub legal_one : (h other : History) → IsLegal h → IsLegal other → other.setup ≡ h.setup → other.base ≡ h.base → events other.log ≡ events h.log → other ≡ h
 legal_one h other legal its setups bases same =
-    let alike = legal_determined h other legal its setups (subst (IsSameButForPlaces h.base) (sym bases) (same_state-itself h.base)) (ap (map unplaced) (sym same)) in
+    let alike = legal_determined h other legal its setups (subst (IsSameButForPlaces h.base) (sym bases) (same_state-itself h.base))
+    (ap (map unplaced) (sym same)) in
     let log : other.log ≡ h.log = placed_alike h.log other.log alike.0 same in
     whole setups bases log
   where

@@ -1,12 +1,14 @@
 -- The dispatch theorem's first three parts, for every legal log.
-use Rattle.std.proofs.Common.{◌≡◌, ℕ, zero, suc, ◌+◌, ◌<◌, ◌≤◌, max, ◌==◌, nat_lt, ◌||◌, Bool, true, false, not, cond, ◌⊎◌, inl, inr, List, [], ◌∷◌, Option, None, Some, count_by, slice_get, refl, ap, sym, ◌∙◌, subst, arith}
+use Rattle.std.proofs.Common.{◌≡◌, ℕ, zero, suc, ◌+◌, ◌<◌, ◌≤◌, max, ◌==◌, nat_lt, ◌||◌, Bool, true, false, not, cond, ◌⊎◌}
+use Rattle.std.proofs.Common.{inl, inr, List, [], ◌∷◌, Option, None, Some, count_by, slice_get, refl, ap, sym, ◌∙◌, subst, arith}
 use Rattle.std.proofs.Math.ListN.{set}
 use Rattle.std.specs.Option.{option_map_or}
 use Rattle.std.proofs.lemmas.Bool.Decides.{Decides-eqb, nat_tests}
 use Rattle.std.proofs.lemmas.List.Sums.{sum_by-cons}
 use Rattle.dispatch_log.specs.declared.allowance.Allowance.{Allowance}
 use Rattle.dispatch_log.specs.declared.entry.Entry.{Entry}
-use Rattle.dispatch_log.specs.declared.entry.Entry.TheVariants.{Arrive, Done, Fail, Abort, Tick, Check, Limit, Direct, Joined, Granted, Moved, Freed, Retried, Left, Health, Ended}
+use Rattle.dispatch_log.specs.declared.entry.Entry.TheVariants.{Arrive, Done, Fail, Abort, Tick, Check, Limit, Direct}
+use Rattle.dispatch_log.specs.declared.entry.Entry.TheVariants.{Joined, Granted, Moved, Freed, Retried, Left, Health, Ended}
 use Rattle.dispatch_log.specs.declared.row.Phase.{Phase}
 use Rattle.dispatch_log.specs.declared.row.Phase.TheVariants.{Loose, Waiting, Serving, Told}
 use Rattle.verdict.specs.declared.cause.Cause.TheVariants.{Aborted, Timeout, Retries, NoServer}
@@ -16,7 +18,8 @@ use Rattle.dispatch_log.specs.declared.setup.Setup.{Setup}
 use Rattle.dispatch_log.specs.Dispatch.{bound_by, bound_of, KeepsLimits, given_between, is_arrival_of, is_end_of, arrivals_of, ends_of, is_placed, IsDispatched}
 use Rattle.dispatch_log.specs.Histories.{History, state_of}
 use Rattle.dispatch_log.specs.Legal.{IsBase, IsLegal}
-use Rattle.dispatch_log.specs.Judgement.{Stage, placing, returning, ending, failing, leaving, aborting, telling, checking, falling, granting, IsPut, MayCome, next_stage, stage_after, AllMayCome}
+use Rattle.dispatch_log.specs.Judgement.{Stage, placing, returning, ending, failing, leaving, aborting, telling}
+use Rattle.dispatch_log.specs.Judgement.{checking, falling, granting, IsPut, MayCome, next_stage, stage_after, AllMayCome}
 use Rattle.dispatch_log.specs.Refusals.{has_a_slot}
 use Rattle.dispatch_log.specs.Retries.{failed}
 use Rattle.dispatch_log.specs.Rows.{Rows, StandsAt, IsRow, changed, in_phase, in_backend_since, gone, pin_of, has_ticket, is_served_by, served, rows_of}
@@ -44,7 +47,8 @@ record Writes (setup : Setup) (s next : State) (entry : Entry) : Type 0 where
   pub written : next.rows ≡ set s.rows place cell
   pub same_limits : next.limits ≡ s.limits
   pub takes : (server : ℕ) → is_served_by server cell ≡ true → (is_free (slots setup s) server ≡ true) ⊎ (is_served_by server old ≡ true)
-  pub balanced : (ticket : ℕ) → tally (has_ticket ticket old) + tally (is_arrival_of ticket entry) ≡ tally (has_ticket ticket cell) + tally (is_end_of ticket entry)
+  pub balanced : (ticket : ℕ) → tally (has_ticket ticket old) + tally (is_arrival_of ticket entry)
+      ≡ tally (has_ticket ticket cell) + tally (is_end_of ticket entry)
 
 -- or it leaves them and keeps their limits, and is no arrival and no end
 record Leaves (s next : State) (entry : Entry) : Type 0 where
@@ -60,7 +64,8 @@ Does setup s e = Writes setup s (after setup s e) e ⊎ Leaves s (after setup s 
 abbrev bound_in : List Allowance → ℕ → ℕ
 bound_in limits server = option_map_or bound_by (slice_get limits server) 0
 
-within_bound : (limit count m : ℕ) → m ≤ count → 0 < bound_by (record { limit = limit; served = count }) → m ≤ bound_by (record { limit = limit; served = count })
+within_bound : (limit count m : ℕ) → m ≤ count → 0 < bound_by (record { limit = limit; served = count })
+    → m ≤ bound_by (record { limit = limit; served = count })
 within_bound limit count m few some = by_test (limit == 0) some
   where
     by_test : (b : Bool) → 0 < cond b 0 (max limit count) → m ≤ cond b 0 (max limit count)
@@ -68,7 +73,8 @@ within_bound limit count m few some = by_test (limit == 0) some
     by_test false some = omega arith
 
 limit_kept : (limits : List Allowance) (v server limit count m : ℕ) → (v ≡ server → m ≤ count) → (0 < bound_in limits server → m ≤ bound_in limits server)
-    → 0 < bound_in (set limits v (record { limit = limit; served = count })) server → m ≤ bound_in (set limits v (record { limit = limit; served = count })) server
+    → 0 < bound_in (set limits v (record { limit = limit; served = count })) server
+    → m ≤ bound_in (set limits v (record { limit = limit; served = count })) server
 limit_kept [] v server limit count m own keeps some = keeps some
 limit_kept (it ∷ limits) zero zero limit count m own keeps some = within_bound limit count m (own refl) some
 limit_kept (it ∷ limits) zero (suc server) limit count m own keeps some = keeps some
@@ -92,7 +98,8 @@ named setup s e u p r f own stands is_named changes limits takes balanced = inl 
   balanced = balanced;
 })
 
-left : (setup : Setup) (s : State) (e : Entry) → (after setup s e).rows ≡ s.rows → (KeepsLimits s → KeepsLimits (after setup s e)) → ((ticket : ℕ) → is_arrival_of ticket e ≡ false) → ((ticket : ℕ) → is_end_of ticket e ≡ false) → Does setup s e
+left : (setup : Setup) (s : State) (e : Entry) → (after setup s e).rows ≡ s.rows → (KeepsLimits s → KeepsLimits (after setup s e))
+    → ((ticket : ℕ) → is_arrival_of ticket e ≡ false) → ((ticket : ℕ) → is_end_of ticket e ≡ false) → Does setup s e
 left setup s e same keeps no_arrival no_end = inr (record { same = same; keeps = keeps; no_arrival = no_arrival; no_end = no_end })
 
 slot_was_free : (setup : Setup) (s : State) (v w : ℕ) → is_free (slots setup s) v ≡ true → (v == w) ≡ true → is_free (slots setup s) w ≡ true
@@ -102,7 +109,9 @@ ended : (ticket own u : ℕ) → own ≡ u → tally (own == ticket) + 0 ≡ 0 +
 ended ticket own u e = subst (λ x. tally (own == ticket) + 0 ≡ 0 + tally (x == ticket)) e (omega arith)
 
 -- the placement of the row that is in no place writes it
-put_writes : (setup : Setup) (s : State) (t : ℕ) (old : Stage) (e : Entry) (cursor : ℕ) (ups : List Bool) (pin avoid : Option ℕ) → IsConsistent s.rows s.ticket old → loose_ticket old ≡ Some t → IsPut (record { servers = setup.servers; limits = s.limits; ups = ups; rows = s.rows }) cursor pin avoid t e → Does setup s e
+put_writes : (setup : Setup) (s : State) (t : ℕ) (old : Stage) (e : Entry) (cursor : ℕ) (ups : List Bool) (pin avoid : Option ℕ)
+    → IsConsistent s.rows s.ticket old → loose_ticket old ≡ Some t
+    → IsPut (record { servers = setup.servers; limits = s.limits; ups = ups; rows = s.rows }) cursor pin avoid t e → Does setup s e
 put_writes setup s t old (Direct u v) cursor ups pin avoid is one put =
     let it = is.owed t one in
     named setup s (Direct u v) u it.place it.row (in_phase (Serving v)) is.tickets it.stands (it.named ∙ sym put.0) refl refl
@@ -138,7 +147,8 @@ writes_of setup s n t (Tick m) is may = left setup s (Tick m) refl (λ keeps. ke
 writes_of setup s n t (Check m v ok) is may = left setup s (Check m v ok) refl (λ keeps. keeps) (λ ticket. refl) (λ ticket. refl)
 writes_of setup s n t (Limit m v k) is may =
     left setup s (Limit m v k) refl
-    (λ keeps server some. limit_kept s.limits v server k (served v s.rows) (served server s.rows) (λ same. subst (λ w. served server s.rows ≤ served w s.rows) (sym same) (omega arith)) (keeps server) some)
+    (λ keeps server some. limit_kept s.limits v server k (served v s.rows) (served server s.rows)
+    (λ same. subst (λ w. served server s.rows ≤ served w s.rows) (sym same) (omega arith)) (keeps server) some)
     (λ ticket. refl) (λ ticket. refl)
 writes_of setup s n t (Granted u q v) is may =
     let it = may.1 in
@@ -149,9 +159,12 @@ writes_of setup s n (leaving t w) (Left u Retries) is may =
     let it = is.owed t refl in
     named setup s (Left u Retries) u it.place it.row (in_phase (Told Retries)) is.tickets it.stands (it.named ∙ sym may.0) refl refl
     (λ server e. false_true e) (λ ticket. refl)
-writes_of setup s n (leaving t w) (Direct u v) is may = put_writes setup s t (leaving t w) (Direct u v) s.cursor (scene setup s).ups None (Some w) is refl may.put
-writes_of setup s n (leaving t w) (Joined u q) is may = put_writes setup s t (leaving t w) (Joined u q) s.cursor (scene setup s).ups None (Some w) is refl may.put
-writes_of setup s n (leaving t w) (Left u NoServer) is may = put_writes setup s t (leaving t w) (Left u NoServer) s.cursor (scene setup s).ups None (Some w) is refl may.put
+writes_of setup s n (leaving t w) (Direct u v) is may =
+    put_writes setup s t (leaving t w) (Direct u v) s.cursor (scene setup s).ups None (Some w) is refl may.put
+writes_of setup s n (leaving t w) (Joined u q) is may =
+    put_writes setup s t (leaving t w) (Joined u q) s.cursor (scene setup s).ups None (Some w) is refl may.put
+writes_of setup s n (leaving t w) (Left u NoServer) is may =
+    put_writes setup s t (leaving t w) (Left u NoServer) s.cursor (scene setup s).ups None (Some w) is refl may.put
 writes_of setup s n (leaving t w) e is may = absurd may.put
 writes_of setup s n (returning t) (Freed u v) is may =
     let slot = may.1 in
@@ -189,13 +202,15 @@ free_below : (setup : Setup) (s : State) (server : ℕ) → is_free (slots setup
 free_below setup s server free some = by_server (slice_get setup.servers server) (slice_get s.limits server) free some
   where
     by_server : (it : Option ServerSet) (a : Option Allowance)
-        → option_map_or (λ (x : ServerSet). (option_map_or (λ (y : Allowance). y.limit) a 0 == 0) || nat_lt (served server s.rows) (option_map_or (λ (y : Allowance). y.limit) a 0)) it false ≡ true
+        → option_map_or (λ (x : ServerSet). (option_map_or (λ (y : Allowance). y.limit) a 0 == 0) || nat_lt (served server s.rows)
+        (option_map_or (λ (y : Allowance). y.limit) a 0)) it false ≡ true
         → 0 < option_map_or bound_by a 0 → served server s.rows < option_map_or bound_by a 0
     by_server None a free some = false_true free
     by_server (Some x) None free some = absurd (omega arith)
     by_server (Some x) (Some y) free some = by_limit (y.limit == 0) free some
       where
-        by_limit : (b : Bool) → b || nat_lt (served server s.rows) y.limit ≡ true → 0 < cond b 0 (max y.limit y.served) → served server s.rows < cond b 0 (max y.limit y.served)
+        by_limit : (b : Bool) → b || nat_lt (served server s.rows) y.limit ≡ true → 0 < cond b 0 (max y.limit y.served)
+            → served server s.rows < cond b 0 (max y.limit y.served)
         by_limit true free some = absurd (omega arith)
         by_limit false free some = let less : served server s.rows < y.limit = grind (arith, nat_tests) in omega arith
 
@@ -225,22 +240,29 @@ limits_written setup s next e w keeps server some = subst (λ n. served server n
     by_test false e = let none : tally (is_served_by server w.cell) ≡ 0 = ap tally e in omega (arith, count, kept)
 
 -- limits are kept by every entry
-limits_after : (setup : Setup) (s : State) (n : ℕ) (t : Stage) (e : Entry) → IsConsistent s.rows s.ticket t → MayCome setup s n t e → KeepsLimits s → KeepsLimits (after setup s e)
-limits_after setup s n t e is may keeps = elim (writes_of setup s n t e is may) [ inl w ↦ limits_written setup s (after setup s e) e w keeps | inr w ↦ w.keeps keeps ]
+limits_after : (setup : Setup) (s : State) (n : ℕ) (t : Stage) (e : Entry) → IsConsistent s.rows s.ticket t → MayCome setup s n t e → KeepsLimits s
+    → KeepsLimits (after setup s e)
+limits_after setup s n t e is may keeps =
+    elim (writes_of setup s n t e is may) [ inl w ↦ limits_written setup s (after setup s e) e w keeps | inr w ↦ w.keeps keeps ]
 
-pub limits_all : (setup : Setup) (s : State) (n : ℕ) (t : Stage) (es : List Entry) → IsConsistent s.rows s.ticket t → AllMayCome setup s n t es → KeepsLimits s → KeepsLimits (after_all setup s es)
+pub limits_all : (setup : Setup) (s : State) (n : ℕ) (t : Stage) (es : List Entry) → IsConsistent s.rows s.ticket t → AllMayCome setup s n t es → KeepsLimits s
+    → KeepsLimits (after_all setup s es)
 limits_all setup s n t [] is all keeps = keeps
 limits_all setup s n t (e ∷ es) is all keeps =
     limits_all setup (after setup s e) (n + 1) (next_stage t e) es (consistent_after setup s n t e is all.0) all.1 (limits_after setup s n t e is all.0 keeps)
 
 -- the rows of a ticket and its ends after an entry are those before and its arrivals
-balance_after : (setup : Setup) (s : State) (n : ℕ) (t : Stage) (e : Entry) (ticket : ℕ) → IsConsistent s.rows s.ticket t → MayCome setup s n t e → rows_of ticket (after setup s e).rows + tally (is_end_of ticket e) ≡ rows_of ticket s.rows + tally (is_arrival_of ticket e)
+balance_after : (setup : Setup) (s : State) (n : ℕ) (t : Stage) (e : Entry) (ticket : ℕ) → IsConsistent s.rows s.ticket t → MayCome setup s n t e
+    → rows_of ticket (after setup s e).rows + tally (is_end_of ticket e) ≡ rows_of ticket s.rows + tally (is_arrival_of ticket e)
 balance_after setup s n t e ticket is may =
     elim (writes_of setup s n t e is may) [
       | inl w ↦
-          let count : rows_of ticket (set s.rows w.place w.cell) + tally (has_ticket ticket w.old) ≡ rows_of ticket s.rows + tally (has_ticket ticket w.cell) = count-set (has_ticket ticket) s.rows w.place w.old w.cell w.stood in
-          let even : tally (has_ticket ticket w.old) + tally (is_arrival_of ticket e) ≡ tally (has_ticket ticket w.cell) + tally (is_end_of ticket e) = w.balanced ticket in
-          subst (λ rows. rows_of ticket rows + tally (is_end_of ticket e) ≡ rows_of ticket s.rows + tally (is_arrival_of ticket e)) (sym w.written) (omega arith)
+          let count : rows_of ticket (set s.rows w.place w.cell) + tally (has_ticket ticket w.old) ≡ rows_of ticket s.rows + tally (has_ticket ticket w.cell) =
+          count-set (has_ticket ticket) s.rows w.place w.old w.cell w.stood in
+          let even : tally (has_ticket ticket w.old) + tally (is_arrival_of ticket e) ≡ tally (has_ticket ticket w.cell) + tally (is_end_of ticket e) =
+          w.balanced ticket in
+          subst (λ rows. rows_of ticket rows + tally (is_end_of ticket e) ≡ rows_of ticket s.rows + tally (is_arrival_of ticket e)) (sym w.written)
+          (omega arith)
       | inr w ↦
           let arrival : tally (is_arrival_of ticket e) ≡ 0 = ap tally (w.no_arrival ticket) in
           let end : tally (is_end_of ticket e) ≡ 0 = ap tally (w.no_end ticket) in
@@ -248,13 +270,16 @@ balance_after setup s n t e ticket is may =
           omega arith
     ]
 
-balance_all : (setup : Setup) (s : State) (n : ℕ) (t : Stage) (es : List Entry) (ticket : ℕ) → IsConsistent s.rows s.ticket t → AllMayCome setup s n t es → rows_of ticket (after_all setup s es).rows + ends_of ticket es ≡ rows_of ticket s.rows + arrivals_of ticket es
+balance_all : (setup : Setup) (s : State) (n : ℕ) (t : Stage) (es : List Entry) (ticket : ℕ) → IsConsistent s.rows s.ticket t → AllMayCome setup s n t es
+    → rows_of ticket (after_all setup s es).rows + ends_of ticket es ≡ rows_of ticket s.rows + arrivals_of ticket es
 balance_all setup s n t [] ticket is all = refl
 balance_all setup s n t (e ∷ es) ticket is all =
     let one = balance_after setup s n t e ticket is all.0 in
-    let rest : rows_of ticket (after_all setup (after setup s e) es).rows + ends_of ticket es ≡ rows_of ticket (after setup s e).rows + arrivals_of ticket es = balance_all setup (after setup s e) (n + 1) (next_stage t e) es ticket (consistent_after setup s n t e is all.0) all.1 in
+    let rest : rows_of ticket (after_all setup (after setup s e) es).rows + ends_of ticket es ≡ rows_of ticket (after setup s e).rows + arrivals_of ticket es =
+    balance_all setup (after setup s e) (n + 1) (next_stage t e) es ticket (consistent_after setup s n t e is all.0) all.1 in
     let ends : ends_of ticket (e ∷ es) ≡ tally (is_end_of ticket e) + ends_of ticket es = sum_by-cons (λ x. tally (is_end_of ticket x)) e es in
-    let arrivals : arrivals_of ticket (e ∷ es) ≡ tally (is_arrival_of ticket e) + arrivals_of ticket es = sum_by-cons (λ x. tally (is_arrival_of ticket x)) e es in
+    let arrivals : arrivals_of ticket (e ∷ es) ≡ tally (is_arrival_of ticket e) + arrivals_of ticket es =
+    sum_by-cons (λ x. tally (is_arrival_of ticket x)) e es in
     omega arith
 
 -- tickets rise
@@ -310,11 +335,13 @@ given_all setup first s n t (e ∷ es) ticket past all =
     let one = given_after setup first s n t e ticket past all.0 in
     let later : s.ticket ≤ (after setup s e).ticket = last_after setup s n t e all.0 in
     let rest = given_all setup first (after setup s e) (n + 1) (next_stage t e) es ticket (omega arith) all.1 in
-    let arrivals : arrivals_of ticket (e ∷ es) ≡ tally (is_arrival_of ticket e) + arrivals_of ticket es = sum_by-cons (λ x. tally (is_arrival_of ticket x)) e es in
+    let arrivals : arrivals_of ticket (e ∷ es) ≡ tally (is_arrival_of ticket e) + arrivals_of ticket es =
+    sum_by-cons (λ x. tally (is_arrival_of ticket x)) e es in
     omega arith
 
 -- a row that is in no place isn't there between events
-placed_row : (rows : Rows) (last : ℕ) (t : Stage) (r : Row) → IsConsistent rows last t → loose_ticket t ≡ None → IsRow rows r → (phase : Phase) → r.phase ≡ phase → is_placed phase ≡ true
+placed_row : (rows : Rows) (last : ℕ) (t : Stage) (r : Row) → IsConsistent rows last t → loose_ticket t ≡ None → IsRow rows r → (phase : Phase)
+    → r.phase ≡ phase → is_placed phase ≡ true
 placed_row rows last t r is none live Loose e = let h : loose_ticket t ≡ Some r.key.ticket = is.loose live.0 r live.1 e in cc
 placed_row rows last t r is none live (Waiting q m) e = refl
 placed_row rows last t r is none live (Serving v) e = refl
@@ -323,8 +350,12 @@ placed_row rows last t r is none live (Told c) e = refl
 -- what a base has of rows and tickets
 pub base_consistent : (setup : Setup) (base : State) → IsBase setup base → IsConsistent base.rows base.ticket granting
 base_consistent setup base is = record {
-  tickets = record { own = λ p q r u a b e. one_at (has_ticket r.key.ticket) base.rows p q (Some r) (Some u) (few r.key.ticket) a ((Decides-eqb _ _).1 refl) b ((Decides-eqb _ _).1 (sym e)) };
-  below = λ p r a. by_count p r a (some_at (has_ticket r.key.ticket) base.rows p (Some r) a ((Decides-eqb _ _).1 refl)) (is.dispatched.one_place r.key.ticket).one_row;
+  tickets = record {
+    own = λ p q r u a b e.
+        one_at (has_ticket r.key.ticket) base.rows p q (Some r) (Some u) (few r.key.ticket) a ((Decides-eqb _ _).1 refl) b ((Decides-eqb _ _).1 (sym e));
+  };
+  below = λ p r a. by_count p r a (some_at (has_ticket r.key.ticket) base.rows p (Some r) a ((Decides-eqb _ _).1 refl))
+      (is.dispatched.one_place r.key.ticket).one_row;
   loose = λ p r a e. let no : false ≡ true = subst (λ phase. is_placed phase ≡ true) e (is.dispatched.placed r (p, a)) in cc;
   owed = λ t e. none_some e;
 }
@@ -332,14 +363,16 @@ base_consistent setup base is = record {
     few : (ticket : ℕ) → count_by (has_ticket ticket) base.rows ≤ 1
     few ticket = let one = (is.dispatched.one_place ticket).one_row in grind (arith, nat_tests)
 
-    by_count : (p : ℕ) (r : Row) → StandsAt base.rows p r → 1 ≤ rows_of r.key.ticket base.rows → rows_of r.key.ticket base.rows ≤ given_between 0 base.ticket r.key.ticket → r.key.ticket ≤ base.ticket
+    by_count : (p : ℕ) (r : Row) → StandsAt base.rows p r → 1 ≤ rows_of r.key.ticket base.rows
+        → rows_of r.key.ticket base.rows ≤ given_between 0 base.ticket r.key.ticket → r.key.ticket ≤ base.ticket
     by_count p r a some one = grind (arith, nat_tests)
 
 pub legal_consistent : (h : History) → IsLegal h → IsConsistent (state_of h).rows (state_of h).ticket (stage_after granting h.log)
 legal_consistent h legal = consistent_all h.setup h.base 0 granting h.log (base_consistent h.setup h.base legal.begins) legal.lawful.judged
 
 -- the rows that a ticket has at a window's end
-one_row : (first last ticket rows now ends arrivals : ℕ) → first ≤ last → rows ≤ given_between 0 first ticket → arrivals ≡ given_between first last ticket → now + ends ≡ rows + arrivals → now ≤ given_between 0 last ticket
+one_row : (first last ticket rows now ends arrivals : ℕ) → first ≤ last → rows ≤ given_between 0 first ticket → arrivals ≡ given_between first last ticket
+    → now + ends ≡ rows + arrivals → now ≤ given_between 0 last ticket
 one_row first last ticket rows now ends arrivals rises had came even = grind (arith, nat_tests)
 
 -- the dispatch theorem's first three parts
@@ -352,7 +385,8 @@ dispatched h legal =
     let stage = stage_after granting h.log in
     let arrived_once = λ (ticket : ℕ).
     let none : given_between base.ticket base.ticket ticket ≡ 0 = grind (arith, nat_tests) in
-    let all : given_between base.ticket base.ticket ticket + arrivals_of ticket h.log ≡ given_between base.ticket (state_of h).ticket ticket = given_all h.setup base.ticket base 0 granting h.log ticket (omega arith) judged in
+    let all : given_between base.ticket base.ticket ticket + arrivals_of ticket h.log ≡ given_between base.ticket (state_of h).ticket ticket =
+    given_all h.setup base.ticket base 0 granting h.log ticket (omega arith) judged in
     (let it : arrivals_of ticket h.log ≡ given_between base.ticket (state_of h).ticket ticket = omega arith in it)
     in
     record {
@@ -360,10 +394,12 @@ dispatched h legal =
       one_place = λ ticket. record {
         arrives_once = arrived_once ticket;
         until_its_end = balance_all h.setup base 0 granting h.log ticket opened judged;
-        one_row = one_row base.ticket (state_of h).ticket ticket (rows_of ticket base.rows) (rows_of ticket (state_of h).rows) (ends_of ticket h.log) (arrivals_of ticket h.log)
+        one_row = one_row base.ticket (state_of h).ticket ticket (rows_of ticket base.rows) (rows_of ticket (state_of h).rows) (ends_of ticket h.log)
+            (arrivals_of ticket h.log)
             (last_all h.setup base 0 granting h.log judged) (legal.begins.dispatched.one_place ticket).one_row (arrived_once ticket)
             (balance_all h.setup base 0 granting h.log ticket opened judged);
       };
-      placed = λ row live. placed_row (state_of h).rows (state_of h).ticket stage row end (over_none h.setup (state_of h) stage legal.lawful.whole) live row.phase refl;
+      placed = λ row live. placed_row (state_of h).rows (state_of h).ticket stage row end
+          (over_none h.setup (state_of h) stage legal.lawful.whole) live row.phase refl;
       settled = legal.lawful.settled;
     }

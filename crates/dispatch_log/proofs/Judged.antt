@@ -1,9 +1,11 @@
 -- Logs that are judged entry by entry: what one entry more is, and what each state on the way has.
-use Rattle.std.proofs.Common.{◌≡◌, ◌≢◌, ℕ, ◌+◌, true, false, not, IsTrue, List, [], ◌∷◌, ◌++◌, Option, None, Some, length, refl, ap, sym, ◌∙◌, subst, arith, ◌⊎◌, inl, inr}
+use Rattle.std.proofs.Common.{◌≡◌, ◌≢◌, ℕ, ◌+◌, true, false, not, IsTrue, List, [], ◌∷◌, ◌++◌, Option}
+use Rattle.std.proofs.Common.{None, Some, length, refl, ap, sym, ◌∙◌, subst, arith, ◌⊎◌, inl, inr}
 use Rattle.std.proofs.Math.ListN.{set, length-set}
 use Rattle.std.proofs.lemmas.List.{length-map}
 use Rattle.dispatch_log.specs.declared.entry.Entry.{Entry}
-use Rattle.dispatch_log.specs.declared.entry.Entry.TheVariants.{Arrive, Done, Fail, Abort, Tick, Check, Limit, Direct, Joined, Granted, Moved, Freed, Retried, Left, Health, Ended}
+use Rattle.dispatch_log.specs.declared.entry.Entry.TheVariants.{Arrive, Done, Fail, Abort, Tick, Check, Limit, Direct}
+use Rattle.dispatch_log.specs.declared.entry.Entry.TheVariants.{Joined, Granted, Moved, Freed, Retried, Left, Health, Ended}
 use Rattle.dispatch_log.specs.declared.row.Phase.{Phase}
 use Rattle.dispatch_log.specs.declared.row.Phase.TheVariants.{Loose, Waiting, Serving, Told}
 use Rattle.verdict.specs.declared.cause.Cause.{Cause}
@@ -12,7 +14,8 @@ use Rattle.dispatch_log.specs.declared.row.Row.{Row}
 use Rattle.dispatch_log.specs.declared.setup.Setup.{Setup}
 use Rattle.dispatch_log.specs.declared.queue.Queue.{Queue}
 use Rattle.dispatch_log.specs.declared.queue.Queue.TheVariants.{Backend, Server}
-use Rattle.dispatch_log.specs.Judgement.{IsInPhase, HasSlot, IsTold, Stage, placing, returning, ending, failing, leaving, aborting, telling, checking, falling, granting, IsOver, MayGrant, IsPut, MayCome, IsFirstIn, has_expired, next_stage, stage_after, AllMayCome}
+use Rattle.dispatch_log.specs.Judgement.{IsInPhase, HasSlot, IsTold, Stage, placing, returning, ending, failing, leaving, aborting, telling, checking}
+use Rattle.dispatch_log.specs.Judgement.{falling, granting, IsOver, MayGrant, IsPut, MayCome, IsFirstIn, has_expired, next_stage, stage_after, AllMayCome}
 use Rattle.dispatch_log.specs.Health.{results_of}
 use Rattle.dispatch_log.specs.Refusals.{is_waiting, has_a_slot, failure_refusal}
 use Rattle.dispatch_log.specs.Retries.{failed}
@@ -33,7 +36,8 @@ stage_after-push t [] e = refl
 stage_after-push t (x ∷ es) e = stage_after-push (next_stage t x) es e
 
 -- an entry that may come at the end
-pub judged_push : (setup : Setup) (s : State) (n : ℕ) (t : Stage) (es : List Entry) (e : Entry) → AllMayCome setup s n t es → MayCome setup (after_all setup s es) (n + length es) (stage_after t es) e → AllMayCome setup s n t (es ++ e ∷ [])
+pub judged_push : (setup : Setup) (s : State) (n : ℕ) (t : Stage) (es : List Entry) (e : Entry) → AllMayCome setup s n t es
+    → MayCome setup (after_all setup s es) (n + length es) (stage_after t es) e → AllMayCome setup s n t (es ++ e ∷ [])
 judged_push setup s n t [] e all may = (subst (λ k. MayCome setup s k t e) (omega arith) may, tt)
 judged_push setup s n t (x ∷ es) e all may = (
   all.0,
@@ -51,7 +55,8 @@ over_none setup s (falling v) over = refl
 over_none setup s t over = absurd over
 
 -- the row that is in no place, or none, stays so over a grant
-pub grant_keeps : (setup : Setup) (s : State) (t : Stage) (u v : ℕ) (q : Queue) → MayGrant setup s t → loose_ticket t ≡ loose_ticket (next_stage t (Granted u q v))
+pub grant_keeps : (setup : Setup) (s : State) (t : Stage) (u v : ℕ) (q : Queue) → MayGrant setup s t
+    → loose_ticket t ≡ loose_ticket (next_stage t (Granted u q v))
 grant_keeps setup s (leaving t w) u v q may = refl
 grant_keeps setup s granting u v q may = refl
 grant_keeps setup s telling u v q may = refl
@@ -85,40 +90,53 @@ expired_firm setup now (Serving v) expired e = cc
 expired_firm setup now (Told c) expired e = cc
 
 -- a change of the row that is in no place, which gets one
-settled_in : (s : State) (t u : ℕ) (old new : Stage) (phase : Phase) → IsConsistent s.rows s.ticket old → loose_ticket old ≡ Some t → loose_ticket new ≡ None → u ≡ t → phase ≢ Loose → IsConsistent (changed u (in_phase phase) s.rows) s.ticket new
+settled_in : (s : State) (t u : ℕ) (old new : Stage) (phase : Phase) → IsConsistent s.rows s.ticket old → loose_ticket old ≡ Some t → loose_ticket new ≡ None
+    → u ≡ t → phase ≢ Loose → IsConsistent (changed u (in_phase phase) s.rows) s.ticket new
 settled_in s t u old new phase is one none same firm =
     let it = is.owed t one in
     subst (λ rows. IsConsistent rows s.ticket new) (sym (changed_at s.rows u it.place it.row (in_phase phase) is.tickets it.stands (it.named ∙ sym same)))
     (placed s.rows s.ticket t it.place old new it.row (record it.row { phase = phase }) is one none it.stands it.named refl firm)
 
 -- a change of a row that stays in a place
-moves_on : (rows : Rows) (last u p : ℕ) (old new : Stage) (r w : Row) (change : Row → Option Row) → IsConsistent rows last old → loose_ticket old ≡ loose_ticket new → StandsAt rows p r → r.key.ticket ≡ u → change r ≡ Some w → w.key.ticket ≡ r.key.ticket → r.phase ≢ Loose → w.phase ≢ Loose → IsConsistent (changed u change rows) last new
+moves_on : (rows : Rows) (last u p : ℕ) (old new : Stage) (r w : Row) (change : Row → Option Row) → IsConsistent rows last old
+    → loose_ticket old ≡ loose_ticket new → StandsAt rows p r → r.key.ticket ≡ u → change r ≡ Some w → w.key.ticket ≡ r.key.ticket → r.phase ≢ Loose
+    → w.phase ≢ Loose → IsConsistent (changed u change rows) last new
 moves_on rows last u p old new r w change is stay stands named to same was firm =
     subst (λ now. IsConsistent now last new) (sym (changed_at rows u p r change is.tickets stands named ∙ ap (set rows p) to))
     (moved rows last p old new r w is stay stands same was firm)
 
 -- a slot that is given back
-gives_back : (s : State) (t u v : ℕ) (old new : Stage) → IsConsistent s.rows s.ticket old → loose_ticket old ≡ None → loose_ticket new ≡ Some t → u ≡ t → HasSlot s.rows u v → IsConsistent (changed u (in_phase Loose) s.rows) s.ticket new
+gives_back : (s : State) (t u v : ℕ) (old new : Stage) → IsConsistent s.rows s.ticket old → loose_ticket old ≡ None → loose_ticket new ≡ Some t → u ≡ t
+    → HasSlot s.rows u v → IsConsistent (changed u (in_phase Loose) s.rows) s.ticket new
 gives_back s t u v old new is none one same slot =
     subst (λ rows. IsConsistent rows s.ticket new) (sym (changed_at s.rows u slot.live.0 slot.row (in_phase Loose) is.tickets slot.live.1 slot.named))
     (loosened s.rows s.ticket t slot.live.0 old new slot.row (record slot.row { phase = Loose }) is none one slot.live.1 (slot.named ∙ same) refl refl)
 
 -- the placement of the row that is in no place
-put_after : (setup : Setup) (s : State) (t : ℕ) (old : Stage) (e : Entry) (at : Scene) (cursor : ℕ) (pin avoid : Option ℕ) → IsConsistent s.rows s.ticket old → loose_ticket old ≡ Some t → loose_ticket (next_stage old e) ≡ None → IsPut at cursor pin avoid t e → IsConsistent (after setup s e).rows (after setup s e).ticket (next_stage old e)
-put_after setup s t old (Direct u v) at cursor pin avoid is one none put = settled_in s t u old (next_stage old (Direct u v)) (Serving v) is one none put.0 (λ e. cc)
-put_after setup s t old (Joined u q) at cursor pin avoid is one none put = settled_in s t u old (next_stage old (Joined u q)) (Waiting q s.moment) is one none put.0 (λ e. cc)
-put_after setup s t old (Left u NoServer) at cursor pin avoid is one none put = settled_in s t u old (next_stage old (Left u NoServer)) (Told NoServer) is one none put.0 (λ e. cc)
+put_after : (setup : Setup) (s : State) (t : ℕ) (old : Stage) (e : Entry) (at : Scene) (cursor : ℕ) (pin avoid : Option ℕ) → IsConsistent s.rows s.ticket old
+    → loose_ticket old ≡ Some t → loose_ticket (next_stage old e) ≡ None → IsPut at cursor pin avoid t e
+    → IsConsistent (after setup s e).rows (after setup s e).ticket (next_stage old e)
+put_after setup s t old (Direct u v) at cursor pin avoid is one none put =
+    settled_in s t u old (next_stage old (Direct u v)) (Serving v) is one none put.0 (λ e. cc)
+put_after setup s t old (Joined u q) at cursor pin avoid is one none put =
+    settled_in s t u old (next_stage old (Joined u q)) (Waiting q s.moment) is one none put.0 (λ e. cc)
+put_after setup s t old (Left u NoServer) at cursor pin avoid is one none put =
+    settled_in s t u old (next_stage old (Left u NoServer)) (Told NoServer) is one none put.0 (λ e. cc)
 put_after setup s t old e at cursor pin avoid is one none put = absurd put
 
 -- a failure is counted in the row of its ticket, which keeps its slot
-failed_after : (setup : Setup) (s : State) (n m u : ℕ) (t new : Stage) → IsConsistent s.rows s.ticket t → loose_ticket t ≡ loose_ticket new → failure_refusal setup s n u ≡ None → IsConsistent (changed u (failed setup) s.rows) s.ticket new
+failed_after : (setup : Setup) (s : State) (n m u : ℕ) (t new : Stage) → IsConsistent s.rows s.ticket t → loose_ticket t ≡ loose_ticket new
+    → failure_refusal setup s n u ≡ None → IsConsistent (changed u (failed setup) s.rows) s.ticket new
 failed_after setup s n m u t new is stay accepted =
     let it = row_of_accepted (λ phase. not (has_a_slot phase)) setup s n u accepted in
-    moves_on s.rows s.ticket u it.place t new it.row _ (failed setup) is stay it.stands it.named refl refl (slot_firm it.row.phase it.right) (slot_firm it.row.phase it.right)
+    moves_on s.rows s.ticket u it.place t new it.row _ (failed setup) is stay it.stands it.named refl refl (slot_firm it.row.phase it.right)
+    (slot_firm it.row.phase it.right)
 
 -- a judged entry keeps states consistent
-pub consistent_after : (setup : Setup) (s : State) (n : ℕ) (t : Stage) (e : Entry) → IsConsistent s.rows s.ticket t → MayCome setup s n t e → IsConsistent (after setup s e).rows (after setup s e).ticket (next_stage t e)
-consistent_after setup s n t (Arrive m a) is may = admitted s.rows s.ticket a.place t (arrived a) is (over_none setup s t may.0.over) may.1.vacant may.1.numbered refl
+pub consistent_after : (setup : Setup) (s : State) (n : ℕ) (t : Stage) (e : Entry) → IsConsistent s.rows s.ticket t → MayCome setup s n t e
+    → IsConsistent (after setup s e).rows (after setup s e).ticket (next_stage t e)
+consistent_after setup s n t (Arrive m a) is may =
+    admitted s.rows s.ticket a.place t (arrived a) is (over_none setup s t may.0.over) may.1.vacant may.1.numbered refl
 consistent_after setup s n t (Done m u) is may = at_stage s.rows s.ticket t (returning u) is (over_none setup s t may.over)
 consistent_after setup s n t (Fail m u) is may = failed_after setup s n m u t (failing u) is (over_none setup s t may.over) may.accepted
 consistent_after setup s n t (Abort m u) is may = at_stage s.rows s.ticket t (aborting u) is (over_none setup s t may.over)
@@ -127,14 +145,21 @@ consistent_after setup s n t (Check m v ok) is may = at_stage s.rows s.ticket t 
 consistent_after setup s n t (Limit m v k) is may = at_stage s.rows s.ticket t granting is (over_none setup s t may.over)
 consistent_after setup s n t (Granted u q v) is may =
     let it = may.1 in
-    moves_on s.rows s.ticket u it.live.0 t (next_stage t (Granted u q v)) it.row (record it.row { phase = Serving v }) (in_phase (Serving v)) is (grant_keeps setup s t u v q may.0)
+    moves_on s.rows s.ticket u it.live.0 t (next_stage t (Granted u q v)) it.row (record it.row { phase = Serving v }) (in_phase (Serving v)) is
+    (grant_keeps setup s t u v q may.0)
     it.live.1 it.named refl refl (waits_firm q it.row.phase it.waits) (λ e. cc)
-consistent_after setup s n (placing t) (Direct u v) is may = put_after setup s t (placing t) (Direct u v) (scene setup s) s.cursor (pin_of t s.rows) None is refl refl may
-consistent_after setup s n (placing t) (Joined u q) is may = put_after setup s t (placing t) (Joined u q) (scene setup s) s.cursor (pin_of t s.rows) None is refl refl may
-consistent_after setup s n (placing t) (Left u NoServer) is may = put_after setup s t (placing t) (Left u NoServer) (scene setup s) s.cursor (pin_of t s.rows) None is refl refl may
-consistent_after setup s n (leaving t w) (Direct u v) is may = put_after setup s t (leaving t w) (Direct u v) (scene setup s) s.cursor None (Some w) is refl refl may.put
-consistent_after setup s n (leaving t w) (Joined u q) is may = put_after setup s t (leaving t w) (Joined u q) (scene setup s) s.cursor None (Some w) is refl refl may.put
-consistent_after setup s n (leaving t w) (Left u NoServer) is may = put_after setup s t (leaving t w) (Left u NoServer) (scene setup s) s.cursor None (Some w) is refl refl may.put
+consistent_after setup s n (placing t) (Direct u v) is may =
+    put_after setup s t (placing t) (Direct u v) (scene setup s) s.cursor (pin_of t s.rows) None is refl refl may
+consistent_after setup s n (placing t) (Joined u q) is may =
+    put_after setup s t (placing t) (Joined u q) (scene setup s) s.cursor (pin_of t s.rows) None is refl refl may
+consistent_after setup s n (placing t) (Left u NoServer) is may =
+    put_after setup s t (placing t) (Left u NoServer) (scene setup s) s.cursor (pin_of t s.rows) None is refl refl may
+consistent_after setup s n (leaving t w) (Direct u v) is may =
+    put_after setup s t (leaving t w) (Direct u v) (scene setup s) s.cursor None (Some w) is refl refl may.put
+consistent_after setup s n (leaving t w) (Joined u q) is may =
+    put_after setup s t (leaving t w) (Joined u q) (scene setup s) s.cursor None (Some w) is refl refl may.put
+consistent_after setup s n (leaving t w) (Left u NoServer) is may =
+    put_after setup s t (leaving t w) (Left u NoServer) (scene setup s) s.cursor None (Some w) is refl refl may.put
 consistent_after setup s n (leaving t w) (Left u Retries) is may = settled_in s t u (leaving t w) granting (Told Retries) is refl refl may.0 (λ e. cc)
 consistent_after setup s n (leaving t w) e is may = absurd may.put
 consistent_after setup s n (returning t) (Freed u v) is may = gives_back s u u v (returning t) (ending u) is refl refl refl may.1
@@ -150,17 +175,21 @@ consistent_after setup s n (returning t) (Ended u) is may =
     (dismissed s.rows s.ticket told.live.0 (returning t) granting told.row is refl refl told.live.1)
 consistent_after setup s n (aborting t) (Left u Aborted) is may =
     let it = may.1 in
-    moves_on s.rows s.ticket u it.live.0 (aborting t) granting it.row (record it.row { phase = Told Aborted }) (in_phase (Told Aborted)) is refl it.live.1 it.named refl refl (waiting_firm it.row.phase it.phase) (λ e. cc)
+    moves_on s.rows s.ticket u it.live.0 (aborting t) granting it.row (record it.row { phase = Told Aborted })
+    (in_phase (Told Aborted)) is refl it.live.1 it.named refl refl (waiting_firm it.row.phase it.phase) (λ e. cc)
 consistent_after setup s n telling (Left u Timeout) is may =
-    moves_on s.rows s.ticket u may.expired.0.0 telling telling may.row (record may.row { phase = Told Timeout }) (in_phase (Told Timeout)) is refl may.expired.0.1 may.named refl refl (expired_firm setup s.moment may.row.phase may.expired.1) (λ e. cc)
+    moves_on s.rows s.ticket u may.expired.0.0 telling telling may.row (record may.row { phase = Told Timeout })
+    (in_phase (Told Timeout)) is refl may.expired.0.1 may.named refl refl (expired_firm setup s.moment may.row.phase may.expired.1) (λ e. cc)
 consistent_after setup s n (checking w) (Health v true) is may = at_stage s.rows s.ticket (checking w) granting is refl
 consistent_after setup s n (checking w) (Health v false) is may = at_stage s.rows s.ticket (checking w) (falling v) is refl
 consistent_after setup s n (falling w) (Moved u v) is may =
     let it = may.2 in
-    moves_on s.rows s.ticket u it.live.0 (falling w) (falling v) it.row (record it.row { pin = None; phase = Waiting Backend s.moment }) (in_backend_since s.moment) is refl it.live.1 it.named refl refl (waits_firm (Server v) it.row.phase it.waits) (λ e. cc)
+    moves_on s.rows s.ticket u it.live.0 (falling w) (falling v) it.row (record it.row { pin = None; phase = Waiting Backend s.moment })
+    (in_backend_since s.moment) is refl it.live.1 it.named refl refl (waits_firm (Server v) it.row.phase it.waits) (λ e. cc)
 consistent_after setup s n t e is may = absurd may
 
-pub consistent_all : (setup : Setup) (s : State) (n : ℕ) (t : Stage) (es : List Entry) → IsConsistent s.rows s.ticket t → AllMayCome setup s n t es → IsConsistent (after_all setup s es).rows (after_all setup s es).ticket (stage_after t es)
+pub consistent_all : (setup : Setup) (s : State) (n : ℕ) (t : Stage) (es : List Entry) → IsConsistent s.rows s.ticket t → AllMayCome setup s n t es
+    → IsConsistent (after_all setup s es).rows (after_all setup s es).ticket (stage_after t es)
 consistent_all setup s n t [] is all = is
 consistent_all setup s n t (e ∷ es) is all = consistent_all setup (after setup s e) (n + 1) (next_stage t e) es (consistent_after setup s n t e is all.0) all.1
 
@@ -238,18 +267,21 @@ limits_all setup s [] = refl
 limits_all setup s (e ∷ es) = limits_all setup (after setup s e) es ∙ limits_after setup s e
 
 -- the row that a placement names is in no place yet
-pub direct_row : (setup : Setup) (s : State) (n : ℕ) (t : Stage) (u v : ℕ) → IsConsistent s.rows s.ticket t → MayCome setup s n t (Direct u v) → IsLoose s.rows u
+pub direct_row : (setup : Setup) (s : State) (n : ℕ) (t : Stage) (u v : ℕ) → IsConsistent s.rows s.ticket t → MayCome setup s n t (Direct u v)
+    → IsLoose s.rows u
 direct_row setup s n (placing t) u v is may = renamed s.rows t u (is.owed t refl) may.0
 direct_row setup s n (leaving t w) u v is may = renamed s.rows t u (is.owed t refl) may.put.0
 direct_row setup s n t u v is may = absurd may
 
-pub joined_row : (setup : Setup) (s : State) (n : ℕ) (t : Stage) (u : ℕ) (q : Queue) → IsConsistent s.rows s.ticket t → MayCome setup s n t (Joined u q) → IsLoose s.rows u
+pub joined_row : (setup : Setup) (s : State) (n : ℕ) (t : Stage) (u : ℕ) (q : Queue) → IsConsistent s.rows s.ticket t → MayCome setup s n t (Joined u q)
+    → IsLoose s.rows u
 joined_row setup s n (placing t) u q is may = renamed s.rows t u (is.owed t refl) may.0
 joined_row setup s n (leaving t w) u q is may = renamed s.rows t u (is.owed t refl) may.put.0
 joined_row setup s n t u q is may = absurd may
 
 -- the row that is told is in no place yet, or waits
-pub left_row : (setup : Setup) (s : State) (n : ℕ) (t : Stage) (u : ℕ) (c : Cause) → IsConsistent s.rows s.ticket t → MayCome setup s n t (Left u c) → IsLoose s.rows u ⊎ IsInPhase is_waiting s.rows u
+pub left_row : (setup : Setup) (s : State) (n : ℕ) (t : Stage) (u : ℕ) (c : Cause) → IsConsistent s.rows s.ticket t → MayCome setup s n t (Left u c)
+    → IsLoose s.rows u ⊎ IsInPhase is_waiting s.rows u
 left_row setup s n (placing t) u NoServer is may = inl (renamed s.rows t u (is.owed t refl) may.0)
 left_row setup s n (leaving t w) u NoServer is may = inl (renamed s.rows t u (is.owed t refl) may.put.0)
 left_row setup s n (leaving t w) u Retries is may = inl (renamed s.rows t u (is.owed t refl) may.0)
@@ -265,7 +297,8 @@ left_row setup s n telling u Timeout is may = inr (record { row = may.row; live 
 left_row setup s n t u c is may = absurd may
 
 -- where neither an abort nor a timeout is told, it is in no place
-pub loose_left : (setup : Setup) (s : State) (n : ℕ) (t : Stage) (u : ℕ) (c : Cause) → IsConsistent s.rows s.ticket t → c ≢ Aborted → c ≢ Timeout → MayCome setup s n t (Left u c) → IsLoose s.rows u
+pub loose_left : (setup : Setup) (s : State) (n : ℕ) (t : Stage) (u : ℕ) (c : Cause) → IsConsistent s.rows s.ticket t → c ≢ Aborted → c ≢ Timeout
+    → MayCome setup s n t (Left u c) → IsLoose s.rows u
 loose_left setup s n (placing t) u NoServer is first second may = renamed s.rows t u (is.owed t refl) may.0
 loose_left setup s n (leaving t w) u NoServer is first second may = renamed s.rows t u (is.owed t refl) may.put.0
 loose_left setup s n (leaving t w) u Retries is first second may = renamed s.rows t u (is.owed t refl) may.0
@@ -275,7 +308,8 @@ loose_left setup s n telling u Timeout is first second may = absurd (second refl
 loose_left setup s n t u c is first second may = absurd may
 
 -- the row that ends is in no place, or told
-pub ended_row : (setup : Setup) (s : State) (n : ℕ) (t : Stage) (u : ℕ) → IsConsistent s.rows s.ticket t → MayCome setup s n t (Ended u) → IsLoose s.rows u ⊎ IsTold s.rows u
+pub ended_row : (setup : Setup) (s : State) (n : ℕ) (t : Stage) (u : ℕ) → IsConsistent s.rows s.ticket t → MayCome setup s n t (Ended u)
+    → IsLoose s.rows u ⊎ IsTold s.rows u
 ended_row setup s n (ending t) u is may = inl (renamed s.rows t u (is.owed t refl) may)
 ended_row setup s n (returning t) u is may = inr may.1
 ended_row setup s n (leaving t w) u is may = absurd may.put

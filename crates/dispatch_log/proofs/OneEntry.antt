@@ -6,7 +6,8 @@ use Rattle.due_key.specs.declared.key.Key.{Key}
 use Rattle.verdict.specs.declared.cause.Cause.TheVariants.{Aborted, Timeout, Retries, NoServer}
 use Rattle.list_facts.proofs.Never.{false_true}
 use Rattle.dispatch_log.specs.declared.entry.Entry.{Entry}
-use Rattle.dispatch_log.specs.declared.entry.Entry.TheVariants.{Arrive, Done, Fail, Abort, Tick, Check, Limit, Direct, Joined, Granted, Moved, Freed, Retried, Left, Health, Ended}
+use Rattle.dispatch_log.specs.declared.entry.Entry.TheVariants.{Arrive, Done, Fail, Abort, Tick, Check, Limit, Direct}
+use Rattle.dispatch_log.specs.declared.entry.Entry.TheVariants.{Joined, Granted, Moved, Freed, Retried, Left, Health, Ended}
 use Rattle.dispatch_log.specs.declared.queue.Queue.{Queue}
 use Rattle.dispatch_log.specs.declared.queue.Queue.TheVariants.{Backend, Server}
 use Rattle.dispatch_log.specs.declared.row.Phase.{Phase}
@@ -15,7 +16,8 @@ use Rattle.dispatch_log.specs.declared.row.Row.{Row}
 use Rattle.dispatch_log.specs.declared.setup.Setup.{Setup}
 use Rattle.dispatch_log.specs.Grants.{IsSettled, IsLawfulGrant}
 use Rattle.dispatch_log.specs.Histories.{begins_event}
-use Rattle.dispatch_log.specs.Judgement.{IsInPhase, HasSlot, IsTold, IsFirstExpired, IsFirstIn, was_up, Stage, placing, returning, ending, failing, leaving, aborting, telling, checking, falling, granting, IsOver, MayGrant, IsPut, IsPutAnew, MayCome}
+use Rattle.dispatch_log.specs.Judgement.{IsInPhase, HasSlot, IsTold, IsFirstExpired, IsFirstIn, was_up, Stage, placing, returning, ending, failing}
+use Rattle.dispatch_log.specs.Judgement.{leaving, aborting, telling, checking, falling, granting, IsOver, MayGrant, IsPut, IsPutAnew, MayCome}
 use Rattle.dispatch_log.specs.Refusals.{is_waiting}
 use Rattle.dispatch_log.specs.Retries.{are_spent, are_redispatched, are_retried}
 use Rattle.dispatch_log.specs.Rows.{Rows, phase_is_served_by, phase_is_told, phase_waits_in, pin_of, failures_of}
@@ -112,7 +114,8 @@ module _ (setup : Setup) (s : State) (own : HaveOwnTickets s.rows) (within : 0 <
   -- the requests with the least key of a queue are one
   first_same : (q : Queue) (u w : ℕ) → IsFirstIn q s.rows u → IsFirstIn q s.rows w → u ≡ w
   first_same q u w first second =
-      let key : first.row.key ≡ second.row.key = key_same first.row.key second.row.key (first.least second.row second.live second.waits) (second.least first.row first.live first.waits) in
+      let key : first.row.key ≡ second.row.key =
+      key_same first.row.key second.row.key (first.least second.row second.live second.waits) (second.least first.row first.live first.waits) in
       sym first.named ∙ ap (λ (k : Key). k.ticket) key ∙ second.named
 
   -- and so are the lawful grants
@@ -123,7 +126,8 @@ module _ (setup : Setup) (s : State) (own : HaveOwnTickets s.rows) (within : 0 <
       let its = goes sc x r second.row.phase second.waits second.taken in
       let to_its = subst (λ k. may_go_to sc k second.row.phase ≡ true) (sym server) its in
       let to_mine = subst (λ k. may_go_to sc k first.row.phase ≡ true) server mine in
-      let key : first.row.key ≡ second.row.key = key_same first.row.key second.row.key (first.least second.row second.live to_its) (second.least first.row first.live to_mine) in
+      let key : first.row.key ≡ second.row.key =
+      key_same first.row.key second.row.key (first.least second.row second.live to_its) (second.least first.row first.live to_mine) in
       let ticket : u ≡ w = sym first.named ∙ ap (λ (k : Key). k.ticket) key ∙ second.named in
       let row : first.row ≡ second.row = row_same s.rows first.row second.row own first.live second.live (ap (λ (k : Key). k.ticket) key) in
       let queue : q ≡ r = waits_same first.row.phase q r first.waits (subst (λ (y : Row). phase_waits_in r y.phase ≡ true) (sym row) second.waits) in
@@ -204,7 +208,8 @@ module _ (setup : Setup) (s : State) (own : HaveOwnTickets s.rows) (within : 0 <
       }
   carried_on t e owed = absurd owed
 
-  left_behind : (t w : ℕ) (e : Entry) → Owed setup s (leaving t w) e → ((e ≡ Left t Retries) × IsTrue (are_spent setup (failures_of t s.rows))) ⊎ IsPutAnew setup s t w e
+  left_behind : (t w : ℕ) (e : Entry) → Owed setup s (leaving t w) e
+      → ((e ≡ Left t Retries) × IsTrue (are_spent setup (failures_of t s.rows))) ⊎ IsPutAnew setup s t w e
   left_behind t w (Left u Retries) owed = inl (ap (λ k. Left k Retries) owed.0, subst (λ k. are_spent setup (failures_of k s.rows) ≡ true) owed.0 owed.1)
   left_behind t w e owed = inr owed
 
@@ -300,7 +305,8 @@ module _ (setup : Setup) (s : State) (own : HaveOwnTickets s.rows) (within : 0 <
   grant_owes_none (falling w) u v q e may grant owed = over_owes_none (falling w) e may owed
   grant_owes_none t u v q e may grant owed = absurd may
 
-  granted_is : (t : Stage) (e : Entry) → MayBeGranted setup s t e → (u : ℕ) × (q : Queue) × (v : ℕ) × (e ≡ Granted u q v) × MayGrant setup s t × IsLawfulGrant sc s.cursor u q v
+  granted_is : (t : Stage) (e : Entry) → MayBeGranted setup s t e
+      → (u : ℕ) × (q : Queue) × (v : ℕ) × (e ≡ Granted u q v) × MayGrant setup s t × IsLawfulGrant sc s.cursor u q v
   granted_is t (Granted u q v) may = (u, q, v, refl, may.0, may.1)
   granted_is t e may = absurd may
 
@@ -320,7 +326,8 @@ module _ (setup : Setup) (s : State) (own : HaveOwnTickets s.rows) (within : 0 <
   event_alone t e over settled (inr owed) = over_owes_none t e over owed
 
 -- an event may come where the one before is over and all is settled
-pub event_begins : (setup : Setup) (s : State) (n : ℕ) (t : Stage) (e : Entry) → begins_event e ≡ true → MayCome setup s n t e → IsOver setup s t × IsSettled (scene setup s)
+pub event_begins : (setup : Setup) (s : State) (n : ℕ) (t : Stage) (e : Entry) → begins_event e ≡ true → MayCome setup s n t e
+    → IsOver setup s t × IsSettled (scene setup s)
 event_begins setup s n t (Arrive m a) begins may = (may.0.over, may.0.settled)
 event_begins setup s n t (Done m u) begins may = (may.over, may.settled)
 event_begins setup s n t (Fail m u) begins may = (may.over, may.settled)

@@ -1,5 +1,6 @@
 -- Why the worked logs are legal.
-use Rattle.std.proofs.Common.{◌≡◌, ◌≢◌, ℕ, zero, suc, ◌+◌, ◌≤◌, pos, negsuc, Bool, true, false, List, [], ◌∷◌, None, Some, IsTrue, refl, sym, ◌∙◌, arith, Greater}
+use Rattle.std.proofs.Common.{◌≡◌, ◌≢◌, ℕ, zero, suc, ◌+◌, ◌≤◌, pos, negsuc, Bool, true, false}
+use Rattle.std.proofs.Common.{List, [], ◌∷◌, None, Some, IsTrue, refl, sym, ◌∙◌, arith, Greater}
 use Rattle.std.proofs.lemmas.Int.{ints}
 use Rattle.std.proofs.lemmas.Option.{same_Some}
 use Rattle.list_facts.proofs.Never.{false_true}
@@ -49,32 +50,46 @@ pub five_less : IsBetween LOWEST_OFFSET HIGHEST_OFFSET (negsuc 4)
 five_less = record { lower = omega (arith, ints); upper = omega (arith, ints) }
 
 -- where the one live request doesn't wait, all is settled
-pub settled_alone : (servers : List ServerSet) (limits : List Allowance) (ups : List Bool) (a : Row) → ((server : ℕ) → may_go_to (record { servers = servers; limits = limits; ups = ups; rows = Some a ∷ None ∷ None ∷ None ∷ [] }) server a.phase ≡ false)
+pub settled_alone : (servers : List ServerSet) (limits : List Allowance) (ups : List Bool) (a : Row)
+    → ((server : ℕ) → may_go_to (record { servers = servers; limits = limits; ups = ups; rows = Some a ∷ None ∷ None ∷ None ∷ [] }) server a.phase ≡ false)
     → IsSettled (record { servers = servers; limits = limits; ups = ups; rows = Some a ∷ None ∷ None ∷ None ∷ [] })
 settled_alone servers limits ups a none server can =
-    for_one_row (λ r. IsTrue (may_go_to (record { servers = servers; limits = limits; ups = ups; rows = Some a ∷ None ∷ None ∷ None ∷ [] }) server r.phase) → ⊥) a (λ goes. false_true (sym (none server) ∙ goes)) can.1.0 can.1.1 can.1.2
+    for_one_row (λ r. IsTrue (may_go_to (record { servers = servers; limits = limits; ups = ups; rows = Some a ∷ None ∷ None ∷ None ∷ [] }) server r.phase)
+    → ⊥) a (λ goes. false_true (sym (none server) ∙ goes)) can.1.0 can.1.1 can.1.2
 
 redispatch_is_lawful : AreLawful (worked_with_checks []).setup (worked_with_checks []).base 0 redispatch_to_the_other_server
 redispatch_is_lawful = record {
   judged = (
-    (record { over = tt; settled = λ server can. for_no_row can.1.0 can.1.1; accepted = refl; later = up_by 0 0; within = omega arith }, record { numbered = refl; vacant = refl; class = class_0; due = (pos 0, no_offset, refl) }),
+    (
+      record { over = tt; settled = λ server can. for_no_row can.1.0 can.1.1; accepted = refl; later = up_by 0 0; within = omega arith },
+      record { numbered = refl; vacant = refl; class = class_0; due = (pos 0, no_offset, refl) },
+    ),
     (
       (refl, (refl, refl)),
       (
-        record { over = tt; settled = settled_alone (checked_server ∷ plain_server ∷ []) (opening_limits (checked_server ∷ plain_server ∷ [])) (true ∷ true ∷ []) (first_row (Some 0) 0 (Serving 0)) (λ server. refl); accepted = refl; later = up_by 0 1; within = omega arith },
+        record {
+          over = tt;
+          settled = settled_alone (checked_server ∷ plain_server ∷ []) (opening_limits (checked_server ∷ plain_server ∷ []))
+              (true ∷ true ∷ []) (first_row (Some 0) 0 (Serving 0)) (λ server. refl);
+          accepted = refl;
+          later = up_by 0 1;
+          within = omega arith;
+        },
         (
           (refl, record { row = first_row None 1 (Serving 0); live = (0, refl); named = refl; phase = refl }, λ retried. false_true retried),
           (
             record {
               redispatched = refl;
-              settled = settled_alone (checked_server ∷ plain_server ∷ []) (opening_limits (checked_server ∷ plain_server ∷ [])) (true ∷ true ∷ []) (first_row None 1 Loose) (λ server. refl);
+              settled = settled_alone (checked_server ∷ plain_server ∷ []) (opening_limits (checked_server ∷ plain_server ∷ [])) (true ∷ true ∷ [])
+                  (first_row None 1 Loose) (λ server. refl);
               put = (
                 refl,
                 (
                   record {
                     member = (refl, λ avoids. let e : 0 ≡ 1 = same_Some 0 1 avoids in absurd (omega (arith, e)));
                     least = for_two_servers _ (λ it. up_by 0 0) (λ it. up_by 0 0) (λ n it. false_true it.0);
-                    nearest = for_two_servers _ (λ it first. let e : 1 ≡ 0 = it.1 refl 1 refl in absurd (omega (arith, e))) (λ it first. up_by 2 0) (λ n it first. false_true it.0);
+                    nearest = for_two_servers _ (λ it first. let e : 1 ≡ 0 = it.1 refl 1 refl in
+                        absurd (omega (arith, e))) (λ it first. up_by 2 0) (λ n it first. false_true it.0);
                   },
                   refl,
                 ),
@@ -87,13 +102,17 @@ redispatch_is_lawful = record {
     ),
   );
   whole = tt;
-  settled = settled_alone (checked_server ∷ plain_server ∷ []) (opening_limits (checked_server ∷ plain_server ∷ [])) (true ∷ true ∷ []) (first_row None 1 (Serving 1)) (λ server. refl);
+  settled = settled_alone (checked_server ∷ plain_server ∷ []) (opening_limits (checked_server ∷ plain_server ∷ [])) (true ∷ true ∷ [])
+      (first_row None 1 (Serving 1)) (λ server. refl);
 }
 
 rising_is_lawful : AreLawful (worked_in_time []).setup (worked_in_time []).base 0 told_by_rising_ticket
 rising_is_lawful = record {
   judged = (
-    (record { over = tt; settled = λ server can. for_no_row can.1.0 can.1.1; accepted = refl; later = up_by 0 0; within = omega arith }, record { numbered = refl; vacant = refl; class = class_0; due = (pos 0, no_offset, refl) }),
+    (
+      record { over = tt; settled = λ server can. for_no_row can.1.0 can.1.1; accepted = refl; later = up_by 0 0; within = omega arith },
+      record { numbered = refl; vacant = refl; class = class_0; due = (pos 0, no_offset, refl) },
+    ),
     (
       (
         refl,
@@ -107,22 +126,48 @@ rising_is_lawful = record {
         ),
       ),
       (
-        (record { over = tt; settled = settled_alone (plain_server ∷ []) (opening_limits (plain_server ∷ [])) (true ∷ []) (first_row None 0 (Serving 0)) (λ server. refl); accepted = refl; later = up_by 0 1; within = omega arith }, record { numbered = refl; vacant = refl; class = class_0; due = (pos 0, no_offset, refl) }),
+        (
+          record {
+            over = tt;
+            settled = settled_alone (plain_server ∷ []) (opening_limits (plain_server ∷ [])) (true ∷ []) (first_row None 0 (Serving 0))
+                (λ server. refl);
+            accepted = refl;
+            later = up_by 0 1;
+            within = omega arith;
+          },
+          record { numbered = refl; vacant = refl; class = class_0; due = (pos 0, no_offset, refl) },
+        ),
         (
           (refl, (refl, (0, refl), for_one_server _ false_true (λ n. false_true))),
           (
-            (record { over = tt; settled = for_one_server _ (λ can. false_true can.0) (λ n can. false_true can.0); accepted = refl; later = up_by 1 1; within = omega arith }, record { numbered = refl; vacant = refl; class = class_0; due = (negsuc 4, five_less, refl) }),
+            (
+              record {
+                over = tt;
+                settled = for_one_server _ (λ can. false_true can.0) (λ n can. false_true can.0);
+                accepted = refl;
+                later = up_by 1 1;
+                within = omega arith;
+              },
+              record { numbered = refl; vacant = refl; class = class_0; due = (negsuc 4, five_less, refl) },
+            ),
             (
               (refl, (refl, (0, refl), for_one_server _ false_true (λ n. false_true))),
               (
-                record { over = tt; settled = for_one_server _ (λ can. false_true can.0) (λ n can. false_true can.0); accepted = refl; later = up_by 2 5; within = omega arith },
+                record {
+                  over = tt;
+                  settled = for_one_server _ (λ can. false_true can.0) (λ n can. false_true can.0);
+                  accepted = refl;
+                  later = up_by 2 5;
+                  within = omega arith;
+                },
                 (
                   record {
                     row = second_row None (Waiting Backend 1);
                     expired = ((1, refl), (up_by 1 4, up_by 6 1));
                     named = refl;
                     first = λ other is.
-                        for_three_rows (λ r. has_expired (worked_in_time []).setup 7 r.phase → 2 ≤ r.key.ticket) (first_row None 0 (Serving 0)) (second_row None (Waiting Backend 1)) (third_row None (Waiting Backend 2))
+                        for_three_rows (λ r. has_expired (worked_in_time []).setup 7 r.phase
+                        → 2 ≤ r.key.ticket) (first_row None 0 (Serving 0)) (second_row None (Waiting Backend 1)) (third_row None (Waiting Backend 2))
                         (λ expired. absurd expired) (λ expired. up_by 2 0) (λ expired. up_by 2 1) other is.0 is.1;
                   },
                   (
@@ -131,7 +176,8 @@ rising_is_lawful = record {
                       expired = ((2, refl), (up_by 1 4, up_by 7 0));
                       named = refl;
                       first = λ other is.
-                          for_three_rows (λ r. has_expired (worked_in_time []).setup 7 r.phase → 3 ≤ r.key.ticket) (first_row None 0 (Serving 0)) (second_row None (Told Timeout)) (third_row None (Waiting Backend 2))
+                          for_three_rows (λ r. has_expired (worked_in_time []).setup 7 r.phase
+                          → 3 ≤ r.key.ticket) (first_row None 0 (Serving 0)) (second_row None (Told Timeout)) (third_row None (Waiting Backend 2))
                           (λ expired. absurd expired) (λ expired. absurd expired) (λ expired. up_by 3 0) other is.0 is.1;
                     },
                     tt,
@@ -145,7 +191,8 @@ rising_is_lawful = record {
     ),
   );
   whole = λ row is.
-      for_three_rows (λ r. has_expired (worked_in_time []).setup 7 r.phase → ⊥) (first_row None 0 (Serving 0)) (second_row None (Told Timeout)) (third_row None (Told Timeout))
+      for_three_rows (λ r. has_expired (worked_in_time []).setup 7 r.phase
+      → ⊥) (first_row None 0 (Serving 0)) (second_row None (Told Timeout)) (third_row None (Told Timeout))
       (λ expired. expired) (λ expired. expired) (λ expired. expired) row is.0 is.1;
   settled = for_one_server _ (λ can. false_true can.0) (λ n can. false_true can.0);
 }
@@ -170,18 +217,32 @@ once_moved = record {
 fall_is_lawful : AreLawful (worked_with_checks []).setup (worked_with_checks []).base 0 fall_moves_its_queue
 fall_is_lawful = record {
   judged = (
-    (record { over = tt; settled = λ server can. for_no_row can.1.0 can.1.1; accepted = refl; later = up_by 0 0; within = omega arith }, record { numbered = refl; vacant = refl; class = class_0; due = (pos 0, no_offset, refl) }),
+    (
+      record { over = tt; settled = λ server can. for_no_row can.1.0 can.1.1; accepted = refl; later = up_by 0 0; within = omega arith },
+      record { numbered = refl; vacant = refl; class = class_0; due = (pos 0, no_offset, refl) },
+    ),
     (
       (refl, (refl, refl)),
       (
-        (record { over = tt; settled = settled_alone (checked_server ∷ plain_server ∷ []) (opening_limits (checked_server ∷ plain_server ∷ [])) (true ∷ true ∷ []) (first_row (Some 0) 0 (Serving 0)) (λ server. refl); accepted = refl; later = up_by 0 1; within = omega arith }, record { numbered = refl; vacant = refl; class = class_0; due = (pos 0, no_offset, refl) }),
+        (
+          record {
+            over = tt;
+            settled = settled_alone (checked_server ∷ plain_server ∷ []) (opening_limits (checked_server ∷ plain_server ∷ []))
+                (true ∷ true ∷ []) (first_row (Some 0) 0 (Serving 0)) (λ server. refl);
+            accepted = refl;
+            later = up_by 0 1;
+            within = omega arith;
+          },
+          record { numbered = refl; vacant = refl; class = class_0; due = (pos 0, no_offset, refl) },
+        ),
         (
           (refl, (refl, λ free. false_true free)),
           (
             record {
               over = tt;
               settled = for_two_servers _ (λ can. false_true can.0)
-                  (λ can. for_two_rows (λ r. IsTrue (may_go_to before_the_check 1 r.phase) → ⊥) (first_row (Some 0) 0 (Serving 0)) (second_row (Some 0) (Waiting (Server 0) 1)) false_true false_true can.1.0 can.1.1 can.1.2)
+                  (λ can. for_two_rows (λ r. IsTrue (may_go_to before_the_check 1 r.phase)
+                  → ⊥) (first_row (Some 0) 0 (Serving 0)) (second_row (Some 0) (Waiting (Server 0) 1)) false_true false_true can.1.0 can.1.1 can.1.2)
                   (λ n can. false_true can.0);
               accepted = refl;
               later = up_by 1 1;
@@ -198,13 +259,16 @@ fall_is_lawful = record {
                     live = (1, refl);
                     named = refl;
                     waits = refl;
-                    least = for_two_rows (λ r. IsTrue (phase_waits_in (Server 0) r.phase) → key_cmp (second_row (Some 0) Loose).key r.key ≢ Greater) (first_row (Some 0) 0 (Serving 0)) (second_row (Some 0) (Waiting (Server 0) 1))
+                    least = for_two_rows (λ r. IsTrue (phase_waits_in (Server 0) r.phase)
+                        → key_cmp (second_row (Some 0) Loose).key r.key ≢ Greater) (first_row (Some 0) 0 (Serving 0))
+                        (second_row (Some 0) (Waiting (Server 0) 1))
                         false_true (λ waits e. cc);
                   },
                 ),
                 (
                   (
-                    λ redispatch. for_two_rows (λ r. IsTrue (phase_waits_in (Server 0) r.phase) → ⊥) (first_row (Some 0) 0 (Serving 0)) (second_row None (Waiting Backend 2)) false_true false_true,
+                    λ redispatch. for_two_rows (λ r. IsTrue (phase_waits_in (Server 0) r.phase)
+                        → ⊥) (first_row (Some 0) 0 (Serving 0)) (second_row None (Waiting Backend 2)) false_true false_true,
                     record {
                       row = second_row None (Waiting Backend 2);
                       live = (1, refl);
@@ -213,14 +277,16 @@ fall_is_lawful = record {
                       taken = refl;
                       next = record {
                         takes = (refl, (second_row None (Waiting Backend 2), (1, refl), refl));
-                        weightless_first = for_two_servers _ (λ weightless can. false_true can.0) (λ weightless can. let e : 1 ≡ 0 = weightless in absurd (omega (arith, e))) (λ n weightless can. false_true can.0);
+                        weightless_first = for_two_servers _ (λ weightless can. false_true can.0) (λ weightless can. let e : 1 ≡ 0 = weightless in
+                            absurd (omega (arith, e))) (λ n weightless can. false_true can.0);
                         picked = λ heavy. record {
                           member = (refl, (second_row None (Waiting Backend 2), (1, refl), refl));
                           least = for_two_servers _ (λ can. false_true can.0) (λ can. up_by 0 0) (λ n can. false_true can.0);
                           nearest = for_two_servers _ (λ can first. false_true can.0) (λ can first. up_by 2 0) (λ n can first. false_true can.0);
                         };
                       };
-                      least = for_two_rows (λ r. IsTrue (may_go_to once_moved 1 r.phase) → key_cmp (second_row None Loose).key r.key ≢ Greater) (first_row (Some 0) 0 (Serving 0)) (second_row None (Waiting Backend 2))
+                      least = for_two_rows (λ r. IsTrue (may_go_to once_moved 1 r.phase)
+                          → key_cmp (second_row None Loose).key r.key ≢ Greater) (first_row (Some 0) 0 (Serving 0)) (second_row None (Waiting Backend 2))
                           false_true (λ goes e. cc);
                     },
                   ),

@@ -21,7 +21,8 @@ use Rattle.dispatch_log.specs.Setups.{IsSound, is_within}
 use Rattle.dispatch_log.specs.States.{State, after_all, opening_limits}
 use Rattle.dispatch_log.specs.Words.{Scene, may_go_to}
 use Rattle.dispatch_log.specs.Worked.{plain_server, worked, worked_setup, two_wait}
-use Rattle.dispatch_log.specs.WorkedWindows.{pair_server, worked_by_pairs, two_are_served, raised_limit_grants, lowered_limit_is_reached, waits_of_the_base_are_served}
+use Rattle.dispatch_log.specs.WorkedWindows.{pair_server, worked_by_pairs, two_are_served}
+use Rattle.dispatch_log.specs.WorkedWindows.{raised_limit_grants, lowered_limit_is_reached, waits_of_the_base_are_served}
 use Rattle.dispatch_log.proofs.FourPlaces.{for_no_row, for_three_rows, for_last_rows, first_row, second_row, third_row}
 use Rattle.dispatch_log.proofs.RightLogs.{up_by, for_one_server, class_0, no_offset, five_less, settled_alone}
 use Rattle.dispatch_log.proofs.Windows.{opening_base, next_legal}
@@ -41,9 +42,13 @@ abbrev pairs_start : State
 pairs_start = (worked_by_pairs []).base
 
 -- tickets 1 and 2 are served and 3 waits, and so a log may go on that may come after that
-pairs_served : (rest : List Entry) → AllMayCome by_pairs (after_all by_pairs pairs_start two_are_served) 6 granting rest → AllMayCome by_pairs pairs_start 0 granting (two_are_served ++ rest)
+pairs_served : (rest : List Entry) → AllMayCome by_pairs (after_all by_pairs pairs_start two_are_served) 6 granting rest
+    → AllMayCome by_pairs pairs_start 0 granting (two_are_served ++ rest)
 pairs_served rest follows = (
-  (record { over = tt; settled = λ server can. for_no_row can.1.0 can.1.1; accepted = refl; later = up_by 0 0; within = omega arith }, record { numbered = refl; vacant = refl; class = class_0; due = (pos 0, no_offset, refl) }),
+  (
+    record { over = tt; settled = λ server can. for_no_row can.1.0 can.1.1; accepted = refl; later = up_by 0 0; within = omega arith },
+    record { numbered = refl; vacant = refl; class = class_0; due = (pos 0, no_offset, refl) },
+  ),
   (
     (
       refl,
@@ -57,7 +62,17 @@ pairs_served rest follows = (
       ),
     ),
     (
-      (record { over = tt; settled = settled_alone (pair_server ∷ []) (opening_limits (pair_server ∷ [])) (true ∷ []) (first_row None 0 (Serving 0)) (λ server. refl); accepted = refl; later = up_by 0 0; within = omega arith }, record { numbered = refl; vacant = refl; class = class_0; due = (pos 0, no_offset, refl) }),
+      (
+        record {
+          over = tt;
+          settled = settled_alone (pair_server ∷ []) (opening_limits (pair_server ∷ [])) (true ∷ []) (first_row None 0 (Serving 0))
+              (λ server. refl);
+          accepted = refl;
+          later = up_by 0 0;
+          within = omega arith;
+        },
+        record { numbered = refl; vacant = refl; class = class_0; due = (pos 0, no_offset, refl) },
+      ),
       (
         (
           refl,
@@ -71,7 +86,16 @@ pairs_served rest follows = (
           ),
         ),
         (
-          (record { over = tt; settled = for_one_server _ (λ can. false_true can.0) (λ n can. false_true can.0); accepted = refl; later = up_by 0 1; within = omega arith }, record { numbered = refl; vacant = refl; class = class_0; due = (pos 0, no_offset, refl) }),
+          (
+            record {
+              over = tt;
+              settled = for_one_server _ (λ can. false_true can.0) (λ n can. false_true can.0);
+              accepted = refl;
+              later = up_by 0 1;
+              within = omega arith;
+            },
+            record { numbered = refl; vacant = refl; class = class_0; due = (pos 0, no_offset, refl) },
+          ),
           (
             (refl, (refl, (0, refl), for_one_server _ false_true (λ n. false_true))),
             follows,
@@ -94,7 +118,13 @@ once_raised = record {
 raised_is_lawful : AreLawful by_pairs pairs_start 0 raised_limit_grants
 raised_is_lawful = record {
   judged = pairs_served (Limit 3 0 3 ∷ Granted 3 Backend 0 ∷ []) (
-    record { over = tt; settled = for_one_server _ (λ can. false_true can.0) (λ n can. false_true can.0); accepted = refl; later = up_by 1 2; within = omega arith },
+    record {
+      over = tt;
+      settled = for_one_server _ (λ can. false_true can.0) (λ n can. false_true can.0);
+      accepted = refl;
+      later = up_by 1 2;
+      within = omega arith;
+    },
     (
       (
         tt,
@@ -106,14 +136,16 @@ raised_is_lawful = record {
           taken = refl;
           next = record {
             takes = (refl, (last_row, (2, refl), refl));
-            weightless_first = for_one_server _ (λ weightless can. let e : 1 ≡ 0 = weightless in absurd (omega (arith, e))) (λ n weightless can. false_true can.0);
+            weightless_first = for_one_server _ (λ weightless can. let e : 1 ≡ 0 = weightless in
+                absurd (omega (arith, e))) (λ n weightless can. false_true can.0);
             picked = λ heavy. record {
               member = (refl, (last_row, (2, refl), refl));
               least = for_one_server _ (λ can. up_by 2 0) (λ n can. false_true can.0);
               nearest = for_one_server _ (λ can first. up_by 1 0) (λ n can first. false_true can.0);
             };
           };
-          least = for_three_rows (λ r. IsTrue (may_go_to once_raised 0 r.phase) → key_cmp last_row.key r.key ≢ Greater) (first_row None 0 (Serving 0)) (pair_row (Serving 0)) last_row
+          least = for_three_rows (λ r. IsTrue (may_go_to once_raised 0 r.phase)
+              → key_cmp last_row.key r.key ≢ Greater) (first_row None 0 (Serving 0)) (pair_row (Serving 0)) last_row
               false_true false_true (λ goes e. cc);
         },
       ),
@@ -127,9 +159,21 @@ raised_is_lawful = record {
 lowered_is_lawful : AreLawful by_pairs pairs_start 0 lowered_limit_is_reached
 lowered_is_lawful = record {
   judged = pairs_served (Limit 3 0 1 ∷ Done 4 1 ∷ Freed 1 0 ∷ Ended 1 ∷ []) (
-    record { over = tt; settled = for_one_server _ (λ can. false_true can.0) (λ n can. false_true can.0); accepted = refl; later = up_by 1 2; within = omega arith },
+    record {
+      over = tt;
+      settled = for_one_server _ (λ can. false_true can.0) (λ n can. false_true can.0);
+      accepted = refl;
+      later = up_by 1 2;
+      within = omega arith;
+    },
     (
-      record { over = tt; settled = for_one_server _ (λ can. false_true can.0) (λ n can. false_true can.0); accepted = refl; later = up_by 3 1; within = omega arith },
+      record {
+        over = tt;
+        settled = for_one_server _ (λ can. false_true can.0) (λ n can. false_true can.0);
+        accepted = refl;
+        later = up_by 3 1;
+        within = omega arith;
+      },
       (
         (refl, record { row = first_row None 0 (Serving 0); live = (0, refl); named = refl; phase = refl }),
         (refl, tt),
@@ -150,7 +194,10 @@ lowered_is_legal = record { begins = opening_base by_pairs; lawful = lowered_is_
 two_wait_is_lawful : AreLawful worked_setup (worked []).base 0 two_wait
 two_wait_is_lawful = record {
   judged = (
-    (record { over = tt; settled = λ server can. for_no_row can.1.0 can.1.1; accepted = refl; later = up_by 0 0; within = omega arith }, record { numbered = refl; vacant = refl; class = class_0; due = (pos 0, no_offset, refl) }),
+    (
+      record { over = tt; settled = λ server can. for_no_row can.1.0 can.1.1; accepted = refl; later = up_by 0 0; within = omega arith },
+      record { numbered = refl; vacant = refl; class = class_0; due = (pos 0, no_offset, refl) },
+    ),
     (
       (
         refl,
@@ -164,11 +211,30 @@ two_wait_is_lawful = record {
         ),
       ),
       (
-        (record { over = tt; settled = settled_alone (plain_server ∷ []) (opening_limits (plain_server ∷ [])) (true ∷ []) (first_row None 0 (Serving 0)) (λ server. refl); accepted = refl; later = up_by 0 1; within = omega arith }, record { numbered = refl; vacant = refl; class = class_0; due = (pos 0, no_offset, refl) }),
+        (
+          record {
+            over = tt;
+            settled = settled_alone (plain_server ∷ []) (opening_limits (plain_server ∷ [])) (true ∷ []) (first_row None 0 (Serving 0))
+                (λ server. refl);
+            accepted = refl;
+            later = up_by 0 1;
+            within = omega arith;
+          },
+          record { numbered = refl; vacant = refl; class = class_0; due = (pos 0, no_offset, refl) },
+        ),
         (
           (refl, (refl, (0, refl), for_one_server _ false_true (λ n. false_true))),
           (
-            (record { over = tt; settled = for_one_server _ (λ can. false_true can.0) (λ n can. false_true can.0); accepted = refl; later = up_by 1 1; within = omega arith }, record { numbered = refl; vacant = refl; class = class_0; due = (negsuc 4, five_less, refl) }),
+            (
+              record {
+                over = tt;
+                settled = for_one_server _ (λ can. false_true can.0) (λ n can. false_true can.0);
+                accepted = refl;
+                later = up_by 1 1;
+                within = omega arith;
+              },
+              record { numbered = refl; vacant = refl; class = class_0; due = (negsuc 4, five_less, refl) },
+            ),
             ((refl, (refl, (0, refl), for_one_server _ false_true (λ n. false_true))), tt),
           ),
         ),
@@ -207,7 +273,13 @@ once_ended = record {
 waits_are_lawful : AreLawful worked_setup (next_window (worked two_wait)).base 0 waits_of_the_base_are_served.log
 waits_are_lawful = record {
   judged = (
-    record { over = tt; settled = for_one_server _ (λ can. false_true can.0) (λ n can. false_true can.0); accepted = refl; later = up_by 2 8; within = omega arith },
+    record {
+      over = tt;
+      settled = for_one_server _ (λ can. false_true can.0) (λ n can. false_true can.0);
+      accepted = refl;
+      later = up_by 2 8;
+      within = omega arith;
+    },
     (
       (refl, record { row = first_row None 0 (Serving 0); live = (0, refl); named = refl; phase = refl }),
       (
@@ -223,14 +295,16 @@ waits_are_lawful = record {
               taken = refl;
               next = record {
                 takes = (refl, (third_row None (Waiting Backend 2), (2, refl), refl));
-                weightless_first = for_one_server _ (λ weightless can. let e : 1 ≡ 0 = weightless in absurd (omega (arith, e))) (λ n weightless can. false_true can.0);
+                weightless_first = for_one_server _ (λ weightless can. let e : 1 ≡ 0 = weightless in
+                    absurd (omega (arith, e))) (λ n weightless can. false_true can.0);
                 picked = λ heavy. record {
                   member = (refl, (third_row None (Waiting Backend 2), (2, refl), refl));
                   least = for_one_server _ (λ can. up_by 0 0) (λ n can. false_true can.0);
                   nearest = for_one_server _ (λ can first. up_by 1 0) (λ n can first. false_true can.0);
                 };
               };
-              least = for_last_rows (λ r. IsTrue (may_go_to once_ended 0 r.phase) → key_cmp (third_row None Loose).key r.key ≢ Greater) (second_row None (Waiting Backend 1)) (third_row None (Waiting Backend 2))
+              least = for_last_rows (λ r. IsTrue (may_go_to once_ended 0 r.phase)
+                  → key_cmp (third_row None Loose).key r.key ≢ Greater) (second_row None (Waiting Backend 1)) (third_row None (Waiting Backend 2))
                   (λ goes e. cc) (λ goes e. cc);
             },
           ),

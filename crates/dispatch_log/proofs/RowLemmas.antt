@@ -1,5 +1,6 @@
 -- Rows of which one is changed.
-use Rattle.std.proofs.Common.{◌≡◌, ◌≢◌, ℕ, zero, suc, ◌==◌, Bool, true, false, [], ◌∷◌, arith, Option, None, Some, slice_get, option_map, refl, ap, sym, ◌∙◌, subst}
+use Rattle.std.proofs.Common.{◌≡◌, ◌≢◌, ℕ, zero, suc, ◌==◌, Bool, true, false, [], ◌∷◌}
+use Rattle.std.proofs.Common.{arith, Option, None, Some, slice_get, option_map, refl, ap, sym, ◌∙◌, subst}
 use Rattle.std.proofs.Math.ListN.{set}
 use Rattle.std.proofs.lemmas.Option.{same_Some, slice_get-map}
 use Rattle.std.proofs.lemmas.Bool.Decides.{Decides-eqb}
@@ -23,7 +24,8 @@ pub with_change_own : (t : ℕ) (f : Row → Option Row) (r : Row) → r.key.tic
 with_change_own t f r named = rw ((Decides-eqb (r.key.ticket) t).1 named) refl
 
 -- a change of one ticket's row is a write at its place
-pub changed_at : (rows : Rows) (t p : ℕ) (r : Row) (f : Row → Option Row) → HaveOwnTickets rows → StandsAt rows p r → r.key.ticket ≡ t → changed t f rows ≡ set rows p (f r)
+pub changed_at : (rows : Rows) (t p : ℕ) (r : Row) (f : Row → Option Row) → HaveOwnTickets rows → StandsAt rows p r → r.key.ticket ≡ t
+    → changed t f rows ≡ set rows p (f r)
 changed_at rows t p r f own stands named = same_places _ _ (λ k. slice_get-map (with_change t f) rows k ∙ by_test k (k == p) refl)
   where
     elsewhere : (k : ℕ) (cell : Option (Option Row)) → slice_get rows k ≡ cell → k ≢ p → option_map (with_change t f) cell ≡ cell
@@ -47,12 +49,14 @@ same_suc k l e = omega arith
 pub row_of_at : (rows : Rows) (t p : ℕ) (r : Row) → HaveOwnTickets rows → StandsAt rows p r → r.key.ticket ≡ t → row_of t rows ≡ Some r
 row_of_at [] t p r own stands named = cc
 row_of_at (None ∷ rows) t zero r own stands named = cc
-row_of_at (None ∷ rows) t (suc p) r own stands named = row_of_at rows t p r (record { own = λ k l u v a b e. same_suc k l (own.own (suc k) (suc l) u v a b e) }) stands named
+row_of_at (None ∷ rows) t (suc p) r own stands named =
+    row_of_at rows t p r (record { own = λ k l u v a b e. same_suc k l (own.own (suc k) (suc l) u v a b e) }) stands named
 row_of_at (Some u ∷ rows) t zero r own stands named =
     let it : u ≡ r = same_Some u r (same_Some (Some u) (Some r) stands) in
     let test : (u.key.ticket == t) ≡ true = (Decides-eqb (u.key.ticket) t).1 (ap (λ (x : Row). x.key.ticket) it ∙ named) in
     rw test (ap Some it)
-row_of_at (Some u ∷ rows) t (suc p) r own stands named = by_test (u.key.ticket == t) refl (row_of_at rows t p r (record { own = λ k l v w a b e. same_suc k l (own.own (suc k) (suc l) v w a b e) }) stands named)
+row_of_at (Some u ∷ rows) t (suc p) r own stands named =
+    by_test (u.key.ticket == t) refl (row_of_at rows t p r (record { own = λ k l v w a b e. same_suc k l (own.own (suc k) (suc l) v w a b e) }) stands named)
   where
     by_test : (b : Bool) → (u.key.ticket == t) ≡ b → row_of t rows ≡ Some r → row_of t (Some u ∷ rows) ≡ Some r
     by_test true e rest = let at : 0 ≡ suc p = own.own 0 (suc p) u r refl stands ((Decides-eqb (u.key.ticket) t).0 e ∙ sym named) in absurd (omega arith)

@@ -26,11 +26,13 @@ is_event setup s n (Limit m v k) settled may = refl
 is_event setup s n (Granted u q v) settled may = absurd (settled v may.1.next.takes)
 is_event setup s n e settled may = absurd may
 
-at_stage : {setup : Setup} {s : State} {before t : Stage} {m : ℕ} {refused : Option Refusal} → MayBegin setup s before m refused → IsOver setup s t → MayBegin setup s t m refused
+at_stage : {setup : Setup} {s : State} {before t : Stage} {m : ℕ} {refused : Option Refusal} → MayBegin setup s before m refused → IsOver setup s t
+    → MayBegin setup s t m refused
 at_stage may over = record { over = over; settled = may.settled; accepted = may.accepted; later = may.later; within = may.within }
 
 -- an event may come at another stage where the one before is over
-comes_at : (setup : Setup) (s : State) (n : ℕ) (t : Stage) (e : Entry) → begins_event e ≡ true → IsOver setup s t → MayCome setup s n granting e → MayCome setup s n t e
+comes_at : (setup : Setup) (s : State) (n : ℕ) (t : Stage) (e : Entry) → begins_event e ≡ true → IsOver setup s t → MayCome setup s n granting e
+    → MayCome setup s n t e
 comes_at setup s n t (Arrive m a) begins over may = (at_stage may.0 over, may.1)
 comes_at setup s n t (Done m u) begins over may = at_stage may over
 comes_at setup s n t (Fail m u) begins over may = at_stage may over
@@ -52,12 +54,14 @@ same_stage t (Limit m v k) begins = refl
 same_stage t e begins = false_true begins
 
 -- what is lawful goes on lawfully
-pub judged_on : (setup : Setup) (s : State) (n : ℕ) (t : Stage) (es fs : List Entry) → AllMayCome setup s n t es → AllMayCome setup (after_all setup s es) (n + length es) (stage_after t es) fs → AllMayCome setup s n t (es ++ fs)
+pub judged_on : (setup : Setup) (s : State) (n : ℕ) (t : Stage) (es fs : List Entry) → AllMayCome setup s n t es
+    → AllMayCome setup (after_all setup s es) (n + length es) (stage_after t es) fs → AllMayCome setup s n t (es ++ fs)
 judged_on setup s n t [] fs all later = subst (λ k. AllMayCome setup s k t fs) (omega arith) later
 judged_on setup s n t (e ∷ es) fs all later = (
   all.0,
   judged_on setup (after setup s e) (n + 1) (next_stage t e) es fs all.1
-      (let longer : n + length (e ∷ es) ≡ (n + 1) + length es = omega arith in subst (λ k. AllMayCome setup (after_all setup s (e ∷ es)) k (stage_after t (e ∷ es)) fs) longer later),
+      (let longer : n + length (e ∷ es) ≡ (n + 1) + length es = omega arith in
+      subst (λ k. AllMayCome setup (after_all setup s (e ∷ es)) k (stage_after t (e ∷ es)) fs) longer later),
 )
 
 pub after_on : (setup : Setup) (s : State) (es fs : List Entry) → after_all setup s (es ++ fs) ≡ after_all setup (after_all setup s es) fs
@@ -69,11 +73,13 @@ stage_on t [] fs = refl
 stage_on t (e ∷ es) fs = stage_on (next_stage t e) es fs
 
 -- what is lawful at the end of entries is lawful from there on
-pub judged_off : (setup : Setup) (s : State) (n : ℕ) (t : Stage) (es fs : List Entry) → AllMayCome setup s n t (es ++ fs) → AllMayCome setup (after_all setup s es) (n + length es) (stage_after t es) fs
+pub judged_off : (setup : Setup) (s : State) (n : ℕ) (t : Stage) (es fs : List Entry) → AllMayCome setup s n t (es ++ fs)
+    → AllMayCome setup (after_all setup s es) (n + length es) (stage_after t es) fs
 judged_off setup s n t [] fs all = subst (λ k. AllMayCome setup s k t fs) (omega arith) all
 judged_off setup s n t (e ∷ es) fs all =
     let longer : (n + 1) + length es ≡ n + length (e ∷ es) = omega arith in
-    subst (λ k. AllMayCome setup (after_all setup s (e ∷ es)) k (stage_after t (e ∷ es)) fs) longer (judged_off setup (after setup s e) (n + 1) (next_stage t e) es fs all.1)
+    subst (λ k. AllMayCome setup (after_all setup s (e ∷ es)) k (stage_after t (e ∷ es)) fs) longer
+    (judged_off setup (after setup s e) (n + 1) (next_stage t e) es fs all.1)
 
 -- an event that may come may come where nothing is owed
 comes_anew : (setup : Setup) (s : State) (n : ℕ) (t : Stage) (e : Entry) → begins_event e ≡ true → MayCome setup s n t e → MayCome setup s n granting e
@@ -93,7 +99,8 @@ pub record IsWhole (h : History) : Type 0 where
   pub settled : IsSettled (scene h.setup (state_of h))
 
 -- the piece that an event and what it brings are, where the whole is lawful
-pub adds_piece : (old new : History) (e : Entry) (brought : List Entry) → begins_event e ≡ true → new.setup ≡ old.setup → new.base ≡ old.base → new.log ≡ old.log ++ e ∷ brought → IsWhole new
+pub adds_piece : (old new : History) (e : Entry) (brought : List Entry) → begins_event e ≡ true → new.setup ≡ old.setup → new.base ≡ old.base
+    → new.log ≡ old.log ++ e ∷ brought → IsWhole new
     → AreLawful old.setup (state_of old) (length old.log) (e ∷ brought)
 adds_piece old new e brought begins same_setup same_base same_log is =
     record {
@@ -118,7 +125,8 @@ adds_piece old new e brought begins same_setup same_base same_log is =
     there : IsWhole (record { setup = setup; base = old.base; log = old.log ++ piece })
     there =
         subst (λ x. IsWhole (record { setup = setup; base = old.base; log = x })) same_log
-        (subst (λ x. IsWhole (record { setup = setup; base = x; log = new.log })) same_base (subst (λ x. IsWhole (record { setup = x; base = new.base; log = new.log })) same_setup is))
+        (subst (λ x. IsWhole (record { setup = setup; base = x; log = new.log })) same_base
+        (subst (λ x. IsWhole (record { setup = x; base = new.base; log = new.log })) same_setup is))
 
     later : AllMayCome setup (state_of old) (length old.log) t piece
     later = subst (λ k. AllMayCome setup (state_of old) k t piece) (omega arith) (judged_off setup old.base 0 granting old.log piece there.judged)
@@ -145,7 +153,8 @@ adds_legally old new e legal adds = rebuilt new adds.setup adds.base adds.log
     later : AllMayCome setup (state_of old) (0 + length old.log) t piece
     later =
         let first = comes_at setup (state_of old) (length old.log) t e begins legal.lawful.whole adds.lawful.judged.0 in
-        let rest = subst (λ stage. AllMayCome setup (after setup (state_of old) e) (length old.log + 1) stage adds.brought) (same_stage t e begins) adds.lawful.judged.1 in
+        let rest = subst (λ stage. AllMayCome setup (after setup (state_of old) e) (length old.log + 1) stage adds.brought)
+        (same_stage t e begins) adds.lawful.judged.1 in
         subst (λ k. AllMayCome setup (state_of old) k t piece) (omega arith) (first, rest)
 
     same_end : stage_after granting piece ≡ stage_after granting (old.log ++ piece)

@@ -12,7 +12,8 @@ use Rattle.dispatch_log.specs.Determined.{events, unplaced, AreSameButForPlaces,
 use Rattle.dispatch_log.specs.Histories.{History, state_of, next_window, rolled, begins_event}
 use Rattle.dispatch_log.specs.Judgement.{AllMayCome, AreLawful, granting, stage_after}
 use Rattle.dispatch_log.specs.Legal.{IsLegal, AddsEvent}
-use Rattle.dispatch_log.specs.Refusals.{first_of, lacks_room, pins_to_none, tickets_are_spent, ticket_refusal, arrival_refusal, tick_refusal, check_refusal, limit_refusal}
+use Rattle.dispatch_log.specs.Refusals.{first_of, lacks_room, pins_to_none, tickets_are_spent, ticket_refusal}
+use Rattle.dispatch_log.specs.Refusals.{arrival_refusal, tick_refusal, check_refusal, limit_refusal}
 use Rattle.dispatch_log.specs.States.{State, after_all}
 use Rattle.dispatch_log.proofs.Consistency.{at_stage}
 use Rattle.dispatch_log.proofs.Determined.{IsLeft, determined, head_begins, head_goes_on}
@@ -28,7 +29,8 @@ same_length es fs alike = sym (length-map es unplaced) ∙ ap length alike ∙ l
 
 -- what is told of a setup, a state and how many entries left it, is told of both
 module _ {R : Type 0} (tell : Setup → State → ℕ → R) where
-  told_alike : (h other : History) → AreSameHistories h other → tell h.setup (state_of h) (length h.log) ≡ tell h.setup (record (state_of h) { rows = (state_of other).rows }) (length h.log)
+  told_alike : (h other : History) → AreSameHistories h other
+      → tell h.setup (state_of h) (length h.log) ≡ tell h.setup (record (state_of h) { rows = (state_of other).rows }) (length h.log)
       → tell h.setup (state_of h) (length h.log) ≡ tell other.setup (state_of other) (length other.log)
   told_alike h other same here =
       here
@@ -40,13 +42,16 @@ ticket_alike : (wrong : Phase → Bool) (h other : History) → IsLegal h → Is
     → ticket_refusal wrong h.setup (state_of h) (length h.log) u ≡ ticket_refusal wrong other.setup (state_of other) (length other.log) u
 ticket_alike wrong h other legal its same u =
     told_alike (λ setup s n. ticket_refusal wrong setup s n u) h other same
-    (ap (λ (row : Option Row). first_of ((lacks_room h.setup (length h.log), LogFull) ∷ (is_none row, NoSuchTicket) ∷ (option_map_or (λ (it : Row). wrong it.phase) row false, WrongPhase) ∷ []))
+    (ap (λ (row : Option Row). first_of ((lacks_room h.setup (length h.log), LogFull) ∷ (is_none row, NoSuchTicket) ∷
+    (option_map_or (λ (it : Row). wrong it.phase) row false, WrongPhase) ∷ []))
     (row_of-same (state_of h).rows (state_of other).rows same.state.rows (legal_consistent h legal).tickets (legal_consistent other its).tickets u))
 
-arrival_alike : (h other : History) → AreSameHistories h other → (pin : Option ℕ) → arrival_refusal h.setup (state_of h) (length h.log) pin ≡ arrival_refusal other.setup (state_of other) (length other.log) pin
+arrival_alike : (h other : History) → AreSameHistories h other → (pin : Option ℕ)
+    → arrival_refusal h.setup (state_of h) (length h.log) pin ≡ arrival_refusal other.setup (state_of other) (length other.log) pin
 arrival_alike h other same pin =
     told_alike (λ setup s n. arrival_refusal setup s n pin) h other same
-    (ap (λ (count : ℕ). first_of ((lacks_room h.setup (length h.log), LogFull) ∷ (pins_to_none h.setup pin, NoSuchServer) ∷ (tickets_are_spent (state_of h).ticket, TicketsSpent) ∷ (nat_le h.setup.places count, PlacesFull) ∷ []))
+    (ap (λ (count : ℕ). first_of ((lacks_room h.setup (length h.log), LogFull) ∷ (pins_to_none h.setup pin, NoSuchServer) ∷
+    (tickets_are_spent (state_of h).ticket, TicketsSpent) ∷ (nat_le h.setup.places count, PlacesFull) ∷ []))
     (same.state.rows.counted is_some refl))
 
 pub refused_alike : (h other : History) → IsLegal h → IsLegal other → AreSameHistories h other → AreRefusedAlike h other
@@ -63,7 +68,8 @@ refused_alike h other legal its same = record {
 -- what a legal log leaves, where the next event begins
 rests : (h : History) → IsLegal h → IsLeft h.setup (state_of h) granting
 rests h legal = record {
-  consistent = at_stage (state_of h).rows (state_of h).ticket (stage_after granting h.log) granting (legal_consistent h legal) (over_none h.setup (state_of h) (stage_after granting h.log) legal.lawful.whole);
+  consistent = at_stage (state_of h).rows (state_of h).ticket (stage_after granting h.log) granting (legal_consistent h legal)
+      (over_none h.setup (state_of h) (stage_after granting h.log) legal.lawful.whole);
   keeps = legal_keeps h legal;
 }
 
@@ -72,7 +78,8 @@ none_begins [] none = refl
 none_begins (e ∷ es) none =
     head_goes_on e es (All-head (λ entry. begins_event entry ≡ false) e es none) ∙ none_begins es (All-tail (λ entry. begins_event entry ≡ false) e es none)
 
-one_begins : (e : Entry) (es : List Entry) → begins_event e ≡ true → All (λ entry. begins_event entry ≡ false) es → map unplaced (events (e ∷ es)) ≡ unplaced e ∷ []
+one_begins : (e : Entry) (es : List Entry) → begins_event e ≡ true → All (λ entry. begins_event entry ≡ false) es
+    → map unplaced (events (e ∷ es)) ≡ unplaced e ∷ []
 one_begins e es begins none = ap (map unplaced) (head_begins e es begins ∙ ap (λ l. e ∷ l) (none_begins es none))
 
 -- what an event brings
@@ -83,7 +90,8 @@ module _ (setup : Setup) (base obase : State) (log olog : List Entry) (e f : Ent
   abbrev its : History
   its = record { setup = setup; base = obase; log = olog }
 
-  brought_alike : IsLegal mine → IsLegal its → AreSameHistories mine its → AreLawful setup (state_of mine) (length log) (e ∷ b) → AreLawful setup (state_of its) (length olog) (f ∷ c)
+  brought_alike : IsLegal mine → IsLegal its → AreSameHistories mine its → AreLawful setup (state_of mine) (length log) (e ∷ b)
+      → AreLawful setup (state_of its) (length olog) (f ∷ c)
       → All (λ entry. begins_event entry ≡ false) b → All (λ entry. begins_event entry ≡ false) c → unplaced e ≡ unplaced f
       → AreSameButForPlaces (e ∷ b) (f ∷ c) × IsSameButForPlaces (after_all setup (state_of mine) (e ∷ b)) (after_all setup (state_of its) (f ∷ c))
   brought_alike legal too same all each one other alike =
@@ -94,7 +102,8 @@ module _ (setup : Setup) (base obase : State) (log olog : List Entry) (e f : Ent
       (record { over = all.whole; settled = all.settled }) (record { over = each.whole; settled = each.settled })
       (one_begins e b begins one ∙ ap (λ x. x ∷ []) alike ∙ sym (one_begins f c starts other))
 
-  grown_alike : IsLegal mine → IsLegal its → AreSameHistories mine its → AreLawful setup (state_of mine) (length log) (e ∷ b) → AreLawful setup (state_of its) (length olog) (f ∷ c)
+  grown_alike : IsLegal mine → IsLegal its → AreSameHistories mine its → AreLawful setup (state_of mine) (length log) (e ∷ b)
+      → AreLawful setup (state_of its) (length olog) (f ∷ c)
       → All (λ entry. begins_event entry ≡ false) b → All (λ entry. begins_event entry ≡ false) c → unplaced e ≡ unplaced f
       → AreSameHistories (record mine { log = log ++ e ∷ b }) (record its { log = olog ++ f ∷ c })
   grown_alike legal too same all each one other alike =
@@ -104,33 +113,40 @@ module _ (setup : Setup) (base obase : State) (log olog : List Entry) (e f : Ent
       record {
         setup = refl;
         base = same.base;
-        log = map-append unplaced log (e ∷ b) ∙ ap (λ l. l ++ map unplaced (e ∷ b)) old ∙ ap (λ l. map unplaced olog ++ l) more ∙ sym (map-append unplaced olog (f ∷ c));
+        log = map-append unplaced log (e ∷ b) ∙ ap (λ l. l ++ map unplaced (e ∷ b)) old ∙ ap (λ l. map unplaced olog ++ l) more
+            ∙ sym (map-append unplaced olog (f ∷ c));
         state = subst (λ (s : State). IsSameButForPlaces s (after_all setup obase (olog ++ f ∷ c))) (sym (after_on setup base log (e ∷ b)))
             (subst (λ (s : State). IsSameButForPlaces (after_all setup (state_of mine) (e ∷ b)) s) (sym (after_on setup obase olog (f ∷ c))) brought.1);
       }
 
 -- a history of these parts
-whole : (h : History) (setup : Setup) (base : State) (log : List Entry) → h.setup ≡ setup → h.base ≡ base → h.log ≡ log → h ≡ record { setup = setup; base = base; log = log }
+whole : (h : History) (setup : Setup) (base : State) (log : List Entry) → h.setup ≡ setup → h.base ≡ base → h.log ≡ log
+    → h ≡ record { setup = setup; base = base; log = log }
 whole h setup base log setups bases logs =
     ap (λ (x : Setup). record h { setup = x }) setups
     ∙ ap (λ (x : State). record { setup = setup; base = x; log = h.log }) bases
     ∙ ap (λ (x : List Entry). record { setup = setup; base = base; log = x }) logs
 
 -- events that are the same but for their places leave histories that are
-pub added_alike : (h other next theirs : History) (e f : Entry) → IsLegal h → IsLegal other → AreSameHistories h other → AddsEvent h next e → AddsEvent other theirs f → unplaced e ≡ unplaced f → AreSameHistories next theirs
+pub added_alike : (h other next theirs : History) (e f : Entry) → IsLegal h → IsLegal other → AreSameHistories h other → AddsEvent h next e
+    → AddsEvent other theirs f → unplaced e ≡ unplaced f → AreSameHistories next theirs
 added_alike h other next theirs e f legal its same adds too alike =
     subst (λ x. AreSameHistories x theirs) (sym (whole next h.setup h.base (h.log ++ e ∷ adds.brought) adds.setup adds.base adds.log))
-    (subst (AreSameHistories (record h { log = h.log ++ e ∷ adds.brought })) (sym (whole theirs other.setup other.base (other.log ++ f ∷ too.brought) too.setup too.base too.log))
+    (subst (AreSameHistories (record h { log = h.log ++ e ∷ adds.brought }))
+    (sym (whole theirs other.setup other.base (other.log ++ f ∷ too.brought) too.setup too.base too.log))
     (at_setup other.setup (sym same.setup) its same too.lawful))
   where
-    at_setup : (x : Setup) → h.setup ≡ x → IsLegal (record other { setup = x }) → AreSameHistories h (record other { setup = x }) → AreLawful x (after_all x other.base other.log) (length other.log) (f ∷ too.brought)
+    at_setup : (x : Setup) → h.setup ≡ x → IsLegal (record other { setup = x }) → AreSameHistories h (record other { setup = x })
+        → AreLawful x (after_all x other.base other.log) (length other.log) (f ∷ too.brought)
         → AreSameHistories (record h { log = h.log ++ e ∷ adds.brought }) (record { setup = x; base = other.base; log = other.log ++ f ∷ too.brought })
     at_setup x is =
         subst
-        (λ (y : Setup). IsLegal (record other { setup = y }) → AreSameHistories h (record other { setup = y }) → AreLawful y (after_all y other.base other.log) (length other.log) (f ∷ too.brought)
+        (λ (y : Setup). IsLegal (record other { setup = y }) → AreSameHistories h (record other { setup = y })
+        → AreLawful y (after_all y other.base other.log) (length other.log) (f ∷ too.brought)
         → AreSameHistories (record h { log = h.log ++ e ∷ adds.brought }) (record { setup = y; base = other.base; log = other.log ++ f ∷ too.brought }))
         is
-        (λ theirs_legal theirs_same lawful. grown_alike h.setup h.base other.base h.log other.log e f adds.brought too.brought legal theirs_legal theirs_same adds.lawful lawful adds.one_event too.one_event alike)
+        (λ theirs_legal theirs_same lawful. grown_alike h.setup h.base other.base h.log other.log e f adds.brought too.brought legal theirs_legal theirs_same
+        adds.lawful lawful adds.one_event too.one_event alike)
 
 -- and so do rolls
 pub rolled_alike : (h other : History) → AreSameHistories h other → AreSameHistories (next_window h) (next_window other)

@@ -8,7 +8,8 @@ use Rattle.list_facts.proofs.Never.{none_some}
 use Rattle.list_facts.proofs.Places.{tally, get-set_same, get-set_other, get-set_cases, count-set}
 use Rattle.dispatch_log.specs.declared.entry.Arrival.{Arrival}
 use Rattle.dispatch_log.specs.declared.entry.Entry.{Entry}
-use Rattle.dispatch_log.specs.declared.entry.Entry.TheVariants.{Arrive, Done, Fail, Abort, Tick, Check, Limit, Direct, Joined, Granted, Moved, Freed, Retried, Left, Health, Ended}
+use Rattle.dispatch_log.specs.declared.entry.Entry.TheVariants.{Arrive, Done, Fail, Abort, Tick, Check, Limit, Direct}
+use Rattle.dispatch_log.specs.declared.entry.Entry.TheVariants.{Joined, Granted, Moved, Freed, Retried, Left, Health, Ended}
 use Rattle.dispatch_log.specs.declared.row.Phase.TheVariants.{Loose, Waiting, Serving, Told}
 use Rattle.dispatch_log.specs.declared.row.Row.{Row}
 use Rattle.dispatch_log.specs.declared.setup.Setup.{Setup}
@@ -40,10 +41,12 @@ row_of-same rows other same own theirs t = by_row (row_of t rows) refl
         e ∙ sym (row_of_at other t it.0 r theirs it.1 at.named)
 
 -- the rows that a change leaves
-pub changed_row : (rows : Rows) (u : ℕ) (f : Row → Option Row) (r : Row) → IsRow (changed u f rows) r → (w : Row) × IsRow rows w × (with_change u f (Some w) ≡ Some r)
+pub changed_row : (rows : Rows) (u : ℕ) (f : Row → Option Row) (r : Row) → IsRow (changed u f rows) r
+    → (w : Row) × IsRow rows w × (with_change u f (Some w) ≡ Some r)
 changed_row rows u f r (p, stands) = by_cell (slice_get rows p) refl (sym (slice_get-map (with_change u f) rows p) ∙ stands)
   where
-    by_cell : (o : Option (Option Row)) → slice_get rows p ≡ o → option_map (with_change u f) o ≡ Some (Some r) → (w : Row) × IsRow rows w × (with_change u f (Some w) ≡ Some r)
+    by_cell : (o : Option (Option Row)) → slice_get rows p ≡ o → option_map (with_change u f) o ≡ Some (Some r)
+        → (w : Row) × IsRow rows w × (with_change u f (Some w) ≡ Some r)
     by_cell None e made = none_some made
     by_cell (Some None) e made = none_some (same_Some None (Some r) made)
     by_cell (Some (Some w)) e made = (w, (p, e), same_Some _ (Some r) made)
@@ -55,7 +58,8 @@ pub changed-same : (rows other : Rows) (u : ℕ) (f : Row → Option Row) → Ha
 changed-same rows other u f same = record {
   there = λ r live. let it = changed_row rows u f r live in into_changed other u f it.0 r (same.there it.0 it.1) it.2;
   back = λ r live. let it = changed_row other u f r live in into_changed rows u f it.0 r (same.back it.0 it.1) it.2;
-  counted = λ test none. count-map test (with_change u f) rows ∙ same.counted (λ cell. test (with_change u f cell)) none ∙ sym (count-map test (with_change u f) other);
+  counted = λ test none. count-map test (with_change u f) rows ∙ same.counted (λ cell. test (with_change u f cell)) none
+      ∙ sym (count-map test (with_change u f) other);
 }
 
 -- a row that comes, at a vacant place of each
@@ -71,13 +75,16 @@ module _ (rows other : Rows) (p q : ℕ) (r : Row) (same : HaveSameRows rows oth
     | inr e ↦ kept_row other q (Some r) x free (same.there x (k, e.1))
   ]
 
-pub come-same : (rows other : Rows) (p q : ℕ) (r : Row) → HaveSameRows rows other → IsVacant rows p → IsVacant other q → HaveSameRows (set rows p (Some r)) (set other q (Some r))
+pub come-same : (rows other : Rows) (p q : ℕ) (r : Row) → HaveSameRows rows other → IsVacant rows p → IsVacant other q
+    → HaveSameRows (set rows p (Some r)) (set other q (Some r))
 come-same rows other p q r same vacant free = record {
   there = come_there rows other p q r same vacant free;
   back = come_there other rows q p r (same_rows-flip rows other same) free vacant;
   counted = λ test none.
-      let mine : count_by test (set rows p (Some r)) + tally (test None) ≡ count_by test rows + tally (test (Some r)) = count-set test rows p None (Some r) vacant in
-      let its : count_by test (set other q (Some r)) + tally (test None) ≡ count_by test other + tally (test (Some r)) = count-set test other q None (Some r) free in
+      let mine : count_by test (set rows p (Some r)) + tally (test None) ≡ count_by test rows + tally (test (Some r)) =
+      count-set test rows p None (Some r) vacant in
+      let its : count_by test (set other q (Some r)) + tally (test None) ≡ count_by test other + tally (test (Some r)) =
+      count-set test other q None (Some r) free in
       let before : count_by test rows ≡ count_by test other = same.counted test none in
       omega arith;
 }
@@ -96,7 +103,10 @@ module _ (setup : Setup) (s : State) (other : Rows) (same : HaveSameRows s.rows 
   pub pin_of-same : (u : ℕ) → pin_of u other ≡ pin_of u s.rows
   pin_of-same u = ap (λ (o : Option Row). option_and_then (λ (row : Row). row.pin) o) (sym (row_of-same s.rows other same own theirs u))
 
-  there_too : (e : Entry) → (rest : after setup (record s { rows = other }) e ≡ record (after setup s e) { rows = (after setup (record s { rows = other }) e).rows }) → HaveSameRows (after setup s e).rows (after setup (record s { rows = other }) e).rows → IsSameButForPlaces (after setup s e) (after setup (record s { rows = other }) e)
+  there_too : (e : Entry) → (rest : after setup (record s { rows = other }) e
+      ≡ record (after setup s e) { rows = (after setup (record s { rows = other }) e).rows })
+      → HaveSameRows (after setup s e).rows (after setup (record s { rows = other }) e).rows
+      → IsSameButForPlaces (after setup s e) (after setup (record s { rows = other }) e)
   there_too e rest rows = record { rows = rows; rest = rest }
 
   changed_too : (u : ℕ) (f : Row → Option Row) → HaveSameRows (changed u f s.rows) (changed u f other)
@@ -111,7 +121,8 @@ module _ (setup : Setup) (s : State) (other : Rows) (same : HaveSameRows s.rows 
   after-same (Check m v ok) none = there_too (Check m v ok) refl same
   after-same (Limit m v k) none =
       there_too (Limit m v k)
-      (ap (λ (n : ℕ). record s { rows = other; limits = slice_set s.limits v (record { limit = k; served = n }); moment = m }) (sym (same.counted (is_served_by v) refl)))
+      (ap (λ (n : ℕ). record s { rows = other; limits = slice_set s.limits v (record { limit = k; served = n }); moment = m })
+      (sym (same.counted (is_served_by v) refl)))
       same
   after-same (Direct u v) none =
       there_too (Direct u v)
@@ -135,6 +146,7 @@ module _ (setup : Setup) (s : State) (other : Rows) (same : HaveSameRows s.rows 
       let row : arrived a ≡ arrived b = ap arrived alike in
       let ticket : a.ticket ≡ b.ticket = ap (λ (x : Arrival). x.ticket) alike in
       record {
-        rows = subst (λ (r : Row). HaveSameRows (set s.rows a.place (Some (arrived a))) (set other b.place (Some r))) row (come-same s.rows other a.place b.place (arrived a) same vacant free);
+        rows = subst (λ (r : Row). HaveSameRows (set s.rows a.place (Some (arrived a))) (set other b.place (Some r))) row
+            (come-same s.rows other a.place b.place (arrived a) same vacant free);
         rest = ap (λ (k : ℕ). record s { rows = set other b.place (Some (arrived b)); moment = m; ticket = k }) (sym ticket);
       }

@@ -1,5 +1,6 @@
 -- Where rows stand decides nothing: what may come next with these rows may come with the same ones at other places.
-use Rattle.std.proofs.Common.{◌≡◌, ℕ, ◌+◌, ◌*◌, ◌≤◌, ◌==◌, ◌&&◌, ◌||◌, nat_lt, true, cond, Bool, Option, None, Some, MatchOption, refl, ap, sym, ◌∙◌, subst, inl, inr}
+use Rattle.std.proofs.Common.{◌≡◌, ℕ, ◌+◌, ◌*◌, ◌≤◌, ◌==◌, ◌&&◌, ◌||◌, nat_lt, true, cond, Bool}
+use Rattle.std.proofs.Common.{Option, None, Some, MatchOption, refl, ap, sym, ◌∙◌, subst, inl, inr}
 use Rattle.std.specs.Option.{option_map_or}
 use Rattle.verdict.specs.declared.cause.Cause.TheVariants.{Aborted, Timeout, Retries, NoServer}
 use Rattle.dispatch_log.specs.declared.entry.Entry.{Entry}
@@ -11,7 +12,8 @@ use Rattle.dispatch_log.specs.declared.row.Row.{Row}
 use Rattle.dispatch_log.specs.declared.setup.Setup.{Setup}
 use Rattle.dispatch_log.specs.Determined.{HaveSameRows}
 use Rattle.dispatch_log.specs.Grants.{CanTake, IsSettled, IsNextTaker, IsLawfulGrant}
-use Rattle.dispatch_log.specs.Judgement.{IsInPhase, IsFirstExpired, IsFirstIn, Stage, placing, returning, ending, failing, leaving, aborting, telling, checking, falling, granting, MayGrant, IsPut, IsPutAnew}
+use Rattle.dispatch_log.specs.Judgement.{IsInPhase, IsFirstExpired, IsFirstIn, Stage, placing, returning, ending, failing, leaving}
+use Rattle.dispatch_log.specs.Judgement.{aborting, telling, checking, falling, granting, MayGrant, IsPut, IsPutAnew}
 use Rattle.dispatch_log.specs.Picks.{load, weight_of, IsNoMoreLoaded, IsPick}
 use Rattle.dispatch_log.specs.Placement.{IsCandidate, IsChosen}
 use Rattle.dispatch_log.specs.Retries.{are_spent, are_redispatched, are_retried}
@@ -80,7 +82,8 @@ module _ (setup : Setup) (s : State) (other : Rows) (same : HaveSameRows s.rows 
       subst (λ (n : ℕ). load sd v * weight_of sc w ≤ n * weight_of sc v) (sym (load-same w))
       (subst (λ (n : ℕ). n * weight_of sc w ≤ load sc w * weight_of sc v) (sym (load-same v)) less)
 
-  pick_back : (of_these of_those : ℕ → Type 0) (v : ℕ) → ((k : ℕ) → of_these k → of_those k) → ((k : ℕ) → of_those k → of_these k) → IsPick sd s.cursor of_those v → IsPick sc s.cursor of_these v
+  pick_back : (of_these of_those : ℕ → Type 0) (v : ℕ) → ((k : ℕ) → of_these k → of_those k) → ((k : ℕ) → of_those k → of_these k)
+      → IsPick sd s.cursor of_those v → IsPick sc s.cursor of_these v
   pick_back of_these of_those v to from pick = record {
     member = from v pick.member;
     least = λ k it. no_more_back v k (pick.least k (to k it));
@@ -113,9 +116,11 @@ module _ (setup : Setup) (s : State) (other : Rows) (same : HaveSameRows s.rows 
   candidate_back avoid v it = (sym (room-same v) ∙ it.0, λ avoids k room. it.1 avoids k (room-same k ∙ room))
 
   chosen_back : (pin avoid : Option ℕ) (v : ℕ) → IsChosen sd s.cursor pin avoid v → IsChosen sc s.cursor pin avoid v
-  chosen_back pin avoid v chosen = by_pin (working_pin sc pin) (subst (λ (o : Option ℕ). MatchOption o (IsPick sd s.cursor (IsCandidate sd avoid) v) (λ own. own ≡ v)) (pin-same pin) chosen)
+  chosen_back pin avoid v chosen = by_pin (working_pin sc pin)
+      (subst (λ (o : Option ℕ). MatchOption o (IsPick sd s.cursor (IsCandidate sd avoid) v) (λ own. own ≡ v)) (pin-same pin) chosen)
     where
-      by_pin : (o : Option ℕ) → MatchOption o (IsPick sd s.cursor (IsCandidate sd avoid) v) (λ own. own ≡ v) → MatchOption o (IsPick sc s.cursor (IsCandidate sc avoid) v) (λ own. own ≡ v)
+      by_pin : (o : Option ℕ) → MatchOption o (IsPick sd s.cursor (IsCandidate sd avoid) v) (λ own. own ≡ v)
+          → MatchOption o (IsPick sc s.cursor (IsCandidate sc avoid) v) (λ own. own ≡ v)
       by_pin None pick = pick_back (IsCandidate sc avoid) (IsCandidate sd avoid) v (candidate_there avoid) (candidate_back avoid) pick
       by_pin (Some own) is = is
 
@@ -161,7 +166,11 @@ module _ (setup : Setup) (s : State) (other : Rows) (same : HaveSameRows s.rows 
   owed_back (returning t) (Ended u) owed = (owed.0, phase_back _ u owed.1)
   owed_back (ending t) (Ended u) owed = owed
   owed_back (failing t) (Retried u v k) owed = (owed.0, phase_back _ u owed.1, sym (failures-same u) ∙ owed.2, owed.3)
-  owed_back (failing t) (Freed u v) owed = (owed.0, phase_back _ u owed.1, λ retried. owed.2 (subst (λ (n : ℕ). are_retried setup n ≡ true) (sym (failures-same u)) retried))
+  owed_back (failing t) (Freed u v) owed = (
+    owed.0,
+    phase_back _ u owed.1,
+    λ retried. owed.2 (subst (λ (n : ℕ). are_retried setup n ≡ true) (sym (failures-same u)) retried),
+  )
   owed_back (leaving t w) (Left u Retries) owed = (owed.0, subst (λ (n : ℕ). are_spent setup n ≡ true) (failures-same u) owed.1)
   owed_back (leaving t w) e owed = anew_back t w e owed
   owed_back (aborting t) (Left u Aborted) owed = (owed.0, phase_back _ u owed.1)

@@ -9,7 +9,8 @@ use Rattle.verdict.specs.declared.cause.Cause.TheVariants.{NoServer}
 use Rattle.list_facts.proofs.Never.{none_some}
 use Rattle.list_facts.proofs.Places.{get-set_cases}
 use Rattle.dispatch_log.specs.declared.entry.Entry.{Entry}
-use Rattle.dispatch_log.specs.declared.entry.Entry.TheVariants.{Arrive, Done, Fail, Abort, Tick, Check, Limit, Direct, Joined, Granted, Moved, Freed, Retried, Left, Health, Ended}
+use Rattle.dispatch_log.specs.declared.entry.Entry.TheVariants.{Arrive, Done, Fail, Abort, Tick, Check, Limit, Direct}
+use Rattle.dispatch_log.specs.declared.entry.Entry.TheVariants.{Joined, Granted, Moved, Freed, Retried, Left, Health, Ended}
 use Rattle.dispatch_log.specs.declared.queue.Queue.TheVariants.{Backend, Server}
 use Rattle.dispatch_log.specs.declared.row.Phase.{Phase}
 use Rattle.dispatch_log.specs.declared.row.Phase.TheVariants.{Loose, Waiting, Serving, Told}
@@ -34,7 +35,8 @@ pub record KeepsTo (servers : ℕ) (state : State) : Type 0 where
   pub cursor : 0 < servers → state.cursor < servers
 
 -- rows of which one is changed, where what is made of it is at a server that is there wherever it was
-changed_at_servers : (n : ℕ) (rows : Rows) (u : ℕ) (f : Row → Option Row) → ((r w : Row) → IsAtOneOf n r.phase → f r ≡ Some w → IsAtOneOf n w.phase) → AreAtServers n rows → AreAtServers n (changed u f rows)
+changed_at_servers : (n : ℕ) (rows : Rows) (u : ℕ) (f : Row → Option Row) → ((r w : Row) → IsAtOneOf n r.phase → f r ≡ Some w → IsAtOneOf n w.phase)
+    → AreAtServers n rows → AreAtServers n (changed u f rows)
 changed_at_servers n rows u f stays at row live =
     let it = changed_row rows u f row live in
     by_test (it.0.key.ticket == u) it.0 (at it.0 it.1) it.2
@@ -46,7 +48,8 @@ changed_at_servers n rows u f stays at row live =
 to_phase : (n : ℕ) (phase : Phase) → IsAtOneOf n phase → (r w : Row) → IsAtOneOf n r.phase → in_phase phase r ≡ Some w → IsAtOneOf n w.phase
 to_phase n phase at r w was made = subst (λ (x : Row). IsAtOneOf n x.phase) (same_Some _ w made) at
 
-admitted_at_servers : (n : ℕ) (rows : Rows) (p : ℕ) (r : Row) → IsVacant rows p → IsAtOneOf n r.phase → AreAtServers n rows → AreAtServers n (set rows p (Some r))
+admitted_at_servers : (n : ℕ) (rows : Rows) (p : ℕ) (r : Row) → IsVacant rows p → IsAtOneOf n r.phase → AreAtServers n rows
+    → AreAtServers n (set rows p (Some r))
 admitted_at_servers n rows p r vacant here at row live =
     elim (get-set_cases rows p live.0 None (Some r) (Some row) vacant live.1) [
       | inl e ↦ subst (λ (x : Row). IsAtOneOf n x.phase) (same_Some r row e.1) here
@@ -62,14 +65,16 @@ put_on_within n v cursor (Some p) low was some = by_test (p == v)
     by_test false = low
 
 module _ (setup : Setup) (s : State) where
-  granted_within : (v : ℕ) → v < length setup.servers → (0 < length setup.servers → s.cursor < length setup.servers) → 0 < length setup.servers → granted_by setup v s.cursor < length setup.servers
+  granted_within : (v : ℕ) → v < length setup.servers → (0 < length setup.servers → s.cursor < length setup.servers) → 0 < length setup.servers
+      → granted_by setup v s.cursor < length setup.servers
   granted_within v low was some = by_test (option_map_or (λ (it : ServerSet). it.weight == 0) (slice_get setup.servers v) true)
     where
       by_test : (b : Bool) → cond b s.cursor v < length setup.servers
       by_test true = was some
       by_test false = low
 
-  put_keeps : (pin avoid : Option ℕ) (t : ℕ) (e : Entry) → KeepsTo (length setup.servers) s → IsPut (scene setup s) s.cursor pin avoid t e → KeepsTo (length setup.servers) (after setup s e)
+  put_keeps : (pin avoid : Option ℕ) (t : ℕ) (e : Entry) → KeepsTo (length setup.servers) s → IsPut (scene setup s) s.cursor pin avoid t e
+      → KeepsTo (length setup.servers) (after setup s e)
   put_keeps pin avoid t (Direct u v) keeps put =
       let low : v < length setup.servers = free_there (scene setup s) v put.1.1 in
       record {
@@ -79,24 +84,42 @@ module _ (setup : Setup) (s : State) where
   put_keeps pin avoid t (Joined u (Server v)) keeps put =
       let low : v < length setup.servers = chosen_there (scene setup s) s.cursor keeps.cursor pin avoid v put.1.0 in
       record {
-        rows = changed_at_servers (length setup.servers) s.rows u (in_phase (Waiting (Server v) s.moment)) (to_phase (length setup.servers) (Waiting (Server v) s.moment) low) keeps.rows;
+        rows = changed_at_servers (length setup.servers) s.rows u (in_phase (Waiting (Server v) s.moment))
+            (to_phase (length setup.servers) (Waiting (Server v) s.moment) low) keeps.rows;
         cursor = put_on_within (length setup.servers) v s.cursor (pin_of u s.rows) low keeps.cursor;
       }
   put_keeps pin avoid t (Joined u Backend) keeps put =
-      record { rows = changed_at_servers (length setup.servers) s.rows u (in_phase (Waiting Backend s.moment)) (to_phase (length setup.servers) (Waiting Backend s.moment) tt) keeps.rows; cursor = keeps.cursor }
+      record {
+        rows = changed_at_servers (length setup.servers) s.rows u (in_phase (Waiting Backend s.moment))
+            (to_phase (length setup.servers) (Waiting Backend s.moment) tt) keeps.rows;
+        cursor = keeps.cursor;
+      }
   put_keeps pin avoid t (Left u NoServer) keeps put =
-      record { rows = changed_at_servers (length setup.servers) s.rows u (in_phase (Told NoServer)) (to_phase (length setup.servers) (Told NoServer) tt) keeps.rows; cursor = keeps.cursor }
+      record {
+        rows = changed_at_servers (length setup.servers) s.rows u (in_phase (Told NoServer))
+            (to_phase (length setup.servers) (Told NoServer) tt) keeps.rows;
+        cursor = keeps.cursor;
+      }
   put_keeps pin avoid t e keeps put = absurd put
 
   told_keeps : (u : ℕ) (c : Cause) → KeepsTo (length setup.servers) s → KeepsTo (length setup.servers) (after setup s (Left u c))
-  told_keeps u c keeps = record { rows = changed_at_servers (length setup.servers) s.rows u (in_phase (Told c)) (to_phase (length setup.servers) (Told c) tt) keeps.rows; cursor = keeps.cursor }
+  told_keeps u c keeps = record {
+    rows = changed_at_servers (length setup.servers) s.rows u (in_phase (Told c))
+        (to_phase (length setup.servers) (Told c) tt) keeps.rows;
+    cursor = keeps.cursor;
+  }
 
-  pub keeps_after : (n : ℕ) (t : Stage) (e : Entry) → KeepsTo (length setup.servers) s → MayCome setup s n t e → KeepsTo (length setup.servers) (after setup s e)
-  keeps_after n t (Arrive m a) keeps may = record { rows = admitted_at_servers (length setup.servers) s.rows a.place (arrived a) may.1.vacant tt keeps.rows; cursor = keeps.cursor }
+  pub keeps_after : (n : ℕ) (t : Stage) (e : Entry) → KeepsTo (length setup.servers) s → MayCome setup s n t e
+      → KeepsTo (length setup.servers) (after setup s e)
+  keeps_after n t (Arrive m a) keeps may = record {
+    rows = admitted_at_servers (length setup.servers) s.rows a.place (arrived a) may.1.vacant tt keeps.rows;
+    cursor = keeps.cursor;
+  }
   keeps_after n t (Done m u) keeps may = record { rows = keeps.rows; cursor = keeps.cursor }
   keeps_after n t (Fail m u) keeps may =
       record {
-        rows = changed_at_servers (length setup.servers) s.rows u (failed setup) (λ r w at made. subst (λ (x : Row). IsAtOneOf (length setup.servers) x.phase) (same_Some _ w made) at) keeps.rows;
+        rows = changed_at_servers (length setup.servers) s.rows u (failed setup)
+            (λ r w at made. subst (λ (x : Row). IsAtOneOf (length setup.servers) x.phase) (same_Some _ w made) at) keeps.rows;
         cursor = keeps.cursor;
       }
   keeps_after n t (Abort m u) keeps may = record { rows = keeps.rows; cursor = keeps.cursor }
@@ -117,17 +140,22 @@ module _ (setup : Setup) (s : State) where
   keeps_after n t (Joined u q) keeps may = absurd may
   keeps_after n t (Moved u v) keeps may =
       record {
-        rows = changed_at_servers (length setup.servers) s.rows u (in_backend_since s.moment) (λ r w at made. subst (λ (x : Row). IsAtOneOf (length setup.servers) x.phase) (same_Some _ w made) tt) keeps.rows;
+        rows = changed_at_servers (length setup.servers) s.rows u (in_backend_since s.moment)
+            (λ r w at made. subst (λ (x : Row). IsAtOneOf (length setup.servers) x.phase) (same_Some _ w made) tt) keeps.rows;
         cursor = keeps.cursor;
       }
   keeps_after n t (Freed u v) keeps may =
-      record { rows = changed_at_servers (length setup.servers) s.rows u (in_phase Loose) (to_phase (length setup.servers) Loose tt) keeps.rows; cursor = keeps.cursor }
+      record {
+        rows = changed_at_servers (length setup.servers) s.rows u (in_phase Loose) (to_phase (length setup.servers) Loose tt) keeps.rows;
+        cursor = keeps.cursor;
+      }
   keeps_after n t (Retried u v k) keeps may = keeps
   keeps_after n t (Left u c) keeps may = told_keeps u c keeps
   keeps_after n t (Health v up) keeps may = keeps
   keeps_after n t (Ended u) keeps may =
       record { rows = changed_at_servers (length setup.servers) s.rows u gone (λ r w at made. none_some made) keeps.rows; cursor = keeps.cursor }
 
-pub keeps_all : (setup : Setup) (s : State) (n : ℕ) (t : Stage) (es : List Entry) → KeepsTo (length setup.servers) s → AllMayCome setup s n t es → KeepsTo (length setup.servers) (after_all setup s es)
+pub keeps_all : (setup : Setup) (s : State) (n : ℕ) (t : Stage) (es : List Entry) → KeepsTo (length setup.servers) s → AllMayCome setup s n t es
+    → KeepsTo (length setup.servers) (after_all setup s es)
 keeps_all setup s n t [] keeps all = keeps
 keeps_all setup s n t (e ∷ es) keeps all = keeps_all setup (after setup s e) (n + 1) (next_stage t e) es (keeps_after setup s n t e keeps all.0) all.1

@@ -1,5 +1,6 @@
 -- The first window begins at a proper base, and so does each window after a legal log.
-use Rattle.std.proofs.Common.{◌≡◌, ℕ, zero, suc, ◌+◌, ◌<◌, ◌^◌, nat_le, nat_lt, Bool, true, false, List, [], ◌∷◌, Option, None, Some, length, replicate, count_by, All, IsTrue, refl, ap, sym, ◌∙◌, subst, arith}
+use Rattle.std.proofs.Common.{◌≡◌, ℕ, zero, suc, ◌+◌, ◌<◌, ◌^◌, nat_le, nat_lt, Bool, true, false, List, [], ◌∷◌}
+use Rattle.std.proofs.Common.{Option, None, Some, length, replicate, count_by, All, IsTrue, refl, ap, sym, ◌∙◌, subst, arith}
 use Rattle.std.proofs.lemmas.Bool.Decides.{nat_tests}
 use Rattle.std.proofs.Math.ListN.{length-replicate}
 use Rattle.std.proofs.lemmas.List.{length-map}
@@ -8,7 +9,8 @@ use Rattle.std.proofs.lemmas.Bool.{and_parts}
 use Rattle.list_facts.proofs.Places.{tally}
 use Rattle.check_state.proofs.Shortened.{same_up}
 use Rattle.dispatch_log.specs.declared.entry.Entry.{Entry}
-use Rattle.dispatch_log.specs.declared.entry.Entry.TheVariants.{Arrive, Done, Fail, Abort, Tick, Check, Limit, Direct, Joined, Granted, Moved, Freed, Retried, Left, Health, Ended}
+use Rattle.dispatch_log.specs.declared.entry.Entry.TheVariants.{Arrive, Done, Fail, Abort, Tick, Check, Limit, Direct}
+use Rattle.dispatch_log.specs.declared.entry.Entry.TheVariants.{Joined, Granted, Moved, Freed, Retried, Left, Health, Ended}
 use Rattle.dispatch_log.specs.declared.row.Row.{Row}
 use Rattle.dispatch_log.specs.declared.setup.ServerSet.{ServerSet}
 use Rattle.dispatch_log.specs.declared.setup.Setup.{Setup}
@@ -71,8 +73,10 @@ opening_base setup = record {
 -- tickets and moments stay in their ranges
 accepted_ticket : (setup : Setup) (s : State) (n : ℕ) (pin : Option ℕ) → arrival_refusal setup s n pin ≡ None → s.ticket + 1 < 2 ^ 40
 accepted_ticket setup s n pin e =
-    let room = none_refuses (lacks_room setup n) LogFull ((pins_to_none setup pin, NoSuchServer) ∷ (tickets_are_spent s.ticket, TicketsSpent) ∷ (is_full setup s.rows, PlacesFull) ∷ []) e in
-    let pinned = none_refuses (pins_to_none setup pin) NoSuchServer ((tickets_are_spent s.ticket, TicketsSpent) ∷ (is_full setup s.rows, PlacesFull) ∷ []) room.1 in
+    let room = none_refuses (lacks_room setup n) LogFull
+    ((pins_to_none setup pin, NoSuchServer) ∷ (tickets_are_spent s.ticket, TicketsSpent) ∷ (is_full setup s.rows, PlacesFull) ∷ []) e in
+    let pinned = none_refuses (pins_to_none setup pin) NoSuchServer
+    ((tickets_are_spent s.ticket, TicketsSpent) ∷ (is_full setup s.rows, PlacesFull) ∷ []) room.1 in
     let ticket = none_refuses (tickets_are_spent s.ticket) TicketsSpent ((is_full setup s.rows, PlacesFull) ∷ []) pinned.1 in
     let more = ticket.0 in
     grind (arith, nat_tests)
@@ -82,7 +86,10 @@ pub record IsInRange (s : State) : Type 0 where
   pub timed : s.moment < 2 ^ 62
 
 at_moment : (s : State) (m : ℕ) → IsInRange s → m < 2 ^ 62 → (next : State) → next.ticket ≡ s.ticket → next.moment ≡ m → IsInRange next
-at_moment s m is within next ticket moment = record { numbered = subst (λ k. k < 2 ^ 40) (sym ticket) is.numbered; timed = subst (λ k. k < 2 ^ 62) (sym moment) within }
+at_moment s m is within next ticket moment = record {
+  numbered = subst (λ k. k < 2 ^ 40) (sym ticket) is.numbered;
+  timed = subst (λ k. k < 2 ^ 62) (sym moment) within;
+}
 
 as_before : (s next : State) → IsInRange s → next.ticket ≡ s.ticket → next.moment ≡ s.moment → IsInRange next
 as_before s next is ticket moment = at_moment s s.moment is is.timed next ticket moment
@@ -118,7 +125,8 @@ pub legal_keeps : (h : History) → IsLegal h → KeepsTo (length h.setup.server
 legal_keeps h legal = keeps_all h.setup h.base 0 granting h.log (record { rows = legal.begins.at_servers; cursor = legal.begins.cursor }) legal.lawful.judged
 
 -- the shortest results leave the same servers up
-shortened_up : (server : ServerSet) → IsTrue (is_within server) → (results : List Bool) → is_up_by server.rise_fall (shortened_by server.rise_fall results) ≡ is_up_by server.rise_fall results
+shortened_up : (server : ServerSet) → IsTrue (is_within server) → (results : List Bool)
+    → is_up_by server.rise_fall (shortened_by server.rise_fall results) ≡ is_up_by server.rise_fall results
 shortened_up server within results = by_checks server.rise_fall (and_parts (nat_le server.weight 256) (checks_count server.rise_fall) within).1
   where
     by_checks : (it : Option (ℕ × ℕ)) → checks_count it ≡ true → is_up_by it (shortened_by it results) ≡ is_up_by it results
@@ -129,10 +137,15 @@ shortened_up server within results = by_checks server.rise_fall (and_parts (nat_
         let fall : 0 < it.1 = grind (arith, nat_tests) in
         same_up it.0 it.1 rise fall results
 
-pub shortened_ups : (servers : List ServerSet) (results : List (List Bool)) → All (λ (it : ServerSet). IsTrue (is_within it)) servers → ups_of servers (shortened_all servers results) ≡ ups_of servers results
+pub shortened_ups : (servers : List ServerSet) (results : List (List Bool)) → All (λ (it : ServerSet). IsTrue (is_within it)) servers
+    → ups_of servers (shortened_all servers results) ≡ ups_of servers results
 shortened_ups [] results within = refl
-shortened_ups (server ∷ servers) [] within = rw (shortened_up server (within 0 server (omega arith)) []) (ap (λ l. is_up_by server.rise_fall [] ∷ l) (shortened_ups servers [] (λ k d few. within (suc k) d (omega arith))))
-shortened_ups (server ∷ servers) (of_it ∷ results) within = rw (shortened_up server (within 0 server (omega arith)) of_it) (ap (λ l. is_up_by server.rise_fall of_it ∷ l) (shortened_ups servers results (λ k d few. within (suc k) d (omega arith))))
+shortened_ups (server ∷ servers) [] within =
+    rw (shortened_up server (within 0 server (omega arith)) [])
+    (ap (λ l. is_up_by server.rise_fall [] ∷ l) (shortened_ups servers [] (λ k d few. within (suc k) d (omega arith))))
+shortened_ups (server ∷ servers) (of_it ∷ results) within =
+    rw (shortened_up server (within 0 server (omega arith)) of_it)
+    (ap (λ l. is_up_by server.rise_fall of_it ∷ l) (shortened_ups servers results (λ k d few. within (suc k) d (omega arith))))
 
 pub shortened_length : (servers : List ServerSet) (results : List (List Bool)) → length (shortened_all servers results) ≡ length servers
 shortened_length [] results = refl
@@ -155,12 +168,14 @@ next_base h sound legal =
       at_servers = keeps.rows;
       cursor = keeps.cursor;
       tried = tried_over h.setup (state_of h) (stage_after granting h.log)
-          (tried_all h.setup h.base 0 granting h.log (base_consistent h.setup h.base legal.begins) judged (λ row live untold other. legal.begins.tried row live untold)) legal.lawful.whole;
+          (tried_all h.setup h.base 0 granting h.log (base_consistent h.setup h.base legal.begins) judged
+          (λ row live untold other. legal.begins.tried row live untold)) legal.lawful.whole;
       dispatched = record {
         limits = is.limits;
         one_place = λ ticket. record { arrives_once = none_between (state_of h).ticket ticket; until_its_end = refl; one_row = (is.one_place ticket).one_row };
         placed = is.placed;
-        settled = subst (λ ups. IsSettled (record { servers = h.setup.servers; limits = (state_of h).limits; ups = ups; rows = (state_of h).rows })) (sym (shortened_ups h.setup.servers (state_of h).results sound.within)) is.settled;
+        settled = subst (λ ups. IsSettled (record { servers = h.setup.servers; limits = (state_of h).limits; ups = ups; rows = (state_of h).rows }))
+            (sym (shortened_ups h.setup.servers (state_of h).results sound.within)) is.settled;
       };
     }
 

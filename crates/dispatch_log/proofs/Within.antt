@@ -28,7 +28,8 @@ within h legal =
       places = places_all h.setup h.base h.log ∙ legal.begins.places;
       ticket = range.numbered;
       rows = λ row live. (legal_consistent h legal).below live.0 row live.1;
-      arrivals = λ ticket high. none_given h.base.ticket (state_of h).ticket ticket (arrivals_of ticket h.log) range.numbered high ((dispatched h legal).one_place ticket).arrives_once;
+      arrivals = λ ticket high. none_given h.base.ticket (state_of h).ticket ticket (arrivals_of ticket h.log) range.numbered high
+          ((dispatched h legal).one_place ticket).arrives_once;
       moment = range.timed;
       servers = keeps.rows;
       cursor = keeps.cursor;
@@ -40,7 +41,10 @@ judged_front setup s n t (e ∷ es) fs all = (all.0, judged_front setup (after s
 
 pub judged_parts : (setup : Setup) (s : State) (n : ℕ) (t : Stage) (es fs : List Entry)
     → AllMayCome setup s n t (es ++ fs) ↔ (AllMayCome setup s n t es × AllMayCome setup (after_all setup s es) (n + length es) (stage_after t es) fs)
-judged_parts setup s n t es fs = (λ all. (judged_front setup s n t es fs all, judged_off setup s n t es fs all), λ both. judged_on setup s n t es fs both.0 both.1)
+judged_parts setup s n t es fs = (
+  λ all. (judged_front setup s n t es fs all, judged_off setup s n t es fs all),
+  λ both. judged_on setup s n t es fs both.0 both.1,
+)
 
 -- none but an event changes the moment
 moment_kept : (setup : Setup) (s : State) (e : Entry) → begins_event e ≡ false → (after setup s e).moment ≡ s.moment

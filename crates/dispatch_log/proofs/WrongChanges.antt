@@ -10,13 +10,21 @@ use Rattle.dispatch_log.specs.Judgement.{has_expired}
 use Rattle.dispatch_log.specs.Rows.{IsRow}
 use Rattle.dispatch_log.proofs.FourPlaces.{for_parted_rows, for_three_rows, first_row, second_row, third_row}
 use Rattle.dispatch_log.specs.Worked.{worked}
-use Rattle.dispatch_log.specs.WorkedChanges.{worked_with_checks, worked_in_time, worked_with_a_retry, retry_past_the_retries, failure_counted_twice, redispatch_keeps_the_pin, redispatch_to_the_failed_server, redispatch_before_the_grant, no_server_beside_a_usable_one, told_one_millisecond_early, told_by_falling_ticket, expired_and_not_told, abort_of_a_served_request, failure_of_a_waiting_request, fall_leaves_its_queue, moves_by_ticket, grant_before_the_moves, rise_grants_nothing, rise_is_not_told, down_after_its_rise, down_though_it_answers, fall_grants_nothing, moved_without_a_fall, redispatched_by_a_new_due_date, served_by_a_fallen_server}
+use Rattle.dispatch_log.specs.WorkedChanges.{worked_with_checks, worked_in_time, worked_with_a_retry, retry_past_the_retries}
+use Rattle.dispatch_log.specs.WorkedChanges.{failure_counted_twice, redispatch_keeps_the_pin, redispatch_to_the_failed_server, redispatch_before_the_grant}
+use Rattle.dispatch_log.specs.WorkedChanges.{no_server_beside_a_usable_one, told_one_millisecond_early, told_by_falling_ticket, expired_and_not_told}
+use Rattle.dispatch_log.specs.WorkedChanges.{abort_of_a_served_request, failure_of_a_waiting_request, fall_leaves_its_queue, moves_by_ticket}
+use Rattle.dispatch_log.specs.WorkedChanges.{grant_before_the_moves, rise_grants_nothing, rise_is_not_told, down_after_its_rise}
+use Rattle.dispatch_log.specs.WorkedChanges.{down_though_it_answers, fall_grants_nothing, moved_without_a_fall, redispatched_by_a_new_due_date}
+use Rattle.dispatch_log.specs.WorkedChanges.{served_by_a_fallen_server}
 
 -- of the three, the row of ticket 2 hasn't the least key
-not_before_3 : (pin : Option ℕ) (queue : Queue) (row : Row) → IsRow (Some (first_row pin 0 (Serving 0)) ∷ Some (second_row pin (Waiting queue 1)) ∷ Some (third_row pin (Waiting queue 2)) ∷ None ∷ []) row
+not_before_3 : (pin : Option ℕ) (queue : Queue) (row : Row)
+    → IsRow (Some (first_row pin 0 (Serving 0)) ∷ Some (second_row pin (Waiting queue 1)) ∷ Some (third_row pin (Waiting queue 2)) ∷ None ∷ []) row
     → row.key.ticket ≡ 2 → key_cmp row.key (third_row pin (Waiting queue 2)).key ≢ Greater → ⊥
 not_before_3 pin queue =
-    for_three_rows (λ r. r.key.ticket ≡ 2 → key_cmp r.key (third_row pin (Waiting queue 2)).key ≢ Greater → ⊥) (first_row pin 0 (Serving 0)) (second_row pin (Waiting queue 1)) (third_row pin (Waiting queue 2))
+    for_three_rows (λ r. r.key.ticket ≡ 2 → key_cmp r.key (third_row pin (Waiting queue 2)).key ≢ Greater
+    → ⊥) (first_row pin 0 (Serving 0)) (second_row pin (Waiting queue 1)) (third_row pin (Waiting queue 2))
     (λ named least. let e : 1 ≡ 2 = named in absurd (omega (arith, e)))
     (λ named least. least refl)
     (λ named least. let e : 3 ≡ 2 = named in absurd (omega (arith, e)))
@@ -42,7 +50,8 @@ not_beside_a_usable_one legal = legal.lawful.judged.1.0.1.1 0 refl
 pub not_early : IsLegal (worked_in_time told_one_millisecond_early) → ⊥
 not_early legal =
     let first = legal.lawful.judged.1.1.1.1.1.1.1.0 in
-    for_three_rows (λ r. r.key.ticket ≡ 2 → has_expired (worked_in_time []).setup 5 r.phase → ⊥) (first_row None 0 (Serving 0)) (second_row None (Waiting Backend 1)) (third_row None (Waiting Backend 2))
+    for_three_rows (λ r. r.key.ticket ≡ 2 → has_expired (worked_in_time []).setup 5 r.phase
+    → ⊥) (first_row None 0 (Serving 0)) (second_row None (Waiting Backend 1)) (third_row None (Waiting Backend 2))
     (λ named expired. expired)
     (λ named expired. let since : 1 + 5 ≤ 5 = expired.1 in absurd (omega arith))
     (λ named expired. let e : 3 ≡ 2 = named in absurd (omega (arith, e)))

@@ -7,12 +7,15 @@ use Rattle.dispatch_log.specs.declared.queue.Queue.TheVariants.{Backend, Server}
 use Rattle.dispatch_log.specs.declared.row.Row.{Row}
 use Rattle.dispatch_log.specs.Legal.{IsLegal}
 use Rattle.dispatch_log.proofs.FourPlaces.{for_inner_rows, second_row, third_row}
-use Rattle.dispatch_log.specs.Worked.{worked, worked_by_two, worked_by_weights, worked_by_queues, worked_by_room, first_come_first_served, idle_slot, grant_above_the_limit, due_date_of_no_offset, end_is_missing, ticket_left_out, backend_head_first, more_loaded_server, tie_against_the_cursor, loads_without_weights, loads_without_queues, waits_beside_room}
+use Rattle.dispatch_log.specs.Worked.{worked, worked_by_two, worked_by_weights, worked_by_queues, worked_by_room, first_come_first_served}
+use Rattle.dispatch_log.specs.Worked.{idle_slot, grant_above_the_limit, due_date_of_no_offset, end_is_missing, ticket_left_out, backend_head_first}
+use Rattle.dispatch_log.specs.Worked.{more_loaded_server, tie_against_the_cursor, loads_without_weights, loads_without_queues, waits_beside_room}
 
 pub not_first_come : IsLegal (worked first_come_first_served) → ⊥
 not_first_come legal =
     let grant = legal.lawful.judged.1.1.1.1.1.1.1.1.1.0.1 in
-    for_inner_rows (λ r. r.key.ticket ≡ 2 → key_cmp r.key (third_row None (Waiting Backend 2)).key ≢ Greater → ⊥) (second_row None (Waiting Backend 1)) (third_row None (Waiting Backend 2))
+    for_inner_rows (λ r. r.key.ticket ≡ 2 → key_cmp r.key (third_row None (Waiting Backend 2)).key ≢ Greater
+    → ⊥) (second_row None (Waiting Backend 1)) (third_row None (Waiting Backend 2))
     (λ named least. least refl)
     (λ named least. let e : 3 ≡ 2 = named in absurd (omega (arith, e)))
     grant.row grant.live grant.named (grant.least (third_row None (Waiting Backend 2)) (2, refl) refl)

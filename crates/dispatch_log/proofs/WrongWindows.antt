@@ -1,7 +1,8 @@
 -- Why the worked logs of limits and windows are not legal.
 use Rattle.std.proofs.Common.{◌≡◌, ◌+◌, ◌≤◌, None, Some, refl, arith}
 use Rattle.dispatch_log.specs.Legal.{IsLegal}
-use Rattle.dispatch_log.specs.WorkedWindows.{worked_by_pairs, grant_at_the_lowered_limit, raised_limit_grants_nothing, limit_of_no_server, waits_of_the_base_are_forgotten, cursor_is_reset, tickets_begin_anew}
+use Rattle.dispatch_log.specs.WorkedWindows.{worked_by_pairs, grant_at_the_lowered_limit, raised_limit_grants_nothing, limit_of_no_server}
+use Rattle.dispatch_log.specs.WorkedWindows.{waits_of_the_base_are_forgotten, cursor_is_reset, tickets_begin_anew}
 
 pub not_at_the_lowered_limit : IsLegal (worked_by_pairs grant_at_the_lowered_limit) → ⊥
 not_at_the_lowered_limit legal = let free = legal.lawful.judged.1.1.1.1.1.1.1.1.1.1.0.1.next.takes.0 in cc

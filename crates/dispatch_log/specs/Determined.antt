@@ -4,7 +4,8 @@ use Rattle.std.specs.List.{filter}
 use Rattle.dispatch_log.specs.declared.entry.Entry.{Entry}
 use Rattle.dispatch_log.specs.declared.entry.Entry.TheVariants.{Arrive}
 use Rattle.dispatch_log.specs.declared.row.Row.{Row}
-use Rattle.dispatch_log.specs.Histories.{History, state_of, begins_event, refuses_arrival, refuses_done, refuses_failure, refuses_abort, refuses_tick, refuses_check, refuses_limit}
+use Rattle.dispatch_log.specs.Histories.{History, state_of, begins_event, refuses_arrival, refuses_done}
+use Rattle.dispatch_log.specs.Histories.{refuses_failure, refuses_abort, refuses_tick, refuses_check, refuses_limit}
 use Rattle.dispatch_log.specs.Rows.{Rows, IsRow}
 use Rattle.dispatch_log.specs.States.{State}
 

@@ -25,4 +25,5 @@ steps_after scene cursor server = if nat_lt cursor server then server - cursor e
 pub record IsPick (scene : Scene) (cursor : ℕ) (among : ℕ → Type 0) (server : ℕ) : Type 0 where
   pub member : among server
   pub least : (other : ℕ) → among other → IsNoMoreLoaded scene server other
-  pub nearest : (other : ℕ) → among other → ((third : ℕ) → among third → IsNoMoreLoaded scene other third) → steps_after scene cursor server ≤ steps_after scene cursor other
+  pub nearest : (other : ℕ) → among other → ((third : ℕ) → among third → IsNoMoreLoaded scene other third)
+      → steps_after scene cursor server ≤ steps_after scene cursor other

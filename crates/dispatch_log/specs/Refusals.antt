@@ -1,5 +1,6 @@
 -- The refusals: the first that applies is the answer.
-use Rattle.std.specs.Prelude.{ℕ, ◌+◌, ◌-◌, ◌*◌, ◌^◌, nat_lt, nat_le, Bool, true, false, List, [], ◌∷◌, Option, None, Some, count_by, is_some, is_none, not, length, slice_get, if◌then◌else◌}
+use Rattle.std.specs.Prelude.{ℕ, ◌+◌, ◌-◌, ◌*◌, ◌^◌, nat_lt, nat_le, Bool, true, false, List, []}
+use Rattle.std.specs.Prelude.{◌∷◌, Option, None, Some, count_by, is_some, is_none, not, length, slice_get, if◌then◌else◌}
 use Rattle.std.specs.Option.{option_map_or}
 use Rattle.dispatch_log.specs.declared.refusal.Refusal.{Refusal}
 use Rattle.dispatch_log.specs.declared.refusal.Refusal.TheVariants.{NoMemory, PlacesFull, LogFull, NoSuchTicket, WrongPhase, NoSuchServer, TicketsSpent}
@@ -57,7 +58,8 @@ pins_to_none setup (Some server) = nat_le (length setup.servers) server
 -- what refuses an arrival with a pin, in a state that so many entries left
 abbrev pub arrival_refusal : Setup → State → ℕ → Option ℕ → Option Refusal
 arrival_refusal setup state used pin =
-    first_of ((lacks_room setup used, LogFull) ∷ (pins_to_none setup pin, NoSuchServer) ∷ (tickets_are_spent state.ticket, TicketsSpent) ∷ (is_full setup state.rows, PlacesFull) ∷ [])
+    first_of ((lacks_room setup used, LogFull) ∷ (pins_to_none setup pin, NoSuchServer) ∷ (tickets_are_spent state.ticket, TicketsSpent) ∷
+    (is_full setup state.rows, PlacesFull) ∷ [])
 
 -- what refuses an event of a ticket, whose row may not be in a phase of this kind
 abbrev pub ticket_refusal : (Phase → Bool) → Setup → State → ℕ → ℕ → Option Refusal

@@ -41,7 +41,8 @@ is_free scene server = of_server scene server (λ it. (limit_of scene server == 
 abbrev pub has_room : Scene → ℕ → Bool
 has_room scene server =
     is_usable scene server
-    && of_server scene server (λ it. (limit_of scene server == 0) || nat_lt (served server scene.rows + queued (Server server) scene.rows) (limit_of scene server + it.maxqueue))
+    && of_server scene server (λ it. (limit_of scene server == 0) || nat_lt (served server scene.rows + queued (Server server) scene.rows)
+    (limit_of scene server + it.maxqueue))
 
 -- whether a server takes a request that is bound to it: where it is up, into a slot where it is free, and else into
 -- its queue, which may be as long as maxqueue, or of any length where that is 0

@@ -116,7 +116,14 @@ loads_without_queues =
 -- one server that serves one at once, and in whose own queue one may wait
 abbrev pub worked_by_room : List Entry → History
 worked_by_room log =
-    first_window (record { servers = record { limit = 1; maxqueue = 1; weight = 1; rise_fall = None } ∷ []; places = 4; log = 64; retries = 3; redispatch = false; queue_timeout = 0 }) log
+    first_window (record {
+      servers = record { limit = 1; maxqueue = 1; weight = 1; rise_fall = None } ∷ [];
+      places = 4;
+      log = 64;
+      retries = 3;
+      redispatch = false;
+      queue_timeout = 0;
+    }) log
 
 -- a request waits in the backend's queue while the server has room in its own
 abbrev pub waits_beside_room : List Entry

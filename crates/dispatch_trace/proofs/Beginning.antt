@@ -119,7 +119,8 @@ module _ {N : Type 0} (pair_of : N → Key × ℕ) where
       ∙ ap (λ (r : Row). Some r.phase) (same ∙ read.2)
 
   -- a trace's scene is its history's
-  pub scene_is : (t : Traced N) → IsTrace pair_of t → record { servers = t.kept.setup.servers; limits = t.kept.limits; ups = t.kept.ups; rows = rows_in t.kept.slots } ≡ scene_of
+  pub scene_is : (t : Traced N) → IsTrace pair_of t
+      → record { servers = t.kept.setup.servers; limits = t.kept.limits; ups = t.kept.ups; rows = rows_in t.kept.slots } ≡ scene_of
       (history_of t)
   scene_is t is =
       ap (λ (r : Rows). record { servers = t.kept.setup.servers; limits = t.kept.limits; ups = t.kept.ups; rows = r }) is.holds.rows
@@ -267,8 +268,14 @@ module _ {N : Type 0} (pair_of : N → Key × ℕ) where
 
   -- a new trace
   pub new_is : (setup : Setup) (t : Traced N) (servers : ℕ) → IsSound setup → servers ≡ length setup.servers
-      → t.kept ≡ record { setup = setup; ups = replicate (length setup.servers) true; limits = opening_limits setup.servers; slots = replicate setup.places None }
-      → t.log ≡ record { base = opening_state setup; entries = []; room = setup.log } → t.waits ≡ record { waiters = replicate setup.places None; order = []; servers = servers }
+      → t.kept ≡ record {
+        setup = setup;
+        ups = replicate (length setup.servers) true;
+        limits = opening_limits setup.servers;
+        slots = replicate setup.places None;
+      }
+      → t.log ≡ record { base = opening_state setup; entries = []; room = setup.log }
+      → t.waits ≡ record { waiters = replicate setup.places None; order = []; servers = servers }
       → t.position ≡ record { cursor = servers - 1; last = 0; ticket = 0 } → IsTrace pair_of t
   new_is setup t servers sound many kept log waits far =
       subst (IsTrace pair_of)
@@ -323,7 +330,12 @@ module _ {N : Type 0} (pair_of : N → Key × ℕ) where
 
   -- where a request goes
   pub placed_here : (t : Traced N) (pin avoid : Option ℕ) (placement : Placement) (now : History) → IsTrace pair_of t → history_of t ≡ now
-      → IsPlacement (record { servers = t.kept.setup.servers; limits = t.kept.limits; ups = t.kept.ups; rows = rows_in t.kept.slots }) t.position.cursor pin avoid placement
+      → IsPlacement (record {
+        servers = t.kept.setup.servers;
+        limits = t.kept.limits;
+        ups = t.kept.ups;
+        rows = rows_in t.kept.slots;
+      }) t.position.cursor pin avoid placement
       → IsPlacement (scene_of now) (state_of now).cursor pin avoid placement
   placed_here t pin avoid placement now is same placed =
       subst (λ (h : History). IsPlacement (scene_of h) (state_of h).cursor pin avoid placement) same

@@ -195,7 +195,8 @@ module _ {N : Type 0} (pair_of : N → Key × ℕ) where
     pub grant_waits : IsTrue (has_joined (base_rows t.log.base.rows) waiter.key.ticket queue t.log.entries)
     grant_waits =
         let base = base_rows t.log.base.rows in
-        let waits_so = row_joined pair_of t its.row waiter.queue calls.before (place, its.stands) (phase_waits waiter.queue its.since its.row.phase its.phase) in
+        let waits_so = row_joined pair_of t its.row waiter.queue calls.before (place, its.stands)
+        (phase_waits waiter.queue its.since its.row.phase its.phase) in
         subst (λ (k : Key). IsTrue (has_joined base k.ticket queue t.log.entries)) its.key
         (subst (λ (q : Queue). IsTrue (has_joined base its.row.key.ticket q t.log.entries)) calls.first.its waits_so)
 

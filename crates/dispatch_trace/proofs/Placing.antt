@@ -19,7 +19,8 @@ use Rattle.dispatch_log.proofs.Judged.{stage_after-push, places_all}
 use Rattle.server_pick.specs.declared.placement.Placement.{Placement}
 use Rattle.server_pick.specs.declared.placement.Placement.TheVariants.{Slot, OwnQueue, BackendQueue, Nowhere}
 use Rattle.server_pick.specs.Picked.{IsPlacement}
-use Rattle.dispatch_trace.specs.Histories.{with_entry, stage_of, scene_of, HasPlaces, waits, waiting_of, IsOverNext, HasEntryRoom, MayGrantNext, MayComeNext, MayPut}
+use Rattle.dispatch_trace.specs.Histories.{with_entry, stage_of, scene_of, HasPlaces, waits, waiting_of}
+use Rattle.dispatch_trace.specs.Histories.{IsOverNext, HasEntryRoom, MayGrantNext, MayComeNext, MayPut}
 
 pub same_setup : (h next : History) (e : Entry) → next ≡ with_entry h e → next.setup ≡ h.setup
 same_setup h next e goes = ap (λ (x : History). x.setup) goes

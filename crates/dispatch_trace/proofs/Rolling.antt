@@ -72,21 +72,43 @@ module _ {N : Type 0} (pair_of : N → Key × ℕ) (old : Traced N) (is : IsTrac
 
   -- what it saves is the next base
   abbrev rolled_at : List Allowance → ℕ → ℕ → ℕ → State
-  rolled_at l last ticket c = record { rows = end.rows; results = shortened_all old.kept.setup.servers end.results; limits = l; moment = last; ticket = ticket; cursor = c }
+  rolled_at l last ticket c = record {
+    rows = end.rows;
+    results = shortened_all old.kept.setup.servers end.results;
+    limits = l;
+    moment = last;
+    ticket = ticket;
+    cursor = c;
+  }
 
   pub window_base : (base : State) (results : List (List Bool)) (limits : List Allowance) (cursor : ℕ)
-      → base ≡ record { rows = rows_in old.kept.slots; results = results; limits = limits; moment = old.position.last; ticket = old.position.ticket; cursor = cursor }
+      → base ≡ record {
+        rows = rows_in old.kept.slots;
+        results = results;
+        limits = limits;
+        moment = old.position.last;
+        ticket = old.position.ticket;
+        cursor = cursor;
+      }
       → results ≡ shortened_all old.kept.setup.servers end.results → limits ≡ old.kept.limits → cursor ≡ old.position.cursor
       → base ≡ rolled old.kept.setup end
   window_base base results limits cursor saved by_results by_limits by_cursor =
       saved
-      ∙ ap (λ r. record { rows = r; results = results; limits = limits; moment = old.position.last; ticket = old.position.ticket; cursor = cursor }) is.holds.rows
+      ∙ ap (λ r. record {
+        rows = r;
+        results = results;
+        limits = limits;
+        moment = old.position.last;
+        ticket = old.position.ticket;
+        cursor = cursor;
+      }) is.holds.rows
       ∙ ap (λ r. record { rows = end.rows; results = r; limits = limits; moment = old.position.last; ticket = old.position.ticket; cursor = cursor }) by_results
       ∙ ap (λ l. rolled_at l old.position.last old.position.ticket cursor) (by_limits ∙ is.holds.limits)
       ∙ ap (λ c. rolled_at end.limits old.position.last old.position.ticket c) by_cursor
       ∙ ap (λ (p : Position). rolled_at end.limits p.last p.ticket p.cursor) is.holds.position
 
-  pub window_is : (log : Recorded) (waits : Waitlist) → log ≡ window.log → waits ≡ in_next_window old.waits → IsTrace pair_of (record old { log = log; waits = waits })
+  pub window_is : (log : Recorded) (waits : Waitlist) → log ≡ window.log → waits ≡ in_next_window old.waits
+      → IsTrace pair_of (record old { log = log; waits = waits })
   window_is log waits by_log by_waits =
       subst (λ (w : Waitlist). IsTrace pair_of (record old { log = log; waits = w })) (sym by_waits)
       (subst (λ (l : Recorded). IsTrace pair_of (record old { log = l; waits = in_next_window old.waits })) (sym by_log) window_trace)

@@ -128,11 +128,22 @@ module _ {N : Type 0} (pair_of : N → Key × ℕ) where
   has_row t it is at = let s = stands_slot t.kept.slots (state_of (history_of t)).rows it.place at.0 is.holds.rows at.1 in (s.0, s.1)
 
   -- a trace with an entry more, which holds what that leaves
-  pub stepped : (t : Traced N) (e : Entry) (ups : List Bool) (limits : List Allowance) (slots : List (Option (Slot N))) (waits : Waitlist) (position : Position) → IsTrace pair_of t
+  pub stepped : (t : Traced N) (e : Entry) (ups : List Bool) (limits : List Allowance) (slots : List (Option (Slot N))) (waits : Waitlist) (position : Position)
+      → IsTrace pair_of t
       → MayComeNext (history_of t) e → waits.servers ≡ t.waits.servers
-      → Holds pair_of (record { kept = record { setup = t.kept.setup; ups = ups; limits = limits; slots = slots }; log = noted t.log e; waits = waits; position = position })
+      → Holds pair_of (record {
+        kept = record { setup = t.kept.setup; ups = ups; limits = limits; slots = slots };
+        log = noted t.log e;
+        waits = waits;
+        position = position;
+      })
       (t.log.entries ++ e ∷ []) (after t.kept.setup (state_of (history_of t)) e)
-      → IsTrace pair_of (record { kept = record { setup = t.kept.setup; ups = ups; limits = limits; slots = slots }; log = noted t.log e; waits = waits; position = position })
+      → IsTrace pair_of (record {
+        kept = record { setup = t.kept.setup; ups = ups; limits = limits; slots = slots };
+        log = noted t.log e;
+        waits = waits;
+        position = position;
+      })
   stepped t e ups limits slots waits position is may many holds = record {
     sound = is.sound;
     judged = record {
@@ -171,7 +182,12 @@ module _ {N : Type 0} (pair_of : N → Key × ℕ) where
       → limits ≡ (after t.kept.setup (state_of (history_of t)) e).limits
       → position ≡ position_of (after t.kept.setup (state_of (history_of t)) e)
       → IsTrace pair_of
-      (record { kept = record { setup = t.kept.setup; ups = ups; limits = limits; slots = t.kept.slots }; log = noted t.log e; waits = t.waits; position = position })
+      (record {
+        kept = record { setup = t.kept.setup; ups = ups; limits = limits; slots = t.kept.slots };
+        log = noted t.log e;
+        waits = t.waits;
+        position = position;
+      })
   row_less t e ups limits position is may none rows later up limited far =
       let s = state_of (history_of t) in
       stepped t e ups limits t.kept.slots t.waits position is may refl (record {

@@ -324,4 +324,5 @@ module _ {N : Type 0} (pair_of : N → Key × ℕ) where
   pub row_joined : (t : Traced N) (row : Row) (queue : Queue) → IsTrace pair_of t → IsRow (state_of (history_of t)).rows row
       → IsTrue (phase_waits_in queue row.phase) → IsTrue (has_joined (base_rows t.log.base.rows) row.key.ticket queue t.log.entries)
   row_joined t row queue is live waits_so =
-      rows_joined (base_rows t.log.base.rows) t.kept.setup t.log.base t.log.entries (base_joined t.kept.setup t.log.base is.judged.begins) row queue live waits_so
+      rows_joined (base_rows t.log.base.rows) t.kept.setup t.log.base t.log.entries
+      (base_joined t.kept.setup t.log.base is.judged.begins) row queue live waits_so

@@ -18,4 +18,5 @@ key_cmp_total =
 pub key_cmp_exact : (a b : Key) → key_cmp a b ≡ Equal → a ≡ b
 key_cmp_exact a b tied =
     ap (λ (p : ℤ × (ℤ × ℕ)). record { class = p.0; due = p.1.0; ticket = p.1.1 })
-    (exact_pairs {A = ℤ} {B = ℤ × ℕ} int_cmp (λ x y. ordering_then (int_cmp x.0 y.0) (nat_cmp x.1 y.1)) exact_signed (exact_pairs int_cmp nat_cmp exact_signed exact_unsigned) (a.class, (a.due, a.ticket)) (b.class, (b.due, b.ticket)) tied)
+    (exact_pairs {A = ℤ} {B = ℤ × ℕ} int_cmp (λ x y. ordering_then (int_cmp x.0 y.0) (nat_cmp x.1 y.1)) exact_signed
+    (exact_pairs int_cmp nat_cmp exact_signed exact_unsigned) (a.class, (a.due, a.ticket)) (b.class, (b.due, b.ticket)) tied)

@@ -41,22 +41,26 @@ same_word (Offered t d) Empty p q e = absurd (omega arith)
 same_word (Taken t d) Empty p q e = absurd (omega arith)
 same_word (Posted t d Done) Empty p q e = absurd (omega arith)
 same_word (Posted t d Failed) Empty p q e = absurd (omega arith)
-same_word (Offered t d) (Offered u b) p q e = let x = code_small d p.1 in let y = code_small b q.1 in let v : d ≡ b = one_verdict d b p.1 q.1 (omega arith) in let m : t ≡ u = omega arith in λ i. Offered (m i) (v i)
+same_word (Offered t d) (Offered u b) p q e = let x = code_small d p.1 in let y = code_small b q.1 in let v : d ≡ b = one_verdict d b p.1 q.1 (omega arith) in
+    let m : t ≡ u = omega arith in λ i. Offered (m i) (v i)
 same_word (Offered t d) (Taken u b) p q e = let x = code_small d p.1 in let y = code_small b q.1 in absurd (omega arith)
 same_word (Offered t d) (Posted u b Done) p q e = let x = code_small d p.1 in let y = code_small b q.1 in absurd (omega arith)
 same_word (Offered t d) (Posted u b Failed) p q e = let x = code_small d p.1 in let y = code_small b q.1 in absurd (omega arith)
 same_word (Taken t d) (Offered u b) p q e = let x = code_small d p.1 in let y = code_small b q.1 in absurd (omega arith)
-same_word (Taken t d) (Taken u b) p q e = let x = code_small d p.1 in let y = code_small b q.1 in let v : d ≡ b = one_verdict d b p.1 q.1 (omega arith) in let m : t ≡ u = omega arith in λ i. Taken (m i) (v i)
+same_word (Taken t d) (Taken u b) p q e = let x = code_small d p.1 in let y = code_small b q.1 in let v : d ≡ b = one_verdict d b p.1 q.1 (omega arith) in
+    let m : t ≡ u = omega arith in λ i. Taken (m i) (v i)
 same_word (Taken t d) (Posted u b Done) p q e = let x = code_small d p.1 in let y = code_small b q.1 in absurd (omega arith)
 same_word (Taken t d) (Posted u b Failed) p q e = let x = code_small d p.1 in let y = code_small b q.1 in absurd (omega arith)
 same_word (Posted t d Done) (Offered u b) p q e = let x = code_small d p.1 in let y = code_small b q.1 in absurd (omega arith)
 same_word (Posted t d Done) (Taken u b) p q e = let x = code_small d p.1 in let y = code_small b q.1 in absurd (omega arith)
-same_word (Posted t d Done) (Posted u b Done) p q e = let x = code_small d p.1 in let y = code_small b q.1 in let v : d ≡ b = one_verdict d b p.1 q.1 (omega arith) in let m : t ≡ u = omega arith in λ i. Posted (m i) (v i) Done
+same_word (Posted t d Done) (Posted u b Done) p q e = let x = code_small d p.1 in let y = code_small b q.1 in
+    let v : d ≡ b = one_verdict d b p.1 q.1 (omega arith) in let m : t ≡ u = omega arith in λ i. Posted (m i) (v i) Done
 same_word (Posted t d Done) (Posted u b Failed) p q e = let x = code_small d p.1 in let y = code_small b q.1 in absurd (omega arith)
 same_word (Posted t d Failed) (Offered u b) p q e = let x = code_small d p.1 in let y = code_small b q.1 in absurd (omega arith)
 same_word (Posted t d Failed) (Taken u b) p q e = let x = code_small d p.1 in let y = code_small b q.1 in absurd (omega arith)
 same_word (Posted t d Failed) (Posted u b Done) p q e = let x = code_small d p.1 in let y = code_small b q.1 in absurd (omega arith)
-same_word (Posted t d Failed) (Posted u b Failed) p q e = let x = code_small d p.1 in let y = code_small b q.1 in let v : d ≡ b = one_verdict d b p.1 q.1 (omega arith) in let m : t ≡ u = omega arith in λ i. Posted (m i) (v i) Failed
+same_word (Posted t d Failed) (Posted u b Failed) p q e = let x = code_small d p.1 in let y = code_small b q.1 in
+    let v : d ≡ b = one_verdict d b p.1 q.1 (omega arith) in let m : t ≡ u = omega arith in λ i. Posted (m i) (v i) Failed
 
 -- what holds, holds where there is no value
 pub if_none : {A : Type 0} (o : Option A) (P : Type 0) → P → IfNone o P

@@ -1,5 +1,6 @@
 -- The board at its opening, and once all seats are joined.
-use Rattle.std.proofs.Common.{◌≡◌, ℕ, zero, suc, ◌+◌, ◌*◌, ◌≢◌, Bool, true, false, cond, List, [], ◌∷◌, ◌++◌, map, take, replicate, length, sym, refl, ap, ◌∙◌, subst, arith, ne_eqb, add-one}
+use Rattle.std.proofs.Common.{◌≡◌, ℕ, zero, suc, ◌+◌, ◌*◌, ◌≢◌, Bool, true, false, cond, List, [], ◌∷◌}
+use Rattle.std.proofs.Common.{◌++◌, map, take, replicate, length, sym, refl, ap, ◌∙◌, subst, arith, ne_eqb, add-one}
 use Rattle.std.proofs.lemmas.Bool.{cond-true}
 use Rattle.std.proofs.lemmas.List.{length-map, length-replicate}
 use Rattle.std.proofs.Math.Seq.{take-append_seam}
@@ -13,7 +14,8 @@ use Rattle.grant_board.specs.declared.view.View.{View}
 use Rattle.grant_board.specs.Words.{code_of, encode_of, IsWord, IsWordAmong, nonzero}
 use Rattle.list_facts.specs.Weights.{total, along, Each}
 use Rattle.grant_board.specs.Views.{Terms, KeeperView, KeeperPart, RelayView}
-use Rattle.grant_board.specs.Rule.{BoardState, standing, offered, taken, posted, as_return, of_relays, is_first, is_other, split_off, joined_in, Agrees, Orderly}
+use Rattle.grant_board.specs.Rule.{BoardState, standing, offered, taken, posted, as_return, of_relays}
+use Rattle.grant_board.specs.Rule.{is_first, is_other, split_off, joined_in, Agrees, Orderly}
 use Rattle.grant_board.specs.Ruled.{view, at_rest}
 use Rattle.grant_board.specs.KeeperCalls.{new_keeper, IsClosed}
 use Rattle.grant_board.specs.RelayCalls.{new_relay}
@@ -60,7 +62,10 @@ opens t =
     }
   where
     first_agrees : (j : ℕ) (v : View) → get_elem? (view (at_rest (new_keeper t) ∷ []) (new_relay t true ∷ []) ∷ []) j ≡ some v → Agrees t t.limits v
-    first_agrees zero v e = subst (Agrees t t.limits) (some-injective (view (at_rest (new_keeper t) ∷ []) (new_relay t true ∷ [])) v e) (((refl, refl), tt), (refl, tt))
+    first_agrees zero v e = subst (Agrees t t.limits) (some-injective (view (at_rest (new_keeper t) ∷ []) (new_relay t true ∷ [])) v e) (
+      ((refl, refl), tt),
+      (refl, tt),
+    )
     first_agrees (suc j) v e = absurd (some-ne-none v (sym e))
 
 abbrev tally : Bool → ℕ → ℕ
@@ -92,18 +97,34 @@ in_views [] = refl
 in_views (v ∷ views) = omega (arith, in_view v.relays, in_views views)
 
 -- where the first seat has joined as many as it split off, no other is left
-pub first_alone : (t : Terms) (s : BoardState) (o : Orderly t s) (j : ℕ) (keepers : List KeeperPart) (r : RelayView) → get_elem? s.views j ≡ some (view keepers (r ∷ [])) → r.first ≡ true → r.split ≡ r.joined
+pub first_alone : (t : Terms) (s : BoardState) (o : Orderly t s) (j : ℕ) (keepers : List KeeperPart) (r : RelayView)
+    → get_elem? s.views j ≡ some (view keepers (r ∷ [])) → r.first ≡ true → r.split ≡ r.joined
     → (f : RelayView → ℕ) → of_relays f s.views ≡ f r
 first_alone t s o j keepers r me first settled f =
     let v : View = view keepers (r ∷ []) in
     let firsts : View → ℕ = λ u. total is_first u.relays in
     let one : is_first r ≡ 1 = cond-true {A = ℕ} r.first 1 0 first in
-    let split : of_relays split_off s.views ≡ r.split = omega (arith, alone firsts (λ (u : View). total split_off u.relays) (λ u e. later_split u.relays e) s.views j v me (omega (arith, o.one_first)), cond-true {A = ℕ} r.first r.split 0 first) in
-    let joined : of_relays joined_in s.views ≡ r.joined = omega (arith, alone firsts (λ (u : View). total joined_in u.relays) (λ u e. later_joined u.relays e) s.views j v me (omega (arith, o.one_first)), cond-true {A = ℕ} r.first r.joined 0 first) in
+    let split : of_relays split_off s.views ≡ r.split =
+    omega (
+      arith,
+      alone firsts (λ (u : View). total split_off u.relays) (λ u e. later_split u.relays e) s.views j v me (omega (arith, o.one_first)),
+      cond-true {A = ℕ} r.first r.split 0 first,
+    ) in
+    let joined : of_relays joined_in s.views ≡ r.joined =
+    omega (
+      arith,
+      alone firsts (λ (u : View). total joined_in u.relays) (λ u e. later_joined u.relays e) s.views j v me (omega (arith, o.one_first)),
+      cond-true {A = ℕ} r.first r.joined 0 first,
+    ) in
     let all : of_relays (λ _. 1) s.views ≡ 1 = omega (arith, in_views s.views, o.one_first, o.others) in
-    omega (arith, alone (λ (u : View). total (λ (x : RelayView). 1) u.relays) (λ (u : View). total f u.relays) (λ u e. weightless f u.relays (omega (arith, total-one u.relays))) s.views j v me (omega arith))
+    omega (
+      arith,
+      alone (λ (u : View). total (λ (x : RelayView). 1) u.relays) (λ (u : View). total f u.relays)
+          (λ u e. weightless f u.relays (omega (arith, total-one u.relays))) s.views j v me (omega arith),
+    )
 
-closes_at : (k : KeeperPart) (s : BoardState) (o : Orderly k.view.terms s) (j : ℕ) (r : RelayView) (left : ℕ) → get_elem? s.views j ≡ some (view (k ∷ []) (r ∷ [])) → r.first ≡ true → r.split ≡ r.joined
+closes_at : (k : KeeperPart) (s : BoardState) (o : Orderly k.view.terms s) (j : ℕ) (r : RelayView) (left : ℕ)
+    → get_elem? s.views j ≡ some (view (k ∷ []) (r ∷ [])) → r.first ≡ true → r.split ≡ r.joined
     → left ≡ along (standing (λ _. 1)) 0 o.cells → IsClosed k.view r left
 closes_at k s o j r left me first settled is =
     let ks = keeper_alone k.view.terms s o j k (r ∷ []) me in
@@ -119,11 +140,13 @@ closes_at k s o j r left me first settled is =
     }
 
 -- the last state of the board, of whose words so many aren't empty
-pub closes : (t : Terms) (s : BoardState) (o : Orderly t s) (j : ℕ) (k : KeeperPart) (r : RelayView) (left : ℕ) → get_elem? s.views j ≡ some (view (k ∷ []) (r ∷ [])) → r.first ≡ true → r.split ≡ r.joined
+pub closes : (t : Terms) (s : BoardState) (o : Orderly t s) (j : ℕ) (k : KeeperPart) (r : RelayView) (left : ℕ)
+    → get_elem? s.views j ≡ some (view (k ∷ []) (r ∷ [])) → r.first ≡ true → r.split ≡ r.joined
     → left ≡ along (standing (λ _. 1)) 0 o.cells → IsClosed k.view r left
 closes t s o j k r left me first settled is =
     let same : k.view.terms ≡ t = (o.agree j (view (k ∷ []) (r ∷ [])) me).0.0.0 in
-    subst (λ (x : Terms). (y : Orderly x s) → left ≡ along (standing (λ _. 1)) 0 y.cells → IsClosed k.view r left) same (λ y at. closes_at k s y j r left me first settled at) o is
+    subst (λ (x : Terms). (y : Orderly x s) → left ≡ along (standing (λ _. 1)) 0 y.cells
+    → IsClosed k.view r left) same (λ y at. closes_at k s y j r left me first settled at) o is
 
 pub opens_at : (t : Terms) (words : List ℕ) → words ≡ replicate t.places 0 ++ t.limits → Orderly t (opening words [] (opened t))
 opens_at t words is = subst (λ (ws : List ℕ). Orderly t (opening ws [] (opened t))) (sym is) (opens t)
@@ -147,20 +170,24 @@ nonzero-words [] j = refl
 nonzero-words (c ∷ cells) j = omega (arith, nonzero-word j c, nonzero-words cells (suc j))
 
 -- one word more is counted
-pub counts_on : (words : List ℕ) (i n left : ℕ) → get_elem? words i ≡ some n → left ≡ total nonzero (take i words) → total nonzero (take (i + 1) words) ≡ left + nonzero n
+pub counts_on : (words : List ℕ) (i n left : ℕ) → get_elem? words i ≡ some n → left ≡ total nonzero (take i words)
+    → total nonzero (take (i + 1) words) ≡ left + nonzero n
 counts_on words i n left there before = rw (add-one) (omega (arith, total-take nonzero words i n there, before))
 
 -- the places' words are the first of all
 pub places_words : (t : Terms) (s : BoardState) (o : Orderly t s) → take t.places s.words ≡ map encode_of o.cells
 places_words t s o =
     let long : t.places ≡ length (map encode_of o.cells) = omega (arith, length-map o.cells encode_of, o.long) in
-    ap (λ (ws : List ℕ). take t.places ws) o.words ∙ (ap (λ (n : ℕ). take n (map encode_of o.cells ++ o.bounds)) long ∙ take-append_seam (map encode_of o.cells) o.bounds)
+    ap (λ (ws : List ℕ). take t.places ws) o.words
+    ∙ (ap (λ (n : ℕ). take n (map encode_of o.cells ++ o.bounds)) long ∙ take-append_seam (map encode_of o.cells) o.bounds)
 
 -- the board as it ended, as contracts see its two seats
-pub ends : (t : Terms) (id : ℕ) (m : Seated) (k : KeeperView) (r : RelayView) (left : ℕ) (s : BoardState) (words : List ℕ) → Orderly t s → get_elem? s.views id ≡ some m.0 → m ≡ seated (at_rest k ∷ []) (r ∷ [])
+pub ends : (t : Terms) (id : ℕ) (m : Seated) (k : KeeperView) (r : RelayView) (left : ℕ) (s : BoardState) (words : List ℕ) → Orderly t s
+    → get_elem? s.views id ≡ some m.0 → m ≡ seated (at_rest k ∷ []) (r ∷ [])
     → s.words ≡ words → left ≡ total nonzero (take k.terms.places words) → r.first ≡ true → r.split ≡ r.joined → IsClosed k r left
 ends t id m k r left s words o at is same counted first settled =
     let me : get_elem? s.views id ≡ some (view (at_rest k ∷ []) (r ∷ [])) = at ∙ ap (λ (x : Seated). some x.0) is in
     let terms : k.terms ≡ t = (o.agree id (view (at_rest k ∷ []) (r ∷ [])) me).0.0.0 in
-    let row : take k.terms.places words ≡ map encode_of o.cells = ap (λ (x : Terms). take x.places words) terms ∙ (ap (take t.places) (sym same) ∙ places_words t s o) in
+    let row : take k.terms.places words ≡ map encode_of o.cells = ap (λ (x : Terms). take x.places words) terms
+    ∙ (ap (take t.places) (sym same) ∙ places_words t s o) in
     closes t s o id (at_rest k) r left me first settled (counted ∙ (ap (total nonzero) row ∙ nonzero-words o.cells 0))

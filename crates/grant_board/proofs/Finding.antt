@@ -1,5 +1,6 @@
 -- What the rule says of one grant, one place, one server and one part.
-use Rattle.std.proofs.Common.{◌≡◌, ℕ, ◌+◌, ◌<◌, ◌≤◌, ◌≢◌, Bool, true, false, cond, List, [], ◌∷◌, ◌++◌, map, length, get_or, slice_index, Contains, sym, refl, ap, ◌∙◌, arith}
+use Rattle.std.proofs.Common.{◌≡◌, ℕ, ◌+◌, ◌<◌, ◌≤◌, ◌≢◌, Bool, true, false, cond, List, []}
+use Rattle.std.proofs.Common.{◌∷◌, ◌++◌, map, length, get_or, slice_index, Contains, sym, refl, ap, ◌∙◌, arith}
 use Rattle.std.proofs.lemmas.List.{get_or_append_left, get_or-append-add, length-map}
 use mathlib.Core.Option.{some}
 use lib.ListN.{get_elem?}
@@ -119,11 +120,17 @@ empty_there p (Posted t d x) e = absurd (omega (arith, grants.at_place-yes p (gr
 
 module _ (t : Terms) (s : BoardState) (o : Orderly t s) where
   -- the seat with the keeper has all that the keeper knows
-  pub keeper_alone : (j : ℕ) (k : KeeperPart) (relays : List RelayView) → get_elem? s.views j ≡ some (view (k ∷ []) relays) → (f : KeeperPart → ℕ) → of_keepers f s.views ≡ f k
+  pub keeper_alone : (j : ℕ) (k : KeeperPart) (relays : List RelayView) → get_elem? s.views j ≡ some (view (k ∷ []) relays) → (f : KeeperPart → ℕ)
+      → of_keepers f s.views ≡ f k
   keeper_alone j k relays me f =
-      let none : (u : View) → total (λ (x : KeeperPart). 1) u.keepers ≡ 0 → total f u.keepers ≡ 0 = λ u e. weightless f u.keepers (omega (arith, total-one u.keepers)) in
+      let none : (u : View) → total (λ (x : KeeperPart). 1) u.keepers ≡ 0
+      → total f u.keepers ≡ 0 = λ u e. weightless f u.keepers (omega (arith, total-one u.keepers)) in
       let o1 = o.one_keeper in
-      omega (arith, alone (λ (u : View). total (λ (x : KeeperPart). 1) u.keepers) (λ (u : View). total f u.keepers) none s.views j (view (k ∷ []) relays) me (omega arith))
+      omega (
+        arith,
+        alone (λ (u : View). total (λ (x : KeeperPart). 1) u.keepers) (λ (u : View). total f u.keepers) none s.views j (view (k ∷ []) relays) me
+            (omega arith),
+      )
 
   pub relays_le : (j : ℕ) (v : View) → get_elem? s.views j ≡ some v → (f : RelayView → ℕ) → total f v.relays ≤ of_relays f s.views
   relays_le j v me f = term_le (λ (u : View). total f u.relays) s.views j v me
@@ -132,7 +139,8 @@ module _ (t : Terms) (s : BoardState) (o : Orderly t s) where
   pub number_at : (p : ℕ) (c : Word) → get_elem? o.cells p ≡ some c → get_or s.words p 0 ≡ encode_of c
   number_at p c there =
       ap (λ (ws : List ℕ). get_or ws p 0) o.words
-      ∙ (get_or_append_left (map encode_of o.cells) o.bounds 0 p (omega (arith, item_in o.cells p c there, length-map o.cells encode_of)) ∙ index-map encode_of o.cells p c there)
+      ∙ (get_or_append_left (map encode_of o.cells) o.bounds 0 p (omega (arith, item_in o.cells p c there, length-map o.cells encode_of))
+      ∙ index-map encode_of o.cells p c there)
 
   -- the number in a server's word
   pub bound_at : (server : ℕ) → get_or s.words (t.places + server) 0 ≡ slice_index o.bounds server
@@ -142,9 +150,15 @@ module _ (t : Terms) (s : BoardState) (o : Orderly t s) where
       ∙ (ap (λ (i : ℕ). get_or (map encode_of o.cells ++ o.bounds) i 0) (omega (arith, long)) ∙ get_or-append-add (map encode_of o.cells) o.bounds server 0)
 
   -- no other view has the keeper
-  pub keeper_nowhere : (j : ℕ) (k : KeeperPart) (relays : List RelayView) → get_elem? s.views j ≡ some (view (k ∷ []) relays) → (i : ℕ) (v : View) → i ≢ j → get_elem? s.views i ≡ some v → length v.keepers ≡ 0
+  pub keeper_nowhere : (j : ℕ) (k : KeeperPart) (relays : List RelayView) → get_elem? s.views j ≡ some (view (k ∷ []) relays) → (i : ℕ) (v : View) → i ≢ j
+      → get_elem? s.views i ≡ some v → length v.keepers ≡ 0
   keeper_nowhere j k relays me i v other them =
-      omega (arith, terms_le (λ (u : View). total (λ (x : KeeperPart). 1) u.keepers) s.views j i (view (k ∷ []) relays) v other me them, o.one_keeper, total-one v.keepers)
+      omega (
+        arith,
+        terms_le (λ (u : View). total (λ (x : KeeperPart). 1) u.keepers) s.views j i (view (k ∷ []) relays) v other me them,
+        o.one_keeper,
+        total-one v.keepers,
+      )
 
   -- a pass that a seat has stands taken at its place
   pub taken_there : (g : Grant) → 0 < of_relays (λ r. total (one g) r.passes) s.views → get_elem? o.cells g.place ≡ some (Taken g.ticket g.verdict)
@@ -155,7 +169,8 @@ module _ (t : Terms) (s : BoardState) (o : Orderly t s) where
       ap (λ (i : ℕ). get_elem? o.cells i) (sym at) ∙ (f.4 ∙ ap (λ (c : Word). some c) is.1)
 
   -- what the keeper has in sight stands posted at its place
-  pub posted_there : (x : Sighting) → 0 < of_keepers (λ k. total (one_sight x) k.sight) s.views → get_elem? o.cells x.pass.place ≡ some (Posted x.pass.ticket x.pass.verdict x.ending)
+  pub posted_there : (x : Sighting) → 0 < of_keepers (λ k. total (one_sight x) k.sight) s.views
+      → get_elem? o.cells x.pass.place ≡ some (Posted x.pass.ticket x.pass.verdict x.ending)
   posted_there x h =
       let f = along_found (posted (one_sight x)) o.cells 0 (omega (arith, o.sight (one_sight x))) in
       let is = posted-case x f.1 f.2 f.5 in
@@ -163,10 +178,12 @@ module _ (t : Terms) (s : BoardState) (o : Orderly t s) where
       ap (λ (i : ℕ). get_elem? o.cells i) (sym at) ∙ (f.4 ∙ ap (λ (c : Word). some c) is.1)
 
   -- the grants of one place weigh what its word does
-  pub out_at : (p : ℕ) (c : Word) → get_elem? o.cells p ≡ some c → (h : Grant → ℕ) → ((g : Grant) → g.place ≢ p → h g ≡ 0) → of_keepers (λ k. total h k.view.out) s.views ≡ standing h p c
+  pub out_at : (p : ℕ) (c : Word) → get_elem? o.cells p ≡ some c → (h : Grant → ℕ) → ((g : Grant) → g.place ≢ p → h g ≡ 0)
+      → of_keepers (λ k. total h k.view.out) s.views ≡ standing h p c
   out_at p c there h none = omega (arith, o.out h, along_at (standing h) p (standing_else h p none) o.cells 0 p c (omega arith) there)
 
-  pub passes_at : (p : ℕ) (c : Word) → get_elem? o.cells p ≡ some c → (h : Grant → ℕ) → ((g : Grant) → g.place ≢ p → h g ≡ 0) → of_relays (λ r. total h r.passes) s.views ≡ taken h p c
+  pub passes_at : (p : ℕ) (c : Word) → get_elem? o.cells p ≡ some c → (h : Grant → ℕ) → ((g : Grant) → g.place ≢ p → h g ≡ 0)
+      → of_relays (λ r. total h r.passes) s.views ≡ taken h p c
   passes_at p c there h none = omega (arith, o.passes h, along_at (taken h) p (taken_else h p none) o.cells 0 p c (omega arith) there)
 
   -- passes are out
@@ -175,7 +192,12 @@ module _ (t : Terms) (s : BoardState) (o : Orderly t s) where
 
   -- no two of them are of one place
   pub passes_once : (p : ℕ) → of_relays (λ r. total (at_place p) r.passes) s.views ≤ 1
-  passes_once p = omega (arith, o.passes (at_place p), along_once (taken (at_place p)) p (taken_else (at_place p) p (λ g n. grants.at_place-no p g n)) (taken_small (at_place p) (grants.at_place-one p)) o.cells 0)
+  passes_once p = omega (
+    arith,
+    o.passes (at_place p),
+    along_once (taken (at_place p)) p (taken_else (at_place p) p (λ g n. grants.at_place-no p g n))
+        (taken_small (at_place p) (grants.at_place-one p)) o.cells 0,
+  )
 
   -- and no more than places
   pub passes_room : of_relays (λ r. total (λ (g : Grant). 1) r.passes) s.views ≤ t.places

@@ -62,7 +62,8 @@ without-none place xs =
     omega (arith, without-total place (at_place place) xs, same)
   where
     here_one : (place : ℕ) (g : Grant) → here place (at_place place) g ≡ at_place place g
-    here_one place g = dite (ℕ_discrete g.place place) (λ e. here-yes place (at_place place) g e) (λ n. here-no place (at_place place) g n ∙ sym (at_place-no place g n))
+    here_one place g = dite (ℕ_discrete g.place place) (λ e. here-yes place (at_place place) g e) (λ n. here-no place (at_place place) g n
+        ∙ sym (at_place-no place g n))
 
     here_twice : (place : ℕ) (xs : List Grant) → total (here place (at_place place)) xs ≡ total (at_place place) xs
     here_twice place [] = refl
@@ -72,7 +73,8 @@ without-none place xs =
 pub without_le : (place : ℕ) (weight : Grant → ℕ) (xs : List Grant) → total weight (without place xs) ≤ total weight xs
 without_le place weight xs = omega (arith, without-total place weight xs)
 
-Each-without_by : (P : Grant → Type 0) (place : ℕ) (g : Grant) (gs : List Grant) → P g → Each P (without place gs) → (b : Bool) → (g.place == place) ≡ b → Each P (without place (g ∷ gs))
+Each-without_by : (P : Grant → Type 0) (place : ℕ) (g : Grant) (gs : List Grant) → P g → Each P (without place gs) → (b : Bool) → (g.place == place) ≡ b
+    → Each P (without place (g ∷ gs))
 Each-without_by P place g gs p rest true is = rw is rest
 Each-without_by P place g gs p rest false is = rw is (p, rest)
 

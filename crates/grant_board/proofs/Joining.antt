@@ -48,31 +48,44 @@ resettled t s o views keepers one_first others passes takes posts agree = record
 
 module _ (s : BoardState) (id : ℕ) (v left right : View) (me : get_elem? s.views id ≡ some v) where
   -- what views weigh once one of them is cut
-  cut-keepers : (f : KeeperPart → ℕ) → of_keepers f (set s.views id left ++ right ∷ []) + total f v.keepers ≡ of_keepers f s.views + total f left.keepers + total f right.keepers
-  cut-keepers f = let g : View → ℕ = λ u. total f u.keepers in omega (arith, total-append g (set s.views id left) (right ∷ []), total-set g s.views id v left me)
+  cut-keepers : (f : KeeperPart → ℕ) → of_keepers f (set s.views id left ++ right ∷ []) + total f v.keepers
+      ≡ of_keepers f s.views + total f left.keepers + total f right.keepers
+  cut-keepers f = let g : View → ℕ = λ u. total f u.keepers in
+      omega (arith, total-append g (set s.views id left) (right ∷ []), total-set g s.views id v left me)
 
-  cut-relays : (f : RelayView → ℕ) → of_relays f (set s.views id left ++ right ∷ []) + total f v.relays ≡ of_relays f s.views + total f left.relays + total f right.relays
+  cut-relays : (f : RelayView → ℕ) → of_relays f (set s.views id left ++ right ∷ []) + total f v.relays
+      ≡ of_relays f s.views + total f left.relays + total f right.relays
   cut-relays f = let g : View → ℕ = λ u. total f u.relays in omega (arith, total-append g (set s.views id left) (right ∷ []), total-set g s.views id v left me)
 
-  cut-agree : (P : View → Type 0) → ((j : ℕ) (u : View) → get_elem? s.views j ≡ some u → P u) → P left → P right → (j : ℕ) (u : View) → get_elem? (set s.views id left ++ right ∷ []) j ≡ some u → P u
+  cut-agree : (P : View → Type 0) → ((j : ℕ) (u : View) → get_elem? s.views j ≡ some u → P u) → P left → P right → (j : ℕ) (u : View)
+      → get_elem? (set s.views id left ++ right ∷ []) j ≡ some u → P u
   cut-agree P all p q j u e = ⊎_elim
-      (λ (h : get_elem? (set s.views id left) j ≡ some u). ⊎_elim (λ (x : (j ≡ id) × (left ≡ u)). subst P x.1 p) (λ (x : (j ≢ id) × (get_elem? s.views j ≡ some u)). all j u x.1) (at_set s.views id j left u h))
+      (λ (h : get_elem? (set s.views id left) j ≡ some u).
+      ⊎_elim (λ (x : (j ≡ id) × (left ≡ u)). subst P x.1 p) (λ (x : (j ≢ id) × (get_elem? s.views j ≡ some u)). all j u x.1) (at_set s.views id j left u h))
       (λ (h : right ≡ u). subst P h q) (at_snoc (set s.views id left) right u j e)
 
-module _ (s : BoardState) (id : ℕ) (v : View) (other : ℕ) (w both : View) (me : get_elem? s.views id ≡ some v) (apart : ¬ (other ≡ id)) (them : get_elem? (set s.views id both) other ≡ some w) where
+module _ (s : BoardState) (id : ℕ) (v : View) (other : ℕ) (w both : View) (me : get_elem? s.views id ≡ some v) (apart : ¬ (other ≡ id))
+    (them : get_elem? (set s.views id both) other ≡ some w) where
   -- what views weigh once two of them are one
-  join-keepers : (f : KeeperPart → ℕ) → of_keepers f (set (set s.views id both) other blank) + total f w.keepers + total f v.keepers ≡ of_keepers f s.views + total f both.keepers
-  join-keepers f = let g : View → ℕ = λ u. total f u.keepers in omega (arith, total-set g (set s.views id both) other w blank them, total-set g s.views id v both me)
+  join-keepers : (f : KeeperPart → ℕ) → of_keepers f (set (set s.views id both) other blank) + total f w.keepers + total f v.keepers
+      ≡ of_keepers f s.views + total f both.keepers
+  join-keepers f = let g : View → ℕ = λ u. total f u.keepers in
+      omega (arith, total-set g (set s.views id both) other w blank them, total-set g s.views id v both me)
 
-  join-relays : (f : RelayView → ℕ) → of_relays f (set (set s.views id both) other blank) + total f w.relays + total f v.relays ≡ of_relays f s.views + total f both.relays
-  join-relays f = let g : View → ℕ = λ u. total f u.relays in omega (arith, total-set g (set s.views id both) other w blank them, total-set g s.views id v both me)
+  join-relays : (f : RelayView → ℕ) → of_relays f (set (set s.views id both) other blank) + total f w.relays + total f v.relays
+      ≡ of_relays f s.views + total f both.relays
+  join-relays f = let g : View → ℕ = λ u. total f u.relays in
+      omega (arith, total-set g (set s.views id both) other w blank them, total-set g s.views id v both me)
 
   join-there : get_elem? s.views other ≡ some w
   join-there = sym (set_else s.views id other both apart) ∙ them
 
-  join-agree : (P : View → Type 0) → ((j : ℕ) (u : View) → get_elem? s.views j ≡ some u → P u) → P both → P blank → (j : ℕ) (u : View) → get_elem? (set (set s.views id both) other blank) j ≡ some u → P u
+  join-agree : (P : View → Type 0) → ((j : ℕ) (u : View) → get_elem? s.views j ≡ some u → P u) → P both → P blank → (j : ℕ) (u : View)
+      → get_elem? (set (set s.views id both) other blank) j ≡ some u → P u
   join-agree P all p q j u e = ⊎_elim (λ (x : (j ≡ other) × (blank ≡ u)). subst P x.1 q)
-      (λ (x : (j ≢ other) × (get_elem? (set s.views id both) j ≡ some u)). ⊎_elim (λ (y : (j ≡ id) × (both ≡ u)). subst P y.1 p) (λ (y : (j ≢ id) × (get_elem? s.views j ≡ some u)). all j u y.1) (at_set s.views id j both u x.1))
+      (λ (x : (j ≢ other) × (get_elem? (set s.views id both) j ≡ some u)).
+      ⊎_elim (λ (y : (j ≡ id) × (both ≡ u)). subst P y.1 p) (λ (y : (j ≢ id) × (get_elem? s.views j ≡ some u)). all j u y.1)
+      (at_set s.views id j both u x.1))
       (at_set (set s.views id both) other j blank u e)
 
 total-but_last : (f : RelayView → ℕ) (l : List RelayView) → total f (but_last l) + total f (last_alone l) ≡ total f l
@@ -91,7 +104,8 @@ cut_kept t id v s o me =
     let l : View = aside v in
     let r : View = cut_off v in
     let ks : (f : KeeperPart → ℕ) → of_keepers f (set s.views id l ++ r ∷ []) ≡ of_keepers f s.views = λ f. omega (arith, cut-keepers s id v l r me f) in
-    let rs : (f : RelayView → ℕ) → of_relays f (set s.views id l ++ r ∷ []) ≡ of_relays f s.views = λ f. omega (arith, cut-relays s id v l r me f, total-but_last f v.relays) in
+    let rs : (f : RelayView → ℕ) → of_relays f (set s.views id l ++ r ∷ []) ≡ of_relays f s.views = λ f.
+    omega (arith, cut-relays s id v l r me f, total-but_last f v.relays) in
     let mine = o.agree id v me in
     let relays = Each-but_last (RelayAgrees t) v.relays mine.1 in
     resettled t s o (set s.views id l ++ r ∷ []) ks (rs is_first ∙ o.one_first) (omega (arith, rs is_other, rs joined_in, rs split_off, o.others))
@@ -103,8 +117,10 @@ pub beside_kept : (t : Terms) (id : ℕ) (v : View) (other : ℕ) (w : View) →
 beside_kept t id v other w s o me apart them =
     let b : View = beside v w in
     let views : List View = set (set s.views id b) other blank in
-    let ks : (f : KeeperPart → ℕ) → of_keepers f views ≡ of_keepers f s.views = λ f. omega (arith, join-keepers s id v other w b me apart them f, total-append f v.keepers w.keepers) in
-    let rs : (f : RelayView → ℕ) → of_relays f views ≡ of_relays f s.views = λ f. omega (arith, join-relays s id v other w b me apart them f, total-append f v.relays w.relays) in
+    let ks : (f : KeeperPart → ℕ) → of_keepers f views ≡ of_keepers f s.views = λ f.
+    omega (arith, join-keepers s id v other w b me apart them f, total-append f v.keepers w.keepers) in
+    let rs : (f : RelayView → ℕ) → of_relays f views ≡ of_relays f s.views = λ f.
+    omega (arith, join-relays s id v other w b me apart them f, total-append f v.relays w.relays) in
     let mine = o.agree id v me in
     let theirs = o.agree other w (join-there s id v other w b me apart them) in
     resettled t s o views ks (rs is_first ∙ o.one_first) (omega (arith, rs is_other, rs joined_in, rs split_off, o.others))
@@ -120,7 +136,8 @@ is_false true e = absurd (omega arith)
 is_false false e = refl
 
 -- the first seat splits a new one off
-pub branch_kept : (t : Terms) (id : ℕ) (r : RelayView) → r.first ≡ true → Splits (Orderly t) id (view [] (r ∷ [])) (parent (view [] (r ∷ []))) (child (view [] (r ∷ [])))
+pub branch_kept : (t : Terms) (id : ℕ) (r : RelayView) → r.first ≡ true
+    → Splits (Orderly t) id (view [] (r ∷ [])) (parent (view [] (r ∷ []))) (child (view [] (r ∷ [])))
 branch_kept t id r first s o me =
     let v : View = view [] (r ∷ []) in
     let l : View = parent v in
@@ -128,7 +145,15 @@ branch_kept t id r first s o me =
     let rs = cut-relays s id v l c me in
     let mine = o.agree id v me in
     resettled t s o (set s.views id l ++ c ∷ []) (λ f. omega (arith, cut-keepers s id v l c me f)) (omega (arith, rs is_first, o.one_first))
-    (omega (arith, rs is_other, rs joined_in, rs split_off, o.others, cond-true {A = ℕ} r.first (r.split + 1) 0 first, cond-true {A = ℕ} r.first r.split 0 first))
+    (omega (
+      arith,
+      rs is_other,
+      rs joined_in,
+      rs split_off,
+      o.others,
+      cond-true {A = ℕ} r.first (r.split + 1) 0 first,
+      cond-true {A = ℕ} r.first r.split 0 first,
+    ))
     (λ h. omega (arith, rs (λ x. total h x.passes))) (λ h. omega (arith, rs (λ x. total h x.takes))) (λ h. omega (arith, rs (λ x. total h x.posts)))
     (cut-agree s id v l c me (Agrees t o.bounds) o.agree mine mine)
 
@@ -147,7 +172,18 @@ gathered_kept t id r other q first s o me apart them =
     let q0 : is_first q ≡ 0 = omega (arith, terms_le (λ (u : View). total is_first u.relays) s.views id other v w apart me there, o.one_first) in
     let later = is_false q.first q0 in
     resettled t s o views (λ f. omega (arith, join-keepers s id v other w b me apart them f)) (omega (arith, rs is_first, o.one_first))
-    (omega (arith, rs is_other, rs joined_in, rs split_off, o.others, cond-true {A = ℕ} r.first (r.joined + 1) 0 first, cond-true {A = ℕ} r.first r.joined 0 first, cond-false {A = ℕ} q.first 0 1 later, cond-false {A = ℕ} q.first q.joined 0 later, cond-false {A = ℕ} q.first q.split 0 later))
+    (omega (
+      arith,
+      rs is_other,
+      rs joined_in,
+      rs split_off,
+      o.others,
+      cond-true {A = ℕ} r.first (r.joined + 1) 0 first,
+      cond-true {A = ℕ} r.first r.joined 0 first,
+      cond-false {A = ℕ} q.first 0 1 later,
+      cond-false {A = ℕ} q.first q.joined 0 later,
+      cond-false {A = ℕ} q.first q.split 0 later,
+    ))
     (λ h. omega (arith, rs (λ x. total h x.passes), total-append h r.passes q.passes))
     (λ h. omega (arith, rs (λ x. total h x.takes), total-append h r.takes q.takes))
     (λ h. omega (arith, rs (λ x. total h x.posts), total-append h r.posts q.posts))

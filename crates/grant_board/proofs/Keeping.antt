@@ -19,7 +19,8 @@ use Rattle.grant_board.specs.declared.laws.Word.TheVariants.{Empty, Offered, Tak
 use Rattle.grant_board.specs.declared.view.View.{View}
 use Rattle.grant_board.specs.Words.{encode_of, IsWord, IsAmong, IsWordAmong}
 use Rattle.list_facts.specs.Weights.{total}
-use Rattle.grant_board.specs.Views.{Grant, grant, Terms, KeeperView, KeeperPart, RelayView, Sighting, return_of, at_place, serves_at, count_at, count_of, without}
+use Rattle.grant_board.specs.Views.{Grant, grant, Terms, KeeperView, KeeperPart, RelayView, Sighting}
+use Rattle.grant_board.specs.Views.{return_of, at_place, serves_at, count_at, count_of, without}
 use Rattle.grant_board.specs.Rule.{Slot, BoardState, standing, posted, of_keepers, of_relays, Orderly}
 use Rattle.grant_board.specs.Ruled.{view, at_rest}
 use Rattle.grant_board.specs.KeeperCalls.{keeper_looked, offer_after, collect_after, MayLimit, limit_after}
@@ -31,10 +32,12 @@ use Rattle.list_facts.proofs.Each as items
 use Rattle.grant_board.proofs.Grants as grants
 use Rattle.grant_board.proofs.Codes.{same_word}
 use Rattle.grant_board.proofs.Moving.{moved, unmoved, rebounded}
-use Rattle.grant_board.proofs.Finding.{one, one-same, has_one, one_sight, one_sight-same, empty_there, keeper_alone, keeper_nowhere, relays_le, number_at, bound_at, taken_there, posted_there, out_at, passes_at, passes_out, passes_once, passes_room, passes_bounded}
+use Rattle.grant_board.proofs.Finding.{one, one-same, has_one, one_sight, one_sight-same, empty_there, keeper_alone, keeper_nowhere, relays_le, number_at}
+use Rattle.grant_board.proofs.Finding.{bound_at, taken_there, posted_there, out_at, passes_at, passes_out, passes_once, passes_room, passes_bounded}
 
 abbrev Goes : Terms → BoardState → ℕ → ℕ → Seated → (ℕ → Seated → Type 0) → ℕ → Type 0
-Goes t s i id m then n = (w : View) × (a : Act Slot) × Valid s.homes m.1 a × Orderly t (stepped s i n id m.1 w a) × then (get_or s.words i 0) (w, carried_after m.1 a)
+Goes t s i id m then n = (w : View) × (a : Act Slot) × Valid s.homes m.1 a × Orderly t (stepped s i n id m.1 w a)
+    × then (get_or s.words i 0) (w, carried_after m.1 a)
 
 -- the grant of a word, and its sighting
 grant_in : ℕ → Word → Grant
@@ -55,7 +58,8 @@ pub record MayOffer (k : KeeperView) (p ticket : ℕ) (verdict : Verdict) : Type
   pub among : IsAmong (length k.terms.limits) verdict
   pub room : (n : ℕ) → 0 < slice_index k.bounds n → 0 < serves_at n verdict → count_of n k.out < slice_index k.bounds n
 
-pub offered_kept : (t : Terms) (slots id : ℕ) (k : KeeperPart) (p ticket : ℕ) (d : Verdict) (new : ℕ) → new ≡ encode_of (Offered ticket d) → MayOffer k.view p ticket d
+pub offered_kept : (t : Terms) (slots id : ℕ) (k : KeeperPart) (p ticket : ℕ) (d : Verdict) (new : ℕ) → new ≡ encode_of (Offered ticket d)
+    → MayOffer k.view p ticket d
     → Allows (Orderly t) slots id (keeper_seat k) p (λ _. new) (λ _. offers (step slots p new 0 none) (keeper_seat k) new)
 unfolding grant_in
 offered_kept t slots id k p ticket d new is may s o wide me _ =
@@ -64,34 +68,44 @@ offered_kept t slots id k p ticket d new is may s o wide me _ =
     let near : p < length o.cells = omega (arith, may.place, o.long, ap (λ (x : Terms). x.places) agree.0) in
     let there = items.item_at o.cells p near in
     let c : Word = there.0 in
-    let none_out : standing (at_place p) p c ≡ 0 = omega (arith, out_at t s o p c there.1 (at_place p) (λ x n. grants.at_place-no p x n), keeper_alone t s o id k [] me (λ x. total (at_place p) x.view.out), may.free) in
+    let none_out : standing (at_place p) p c ≡ 0 =
+    omega (
+      arith,
+      out_at t s o p c there.1 (at_place p) (λ x n. grants.at_place-no p x n),
+      keeper_alone t s o id k [] me (λ x. total (at_place p) x.view.out),
+      may.free,
+    ) in
     let free : get_elem? o.cells p ≡ some Empty = there.1 ∙ ap (λ (x : Word). some x) (empty_there p c none_out) in
     let bounds : (n : ℕ) → slice_index k.view.bounds n ≡ slice_index o.bounds n = λ n. ap (λ (bs : List ℕ). slice_index bs n) agree.1 in
     let w : View = view (record k { view = offer_after k.view g } ∷ []) [] in (
       w,
       keeps,
       tt,
-      moved t s o id p new (view (k ∷ []) []) w s.homes Empty (Offered ticket d) me free is may.word (subst (λ (x : Terms). IsAmong (length x.limits) d) agree.0 may.among) (record {
-        one_keeper = refl;
-        one_first = refl;
-        others = refl;
-        out = λ h. omega (arith, sums.total-push h k.view.out g);
-        passes = λ h. refl;
-        offers = λ h. omega (arith, sums.total-push h k.view.offers g);
-        posts = λ h. refl;
-        bounded = λ n some_bound.
-            let all = keeper_alone t s o id k [] me (λ x. count_of n x.view.out) in
-            let more = sums.total-push (λ x. serves_at n x.verdict) k.view.out g in
-            let small = grants.serves_at-one n d in
-            dite (ℕ_discrete (serves_at n d) 0) (λ none_more. omega (arith, o.bounded n some_bound)) (λ one_more. omega (arith, bounds n, may.room n (omega (arith, bounds n)) (omega arith)));
-        sight = λ h. omega (arith, o.sight h);
-        agree = o.agree id (view (k ∷ []) []) me;
-      }),
-      λ ticket' d' word' e. ap (λ (x : Word). keeper_seat (record k { view = offer_after k.view (grant_in p x) })) (same_word (Offered ticket d) (Offered ticket' d') may.word word' (sym is ∙ e)),
+      moved t s o id p new (view (k ∷ []) []) w s.homes Empty (Offered ticket d) me free is may.word
+          (subst (λ (x : Terms). IsAmong (length x.limits) d) agree.0 may.among) (record {
+            one_keeper = refl;
+            one_first = refl;
+            others = refl;
+            out = λ h. omega (arith, sums.total-push h k.view.out g);
+            passes = λ h. refl;
+            offers = λ h. omega (arith, sums.total-push h k.view.offers g);
+            posts = λ h. refl;
+            bounded = λ n some_bound.
+                let all = keeper_alone t s o id k [] me (λ x. count_of n x.view.out) in
+                let more = sums.total-push (λ x. serves_at n x.verdict) k.view.out g in
+                let small = grants.serves_at-one n d in
+                dite (ℕ_discrete (serves_at n d) 0) (λ none_more. omega (arith, o.bounded n some_bound))
+                (λ one_more. omega (arith, bounds n, may.room n (omega (arith, bounds n)) (omega arith)));
+            sight = λ h. omega (arith, o.sight h);
+            agree = o.agree id (view (k ∷ []) []) me;
+          }),
+      λ ticket' d' word' e. ap (λ (x : Word). keeper_seat (record k { view = offer_after k.view (grant_in p x) }))
+          (same_word (Offered ticket d) (Offered ticket' d') may.word word' (sym is ∙ e)),
     )
 
 -- the keeper finds nothing posted
-sees_else : (t : Terms) (slots id : ℕ) (k : KeeperPart) (p : ℕ) (s : BoardState) (o : Orderly t s) (c : Word) → k.sight ≡ [] → get_elem? s.views id ≡ some (view (k ∷ []) []) → get_elem? o.cells p ≡ some c
+sees_else : (t : Terms) (slots id : ℕ) (k : KeeperPart) (p : ℕ) (s : BoardState) (o : Orderly t s) (c : Word) → k.sight ≡ []
+    → get_elem? s.views id ≡ some (view (k ∷ []) []) → get_elem? o.cells p ≡ some c
     → ((ticket : ℕ) (d : Verdict) (e : Ending) → c ≢ Posted ticket d e)
     → Goes t s p id (keeper_seat k) (sees (step slots p 0 0 none) (keeper_seat k)) (get_or s.words p 0)
 sees_else t slots id k p s o c blind me there other =
@@ -117,7 +131,8 @@ sees_else t slots id k p s o c blind me there other =
       ((λ ticket d e word' is. absurd (other ticket d e (same_word c (Posted ticket d e) word word' (sym n ∙ is)))), λ _. refl),
     )
 
-sees_word : (t : Terms) (slots id : ℕ) (k : KeeperPart) (p : ℕ) (s : BoardState) (o : Orderly t s) (c : Word) → k.sight ≡ [] → get_elem? s.views id ≡ some (view (k ∷ []) []) → get_elem? o.cells p ≡ some c
+sees_word : (t : Terms) (slots id : ℕ) (k : KeeperPart) (p : ℕ) (s : BoardState) (o : Orderly t s) (c : Word) → k.sight ≡ []
+    → get_elem? s.views id ≡ some (view (k ∷ []) []) → get_elem? o.cells p ≡ some c
     → Goes t s p id (keeper_seat k) (sees (step slots p 0 0 none) (keeper_seat k)) (get_or s.words p 0)
 unfolding grant_in ending_in
 sees_word t slots id k p s o Empty blind me there = sees_else t slots id k p s o Empty blind me there (λ ticket d e same. cc)
@@ -141,11 +156,17 @@ sees_word t slots id k p s o (Posted u b x) blind me there =
         offers = λ h. refl;
         posts = λ h. refl;
         bounded = λ b some_bound. omega (arith, o.bounded b some_bound);
-        sight = λ h. omega (arith, keeper_alone t s o id k [] me (λ y. total h y.sight), ap (total h) blind, along_le (posted h) o.cells 0 p p (Posted u b x) (omega arith) there);
+        sight = λ h. omega (
+          arith,
+          keeper_alone t s o id k [] me (λ y. total h y.sight),
+          ap (total h) blind,
+          along_le (posted h) o.cells 0 p p (Posted u b x) (omega arith) there,
+        );
         agree = o.agree id v me;
       }),
       (
-        (λ ticket d e word' is. ap (λ (c : Word). keeper_seat (record { view = keeper_looked k.view p (get_or s.words p 0); sight = record { pass = grant_in p c; ending = ending_in c } ∷ [] }))
+        (λ ticket d e word' is. ap (λ (c : Word).
+            keeper_seat (record { view = keeper_looked k.view p (get_or s.words p 0); sight = record { pass = grant_in p c; ending = ending_in c } ∷ [] }))
             (same_word (Posted u b x) (Posted ticket d e) word word' (sym n ∙ is))),
         λ not. absurd (not u b x word n),
       ),
@@ -161,12 +182,14 @@ seen_kept t slots id k p blind inside s o wide me _ =
 -- the keeper's seat, once what it had in sight is collected
 abbrev IsCleared : KeeperView → ℕ → Seated → Sighting → Type 0
 IsCleared k p n x =
-    (n ≡ keeper_seat (at_rest (collect_after k x.pass x.ending))) × Contains k.out x.pass × ((h : Grant → ℕ) → total h (without p k.out) + h x.pass ≡ total h k.out)
+    (n ≡ keeper_seat (at_rest (collect_after k x.pass x.ending))) × Contains k.out x.pass × ((h : Grant → ℕ)
+    → total h (without p k.out) + h x.pass ≡ total h k.out)
 
 cleared_as : (k : KeeperView) (p : ℕ) (n : Seated) (x y : Sighting) → x ≡ y → IsCleared k p n x → IsCleared k p n y
 cleared_as k p n x y same cleared = subst (IsCleared k p n) same cleared
 
-pub cleared_kept : (t : Terms) (slots id : ℕ) (k : KeeperPart) (p ticket : ℕ) (d : Verdict) (e : Ending) → k.sight ≡ record { pass = grant p ticket d; ending = e } ∷ []
+pub cleared_kept : (t : Terms) (slots id : ℕ) (k : KeeperPart) (p ticket : ℕ) (d : Verdict) (e : Ending)
+    → k.sight ≡ record { pass = grant p ticket d; ending = e } ∷ []
     → Allows (Orderly t) slots id (keeper_seat k) p (λ _. 0) (λ _. clears (step slots p 0 0 none) (keeper_seat k) 0)
 unfolding grant_in ending_in
 cleared_kept t slots id k p ticket d e seen s o wide me _ =
@@ -174,7 +197,8 @@ cleared_kept t slots id k p ticket d e seen s o wide me _ =
     let x : Sighting = record { pass = g; ending = e } in
     let v : View = view (k ∷ []) [] in
     let w : View = view (at_rest (collect_after k.view g e) ∷ []) [] in
-    let has : 0 < of_keepers (λ y. total (one_sight x) y.sight) s.views = omega (arith, keeper_alone t s o id k [] me (λ y. total (one_sight x) y.sight), ap (total (one_sight x)) seen, one_sight-same x) in
+    let has : 0 < of_keepers (λ y. total (one_sight x) y.sight) s.views =
+    omega (arith, keeper_alone t s o id k [] me (λ y. total (one_sight x) y.sight), ap (total (one_sight x)) seen, one_sight-same x) in
     let there : get_elem? o.cells p ≡ some (Posted ticket d e) = posted_there t s o x has in
     let weighs : (h : Grant → ℕ) → total h (without p k.view.out) + h g ≡ total h k.view.out = λ h.
     omega (
@@ -200,7 +224,8 @@ cleared_kept t slots id k p ticket d e seen s o wide me _ =
         sight = λ h. omega (arith, o.sight h, ap (total h) seen);
         agree = o.agree id v me;
       }),
-      λ ticket' d' e' word' seen'. cleared_as k.view p (w, []) x (record { pass = grant p ticket' d'; ending = e' }) (ap (λ (xs : List Sighting). get_or xs 0 x) (sym seen ∙ seen')) (refl, is_out, weighs),
+      λ ticket' d' e' word' seen'. cleared_as k.view p (w, []) x (record { pass = grant p ticket' d'; ending = e' })
+          (ap (λ (xs : List Sighting). get_or xs 0 x) (sym seen ∙ seen')) (refl, is_out, weighs),
     )
 
 pub limited_kept : (t : Terms) (slots id : ℕ) (k : KeeperPart) (server i new : ℕ) → i ≡ k.view.terms.places + server → MayLimit k.view server new
@@ -210,16 +235,20 @@ limited_kept t slots id k server i new at may s o wide me _ =
     let w : View = view (record k { view = limit_after k.view server new } ∷ []) [] in
     let agree = (o.agree id v me).0.0 in
     let here : t.places + server ≡ i = omega (arith, at, ap (λ (x : Terms). x.places) agree.0) in
-    let all : (n : ℕ) → of_keepers (λ x. count_of n x.view.out) s.views ≡ count_of n k.view.out = λ n. keeper_alone t s o id k [] me (λ x. count_of n x.view.out) in
+    let all : (n : ℕ) → of_keepers (λ x. count_of n x.view.out) s.views ≡ count_of n k.view.out = λ n.
+    keeper_alone t s o id k [] me (λ x. count_of n x.view.out) in
     let near : server < length o.bounds = omega (arith, may.0, o.servers, ap (λ (x : Terms). length x.limits) agree.0) in
     let bounded : (n : ℕ) → 0 < slice_index (set o.bounds server new) n → count_of n k.view.out ≤ slice_index (set o.bounds server new) n =
     λ n some_bound. dite (ℕ_discrete n server)
     (λ e.
-    let now : slice_index (set o.bounds server new) n ≡ new = ap (λ (m : ℕ). slice_index (set o.bounds server new) m) e ∙ get_or-set_same o.bounds server new 0 near in
+    let now : slice_index (set o.bounds server new) n ≡ new = ap (λ (m : ℕ). slice_index (set o.bounds server new) m) e
+    ∙ get_or-set_same o.bounds server new 0 near in
     let counted : count_of n k.view.out ≡ count_of server k.view.out = ap (λ (m : ℕ). count_of m k.view.out) e in
     omega (arith, may.1 (omega arith)))
-    (λ ne. let now : slice_index (set o.bounds server new) n ≡ slice_index o.bounds n = get_or-set_other o.bounds server n new 0 ne in omega (arith, all n, o.bounded n (omega arith))) in
-    let after : Orderly t (stepped s (t.places + server) new id [] w keeps) = rebounded t s o id server new v w s.homes me (keeper_nowhere t s o id k [] me) (record {
+    (λ ne. let now : slice_index (set o.bounds server new) n ≡ slice_index o.bounds n = get_or-set_other o.bounds server n new 0 ne in
+    omega (arith, all n, o.bounded n (omega arith))) in
+    let after : Orderly t (stepped s (t.places + server) new id [] w keeps) =
+    rebounded t s o id server new v w s.homes me (keeper_nowhere t s o id k [] me) (record {
       one_keeper = refl;
       one_first = refl;
       others = refl;
@@ -258,11 +287,20 @@ vouched_kept t slots id k q i s o wide me _ =
         sight = λ h. omega (arith, o.sight h);
         agree = o.agree id v me;
       }),
-      (refl, λ h. omega (arith, relays_le t s o id v me (λ r. total h r.passes), passes_out t s o h, keeper_alone t s o id k (q ∷ []) me (λ x. total h x.view.out))),
+      (
+        refl,
+        λ h. omega (
+          arith,
+          relays_le t s o id v me (λ r. total h r.passes),
+          passes_out t s o h,
+          keeper_alone t s o id k (q ∷ []) me (λ x. total h x.view.out),
+        ),
+      ),
     )
 
 -- a look of the first relay of a seat keeps the rule
-looked_kept : (t : Terms) (s : BoardState) (o : Orderly t s) (id i : ℕ) (r : RelayView) (others : List RelayView) → get_elem? s.views id ≡ some (view [] (r ∷ others))
+looked_kept : (t : Terms) (s : BoardState) (o : Orderly t s) (id i : ℕ) (r : RelayView) (others : List RelayView)
+    → get_elem? s.views id ≡ some (view [] (r ∷ others))
     → Orderly t (stepped s i (get_or s.words i 0) id [] (view [] (relay_looked r i (get_or s.words i 0) ∷ others)) keeps)
 looked_kept t s o id i r others me =
     let v : View = view [] (r ∷ others) in
@@ -279,14 +317,21 @@ looked_kept t s o id i r others me =
       agree = o.agree id v me;
     })
 
-pub glanced_kept : (t : Terms) (slots id : ℕ) (r : RelayView) (i : ℕ) → Allows (Orderly t) slots id (relay_seat r) i (λ n. n) (glances (step slots i 0 0 none) (relay_seat r))
+pub glanced_kept : (t : Terms) (slots id : ℕ) (r : RelayView) (i : ℕ)
+    → Allows (Orderly t) slots id (relay_seat r) i (λ n. n) (glances (step slots i 0 0 none) (relay_seat r))
 glanced_kept t slots id r i s o wide me _ = (view [] (relay_looked r i (get_or s.words i 0) ∷ []), keeps, tt, looked_kept t s o id i r [] me, refl)
 
 -- a seat has no more passes than there are places
 room_for : (t : Terms) (s : BoardState) (o : Orderly t s) (id : ℕ) (r : RelayView) → get_elem? s.views id ≡ some (view [] (r ∷ [])) → length r.passes ≤ t.places
-room_for t s o id r me = omega (arith, relays_le t s o id (view [] (r ∷ [])) me (λ x. total (λ (g : Grant). 1) x.passes), sums.total-one r.passes, passes_room t s o)
+room_for t s o id r me = omega (
+  arith,
+  relays_le t s o id (view [] (r ∷ [])) me (λ x. total (λ (g : Grant). 1) x.passes),
+  sums.total-one r.passes,
+  passes_room t s o,
+)
 
-pub taken_kept : (t : Terms) (slots id : ℕ) (r : RelayView) (p ticket : ℕ) (d : Verdict) (old new : ℕ) → old ≡ encode_of (Offered ticket d) → new ≡ encode_of (Taken ticket d) → IsWord (Offered ticket d) → p < r.terms.places
+pub taken_kept : (t : Terms) (slots id : ℕ) (r : RelayView) (p ticket : ℕ) (d : Verdict) (old new : ℕ) → old ≡ encode_of (Offered ticket d)
+    → new ≡ encode_of (Taken ticket d) → IsWord (Offered ticket d) → p < r.terms.places
     → Allows (Orderly t) slots id (relay_seat r) p (λ n. either (n == old) new n) (takes (step slots p old new none) (relay_seat r))
 unfolding grant_in
 taken_kept t slots id r p ticket d old new was is word inside s o wide me _ =
@@ -306,7 +351,8 @@ taken_kept t slots id r p ticket d old new was is word inside s o wide me _ =
     let same : c ≡ Offered ticket d = same_word c (Offered ticket d) valid word (sym n ∙ (hit ∙ was)) in
     let offered_there : get_elem? o.cells p ≡ some (Offered ticket d) = there.1 ∙ ap (λ (x : Word). some x) same in
     let among : IsAmong (length t.limits) d = subst (IsWordAmong (length t.limits)) same servers in
-    let after : Orderly t (stepped s p new id [] w keeps) = moved t s o id p new v w s.homes (Offered ticket d) (Taken ticket d) me offered_there is word among (record {
+    let after : Orderly t (stepped s p new id [] w keeps) =
+    moved t s o id p new v w s.homes (Offered ticket d) (Taken ticket d) me offered_there is word among (record {
       one_keeper = refl;
       one_first = refl;
       others = omega arith;
@@ -327,7 +373,8 @@ taken_kept t slots id r p ticket d old new was is word inside s o wide me _ =
         (λ _. (
           ap (λ (x : Word). relay_seat (take_after r (grant_in p x))) (same_word (Offered ticket d) (Offered ticket' d') word word' (sym was ∙ was')),
           omega (arith, room, length-append r.passes (g ∷ []), ap (λ (x : Terms). x.places) agree),
-          subst (IsWordAmong (length r.terms.limits)) (same_word (Offered ticket d) (Offered ticket' d') word word' (sym was ∙ was')) (subst (λ (x : Terms). IsAmong (length x.limits) d) (sym agree) among),
+          subst (IsWordAmong (length r.terms.limits)) (same_word (Offered ticket d) (Offered ticket' d') word word' (sym was ∙ was'))
+              (subst (λ (x : Terms). IsAmong (length x.limits) d) (sym agree) among),
         )),
         λ miss. absurd (miss hit),
       ),
@@ -340,7 +387,8 @@ taken_kept t slots id r p ticket d old new was is word inside s o wide me _ =
       λ ticket' d' word' was' is'. ((λ hit. absurd (miss hit)), λ _. refl),
     ))
 
-pub posted_kept : (t : Terms) (slots id : ℕ) (r : RelayView) (p ticket : ℕ) (d : Verdict) (e : Ending) (new : ℕ) → new ≡ encode_of (Posted ticket d e) → IsWord (Posted ticket d e) → Contains r.passes (grant p ticket d)
+pub posted_kept : (t : Terms) (slots id : ℕ) (r : RelayView) (p ticket : ℕ) (d : Verdict) (e : Ending) (new : ℕ) → new ≡ encode_of (Posted ticket d e)
+    → IsWord (Posted ticket d e) → Contains r.passes (grant p ticket d)
     → Allows (Orderly t) slots id (relay_seat r) p (λ _. new) (λ _. posts (step slots p new 0 none) (relay_seat r) new)
 unfolding grant_in ending_in
 posted_kept t slots id r p ticket d e new is word mine s o wide me _ =
@@ -377,10 +425,12 @@ posted_kept t slots id r p ticket d e new is word mine s o wide me _ =
       }),
       λ ticket' d' e' word' is'.
           let same = same_word (Posted ticket d e) (Posted ticket' d' e') word word' (sym is ∙ is') in
-          subst (λ (x : Word). ((w, []) ≡ relay_seat (post_after r (grant_in p x) (ending_in x))) × ((h : Grant → ℕ) → total h (without p r.passes) + h (grant_in p x) ≡ total h r.passes)) {x = Posted ticket d e} same (refl, weighs),
+          subst (λ (x : Word). ((w, []) ≡ relay_seat (post_after r (grant_in p x) (ending_in x))) × ((h : Grant → ℕ)
+          → total h (without p r.passes) + h (grant_in p x) ≡ total h r.passes)) {x = Posted ticket d e} same (refl, weighs),
     )
 
-pub met_kept : (t : Terms) (slots id : ℕ) (r q : RelayView) (i : ℕ) → Allows (Orderly t) slots id (seated [] (r ∷ q ∷ [])) i (λ n. n) (meets (step slots i 0 0 none) (seated [] (r ∷ q ∷ [])))
+pub met_kept : (t : Terms) (slots id : ℕ) (r q : RelayView) (i : ℕ)
+    → Allows (Orderly t) slots id (seated [] (r ∷ q ∷ [])) i (λ n. n) (meets (step slots i 0 0 none) (seated [] (r ∷ q ∷ [])))
 met_kept t slots id r q i s o wide me _ =
     let v : View = view [] (r ∷ q ∷ []) in
     let found : ℕ = get_or s.words i 0 in
@@ -397,18 +447,29 @@ met_kept t slots id r q i s o wide me _ =
           let here : t.places + server ≡ i = omega (arith, at, places) in
           let bound : found ≡ slice_index o.bounds server = ap (λ (m : ℕ). get_or s.words m 0) (sym here) ∙ bound_at t s o server in
           let now : slice_index after.bounds server ≡ found =
-          sym (bound_at t (stepped s i found id [] w keeps) after server) ∙ (ap (λ (m : ℕ). get_or (set s.words i found) m 0) here ∙ ap (λ (ws : List ℕ). get_or ws i 0) (set-get_or s.words i 0)) in (
+          sym (bound_at t (stepped s i found id [] w keeps) after server)
+          ∙ (ap (λ (m : ℕ). get_or (set s.words i found) m 0) here ∙ ap (λ (ws : List ℕ). get_or ws i 0) (set-get_or s.words i 0)) in (
             refl,
             record {
               different = λ p. omega (arith, both (λ x. count_at p x.passes), passes_once t s o p);
               bounded = λ some_bound. omega (arith, both (λ x. count_of server x.passes), passes_bounded t s o server (omega arith));
               room = omega (arith, places, both (λ x. total (λ (g : Grant). 1) x.passes), passes_room t s o, sums.total-one r.passes, sums.total-one q.passes);
             },
-            (record { terms = t; state = stepped s i found id [] w keeps; rule = after; seat = id; seen = set_here s.views id w (items.item_in s.views id v me) }, now),
+            (
+              record {
+                terms = t;
+                state = stepped s i found id [] w keeps;
+                rule = after;
+                seat = id;
+                seen = set_here s.views id w (items.item_in s.views id v me);
+              },
+              now,
+            ),
           ),
     )
 
-pub counted_kept : (t : Terms) (slots id : ℕ) (r : RelayView) (i : ℕ) → Allows (Orderly t) slots id (relay_seat r) i (λ n. n) (counts (step slots i 0 0 none) (relay_seat r))
+pub counted_kept : (t : Terms) (slots id : ℕ) (r : RelayView) (i : ℕ)
+    → Allows (Orderly t) slots id (relay_seat r) i (λ n. n) (counts (step slots i 0 0 none) (relay_seat r))
 counted_kept t slots id r i s o wide me _ =
     let v : View = view [] (r ∷ []) in
     let agree = (o.agree id v me).1.0 in (

@@ -1,5 +1,6 @@
 -- One seat's view and one word change: what keeps the rule.
-use Rattle.std.proofs.Common.{◌≡◌, ℕ, ◌+◌, ◌-◌, ◌<◌, ◌≤◌, ◌≢◌, List, [], ◌∷◌, ◌++◌, map, length, get_or, set, slice_index, sym, refl, ap, ◌∙◌, subst, ⊎_elim, arith, length-set}
+use Rattle.std.proofs.Common.{◌≡◌, ℕ, ◌+◌, ◌-◌, ◌<◌, ◌≤◌, ◌≢◌, List, [], ◌∷◌, ◌++◌, map}
+use Rattle.std.proofs.Common.{length, get_or, set, slice_index, sym, refl, ap, ◌∙◌, subst, ⊎_elim, arith, length-set}
 use Rattle.std.proofs.lemmas.List.{length-map, map-set, set-append_left, set-append_right}
 use mathlib.Core.Option.{Option, some}
 use lib.ListN.{get_elem?}
@@ -11,7 +12,8 @@ use Rattle.grant_board.specs.declared.view.View.{View}
 use Rattle.grant_board.specs.Words.{encode_of, IsWord, IsWordAmong}
 use Rattle.list_facts.specs.Weights.{total, along, Each}
 use Rattle.grant_board.specs.Views.{Grant, Terms, KeeperPart, RelayView, Sighting, count_of}
-use Rattle.grant_board.specs.Rule.{Slot, BoardState, standing, offered, taken, posted, as_return, of_keepers, of_relays, is_first, is_other, split_off, joined_in, KeeperAgrees, Agrees, Orderly}
+use Rattle.grant_board.specs.Rule.{Slot, BoardState, standing, offered, taken, posted, as_return, of_keepers}
+use Rattle.grant_board.specs.Rule.{of_relays, is_first, is_other, split_off, joined_in, KeeperAgrees, Agrees, Orderly}
 use Rattle.list_facts.proofs.Totals.{total-set}
 use Rattle.grant_board.proofs.Positions.{along-set}
 use Rattle.list_facts.proofs.Each.{Each-set, item_in}
@@ -27,15 +29,21 @@ Weighing = ℕ → Word → ℕ
 pub record Owes (t : Terms) (s : BoardState) (o : Orderly t s) (bounds : List ℕ) (v w : View) (gone come : Weighing → ℕ) : Type 0 where
   pub one_keeper : total (λ (k : KeeperPart). 1) w.keepers ≡ total (λ (k : KeeperPart). 1) v.keepers
   pub one_first : total is_first w.relays ≡ total is_first v.relays
-  pub others : total is_other w.relays + total joined_in w.relays + total split_off v.relays ≡ total is_other v.relays + total joined_in v.relays + total split_off w.relays
-  pub out : (h : Grant → ℕ) → total (λ (k : KeeperPart). total h k.view.out) w.keepers + gone (standing h) ≡ total (λ (k : KeeperPart). total h k.view.out) v.keepers + come (standing h)
-  pub passes : (h : Grant → ℕ) → total (λ (r : RelayView). total h r.passes) w.relays + gone (taken h) ≡ total (λ (r : RelayView). total h r.passes) v.relays + come (taken h)
-  pub offers : (h : Grant → ℕ) → total (λ (r : RelayView). total h r.takes) w.relays + come (offered h) + total (λ (k : KeeperPart). total h k.view.offers) v.keepers
+  pub others : total is_other w.relays + total joined_in w.relays + total split_off v.relays
+      ≡ total is_other v.relays + total joined_in v.relays + total split_off w.relays
+  pub out : (h : Grant → ℕ) → total (λ (k : KeeperPart). total h k.view.out) w.keepers + gone (standing h)
+      ≡ total (λ (k : KeeperPart). total h k.view.out) v.keepers + come (standing h)
+  pub passes : (h : Grant → ℕ) → total (λ (r : RelayView). total h r.passes) w.relays + gone (taken h)
+      ≡ total (λ (r : RelayView). total h r.passes) v.relays + come (taken h)
+  pub offers : (h : Grant → ℕ) → total (λ (r : RelayView). total h r.takes) w.relays + come (offered h) + total
+      (λ (k : KeeperPart). total h k.view.offers) v.keepers
       ≡ total (λ (r : RelayView). total h r.takes) v.relays + gone (offered h) + total (λ (k : KeeperPart). total h k.view.offers) w.keepers
-  pub posts : (h : Return → ℕ) → total (λ (k : KeeperPart). total h k.view.returns) w.keepers + come (posted (as_return h)) + total (λ (r : RelayView). total h r.posts) v.relays
+  pub posts : (h : Return → ℕ) → total (λ (k : KeeperPart). total h k.view.returns) w.keepers + come (posted (as_return h)) + total
+      (λ (r : RelayView). total h r.posts) v.relays
       ≡ total (λ (k : KeeperPart). total h k.view.returns) v.keepers + gone (posted (as_return h)) + total (λ (r : RelayView). total h r.posts) w.relays
   pub bounded : (n : ℕ) → 0 < slice_index bounds n
-      → of_keepers (λ k. count_of n k.view.out) s.views + total (λ (k : KeeperPart). count_of n k.view.out) w.keepers ≤ slice_index bounds n + total (λ (k : KeeperPart). count_of n k.view.out) v.keepers
+      → of_keepers (λ k. count_of n k.view.out) s.views + total (λ (k : KeeperPart). count_of n k.view.out) w.keepers ≤ slice_index bounds n + total
+      (λ (k : KeeperPart). count_of n k.view.out) v.keepers
   pub sight : (h : Sighting → ℕ) → of_keepers (λ k. total h k.sight) s.views + total (λ (k : KeeperPart). total h k.sight) w.keepers + gone (posted h)
       ≤ along (posted h) 0 o.cells + come (posted h) + total (λ (k : KeeperPart). total h k.sight) v.keepers
   pub agree : Agrees t bounds w
@@ -48,14 +56,17 @@ pub record IsRow (t : Terms) (numbers : List ℕ) (cells : List Word) (bounds : 
   pub valid : Each IsWord cells
   pub among : Each (IsWordAmong (length t.limits)) cells
 
-shifted : (t : Terms) (s : BoardState) (o : Orderly t s) (j : ℕ) (v w : View) (homes : List (Option Slot)) (cells : List Word) (bounds words : List ℕ) (gone come : Weighing → ℕ)
+shifted : (t : Terms) (s : BoardState) (o : Orderly t s) (j : ℕ) (v w : View) (homes : List (Option Slot)) (cells : List Word) (bounds words : List ℕ)
+    (gone come : Weighing → ℕ)
     → get_elem? s.views j ≡ some v → IsRow t words cells bounds
     → ((f : Weighing) → along f 0 cells + gone f ≡ along f 0 o.cells + come f)
     → ((i : ℕ) (u : View) → i ≢ j → get_elem? s.views i ≡ some u → Agrees t bounds u)
     → Owes t s o bounds v w gone come → Orderly t (board words homes (set s.views j w))
 shifted t s o j v w homes cells bounds words gone come me row turns others owes =
-    let kt : (f : KeeperPart → ℕ) → of_keepers f (set s.views j w) + total f v.keepers ≡ of_keepers f s.views + total f w.keepers = λ f. total-set (λ (u : View). total f u.keepers) s.views j v w me in
-    let rt : (f : RelayView → ℕ) → of_relays f (set s.views j w) + total f v.relays ≡ of_relays f s.views + total f w.relays = λ f. total-set (λ (u : View). total f u.relays) s.views j v w me in
+    let kt : (f : KeeperPart → ℕ) → of_keepers f (set s.views j w) + total f v.keepers ≡ of_keepers f s.views + total f w.keepers = λ f.
+    total-set (λ (u : View). total f u.keepers) s.views j v w me in
+    let rt : (f : RelayView → ℕ) → of_relays f (set s.views j w) + total f v.relays ≡ of_relays f s.views + total f w.relays = λ f.
+    total-set (λ (u : View). total f u.relays) s.views j v w me in
     record {
       cells = cells;
       bounds = bounds;
@@ -73,7 +84,8 @@ shifted t s o j v w homes cells bounds words gone come me row turns others owes 
       posts = λ h. omega (arith, rt (λ r. total h r.posts), kt (λ k. total h k.view.returns), turns (posted (as_return h)), o.posts h, owes.posts h);
       bounded = λ n some_bound. omega (arith, kt (λ k. count_of n k.view.out), owes.bounded n some_bound);
       sight = λ h. omega (arith, kt (λ k. total h k.sight), turns (posted h), owes.sight h);
-      agree = λ i u e. ⊎_elim (λ (q : (i ≡ j) × (w ≡ u)). subst (Agrees t bounds) q.1 owes.agree) (λ (q : (i ≢ j) × (get_elem? s.views i ≡ some u)). others i u q.0 q.1) (at_set s.views j i w u e);
+      agree = λ i u e. ⊎_elim (λ (q : (i ≡ j) × (w ≡ u)). subst (Agrees t bounds) q.1 owes.agree)
+          (λ (q : (i ≢ j) × (get_elem? s.views i ≡ some u)). others i u q.0 q.1) (at_set s.views j i w u e);
     }
 
 -- the word of the place p goes from c to d
@@ -101,7 +113,8 @@ pub unmoved : (t : Terms) (s : BoardState) (o : Orderly t s) (j i : ℕ) (v w : 
     → get_elem? s.views j ≡ some v → Owes t s o o.bounds v w (λ f. 0) (λ f. 0) → Orderly t (board (set s.words i (get_or s.words i 0)) homes (set s.views j w))
 unmoved t s o j i v w homes me owes =
     shifted t s o j v w homes o.cells o.bounds (set s.words i (get_or s.words i 0)) (λ f. 0) (λ f. 0) me
-    (record { words = set-get_or s.words i 0 ∙ o.words; long = o.long; servers = o.servers; valid = o.valid; among = o.among }) (λ f. refl) (λ j u other. o.agree j u) owes
+    (record { words = set-get_or s.words i 0 ∙ o.words; long = o.long; servers = o.servers; valid = o.valid; among = o.among }) (λ f. refl)
+    (λ j u other. o.agree j u) owes
 
 -- a server's word is set, which the keeper alone has to agree with
 pub rebounded : (t : Terms) (s : BoardState) (o : Orderly t s) (j server new : ℕ) (v w : View) (homes : List (Option Slot))
@@ -112,7 +125,8 @@ rebounded t s o j server new v w homes me alone owes =
     let here : t.places + server - t.places ≡ server = omega arith in
     let words : set s.words (t.places + server) new ≡ map encode_of o.cells ++ set o.bounds server new =
     ap (λ (ws : List ℕ). set ws (t.places + server) new) o.words
-    ∙ (set-append_right (map encode_of o.cells) o.bounds t.places (t.places + server) new long (omega arith) ∙ ap (λ (i : ℕ). map encode_of o.cells ++ set o.bounds i new) here) in
+    ∙ (set-append_right (map encode_of o.cells) o.bounds t.places (t.places + server) new long (omega arith)
+    ∙ ap (λ (i : ℕ). map encode_of o.cells ++ set o.bounds i new) here) in
     shifted t s o j v w homes o.cells (set o.bounds server new) (set s.words (t.places + server) new) (λ f. 0) (λ f. 0) me
     (record { words = words; long = o.long; servers = length-set o.bounds server new ∙ o.servers; valid = o.valid; among = o.among }) (λ f. refl)
     (λ i u other them. (no_keeper u.keepers (alone i u other them), (o.agree i u them).1)) owes

@@ -10,7 +10,8 @@ module _ {A : Type 0} where
   -- along a row, the item at i has the position k, which is j + i
   pub along-set : (f : ℕ → A → ℕ) (l : List A) (j i k : ℕ) (c d : A) → k ≡ j + i → get_elem? l i ≡ some c → along f j (set l i d) + f k c ≡ along f j l + f k d
   along-set f [] j i k c d at e = absurd (some-ne-none c (sym e))
-  along-set f (x ∷ xs) j zero k c d at e = let here : k ≡ j = omega arith in omega (arith, ap (f j) (some-injective x c e), ap (λ n. f n c) here, ap (λ n. f n d) here)
+  along-set f (x ∷ xs) j zero k c d at e = let here : k ≡ j = omega arith in
+      omega (arith, ap (f j) (some-injective x c e), ap (λ n. f n c) here, ap (λ n. f n d) here)
   along-set f (x ∷ xs) j (suc i) k c d at e = omega (arith, along-set f xs (suc j) i k c d (omega arith) e)
 
   pub along_le : (f : ℕ → A → ℕ) (l : List A) (j i k : ℕ) (c : A) → k ≡ j + i → get_elem? l i ≡ some c → f k c ≤ along f j l
@@ -34,9 +35,11 @@ module _ {A : Type 0} where
   along_past f p else_none (x ∷ xs) j h = omega (arith, else_none j x (omega arith), along_past f p else_none xs (suc j) (omega arith))
 
   -- and where it is
-  pub along_at : (f : ℕ → A → ℕ) (p : ℕ) → ((k : ℕ) (c : A) → k ≢ p → f k c ≡ 0) → (l : List A) (j i : ℕ) (c : A) → p ≡ j + i → get_elem? l i ≡ some c → along f j l ≡ f p c
+  pub along_at : (f : ℕ → A → ℕ) (p : ℕ) → ((k : ℕ) (c : A) → k ≢ p → f k c ≡ 0) → (l : List A) (j i : ℕ) (c : A) → p ≡ j + i → get_elem? l i ≡ some c
+      → along f j l ≡ f p c
   along_at f p else_none [] j i c at e = absurd (some-ne-none c (sym e))
-  along_at f p else_none (x ∷ xs) j zero c at e = let here : p ≡ j = omega arith in omega (arith, ap (f j) (some-injective x c e), ap (λ n. f n c) here, along_past f p else_none xs (suc j) (omega arith))
+  along_at f p else_none (x ∷ xs) j zero c at e = let here : p ≡ j = omega arith in
+      omega (arith, ap (f j) (some-injective x c e), ap (λ n. f n c) here, along_past f p else_none xs (suc j) (omega arith))
   along_at f p else_none (x ∷ xs) j (suc i) c at e = omega (arith, else_none j x (omega arith), along_at f p else_none xs (suc j) i c (omega arith) e)
 
   -- a weighing that is 0 but at one position, and at most 1 there

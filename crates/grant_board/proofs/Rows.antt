@@ -99,7 +99,8 @@ pub forgotten_offer : (r : RelayView) → ¬ Orderly one_place (with_words offer
 forgotten_offer r o = omega (arith, o.out (λ _. 1), ap (total nonzero) (places_words one_place (with_words offered r (0 ∷ 1 ∷ [])) o), nonzero-words o.cells 0)
 
 -- no two passes are taken at one place
-pub two_passes : (k : KeeperView) (r : RelayView) (words : List ℕ) → r.passes ≡ grant 0 7 (Serve 0) ∷ grant 0 7 (Serve 0) ∷ [] → ¬ Orderly one_place (with_words k r words)
+pub two_passes : (k : KeeperView) (r : RelayView) (words : List ℕ) → r.passes ≡ grant 0 7 (Serve 0) ∷ grant 0 7 (Serve 0) ∷ []
+    → ¬ Orderly one_place (with_words k r words)
 two_passes k r words two o = omega (arith, passes_room one_place (with_words k r words) o, ap (total (λ (g : Grant). 1)) two)
 
 -- a board of two places and one server of limit 2, whose tickets 7 and 8 are out

@@ -1,5 +1,6 @@
 -- Chosen reports are sound on logs that keep the order of their queues.
-use Rattle.std.proofs.Common.{◌≡◌, ℕ, zero, ◌<◌, ◌≤◌, nat_lt, Bool, true, false, cond, ℤ, ◌≤ℤ◌, ◌<ℤ◌, int_lt, List, [], ◌∷◌, ◌++◌, length, refl, ap, sym, ◌∙◌, subst, arith, length-append, ◌⊎◌, inl, inr}
+use Rattle.std.proofs.Common.{◌≡◌, ℕ, zero, ◌<◌, ◌≤◌, nat_lt, Bool, true, false, cond, ℤ, ◌≤ℤ◌, ◌<ℤ◌, int_lt, List}
+use Rattle.std.proofs.Common.{[], ◌∷◌, ◌++◌, length, refl, ap, sym, ◌∙◌, subst, arith, length-append, ◌⊎◌, inl, inr}
 use Rattle.std.specs.List.{AllByRecursion, Contains, filter, fold}
 use Rattle.std.proofs.lemmas.Bool.Decides.{nat_tests}
 use Rattle.std.proofs.lemmas.Int.{ints}
@@ -29,12 +30,14 @@ cut_cases : (due : ℤ) (acc n : ℕ) (ss : List Stay) → RisesFrom n ss → (c
 cut_cases due acc n [] rises = inl refl
 cut_cases due acc n (s ∷ ss) rises = go (int_lt due s.due) (λ k. cut_cases due k s.slot ss rises.1)
   where
-    go : (b : Bool) → ((k : ℕ) → (cut_from due k ss ≡ k) ⊎ (s.slot < cut_from due k ss)) → (cut_from due (cond b s.slot acc) ss ≡ acc) ⊎ (n < cut_from due (cond b s.slot acc) ss)
+    go : (b : Bool) → ((k : ℕ) → (cut_from due k ss ≡ k) ⊎ (s.slot < cut_from due k ss))
+        → (cut_from due (cond b s.slot acc) ss ≡ acc) ⊎ (n < cut_from due (cond b s.slot acc) ss)
     go true rest = let h = rises.0 in elim (rest s.slot) [ inl same ↦ inr (omega arith) | inr more ↦ inr (omega arith) ]
     go false rest = let h = rises.0 in elim (rest acc) [ inl same ↦ inl same | inr more ↦ inr (omega arith) ]
 
 -- a cut lies before what follows the stays
-cut_below : (due : ℤ) (acc : ℕ) (earlier : List Stay) (stay : Stay) (later : List Stay) → RisesFrom acc (earlier ++ stay ∷ later) → cut_from due acc earlier < stay.slot
+cut_below : (due : ℤ) (acc : ℕ) (earlier : List Stay) (stay : Stay) (later : List Stay) → RisesFrom acc (earlier ++ stay ∷ later)
+    → cut_from due acc earlier < stay.slot
 cut_below due acc [] stay later rises = rises.0
 cut_below due acc (s ∷ ss) stay later rises = go (int_lt due s.due) (λ k r. cut_below due k ss stay later r)
   where
@@ -55,12 +58,14 @@ none_past due after to n (s ∷ ss) le rises = go (is_within after to s) refl (n
     outside : is_within after to s ≡ true → to < s.slot → ⊥
     outside e h = grind (arith, nat_tests)
 
-    go : (b : Bool) → is_within after to s ≡ b → AllByRecursion (IsUrgent due after) (filter (is_within after to) ss) → AllByRecursion (IsUrgent due after) (cond b (s ∷ filter (is_within after to) ss) (filter (is_within after to) ss))
+    go : (b : Bool) → is_within after to s ≡ b → AllByRecursion (IsUrgent due after) (filter (is_within after to) ss)
+        → AllByRecursion (IsUrgent due after) (cond b (s ∷ filter (is_within after to) ss) (filter (is_within after to) ss))
     go false e rest = rest
     go true e rest = let h = rises.0 in absurd (outside e (omega arith))
 
 -- the critical ones from a first cut on, after which each stay joined that is due in time
-tight : (due : ℤ) (acc : ℕ) (earlier : List Stay) (stay : Stay) (later : List Stay) → stay.due ≡ due → RisesFrom acc (earlier ++ stay ∷ later) → AreFair (earlier ++ stay ∷ later)
+tight : (due : ℤ) (acc : ℕ) (earlier : List Stay) (stay : Stay) (later : List Stay) → stay.due ≡ due → RisesFrom acc (earlier ++ stay ∷ later)
+    → AreFair (earlier ++ stay ∷ later)
     → AllByRecursion (λ s. s.due ≤ℤ due → 0 < acc → acc < s.joined) (earlier ++ stay ∷ later)
     → AllByRecursion (IsUrgent due (cut_from due acc earlier)) (filter (is_within (cut_from due acc earlier) stay.slot) (earlier ++ stay ∷ later))
 tight due acc [] stay later is_due rises fair joined = go (is_within acc stay.slot stay)
@@ -84,8 +89,10 @@ tight due acc (s ∷ ss) stay later is_due rises fair joined =
         by_test true e = grind (arith, nat_tests)
         by_test false e = let low : u.joined ≤ s.slot = grind (arith, nat_tests) in let due_order = fair_one low in absurd (omega (arith, ints))
 
-    with_first : (cut : ℕ) → (is_within cut stay.slot s ≡ true → IsUrgent due cut s) → (b : Bool) → is_within cut stay.slot s ≡ b → AllByRecursion (IsUrgent due cut) (filter (is_within cut stay.slot) (ss ++ stay ∷ later))
-        → AllByRecursion (IsUrgent due cut) (cond b (s ∷ filter (is_within cut stay.slot) (ss ++ stay ∷ later)) (filter (is_within cut stay.slot) (ss ++ stay ∷ later)))
+    with_first : (cut : ℕ) → (is_within cut stay.slot s ≡ true → IsUrgent due cut s) → (b : Bool) → is_within cut stay.slot s ≡ b
+        → AllByRecursion (IsUrgent due cut) (filter (is_within cut stay.slot) (ss ++ stay ∷ later))
+        → AllByRecursion (IsUrgent due cut) (cond b (s ∷ filter (is_within cut stay.slot) (ss ++ stay ∷ later))
+        (filter (is_within cut stay.slot) (ss ++ stay ∷ later)))
     with_first cut first true e rest = (first e, rest)
     with_first cut first false e rest = rest
 
@@ -99,19 +106,27 @@ tight due acc (s ∷ ss) stay later is_due rises fair joined =
     over_time e = grind (arith, ints)
 
     by_due : (b : Bool) → int_lt due s.due ≡ b
-        → ((k : ℕ) → RisesFrom k (ss ++ stay ∷ later) → AllByRecursion (λ u. u.due ≤ℤ due → 0 < k → k < u.joined) (ss ++ stay ∷ later) → AllByRecursion (IsUrgent due (cut_from due k ss)) (filter (is_within (cut_from due k ss) stay.slot) (ss ++ stay ∷ later)))
-        → AllByRecursion (IsUrgent due (cut_from due (cond b s.slot acc) ss)) (filter (is_within (cut_from due (cond b s.slot acc) ss) stay.slot) (s ∷ (ss ++ stay ∷ later)))
+        → ((k : ℕ) → RisesFrom k (ss ++ stay ∷ later) → AllByRecursion (λ u. u.due ≤ℤ due → 0 < k → k < u.joined) (ss ++ stay ∷ later)
+        → AllByRecursion (IsUrgent due (cut_from due k ss)) (filter (is_within (cut_from due k ss) stay.slot) (ss ++ stay ∷ later)))
+        → AllByRecursion (IsUrgent due (cut_from due (cond b s.slot acc) ss))
+        (filter (is_within (cut_from due (cond b s.slot acc) ss) stay.slot) (s ∷ (ss ++ stay ∷ later)))
     by_due true e rest =
         let late : s.slot ≤ cut_from due s.slot ss = elim (cut_cases due s.slot s.slot ss rises_ss) [ inl same ↦ omega arith | inr more ↦ omega arith ] in
-        with_first (cut_from due s.slot ss) (λ within. let h = after_cut (cut_from due s.slot ss) within in absurd (omega arith)) (is_within (cut_from due s.slot ss) stay.slot s) refl
-        (rest s.slot rises.1 (all_weaker (λ u. u.joined ≤ s.slot → s.due ≤ℤ u.due) (λ u. u.due ≤ℤ due → 0 < s.slot → s.slot < u.joined) (λ u fair_one in_time some. later_joined (over_time e) u fair_one in_time) (ss ++ stay ∷ later) fair.0))
+        with_first (cut_from due s.slot ss) (λ within. let h = after_cut (cut_from due s.slot ss) within in
+        absurd (omega arith)) (is_within (cut_from due s.slot ss) stay.slot s) refl
+        (rest s.slot rises.1 (all_weaker (λ u. u.joined ≤ s.slot → s.due ≤ℤ u.due) (λ u. u.due ≤ℤ due → 0 < s.slot
+        → s.slot < u.joined) (λ u fair_one in_time some. later_joined (over_time e) u fair_one in_time) (ss ++ stay ∷ later) fair.0))
     by_due false e rest =
         with_first (cut_from due acc ss)
         (λ within.
         let h = after_cut (cut_from due acc ss) within in
         record {
           due_by = in_time e;
-          joined = λ some. elim (cut_cases due acc s.slot ss rises_ss) [ inl same ↦ (let j = joined.0 (in_time e) (omega arith) in omega arith) | inr more ↦ absurd (omega arith) ];
+          joined = λ some. elim (cut_cases due acc s.slot ss rises_ss) [
+            | inl same ↦ (let j = joined.0 (in_time e) (omega arith) in
+                omega arith)
+            | inr more ↦ absurd (omega arith)
+          ];
         })
         (is_within (cut_from due acc ss) stay.slot s) refl
         (rest acc (rises_lower s.slot acc (ss ++ stay ∷ later) (let h = rises.0 in omega arith) rises.1) joined.1)
@@ -126,7 +141,8 @@ contains_middle : (earlier : List Stay) (stay : Stay) (later : List Stay) → Co
 contains_middle earlier stay later = Contains-append_right earlier (stay ∷ later) stay (zero, omega arith, refl)
 
 -- the theorem of chosen reports
-pub chosen_sound : (setup : Setup) (start : State) (log : Window) (r : Report) → HaveArrived log.base [] start.rows → AllKeepOrder setup start log.entries → IsChosen log r → IsSound log r
+pub chosen_sound : (setup : Setup) (start : State) (log : Window) (r : Report) → HaveArrived log.base [] start.rows → AllKeepOrder setup start log.entries
+    → IsChosen log r → IsSound log r
 chosen_sound setup start log r arrived keep chosen =
     let ss = stays log r.queue r.class in
     let w = chosen.worst in
@@ -134,23 +150,34 @@ chosen_sound setup start log r arrived keep chosen =
     let rises : RisesFrom 0 ss = rises_after log.base r.queue r.class [] log.entries in
     let fair_parts : AreFair (w.earlier ++ w.stay ∷ w.later) = subst AreFair w.parts fair in
     let rises_parts : RisesFrom 0 (w.earlier ++ w.stay ∷ w.later) = subst (RisesFrom 0) w.parts rises in
-    let urgent : AllByRecursion (IsUrgent r.due (last_cut r.due w.earlier)) (filter (is_within (last_cut r.due w.earlier) w.stay.slot) (w.earlier ++ w.stay ∷ w.later)) = tight r.due 0 w.earlier w.stay w.later (sym w.due) rises_parts fair_parts (after_none r.due (w.earlier ++ w.stay ∷ w.later)) in
+    let urgent : AllByRecursion (IsUrgent r.due (last_cut r.due w.earlier))
+    (filter (is_within (last_cut r.due w.earlier) w.stay.slot) (w.earlier ++ w.stay ∷ w.later)) =
+    tight r.due 0 w.earlier w.stay w.later (sym w.due) rises_parts fair_parts (after_none r.due (w.earlier ++ w.stay ∷ w.later)) in
     let low : last_cut r.due w.earlier < w.stay.slot = cut_below r.due 0 w.earlier w.stay w.later rises_parts in
     let more : 0 < length (w.earlier ++ w.stay ∷ w.later) = omega (arith, length-append w.earlier (w.stay ∷ w.later)) in
     record {
       granted = chosen.granted;
       some = subst (λ n. 0 < n) (sym (chosen.granted ∙ ap length w.parts)) more;
       bounded = subst (AllByRecursion (λ s. own_lateness log s ≤ℤ r.worst)) (sym w.parts)
-          (all_append (λ s. own_lateness log s ≤ℤ r.worst) w.earlier (w.stay ∷ w.later) (all_weaker (λ s. own_lateness log s <ℤ r.worst) (λ s. own_lateness log s ≤ℤ r.worst) (λ s h. omega (arith, ints)) w.earlier w.less)
+          (all_append (λ s. own_lateness log s ≤ℤ r.worst) w.earlier (w.stay ∷ w.later)
+          (all_weaker (λ s. own_lateness log s <ℤ r.worst) (λ s. own_lateness log s ≤ℤ r.worst) (λ s h. omega (arith, ints)) w.earlier w.less)
           (at_most (own_lateness log w.stay) r.worst w.late, w.not_more));
-      worst = record { stay = w.stay; member = subst (λ l. Contains l w.stay) (sym w.parts) (contains_middle w.earlier w.stay w.later); slot = sym w.slot; due = sym w.due; late = w.late };
+      worst = record {
+        stay = w.stay;
+        member = subst (λ l. Contains l w.stay) (sym w.parts) (contains_middle w.earlier w.stay w.later);
+        slot = sym w.slot;
+        due = sym w.due;
+        late = w.late;
+      };
       before = subst (λ n. n < r.to) (sym w.after) (subst (λ n. last_cut r.due w.earlier < n) (sym w.slot) low);
       listed = chosen.critical;
       critical = subst (AllByRecursion (IsCritical r)) (sym chosen.critical)
           (subst (λ l. AllByRecursion (IsCritical r) (filter (is_within r.after r.to) l)) (sym w.parts)
           (subst (λ n. AllByRecursion (IsCritical r) (filter (is_within r.after n) (w.earlier ++ w.stay ∷ w.later))) (sym w.slot)
           (subst (λ n. AllByRecursion (IsCritical r) (filter (is_within n w.stay.slot) (w.earlier ++ w.stay ∷ w.later))) (sym w.after)
-          (all_weaker (IsUrgent r.due (last_cut r.due w.earlier)) (IsCritical r) (λ s u. record { due = u.due_by; joined = subst (λ n. 0 < n → n < s.joined) (sym w.after) u.joined }) (filter (is_within (last_cut r.due w.earlier) w.stay.slot) (w.earlier ++ w.stay ∷ w.later)) urgent))));
+          (all_weaker (IsUrgent r.due (last_cut r.due w.earlier)) (IsCritical r)
+          (λ s u. record { due = u.due_by; joined = subst (λ n. 0 < n → n < s.joined) (sym w.after) u.joined })
+          (filter (is_within (last_cut r.due w.earlier) w.stay.slot) (w.earlier ++ w.stay ∷ w.later)) urgent))));
     }
   where
     at_most : (a b : ℤ) → a ≡ b → a ≤ℤ b

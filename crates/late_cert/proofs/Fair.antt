@@ -1,6 +1,7 @@
 -- In a log that keeps the order of its queues a stay that joined before an earlier grant of its queue and class is due
 -- no earlier.
-use Rattle.std.proofs.Common.{◌≡◌, ◌≢◌, ℕ, ◌+◌, ◌<◌, ◌≤◌, Bool, true, false, cond, ℤ, ◌≤ℤ◌, List, [], ◌∷◌, ◌++◌, map, length, Option, None, Some, IsTrue, refl, ap, sym, ◌∙◌, subst, arith, append_assoc, length-append, Greater}
+use Rattle.std.proofs.Common.{◌≡◌, ◌≢◌, ℕ, ◌+◌, ◌<◌, ◌≤◌, Bool, true, false, cond, ℤ, ◌≤ℤ◌, List, [], ◌∷◌, ◌++◌}
+use Rattle.std.proofs.Common.{map, length, Option, None, Some, IsTrue, refl, ap, sym, ◌∙◌, subst, arith, append_assoc, length-append, Greater}
 use Rattle.std.specs.List.{AllByRecursion, filter}
 use Rattle.std.specs.Option.{option_map_or, IfSome, IsSomeAnd}
 use Rattle.std.proofs.lemmas.Int.{ints}
@@ -50,13 +51,15 @@ record IsTaken (s : State) (past : List Entry) (q : Queue) (c : ℤ) (e : Entry)
   class : takes.row.key.class ≡ c
   due : takes.row.key.due ≡ g.stay.due
 
-taken : (base : List BaseRow) (s : State) (past : List Entry) (q : Queue) (c : ℤ) (e : Entry) (g : Grant) → HaveArrived base past s.rows → KeepsOrder s.rows e → grant_after base past e ≡ Some g → is_of q c g ≡ true → IsTaken s past q c e g
+taken : (base : List BaseRow) (s : State) (past : List Entry) (q : Queue) (c : ℤ) (e : Entry) (g : Grant) → HaveArrived base past s.rows → KeepsOrder s.rows e
+    → grant_after base past e ≡ Some g → is_of q c g ≡ true → IsTaken s past q c e g
 taken base s past q c e g have keeps made of =
     let f = follows base past e g made in
     let takes : TakesLeast s.rows f.wait = subst (λ (o : Option Wait). IfSome o (TakesLeast s.rows)) f.is keeps.least in
     let same = is_of_true q c g of in
     let came : key_known base takes.row.key.ticket past ≡ Some f.key = ap (λ t. key_known base t past) takes.named ∙ f.known in
-    let facts = subst (λ (o : Option Key). IsSomeAnd o (λ it. (it.class ≡ takes.row.key.class) × (it.due ≡ takes.row.key.due))) came (have takes.row takes.live) in
+    let facts = subst (λ (o : Option Key). IsSomeAnd o (λ it. (it.class ≡ takes.row.key.class) × (it.due ≡ takes.row.key.due))) came
+    (have takes.row takes.live) in
     record {
       wait = f.wait;
       is = f.is;
@@ -81,39 +84,52 @@ abbrev NoneDueEarlier : State → Queue → ℤ → ℤ → Type 0
 NoneDueEarlier s q c due = (key : Key) → Waited s.rows q key → key.class ≡ c → due ≤ℤ key.due
 
 later_fair : (base : List BaseRow) (setup : Setup) (q : Queue) (c due : ℤ) (s1 : State) (past1 : List Entry) → NoneDueEarlier s1 q c due
-    → (between es past2 : List Entry) (s2 : State) → past2 ≡ past1 ++ between → s2 ≡ after_all setup s1 between → HaveArrived base past2 s2.rows → AllKeepOrder setup s2 es
+    → (between es past2 : List Entry) (s2 : State) → past2 ≡ past1 ++ between → s2 ≡ after_all setup s1 between → HaveArrived base past2 s2.rows
+    → AllKeepOrder setup s2 es
     → AllByRecursion (λ u. u.joined ≤ length past1 → due ≤ℤ u.due) (stays_after base q c past2 es)
 later_fair base setup q c due s1 past1 none between [] past2 s2 is_past is_state have keep = tt
 later_fair base setup q c due s1 past1 none between (e ∷ es) past2 s2 is_past is_state have keep =
     by_grant (grant_after base past2 e) refl
-    (later_fair base setup q c due s1 past1 none (between ++ e ∷ []) es (past2 ++ e ∷ []) (after setup s2 e) (ap (λ l. l ++ e ∷ []) is_past ∙ append_assoc past1 between (e ∷ [])) (ap (λ s. after setup s e) is_state ∙ sym (after_all-push setup s1 between e)) (have_arrived_after base setup past2 s2 e have keep.0) keep.1)
+    (later_fair base setup q c due s1 past1 none (between ++ e ∷ []) es (past2 ++ e ∷ []) (after setup s2 e) (ap (λ l. l ++ e ∷ []) is_past
+    ∙ append_assoc past1 between (e ∷ [])) (ap (λ s. after setup s e) is_state
+    ∙ sym (after_all-push setup s1 between e)) (have_arrived_after base setup past2 s2 e have keep.0) keep.1)
   where
     pair : (g : Grant) → grant_after base past2 e ≡ Some g → is_of q c g ≡ true → g.stay.joined ≤ length past1 → due ≤ℤ g.stay.due
     pair g made of low =
         let t = taken base s2 past2 q c e g have keep.0 made of in
         let row = t.takes.row in
         let w = t.wait in
-        let low_in : joining_of w.ticket w.queue (past1 ++ between) ≤ length past1 = subst (λ l. joining_of w.ticket w.queue l ≤ length past1) is_past (subst (λ n. n ≤ length past1) t.joined low) in
-        let quiet : AllByRecursion (λ x. joins row.key.ticket w.queue x ≡ false) between = subst (λ n. AllByRecursion (λ x. joins n w.queue x ≡ false) between) (sym t.takes.named) (none_in_second w.ticket w.queue past1 between low_in) in
-        let here : Waited (after_all setup s1 between).rows w.queue row.key = subst (λ (s : State). Waited s.rows w.queue row.key) is_state (record { row = row; live = t.takes.live; same = refl; waits = t.takes.waits }) in
+        let low_in : joining_of w.ticket w.queue (past1 ++ between) ≤ length past1 =
+        subst (λ l. joining_of w.ticket w.queue l ≤ length past1) is_past (subst (λ n. n ≤ length past1) t.joined low) in
+        let quiet : AllByRecursion (λ x. joins row.key.ticket w.queue x ≡ false) between =
+        subst (λ n. AllByRecursion (λ x. joins n w.queue x ≡ false) between) (sym t.takes.named) (none_in_second w.ticket w.queue past1 between low_in) in
+        let here : Waited (after_all setup s1 between).rows w.queue row.key =
+        subst (λ (s : State). Waited s.rows w.queue row.key) is_state (record { row = row; live = t.takes.live; same = refl; waits = t.takes.waits }) in
         let before : Waited s1.rows q row.key = subst (λ p. Waited s1.rows p row.key) (sym t.queue) (steps_back setup s1 between w.queue row.key here quiet) in
         subst (λ z. due ≤ℤ z) t.due (none row.key before t.class)
 
     by_class : (g : Grant) → grant_after base past2 e ≡ Some g → (b : Bool) → is_of q c g ≡ b
         → AllByRecursion (λ u. u.joined ≤ length past1 → due ≤ℤ u.due) (stays_after base q c (past2 ++ e ∷ []) es)
-        → AllByRecursion (λ u. u.joined ≤ length past1 → due ≤ℤ u.due) (map (λ x. x.stay) (cond b (g ∷ filter (is_of q c) (grants_after base (past2 ++ e ∷ []) es)) (filter (is_of q c) (grants_after base (past2 ++ e ∷ []) es))))
+        → AllByRecursion (λ u. u.joined ≤ length past1
+        → due ≤ℤ u.due) (map (λ x. x.stay) (cond b (g ∷ filter (is_of q c) (grants_after base (past2 ++ e ∷ []) es))
+        (filter (is_of q c) (grants_after base (past2 ++ e ∷ []) es))))
     by_class g made true of rest = (pair g made of, rest)
     by_class g made false of rest = rest
 
-    by_grant : (o : Option Grant) → grant_after base past2 e ≡ o → AllByRecursion (λ u. u.joined ≤ length past1 → due ≤ℤ u.due) (stays_after base q c (past2 ++ e ∷ []) es)
-        → AllByRecursion (λ u. u.joined ≤ length past1 → due ≤ℤ u.due) (map (λ x. x.stay) (filter (is_of q c) (option_map_or (λ x. x ∷ []) o [] ++ grants_after base (past2 ++ e ∷ []) es)))
+    by_grant : (o : Option Grant) → grant_after base past2 e ≡ o
+        → AllByRecursion (λ u. u.joined ≤ length past1 → due ≤ℤ u.due) (stays_after base q c (past2 ++ e ∷ []) es)
+        → AllByRecursion (λ u. u.joined ≤ length past1
+        → due ≤ℤ u.due) (map (λ x. x.stay) (filter (is_of q c) (option_map_or (λ x. x ∷ []) o [] ++ grants_after base (past2 ++ e ∷ []) es)))
     by_grant None made rest = rest
     by_grant (Some g) made rest = by_class g made (is_of q c g) refl rest
 
 -- all grants of a queue and class
-pub fair_after : (base : List BaseRow) (setup : Setup) (q : Queue) (c : ℤ) (past es : List Entry) (s : State) → HaveArrived base past s.rows → AllKeepOrder setup s es → AreFair (stays_after base q c past es)
+pub fair_after : (base : List BaseRow) (setup : Setup) (q : Queue) (c : ℤ) (past es : List Entry) (s : State) → HaveArrived base past s.rows
+    → AllKeepOrder setup s es → AreFair (stays_after base q c past es)
 fair_after base setup q c past [] s have keep = tt
-fair_after base setup q c past (e ∷ es) s have keep = by_grant (grant_after base past e) refl (fair_after base setup q c (past ++ e ∷ []) es (after setup s e) (have_arrived_after base setup past s e have keep.0) keep.1)
+fair_after base setup q c past (e ∷ es) s have keep =
+    by_grant (grant_after base past e) refl (fair_after base setup q c (past ++ e ∷ []) es (after setup s e)
+    (have_arrived_after base setup past s e have keep.0) keep.1)
   where
     long : length (past ++ e ∷ []) ≡ length past + 1
     long = omega (arith, length-append past (e ∷ []))
@@ -123,16 +139,19 @@ fair_after base setup q c past (e ∷ es) s have keep = by_grant (grant_after ba
         let back : Waited s.rows q key = step_back setup s e q key w (grants_no_joining e t.wait key.ticket q t.is) in
         let waits : IsTrue (phase_waits_in t.wait.queue back.row.phase) = subst (λ p. IsTrue (phase_waits_in p back.row.phase)) t.queue back.waits in
         let least = t.takes.least back.row back.live waits in
-        subst (λ z. z ≤ℤ key.due) t.due (due_least t.takes.row.key key (subst (λ (k : Key). key_cmp t.takes.row.key k ≢ Greater) back.same least) (t.class ∙ sym class))
+        subst (λ z. z ≤ℤ key.due) t.due (due_least t.takes.row.key key (subst (λ (k : Key). key_cmp t.takes.row.key k ≢ Greater) back.same least) (t.class
+        ∙ sym class))
 
     by_class : (g : Grant) → grant_after base past e ≡ Some g → (b : Bool) → is_of q c g ≡ b → AreFair (stays_after base q c (past ++ e ∷ []) es)
-        → AreFair (map (λ x. x.stay) (cond b (g ∷ filter (is_of q c) (grants_after base (past ++ e ∷ []) es)) (filter (is_of q c) (grants_after base (past ++ e ∷ []) es))))
+        → AreFair (map (λ x. x.stay) (cond b (g ∷ filter (is_of q c) (grants_after base (past ++ e ∷ []) es))
+        (filter (is_of q c) (grants_after base (past ++ e ∷ []) es))))
     by_class g made false of rest = rest
     by_class g made true of rest =
         let t = taken base s past q c e g have keep.0 made of in
         let slot : length (past ++ e ∷ []) ≡ g.stay.slot = long ∙ sym t.slot in (
           subst (λ n. AllByRecursion (λ u. u.joined ≤ n → g.stay.due ≤ℤ u.due) (stays_after base q c (past ++ e ∷ []) es)) slot
-              (later_fair base setup q c g.stay.due (after setup s e) (past ++ e ∷ []) (first g t) [] es (past ++ e ∷ []) (after setup s e) (sym (append-nil (past ++ e ∷ []))) refl (have_arrived_after base setup past s e have keep.0) keep.1),
+              (later_fair base setup q c g.stay.due (after setup s e) (past ++ e ∷ []) (first g t) [] es (past ++ e ∷ []) (after setup s e)
+              (sym (append-nil (past ++ e ∷ []))) refl (have_arrived_after base setup past s e have keep.0) keep.1),
           rest,
         )
 
@@ -154,7 +173,8 @@ rises_after base q c past (e ∷ es) = by_grant (grant_after base past e) refl (
     long = omega (arith, length-append past (e ∷ []))
 
     by_class : (g : Grant) → grant_after base past e ≡ Some g → (b : Bool) → RisesFrom (length (past ++ e ∷ [])) (stays_after base q c (past ++ e ∷ []) es)
-        → RisesFrom (length past) (map (λ x. x.stay) (cond b (g ∷ filter (is_of q c) (grants_after base (past ++ e ∷ []) es)) (filter (is_of q c) (grants_after base (past ++ e ∷ []) es))))
+        → RisesFrom (length past) (map (λ x. x.stay)
+        (cond b (g ∷ filter (is_of q c) (grants_after base (past ++ e ∷ []) es)) (filter (is_of q c) (grants_after base (past ++ e ∷ []) es))))
     by_class g made false rest = rises_lower (length (past ++ e ∷ [])) (length past) (stays_after base q c (past ++ e ∷ []) es) (omega (arith, long)) rest
     by_class g made true rest =
         let slot : g.stay.slot ≡ length past + 1 = ap (λ (x : Grant). x.stay.slot) (follows base past e g made).made in

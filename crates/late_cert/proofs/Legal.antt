@@ -18,11 +18,13 @@ legal_readable h legal = judged_readable h.setup h.base h.log legal.begins legal
 
 legal_sound : (h : History) → IsLegal h → (r : Report) → IsChosen (window_in h) r → IsSound (window_in h) r
 legal_sound h legal r chosen =
-    chosen_sound h.setup h.base (window_in h) r (base_arrived h.setup h.base legal.begins) (judged_keep_order h.setup h.base h.log legal.begins legal.lawful.judged) chosen
+    chosen_sound h.setup h.base (window_in h) r (base_arrived h.setup h.base legal.begins)
+    (judged_keep_order h.setup h.base h.log legal.begins legal.lawful.judged) chosen
 
 pub legal_reports_sound : (h : History) (rs : List Report) → IsLegal h → AreReports (window_in h) rs → AllByRecursion (IsSound (window_in h)) rs
 legal_reports_sound h rs legal reports = all_weaker (IsChosen (window_in h)) (IsSound (window_in h)) (legal_sound h legal) rs reports.chosen
 
 pub legal_reports_least : (h : History) (rs : List Report) → IsLegal h → AreReports (window_in h) rs → AllByRecursion (IsLeast (window_in h)) rs
 legal_reports_least h rs legal reports =
-    all_weaker (IsChosen (window_in h)) (IsLeast (window_in h)) (λ r chosen. sound_least (window_in h) r (legal_readable h legal) (legal_sound h legal r chosen)) rs reports.chosen
+    all_weaker (IsChosen (window_in h)) (IsLeast (window_in h))
+    (λ r chosen. sound_least (window_in h) r (legal_readable h legal) (legal_sound h legal r chosen)) rs reports.chosen

@@ -1,5 +1,6 @@
 -- The reports of a log are one list.
-use Rattle.std.proofs.Common.{◌≡◌, ℕ, ◌||◌, cond, ℤ, pos, ◌-ℤ◌, ◌≤ℤ◌, ◌<ℤ◌, Bool, true, false, inl, inr, IsTrue, List, [], ◌∷◌, ◌++◌, map, filter, Contains, refl, ap, sym, ◌∙◌, subst, arith}
+use Rattle.std.proofs.Common.{◌≡◌, ℕ, ◌||◌, cond, ℤ, pos, ◌-ℤ◌, ◌≤ℤ◌, ◌<ℤ◌, Bool, true, false, inl, inr}
+use Rattle.std.proofs.Common.{IsTrue, List, [], ◌∷◌, ◌++◌, map, filter, Contains, refl, ap, sym, ◌∙◌, subst, arith}
 use Rattle.std.specs.List.{AllByRecursion}
 use Rattle.std.specs.Ordering.{int_eq}
 use Rattle.std.proofs.lemmas.Bool.{and_parts}
@@ -29,7 +30,8 @@ record AreOneWorst (first second : List Stay) (stay other : Stay) : Type 0 where
   pub stay_is : stay ≡ other
 
 module _ (late : Stay → ℤ) where
-  first_same : (a b c d : List Stay) (s u : Stay) → a ++ s ∷ c ≡ b ++ u ∷ d → AllByRecursion (λ it. late it <ℤ late s) a → AllByRecursion (λ it. late it ≤ℤ late s) c
+  first_same : (a b c d : List Stay) (s u : Stay) → a ++ s ∷ c ≡ b ++ u ∷ d → AllByRecursion (λ it. late it <ℤ late s) a
+      → AllByRecursion (λ it. late it ≤ℤ late s) c
       → AllByRecursion (λ it. late it <ℤ late u) b → AllByRecursion (λ it. late it ≤ℤ late u) d → AreOneWorst a b s u
   first_same [] [] c d s u same less more low high = let stay : s ≡ u = cc in record { earlier = refl; stay_is = stay }
   first_same [] (x ∷ b) c d s u same less more low high =
@@ -64,7 +66,8 @@ module _ (window other : Window) (alike : TellAlike window other) where
   stays-same queue class = ap (λ (l : List Grant). map (λ grant. grant.stay) (filter (is_of queue class) l)) alike.granted
 
   -- by how late stays are, both worst stays are the same
-  worst-same : (l : List Stay) (r u : Report) → IsFirstWorst window l r → IsFirstWorst other l u → (r.worst ≡ u.worst) × (r.due ≡ u.due) × (r.to ≡ u.to) × (r.after ≡ u.after)
+  worst-same : (l : List Stay) (r u : Report) → IsFirstWorst window l r → IsFirstWorst other l u
+      → (r.worst ≡ u.worst) × (r.due ≡ u.due) × (r.to ≡ u.to) × (r.after ≡ u.after)
   worst-same l r u a b =
       let late : Stay → ℤ = own_lateness window in
       let its : own_lateness window b.stay ≡ u.worst = sym (late-same b.stay) ∙ b.late in
@@ -92,12 +95,14 @@ module _ (window other : Window) (alike : TellAlike window other) where
   chosen-same : (r u : Report) → r.queue ≡ u.queue → r.class ≡ u.class → IsChosen window r → IsChosen other u → r ≡ u
   chosen-same r u queue class a b =
       let l : List Stay = stays_of window r in
-      let list : stays_of other u ≡ stays_of window r = stays-same u.queue u.class ∙ ap (λ q. stays window q u.class) (sym queue) ∙ ap (λ c. stays window r.queue c) (sym class) in
+      let list : stays_of other u ≡ stays_of window r = stays-same u.queue u.class ∙ ap (λ q. stays window q u.class) (sym queue)
+      ∙ ap (λ c. stays window r.queue c) (sym class) in
       let its : IsChosenFor other (stays_of window r) u = subst (λ x. IsChosenFor other x u) list b in
       let parts = worst-same (stays_of window r) r u a.worst its.worst in
       let granted : r.granted ≡ u.granted = a.granted ∙ sym its.granted in
       let critical : r.critical ≡ u.critical =
-      a.critical ∙ ap (λ n. filter (is_within n r.to) (stays_of window r)) parts.3 ∙ ap (λ n. filter (is_within u.after n) (stays_of window r)) parts.2 ∙ sym its.critical
+      a.critical ∙ ap (λ n. filter (is_within n r.to) (stays_of window r)) parts.3 ∙ ap (λ n. filter (is_within u.after n) (stays_of window r)) parts.2
+      ∙ sym its.critical
       in
       let worst : r.worst ≡ u.worst = parts.0 in
       let due : r.due ≡ u.due = parts.1 in
@@ -113,24 +118,30 @@ module _ (window other : Window) (alike : TellAlike window other) where
       ∙ ap (λ x. record u { critical = x }) critical
 
 -- a report is about a grant
-some_grant : (gs : List Grant) (queue : Queue) (class : ℤ) (earlier later : List Stay) (stay : Stay) → map (λ it. it.stay) (filter (is_of queue class) gs) ≡ earlier ++ stay ∷ later
+some_grant : (gs : List Grant) (queue : Queue) (class : ℤ) (earlier later : List Stay) (stay : Stay)
+    → map (λ it. it.stay) (filter (is_of queue class) gs) ≡ earlier ++ stay ∷ later
     → (grant : Grant) × Contains gs grant × (is_of queue class grant ≡ true)
 some_grant [] queue class [] later stay same = let none : [] ≡ stay ∷ later = same in cc
 some_grant [] queue class (x ∷ earlier) later stay same = let none : [] ≡ x ∷ (earlier ++ stay ∷ later) = same in cc
 some_grant (g ∷ gs) queue class earlier later stay same = by_test (is_of queue class g) refl (some_grant gs queue class earlier later stay)
   where
-    by_test : (b : Bool) → is_of queue class g ≡ b → (map (λ it. it.stay) (filter (is_of queue class) gs) ≡ earlier ++ stay ∷ later → (grant : Grant) × Contains gs grant × (is_of queue class grant ≡ true))
+    by_test : (b : Bool) → is_of queue class g ≡ b
+        → (map (λ it. it.stay) (filter (is_of queue class) gs) ≡ earlier ++ stay ∷ later
+        → (grant : Grant) × Contains gs grant × (is_of queue class grant ≡ true))
         → (grant : Grant) × Contains (g ∷ gs) grant × (is_of queue class grant ≡ true)
     by_test true e rest = (g, Contains-head g gs, e)
     by_test false e rest =
-        let it = rest (sym (ap (λ (b : Bool). map (λ (grant : Grant). grant.stay) (cond b (g ∷ filter (is_of queue class) gs) (filter (is_of queue class) gs))) e) ∙ same) in
+        let it = rest (sym (ap (λ (b : Bool). map (λ (grant : Grant). grant.stay)
+        (cond b (g ∷ filter (is_of queue class) gs) (filter (is_of queue class) gs))) e) ∙ same) in
         (it.0, Contains-tail g gs it.0 it.1, it.2)
 
-covering : (reports : List Report) (grant : Grant) → is_covered reports grant ≡ true → (report : Report) × Contains reports report × (is_of report.queue report.class grant ≡ true)
+covering : (reports : List Report) (grant : Grant) → is_covered reports grant ≡ true
+    → (report : Report) × Contains reports report × (is_of report.queue report.class grant ≡ true)
 covering [] grant covered = false_true covered
 covering (r ∷ reports) grant covered = by_test (is_of r.queue r.class grant) refl (covering reports grant)
   where
-    by_test : (b : Bool) → is_of r.queue r.class grant ≡ b → (is_covered reports grant ≡ true → (report : Report) × Contains reports report × (is_of report.queue report.class grant ≡ true))
+    by_test : (b : Bool) → is_of r.queue r.class grant ≡ b
+        → (is_covered reports grant ≡ true → (report : Report) × Contains reports report × (is_of report.queue report.class grant ≡ true))
         → (report : Report) × Contains (r ∷ reports) report × (is_of report.queue report.class grant ≡ true)
     by_test true e rest = (r, Contains-head r reports, e)
     by_test false e rest =
@@ -144,7 +155,8 @@ same_group grant q r c d first second =
     (queue_same q grant.queue a.0 ∙ sym (queue_same r grant.queue b.0), (Decides-int_eq c grant.class).0 a.1 ∙ sym ((Decides-int_eq d grant.class).0 b.1))
 
 -- reports in order are one list where each is one of the others
-rising : (xs ys : List Report) → AreAscending xs → AreAscending ys → ((x : Report) → Contains xs x → Contains ys x) → ((y : Report) → Contains ys y → Contains xs y) → xs ≡ ys
+rising : (xs ys : List Report) → AreAscending xs → AreAscending ys → ((x : Report) → Contains xs x → Contains ys x)
+    → ((y : Report) → Contains ys y → Contains xs y) → xs ≡ ys
 rising [] [] low high to back = refl
 rising [] (y ∷ ys) low high to back = absurd (Contains-nil y (back y (Contains-head y ys)))
 rising (x ∷ xs) [] low high to back = absurd (Contains-nil x (to x (Contains-head x xs)))
@@ -172,25 +184,31 @@ rising (x ∷ xs) (y ∷ ys) low high to back =
           | inr later ↦ later
         ])
         (λ z among. elim (Contains-cases x xs z (back z (Contains-tail y ys z among))) [
-          | inl is ↦ absurd (none_itself z (subst (λ (w : Report). comes_before w.queue w.class z.queue z.class ≡ true) (sym same ∙ is) (before y ys z high among)))
+          | inl is ↦ absurd (none_itself z (subst (λ (w : Report). comes_before w.queue w.class z.queue z.class ≡ true) (sym same
+              ∙ is) (before y ys z high among)))
           | inr later ↦ later
         ])
         in
         cc
 
 -- each report of the one is one of the other
-each_is_there : (window other : Window) (reports others : List Report) → TellAlike window other → AreReports window reports → AreReports other others → (r : Report) → Contains reports r → Contains others r
+each_is_there : (window other : Window) (reports others : List Report) → TellAlike window other → AreReports window reports → AreReports other others
+    → (r : Report) → Contains reports r → Contains others r
 each_is_there window other reports others alike mine its r among =
     let chosen = each_at_member (IsChosen window) reports r mine.chosen among in
     let grant = some_grant (grants window) r.queue r.class chosen.worst.earlier chosen.worst.later chosen.worst.stay chosen.worst.parts in
-    let there = covering others grant.0 (each_at_member (λ g. IsTrue (is_covered others g)) (grants other) grant.0 its.complete (subst (λ l. Contains l grant.0) (sym alike.granted) grant.1)) in
+    let there = covering others grant.0 (each_at_member (λ g. IsTrue (is_covered others g)) (grants other) grant.0 its.complete
+    (subst (λ l. Contains l grant.0) (sym alike.granted) grant.1)) in
     let group = same_group grant.0 r.queue there.0.queue r.class there.0.class grant.2 there.2 in
-    let is : r ≡ there.0 = chosen-same window other alike r there.0 group.0 group.1 chosen (each_at_member (IsChosen other) others there.0 its.chosen there.1) in
+    let is : r ≡ there.0 = chosen-same window other alike r there.0 group.0 group.1 chosen
+    (each_at_member (IsChosen other) others there.0 its.chosen there.1) in
     subst (Contains others) (sym is) there.1
 
-pub reports_same : (h other : History) (reports others : List Report) → IsLegal h → IsLegal other → AreSameHistories h other → AreReports (window_in h) reports → AreReports (window_in other) others → others ≡ reports
+pub reports_same : (h other : History) (reports others : List Report) → IsLegal h → IsLegal other → AreSameHistories h other → AreReports (window_in h) reports
+    → AreReports (window_in other) others → others ≡ reports
 reports_same h other reports others legal too same mine its =
     let grants_same = same_grants h other legal too same in
     let alike : TellAlike (window_in h) (window_in other) = record { granted = grants_same; moments = same_moments h other same } in
     let back : TellAlike (window_in other) (window_in h) = record { granted = sym grants_same; moments = λ n. sym (same_moments h other same n) } in
-    sym (rising reports others mine.ascending its.ascending (each_is_there (window_in h) (window_in other) reports others alike mine its) (each_is_there (window_in other) (window_in h) others reports back its mine))
+    sym (rising reports others mine.ascending its.ascending (each_is_there (window_in h) (window_in other) reports others alike mine its)
+    (each_is_there (window_in other) (window_in h) others reports back its mine))

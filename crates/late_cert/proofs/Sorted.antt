@@ -1,5 +1,6 @@
 -- Grants in order: what stands together, and what comes later.
-use Rattle.std.proofs.Common.{◌≡◌, ℕ, zero, suc, ◌+◌, ◌<◌, ◌≤◌, ◌&&◌, not, Bool, true, false, cond, ℤ, List, [], ◌∷◌, take, drop, length, get_or, refl, ap, sym, ◌∙◌, subst, arith}
+use Rattle.std.proofs.Common.{◌≡◌, ℕ, zero, suc, ◌+◌, ◌<◌, ◌≤◌, ◌&&◌, not, Bool, true, false, cond, ℤ}
+use Rattle.std.proofs.Common.{List, [], ◌∷◌, take, drop, length, get_or, refl, ap, sym, ◌∙◌, subst, arith}
 use Rattle.std.specs.Cmp.{IsStrictWeakOrder}
 use Rattle.std.specs.List.{AllByRecursion, filter, prefix_len}
 use Rattle.std.specs.List.Sorted.{IsSortedBy, IsStableBy, ties}
@@ -74,14 +75,18 @@ other_later q c g h before later = go (is_of q c h) refl
     go false e = e
     go true e =
         let same = is_of_true q c h e in
-        let k : comes_before q c g.queue g.class ≡ false = subst (λ p. comes_before p c g.queue g.class ≡ false) (sym same.0) (subst (λ d. comes_before h.queue d g.queue g.class ≡ false) (sym same.1) later) in
+        let k : comes_before q c g.queue g.class ≡ false =
+        subst (λ p. comes_before p c g.queue g.class ≡ false) (sym same.0)
+        (subst (λ d. comes_before h.queue d g.queue g.class ≡ false) (sym same.1) later) in
         absurd (false≢true (sym k ∙ before))
 
-all_other : (q : Queue) (c : ℤ) (g : Grant) (gs : List Grant) → comes_before q c g.queue g.class ≡ true → AllByRecursion (λ h. is_before h g ≡ false) gs → AllByRecursion (λ h. is_of q c h ≡ false) gs
+all_other : (q : Queue) (c : ℤ) (g : Grant) (gs : List Grant) → comes_before q c g.queue g.class ≡ true → AllByRecursion (λ h. is_before h g ≡ false) gs
+    → AllByRecursion (λ h. is_of q c h ≡ false) gs
 all_other q c g [] before later = tt
 all_other q c g (h ∷ gs) before later = (other_later q c g h before later.0, all_other q c g gs before later.1)
 
-others : (q : Queue) (c : ℤ) (g : Grant) (gs : List Grant) → AreSorted (g ∷ gs) → comes_before g.queue g.class q c ≡ false → is_of q c g ≡ false → AllByRecursion (λ h. is_of q c h ≡ false) (g ∷ gs)
+others : (q : Queue) (c : ℤ) (g : Grant) (gs : List Grant) → AreSorted (g ∷ gs) → comes_before g.queue g.class q c ≡ false → is_of q c g ≡ false
+    → AllByRecursion (λ h. is_of q c h ≡ false) (g ∷ gs)
 others q c g gs sorted none e = (e, all_other q c g gs (before_other q g.queue c g.class none e) sorted.0)
 
 -- what stands in front from a queue and of a class is all there is, and what follows is from others
@@ -101,7 +106,8 @@ split_sorted q c (g ∷ gs) sorted none = go (is_of q c g) refl (split_sorted q 
     go true e rest =
         let n : suc (prefix_len (is_of q c) gs) ≡ prefix_len (is_of q c) (g ∷ gs) = longer ∙ ap (λ b. cond b (1 + prefix_len (is_of q c) gs) 0) (sym e) in
         record {
-          front = subst (λ k. take k (g ∷ gs) ≡ filter (is_of q c) (g ∷ gs)) n (ap (λ l. g ∷ l) rest.front ∙ ap (λ b. cond b (g ∷ filter (is_of q c) gs) (filter (is_of q c) gs)) (sym e));
+          front = subst (λ k. take k (g ∷ gs) ≡ filter (is_of q c) (g ∷ gs)) n (ap (λ l. g ∷ l) rest.front
+              ∙ ap (λ b. cond b (g ∷ filter (is_of q c) gs) (filter (is_of q c) gs)) (sym e));
           passes = subst (λ k. AllByRecursion (λ h. is_of q c h ≡ true) (take k (g ∷ gs))) n (e, rest.passes);
           back = subst (λ k. AllByRecursion (λ h. is_of q c h ≡ false) (drop k (g ∷ gs))) n rest.back;
         }
@@ -130,12 +136,15 @@ none_before_first q c (g ∷ gs) sorted some = go (is_of q c g) refl some
 ties_are : (x y : Grant) → ties is_before x y ≡ is_of x.queue x.class y
 ties_are x y = go (is_of x.queue x.class y) refl (comes_before x.queue x.class y.queue y.class) (comes_before y.queue y.class x.queue x.class) refl refl
   where
-    go : (b : Bool) → is_of x.queue x.class y ≡ b → (l r : Bool) → comes_before x.queue x.class y.queue y.class ≡ l → comes_before y.queue y.class x.queue x.class ≡ r → (not l && not r) ≡ b
+    go : (b : Bool) → is_of x.queue x.class y ≡ b → (l r : Bool) → comes_before x.queue x.class y.queue y.class ≡ l
+        → comes_before y.queue y.class x.queue x.class ≡ r → (not l && not r) ≡ b
     go true e l r f g = let h = same_ties x.queue y.queue x.class y.class e in cc
     go false e true r f g = refl
     go false e false true f g = refl
     go false e false false f g = absurd (false≢true (sym e ∙ ties_same x.queue y.queue x.class y.class f g))
 
-pub stable_filter : (x : Grant) (gs sorted : List Grant) → IsStableBy is_before gs sorted → filter (is_of x.queue x.class) sorted ≡ filter (is_of x.queue x.class) gs
+pub stable_filter : (x : Grant) (gs sorted : List Grant) → IsStableBy is_before gs sorted
+    → filter (is_of x.queue x.class) sorted ≡ filter (is_of x.queue x.class) gs
 stable_filter x gs sorted stable =
-    sym (filter_agree (ties is_before x) (is_of x.queue x.class) (ties_are x) sorted) ∙ stable x ∙ filter_agree (ties is_before x) (is_of x.queue x.class) (ties_are x) gs
+    sym (filter_agree (ties is_before x) (is_of x.queue x.class) (ties_are x) sorted) ∙ stable x
+    ∙ filter_agree (ties is_before x) (is_of x.queue x.class) (ties_are x) gs

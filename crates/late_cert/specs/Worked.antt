@@ -60,8 +60,14 @@ waited_before = record {
 }
 
 abbrev pub chosen_before : Report
-chosen_before = report (pos 19) 0 8 (record { ticket = 3; joined = 0; slot = 4; due = negsuc 2 } ∷ record { ticket = 2; joined = 0; slot = 8; due = pos 1 } ∷ [])
+chosen_before = report (pos 19) 0 8 (record { ticket = 3; joined = 0; slot = 4; due = negsuc 2 } ∷ record {
+  ticket = 2;
+  joined = 0;
+  slot = 8;
+  due = pos 1;
+} ∷ [])
 
 -- a report that says that they joined in the window before, where they stood in its entries
 abbrev pub joined_in_the_window_before : Report
-joined_in_the_window_before = report (pos 19) 0 8 (record { ticket = 3; joined = 6; slot = 4; due = negsuc 2 } ∷ record { ticket = 2; joined = 4; slot = 8; due = pos 1 } ∷ [])
+joined_in_the_window_before = report (pos 19) 0 8
+    (record { ticket = 3; joined = 6; slot = 4; due = negsuc 2 } ∷ record { ticket = 2; joined = 4; slot = 8; due = pos 1 } ∷ [])

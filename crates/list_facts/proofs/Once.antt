@@ -65,7 +65,8 @@ once_within (suc room) xs once below = elim (contains_or_not xs room) [
   | inl among ↦
       let parts = split_at xs room among in
       let apart : ComeOnce (parts.before ++ room ∷ parts.after) = subst ComeOnce parts.parts once in
-      let rest : length (parts.before ++ parts.after) ≤ room = once_within room (parts.before ++ parts.after) (once_around parts.before room parts.after apart) (λ x in_rest.
+      let rest : length (parts.before ++ parts.after) ≤ room =
+      once_within room (parts.before ++ parts.after) (once_around parts.before room parts.after apart) (λ x in_rest.
       let less : x < suc room = below x (subst (λ l. Contains l x) (sym parts.parts) (Contains-around parts.before room parts.after x in_rest)) in
       let differs : x ≢ room = λ same. not_around parts.before room parts.after apart (subst (Contains (parts.before ++ parts.after)) same in_rest) in
       omega arith) in

@@ -30,4 +30,5 @@ module _ {X : Type 0} where
   -- a list weighs its length where each element weighs 1
   pub sum_ones : (xs : List X) → sum_by (λ (x : X). 1) xs ≡ length xs
   sum_ones [] = refl
-  sum_ones (x ∷ xs) = let sum = sum_by-cons (λ (y : X). 1) x xs in let rest = sum_ones xs in let long : length (x ∷ xs) ≡ length xs + 1 = omega arith in omega arith
+  sum_ones (x ∷ xs) = let sum = sum_by-cons (λ (y : X). 1) x xs in let rest = sum_ones xs in let long : length (x ∷ xs) ≡ length xs + 1 = omega arith in
+      omega arith

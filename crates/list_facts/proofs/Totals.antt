@@ -78,5 +78,10 @@ module _ {A : Type 0} where
   -- where the whole of n is that of one item, the other items weigh nothing by g
   pub alone : (n g : A → ℕ) → ((u : A) → n u ≡ 0 → g u ≡ 0) → (l : List A) (j : ℕ) (v : A) → get_elem? l j ≡ some v → total n l ≤ n v → total g l ≡ g v
   alone n g none [] j v e le = absurd (some-ne-none v (sym e))
-  alone n g none (x ∷ xs) zero v e le = omega (arith, ap n (some-injective x v e), ap g (some-injective x v e), none_at_all n g none xs (omega (arith, ap n (some-injective x v e))))
+  alone n g none (x ∷ xs) zero v e le = omega (
+    arith,
+    ap n (some-injective x v e),
+    ap g (some-injective x v e),
+    none_at_all n g none xs (omega (arith, ap n (some-injective x v e))),
+  )
   alone n g none (x ∷ xs) (suc j) v e le = let part = term_le n xs j v e in omega (arith, none x (omega arith), alone n g none xs j v e (omega arith))

@@ -12,32 +12,38 @@ use Rattle.grant_board.specs.KeeperCalls.{offer_after, Collects}
 use Rattle.grant_board.proofs.Grants.{at_place-yes, at_place-no}
 use Rattle.locked_book.specs.Busy.{IsKept}
 
-pub kept_offer : (view : KeeperView) (places next : List ℕ) (p t : ℕ) (it : Verdict) → IsKept view places → p < view.terms.places → count_at p view.out ≡ 0 → ((q : ℕ) → Has next q ↔ ((q ≡ p) ⊎ Has places q)) → IsKept (offer_after view (grant p t it)) next
+pub kept_offer : (view : KeeperView) (places next : List ℕ) (p t : ℕ) (it : Verdict) → IsKept view places → p < view.terms.places → count_at p view.out ≡ 0
+    → ((q : ℕ) → Has next q ↔ ((q ≡ p) ⊎ Has places q)) → IsKept (offer_after view (grant p t it)) next
 kept_offer view places next p t it is low free more = record {
   few = is.few;
-  within = λ q some. dite (ℕ_discrete p q) (λ same. subst (λ n. n < view.terms.places) same low) (λ other. is.within q (omega (arith, some, count q, at_place-no q (grant p t it) other)));
+  within = λ q some. dite (ℕ_discrete p q) (λ same. subst (λ n. n < view.terms.places) same low)
+      (λ other. is.within q (omega (arith, some, count q, at_place-no q (grant p t it) other)));
   once = λ q. dite (ℕ_discrete p q)
-      (λ same. let none : count_at q view.out ≡ 0 = subst (λ n. count_at n view.out ≡ 0) same free in omega (arith, none, count q, at_place-yes q (grant p t it) same))
+      (λ same. let none : count_at q view.out ≡ 0 = subst (λ n. count_at n view.out ≡ 0) same free in
+      omega (arith, none, count q, at_place-yes q (grant p t it) same))
       (λ other. omega (arith, is.once q, count q, at_place-no q (grant p t it) other));
   busy = λ q. (
     λ has. elim ((more q).0 has) [
       | inl same ↦ omega (arith, count q, at_place-yes q (grant p t it) (sym same))
       | inr had ↦ let some = (is.busy q).0 had in omega (arith, count q, some)
     ],
-    λ some. dite (ℕ_discrete p q) (λ same. (more q).1 (inl (sym same))) (λ other. (more q).1 (inr ((is.busy q).1 (omega (arith, some, count q, at_place-no q (grant p t it) other))))),
+    λ some. dite (ℕ_discrete p q) (λ same. (more q).1 (inl (sym same)))
+        (λ other. (more q).1 (inr ((is.busy q).1 (omega (arith, some, count q, at_place-no q (grant p t it) other))))),
   );
 }
   where
     count : (q : ℕ) → total (at_place q) (view.out ++ grant p t it ∷ []) ≡ total (at_place q) view.out + at_place q (grant p t it)
     count q = total-push (at_place q) view.out (grant p t it)
 
-pub kept_collect : (old view : KeeperView) (places next : List ℕ) (p : ℕ) (back : Return) → IsKept old places → Collects old view p back → ((q : ℕ) → Has next q ↔ ((q ≢ p) × Has places q)) → IsKept view next
+pub kept_collect : (old view : KeeperView) (places next : List ℕ) (p : ℕ) (back : Return) → IsKept old places → Collects old view p back
+    → ((q : ℕ) → Has next q ↔ ((q ≢ p) × Has places q)) → IsKept view next
 kept_collect old view places next p back is collects less = record {
   few = subst (λ (v : KeeperView). v.terms.places ≤ 4096) (sym collects.after) is.few;
   within = λ q some. subst (λ (v : KeeperView). q < v.terms.places) (sym collects.after) (is.within q (omega (arith, some, count q)));
   once = λ q. omega (arith, is.once q, count q);
   busy = λ q. (
-    λ has. let both = (less q).0 has in let some = (is.busy q).0 both.1 in omega (arith, some, count q, at_place-no q (grant p back.ticket collects.verdict) (λ same. both.0 (sym same))),
+    λ has. let both = (less q).0 has in let some = (is.busy q).0 both.1 in
+        omega (arith, some, count q, at_place-no q (grant p back.ticket collects.verdict) (λ same. both.0 (sym same))),
     λ some. (less q).1 (
       λ same. absurd (omega (arith, some, count q, is.once q, at_place-yes q (grant p back.ticket collects.verdict) (sym same))),
       (is.busy q).1 (omega (arith, some, count q)),

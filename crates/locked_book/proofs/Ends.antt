@@ -1,5 +1,6 @@
 -- Returns, new limits and windows: what they owe.
-use Rattle.std.proofs.Common.{◌≡◌, ℕ, zero, suc, ◌+◌, ◌-◌, ◌*◌, ◌<◌, ◌≤◌, ◌==◌, max, min, nat_lt, nat_le, not, Bool, true, false, cond, List, [], ◌∷◌, ◌++◌, Option, None, Some, map, drop, length, set, is_none, refl, ap, sym, ◌∙◌, subst, arith}
+use Rattle.std.proofs.Common.{◌≡◌, ℕ, zero, suc, ◌+◌, ◌-◌, ◌*◌, ◌<◌, ◌≤◌, ◌==◌, max, min, nat_lt, nat_le, not, Bool, true, false, cond}
+use Rattle.std.proofs.Common.{List, [], ◌∷◌, ◌++◌, Option, None, Some, map, drop, length, set, is_none, refl, ap, sym, ◌∙◌, subst, arith}
 use Rattle.std.specs.Option.{option_map_or}
 use Rattle.std.proofs.lemmas.Bool.Decides.{nat_tests}
 use Rattle.std.proofs.lemmas.List.{append-nil, length-map}
@@ -41,7 +42,8 @@ use Rattle.locked_book.proofs.Events.{added_is, sets_none, limits_kept}
 
 -- a look changes nothing of a book
 pub looked_book : (h : History) (old view : KeeperView) (place : ℕ) → IsBook h old → FindsUnposted old view place → IsBook h view
-looked_book h old view place is finds = subst (IsBook h) (sym finds.after) (record { terms = is.terms; bounds = is.bounds; out = is.out; offers = is.offers; returns = is.returns })
+looked_book h old view place is finds = subst (IsBook h) (sym finds.after)
+    (record { terms = is.terms; bounds = is.bounds; out = is.out; offers = is.offers; returns = is.returns })
 
 -- nor does a new window, whose log has no verdict yet
 pub rolled_book : (h : History) (view : KeeperView) → IsBook h view → IsBook (next_window h) view
@@ -71,9 +73,11 @@ first_none : (a : Bool) (o : Option Row) (r : Row) (wrong : Phase → Bool) → 
     → first_of ((a, LogFull) ∷ (is_none o, NoSuchTicket) ∷ (option_map_or (λ (it : Row). wrong it.phase) o false, WrongPhase) ∷ []) ≡ None
 first_none true o r wrong room found right = cc
 first_none false None r wrong room found right = none_some found
-first_none false (Some u) r wrong room found right = let same : wrong u.phase ≡ false = ap (λ (x : Option Row). option_map_or (λ (it : Row). wrong it.phase) x false) found ∙ right in rw same refl
+first_none false (Some u) r wrong room found right = let same : wrong u.phase ≡ false =
+    ap (λ (x : Option Row). option_map_or (λ (it : Row). wrong it.phase) x false) found ∙ right in rw same refl
 
-pub acceptable : (h : History) (old view : KeeperView) (place : ℕ) (back : Return) → IsLegal h → IsBook h old → Collects old view place back → HasEntryRoom h → IsAcceptable h back
+pub acceptable : (h : History) (old view : KeeperView) (place : ℕ) (back : Return) → IsLegal h → IsBook h old → Collects old view place back → HasEntryRoom h
+    → IsAcceptable h back
 acceptable h old view place back legal is collects room = by_ending back.ending collects.ending
   where
     row : IsOutAt (state_of h).rows place (grant place back.ticket collects.verdict)
@@ -86,22 +90,28 @@ acceptable h old view place back legal is collects room = by_ending back.ending 
     fits = grind (arith, nat_tests)
 
     by_ending : (e : Ending) → MayEnd collects.verdict e → refuses_end h e back.ticket ≡ None
-    by_ending ending.Done may = first_none (lacks_room h.setup (length h.log)) (row_of back.ticket (state_of h).rows) row.row is_waiting fits found (not_waiting row.row.phase collects.verdict row.verdict)
-    by_ending ending.Failed may = first_none (lacks_room h.setup (length h.log)) (row_of back.ticket (state_of h).rows) row.row (λ phase. not (has_a_slot phase)) fits found (has_slot row.row.phase collects.verdict row.verdict may)
+    by_ending ending.Done may = first_none (lacks_room h.setup (length h.log)) (row_of back.ticket (state_of h).rows) row.row is_waiting fits found
+        (not_waiting row.row.phase collects.verdict row.verdict)
+    by_ending ending.Failed may = first_none (lacks_room h.setup (length h.log)) (row_of back.ticket (state_of h).rows) row.row
+        (λ phase. not (has_a_slot phase)) fits found (has_slot row.row.phase collects.verdict row.verdict may)
 
 -- what its event owes
-pub end_owes : (h new : History) (old view : KeeperView) (place moment : ℕ) (back : Return) → IsLegal h → IsBook h old → Collects old view place back → AddsEvent h new (event_of moment back) → IsOwing new view (added h new)
+pub end_owes : (h new : History) (old view : KeeperView) (place moment : ℕ) (back : Return) → IsLegal h → IsBook h old → Collects old view place back
+    → AddsEvent h new (event_of moment back) → IsOwing new view (added h new)
 end_owes h new old view place moment back legal is collects adds = by_ending back.ending refl adds
   where
     by_ending : (e : Ending) → back.ending ≡ e → AddsEvent h new (ended_by e moment back.ticket) → IsOwing new view (added h new)
     by_ending ending.Done same adds =
         subst (IsOwing new view) (sym (added_is h new (Done moment back.ticket) adds))
-        (owes_end h new old view place back (Done moment back.ticket) legal is collects refl adds (ap (λ (e : Ending). Some (back.ticket, e)) (sym same)) (λ weight. refl) (sets_none h new (Done moment back.ticket) adds refl))
+        (owes_end h new old view place back (Done moment back.ticket) legal is collects refl adds (ap (λ (e : Ending). Some (back.ticket, e)) (sym same))
+        (λ weight. refl) (sets_none h new (Done moment back.ticket) adds refl))
     by_ending ending.Failed same adds =
         subst (IsOwing new view) (sym (added_is h new (Fail moment back.ticket) adds))
-        (owes_end h new old view place back (Fail moment back.ticket) legal is collects refl adds (ap (λ (e : Ending). Some (back.ticket, e)) (sym same)) (λ weight. refl) (sets_none h new (Fail moment back.ticket) adds refl))
+        (owes_end h new old view place back (Fail moment back.ticket) legal is collects refl adds (ap (λ (e : Ending). Some (back.ticket, e)) (sym same))
+        (λ weight. refl) (sets_none h new (Fail moment back.ticket) adds refl))
 
-pub takes_back : (old : Booked) (h new : History) (first between now : Keeper) (place moment : ℕ) (back : Return) (woken woken_then : List ℕ) (from : ℕ) → record { history = h; view = first.view } ≡ old → from ≡ length h.log
+pub takes_back : (old : Booked) (h new : History) (first between now : Keeper) (place moment : ℕ) (back : Return) (woken woken_then : List ℕ) (from : ℕ)
+    → record { history = h; view = first.view } ≡ old → from ≡ length h.log
     → Collects first.view between.view place back → AddsEvent h new (event_of moment back)
     → now ≡ record between { view = with_offers between.view (grants_in new (drop from new.log)) } → Wakes (grants_in new (drop from new.log)) woken woken_then
     → TakesBack old (record { history = new; view = now.view }) place moment back woken woken_then
@@ -133,31 +143,39 @@ at_least limit count some = by_test (limit == 0) some
     by_test true some = absurd (omega arith)
     by_test false some = omega arith
 
-pub may_limit : (h : History) (view : KeeperView) (server limit bound : ℕ) → IsBook h view → refuses_limit h server ≡ None → bound ≡ bound_by (record { limit = limit; served = served server (state_of h).rows }) → MayLimit view server bound
+pub may_limit : (h : History) (view : KeeperView) (server limit bound : ℕ) → IsBook h view → refuses_limit h server ≡ None
+    → bound ≡ bound_by (record { limit = limit; served = served server (state_of h).rows }) → MayLimit view server bound
 may_limit h view server limit bound is accepted same =
     let there : nat_le (length h.setup.servers) server ≡ false = known_server _ _ accepted in
     let low : server < length h.setup.servers = grind (arith, nat_tests) in
-    let terms : length view.terms.limits ≡ length h.setup.servers = ap (λ (t : Terms). length t.limits) is.terms ∙ length-map h.setup.servers (λ (it : ServerSet). it.limit) in (
+    let terms : length view.terms.limits ≡ length h.setup.servers = ap (λ (t : Terms). length t.limits) is.terms
+    ∙ length-map h.setup.servers (λ (it : ServerSet). it.limit) in (
       omega (arith, low, terms),
       λ some.
           let most = at_least limit (served server (state_of h).rows) (omega (arith, some, same)) in
-          let out : count_of server view.out ≡ served server (state_of h).rows = is.out (λ g. serves_at server g.verdict) ∙ count_of_served server 0 (state_of h).rows in
+          let out : count_of server view.out ≡ served server (state_of h).rows = is.out (λ g. serves_at server g.verdict)
+          ∙ count_of_served server 0 (state_of h).rows in
           omega (arith, most, out, same),
     )
 
-pub limit_owes : (h new : History) (view now : KeeperView) (moment server limit bound : ℕ) → IsLegal h → IsBook h view → AddsEvent h new (Limit moment server limit)
-    → bound ≡ bound_by (record { limit = limit; served = served server (state_of h).rows }) → now ≡ limit_after view server bound → IsOwing new now (added h new)
+pub limit_owes : (h new : History) (view now : KeeperView) (moment server limit bound : ℕ) → IsLegal h → IsBook h view
+    → AddsEvent h new (Limit moment server limit)
+    → bound ≡ bound_by (record { limit = limit; served = served server (state_of h).rows }) → now ≡ limit_after view server bound
+    → IsOwing new now (added h new)
 limit_owes h new view now moment server limit bound legal is adds same after_it =
     let set_here : (state_of new).limits ≡ set (state_of h).limits server (record { limit = limit; served = served server (state_of h).rows }) =
-    ap (λ (s : State). s.limits) (state_on h new (Limit moment server limit) adds) ∙ limits_kept h.setup (after h.setup (state_of h) (Limit moment server limit)) adds.brought adds.one_event in
+    ap (λ (s : State). s.limits) (state_on h new (Limit moment server limit) adds)
+    ∙ limits_kept h.setup (after h.setup (state_of h) (Limit moment server limit)) adds.brought adds.one_event in
     let bounds : set view.bounds server bound ≡ map bound_by (state_of new).limits =
-    ap (λ l. set l server bound) is.bounds ∙ ap (set (map bound_by (state_of h).limits) server) same ∙ sym (map_set (state_of h).limits server (record { limit = limit; served = served server (state_of h).rows }))
+    ap (λ l. set l server bound) is.bounds ∙ ap (set (map bound_by (state_of h).limits) server) same
+    ∙ sym (map_set (state_of h).limits server (record { limit = limit; served = served server (state_of h).rows }))
     ∙ ap (map bound_by) (sym set_here) in
     subst (λ (v : KeeperView). IsOwing new v (added h new)) (sym after_it)
     (subst (IsOwing new (limit_after view server bound)) (sym (added_is h new (Limit moment server limit) adds))
     (owes h new view (set view.bounds server bound) (Limit moment server limit) legal is refl adds refl (λ weight. refl) bounds))
 
-pub sets_bound : (old : Booked) (h new : History) (first between now : Keeper) (server bound : ℕ) (woken woken_then : List ℕ) (from : ℕ) → record { history = h; view = first.view } ≡ old → from ≡ length h.log
+pub sets_bound : (old : Booked) (h new : History) (first between now : Keeper) (server bound : ℕ) (woken woken_then : List ℕ) (from : ℕ)
+    → record { history = h; view = first.view } ≡ old → from ≡ length h.log
     → between ≡ record first { view = limit_after first.view server bound }
     → now ≡ record between { view = with_offers between.view (grants_in new (drop from new.log)) } → Wakes (grants_in new (drop from new.log)) woken woken_then
     → SetsBound old (record { history = new; view = now.view }) server bound woken woken_then
@@ -165,12 +183,14 @@ sets_bound old h new first between now server bound woken woken_then from same l
     let at : from ≡ length old.history.log = long ∙ ap (λ (b : Booked). length b.history.log) same in
     record {
       view = ap (λ (k : Keeper). k.view) offers ∙ ap (λ (k : Keeper). with_offers k.view (grants_in new (drop from new.log))) limits
-          ∙ ap (λ (b : Booked). with_offers (limit_after b.view server bound) (grants_in new (drop from new.log))) same ∙ ap (λ n. with_offers (limit_after old.view server bound) (grants_in new (drop n new.log))) at;
+          ∙ ap (λ (b : Booked). with_offers (limit_after b.view server bound) (grants_in new (drop from new.log))) same
+          ∙ ap (λ n. with_offers (limit_after old.view server bound) (grants_in new (drop n new.log))) at;
       wakes = subst (λ n. Wakes (grants_in new (drop n new.log)) woken woken_then) at wakes;
     }
 
 -- a server serves no more than there are places
-pub served_within : (h : History) (server places : ℕ) → IsLegal h → places ≡ h.setup.places → min (served server (state_of h).rows) places ≡ served server (state_of h).rows
+pub served_within : (h : History) (server places : ℕ) → IsLegal h → places ≡ h.setup.places
+    → min (served server (state_of h).rows) places ≡ served server (state_of h).rows
 served_within h server places legal same =
     let few = count_by-le-length (is_served_by server) (state_of h).rows in
     omega (arith, few, (within h legal).places, same)

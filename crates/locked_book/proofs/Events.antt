@@ -1,5 +1,6 @@
 -- Events that a book makes: what they owe, and that it is paid.
-use Rattle.std.proofs.Common.{◌≡◌, ◌<◌, ℕ, zero, suc, ◌+◌, ◌==◌, max, cond, replicate, Bool, true, false, List, [], ◌∷◌, ◌++◌, All, Option, None, Some, map, drop, length, refl, ap, sym, ◌∙◌, subst, arith}
+use Rattle.std.proofs.Common.{◌≡◌, ◌<◌, ℕ, zero, suc, ◌+◌, ◌==◌, max, cond, replicate, Bool, true, false, List, []}
+use Rattle.std.proofs.Common.{◌∷◌, ◌++◌, All, Option, None, Some, map, drop, length, refl, ap, sym, ◌∙◌, subst, arith}
 use Rattle.std.specs.List.{cons_option}
 use Rattle.std.proofs.lemmas.List.{append_assoc, append-nil}
 use Rattle.std.proofs.Math.Seq.{drop-append_seam}
@@ -37,26 +38,31 @@ use Rattle.grant_board.specs.Views.{Terms}
 -- once all is offered nothing is owed
 pub all_paid : (h : History) (view : KeeperView) (es : List Entry) → IsOwing h view es → IsBook h (with_offers view (grants_in h es))
 all_paid h view [] is =
-    let whole : with_offers view [] ≡ view = ap (λ l. record view { out = l; offers = view.offers ++ [] }) (append-nil view.out) ∙ ap (λ l. record view { offers = l }) (append-nil view.offers) in
+    let whole : with_offers view [] ≡ view = ap (λ l. record view { out = l; offers = view.offers ++ [] }) (append-nil view.out)
+    ∙ ap (λ l. record view { offers = l }) (append-nil view.offers) in
     subst (IsBook h) (sym whole) (paid h view is)
 all_paid h view (e ∷ es) is = by_verdict (verdict_in e) refl (λ v owing. all_paid h v es owing)
   where
-    by_verdict : (o : Option (ℕ × Verdict)) → verdict_in e ≡ o → ((v : KeeperView) → IsOwing h v es → IsBook h (with_offers v (grants_in h es))) → IsBook h (with_offers view (grants_in h (e ∷ es)))
+    by_verdict : (o : Option (ℕ × Verdict)) → verdict_in e ≡ o → ((v : KeeperView) → IsOwing h v es → IsBook h (with_offers v (grants_in h es)))
+        → IsBook h (with_offers view (grants_in h (e ∷ es)))
     by_verdict None told rest =
         let same : grants_in h (e ∷ es) ≡ grants_in h es = ap (λ (o : Option (ℕ × Verdict)). grants_of (state_of h).rows (cons_option o (verdicts es))) told in
         subst (λ gs. IsBook h (with_offers view gs)) (sym same) (rest view (owes_rest h view e es is told))
     by_verdict (Some it) told rest =
         let g = grant (place_in it.0 (state_of h).rows) it.0 it.1 in
-        let same : grants_in h (e ∷ es) ≡ g ∷ grants_in h es = ap (λ (o : Option (ℕ × Verdict)). grants_of (state_of h).rows (cons_option o (verdicts es))) told in
+        let same : grants_in h (e ∷ es) ≡ g ∷ grants_in h es =
+        ap (λ (o : Option (ℕ × Verdict)). grants_of (state_of h).rows (cons_option o (verdicts es))) told in
         let one : with_offers (offer_after view g) (grants_in h es) ≡ with_offers view (g ∷ grants_in h es) =
         ap (λ l. record view { out = l; offers = (view.offers ++ g ∷ []) ++ grants_in h es }) (append_assoc view.out (g ∷ []) (grants_in h es))
         ∙ ap (λ l. record view { out = view.out ++ g ∷ grants_in h es; offers = l }) (append_assoc view.offers (g ∷ []) (grants_in h es)) in
-        subst (IsBook h) (one ∙ ap (with_offers view) (sym same)) (rest (offer_after view g) (offered h view e es it (place_in it.0 (state_of h).rows) is told refl))
+        subst (IsBook h) (one ∙ ap (with_offers view) (sym same))
+        (rest (offer_after view g) (offered h view e es it (place_in it.0 (state_of h).rows) is told refl))
 
 -- entries that are no events set no limit
 pub limits_kept : (setup : Setup) (s : State) (es : List Entry) → All (λ e. begins_event e ≡ false) es → (after_all setup s es).limits ≡ s.limits
 limits_kept setup s [] none = refl
-limits_kept setup s (e ∷ es) none = limits_kept setup (after setup s e) es (All-tail (λ x. begins_event x ≡ false) e es none) ∙ by_entry e (All-head (λ x. begins_event x ≡ false) e es none)
+limits_kept setup s (e ∷ es) none = limits_kept setup (after setup s e) es (All-tail (λ x. begins_event x ≡ false) e es none)
+    ∙ by_entry e (All-head (λ x. begins_event x ≡ false) e es none)
   where
     by_entry : (x : Entry) → begins_event x ≡ false → (after setup s x).limits ≡ s.limits
     by_entry (Limit m v k) is = cc
@@ -74,10 +80,13 @@ is_plain (Tick moment) = true
 is_plain (Check moment server ok) = true
 is_plain entry = false
 
-pub sets_none : (h new : History) (e : Entry) (adds : AddsEvent h new e) → (after h.setup (state_of h) e).limits ≡ (state_of h).limits → (state_of new).limits ≡ (state_of h).limits
-sets_none h new e adds same = ap (λ (s : State). s.limits) (state_on h new e adds) ∙ limits_kept h.setup (after h.setup (state_of h) e) adds.brought adds.one_event ∙ same
+pub sets_none : (h new : History) (e : Entry) (adds : AddsEvent h new e) → (after h.setup (state_of h) e).limits ≡ (state_of h).limits
+    → (state_of new).limits ≡ (state_of h).limits
+sets_none h new e adds same = ap (λ (s : State). s.limits) (state_on h new e adds)
+    ∙ limits_kept h.setup (after h.setup (state_of h) e) adds.brought adds.one_event ∙ same
 
-pub plain_owes : (h new : History) (view : KeeperView) (e : Entry) → IsLegal h → IsBook h view → is_plain e ≡ true → AddsEvent h new e → IsOwing new view (added h new)
+pub plain_owes : (h new : History) (view : KeeperView) (e : Entry) → IsLegal h → IsBook h view → is_plain e ≡ true → AddsEvent h new e
+    → IsOwing new view (added h new)
 plain_owes h new view e legal is plain adds =
     subst (IsOwing new view) (sym (added_is h new e adds))
     (owes h new view view.bounds e legal is (by_event e plain) adds (by_ending e plain) (λ weight. by_back weight e plain)
@@ -106,27 +115,31 @@ plain_owes h new view e legal is plain adds =
 
 -- a book that pays is one again
 module _ (board : TableId) (terms : Terms) (h new : History) (first now : Keeper) (es : List Entry) where
-  pub kept_again : IsOwing new first.view es → first.board ≡ board → first.view.terms ≡ terms → now ≡ record first { view = with_offers first.view (grants_in new es) } → IsKeptBook board terms new now
+  pub kept_again : IsOwing new first.view es → first.board ≡ board → first.view.terms ≡ terms
+      → now ≡ record first { view = with_offers first.view (grants_in new es) } → IsKeptBook board terms new now
   kept_again owing named of_terms offers = record {
     named = ap (λ (k : Keeper). k.board) offers ∙ named;
     of_terms = ap (λ (k : Keeper). k.view.terms) offers ∙ of_terms;
     book = subst (λ (k : Keeper). IsBook new k.view) (sym offers) (all_paid new first.view es owing);
   }
 
-pub carried : (old : Booked) (h new : History) (first now : Keeper) (woken woken_then : List ℕ) (from : ℕ) → record { history = h; view = first.view } ≡ old → from ≡ length h.log
+pub carried : (old : Booked) (h new : History) (first now : Keeper) (woken woken_then : List ℕ) (from : ℕ) → record { history = h; view = first.view } ≡ old
+    → from ≡ length h.log
     → now ≡ record first { view = with_offers first.view (grants_in new (drop from new.log)) } → Wakes (grants_in new (drop from new.log)) woken woken_then
     → CarriesOut old (record { history = new; view = now.view }) woken woken_then
 carried old h new first now woken woken_then from same long offers wakes =
     let at : from ≡ length old.history.log = long ∙ ap (λ (b : Booked). length b.history.log) same in
     record {
-      view = ap (λ (k : Keeper). k.view) offers ∙ ap (λ (v : KeeperView). with_offers v (grants_in new (drop from new.log))) (ap (λ (b : Booked). b.view) same) ∙ ap (λ n. with_offers old.view (grants_in new (drop n new.log))) at;
+      view = ap (λ (k : Keeper). k.view) offers ∙ ap (λ (v : KeeperView). with_offers v (grants_in new (drop from new.log))) (ap (λ (b : Booked). b.view) same)
+          ∙ ap (λ n. with_offers old.view (grants_in new (drop n new.log))) at;
       wakes = subst (λ n. Wakes (grants_in new (drop n new.log)) woken woken_then) at wakes;
     }
 
 -- a first book
 opening_bounds : (servers : List ServerSet) → map (λ (it : ServerSet). it.limit) servers ≡ map bound_by (opening_limits servers)
 opening_bounds [] = refl
-opening_bounds (it ∷ servers) = ap (λ n. n ∷ map (λ (x : ServerSet). x.limit) servers) (own it.limit) ∙ ap (λ l. bound_by (record { limit = it.limit; served = 0 }) ∷ l) (opening_bounds servers)
+opening_bounds (it ∷ servers) = ap (λ n. n ∷ map (λ (x : ServerSet). x.limit) servers) (own it.limit)
+    ∙ ap (λ l. bound_by (record { limit = it.limit; served = 0 }) ∷ l) (opening_bounds servers)
   where
     own : (limit : ℕ) → limit ≡ bound_by (record { limit = limit; served = 0 })
     own limit = by_test (limit == 0) refl
@@ -149,7 +162,8 @@ first_book setup = record {
 }
 
 -- an arrival's place is one of the board's
-pub arrival_place : (board : TableId) (terms : Terms) (h new : History) (keeper : Keeper) (m : ℕ) (a : Arrival) → IsLegal h → IsKeptBook board terms h keeper → AddsEvent h new (Arrive m a) → a.place < terms.places
+pub arrival_place : (board : TableId) (terms : Terms) (h new : History) (keeper : Keeper) (m : ℕ) (a : Arrival) → IsLegal h → IsKeptBook board terms h keeper
+    → AddsEvent h new (Arrive m a) → a.place < terms.places
 arrival_place board terms h new keeper m a legal is adds =
     let low : a.place < length (state_of h).rows = slice_get_within (state_of h).rows a.place None adds.lawful.judged.0.1.vacant in
     let same : h.setup.places ≡ terms.places = ap (λ (t : Terms). t.places) (sym is.book.terms ∙ is.of_terms) in

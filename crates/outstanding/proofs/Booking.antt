@@ -1,5 +1,6 @@
 -- What one entry does to what is outstanding: what it takes away was owed by its event, and what it adds is its verdict.
-use Rattle.std.proofs.Common.{◌≡◌, ◌≢◌, ℕ, zero, suc, ◌+◌, ◌==◌, Bool, true, false, cond, IsTrue, List, [], ◌∷◌, Option, None, Some, length, slice_get, map, refl, ap, sym, ◌∙◌, subst, arith}
+use Rattle.std.proofs.Common.{◌≡◌, ◌≢◌, ℕ, zero, suc, ◌+◌, ◌==◌, Bool, true, false, cond, IsTrue, List, []}
+use Rattle.std.proofs.Common.{◌∷◌, Option, None, Some, length, slice_get, map, refl, ap, sym, ◌∙◌, subst, arith}
 use Rattle.std.proofs.Math.ListN.{set}
 use Rattle.std.proofs.lemmas.Bool.Decides.{Decides-eqb}
 use Rattle.verdict.specs.declared.Verdict.{Verdict}
@@ -11,7 +12,8 @@ use Rattle.list_facts.proofs.Never.{false_true, none_some}
 use Rattle.list_facts.proofs.Places.{get-set_same}
 use Rattle.grant_board.specs.Views.{Grant, grant}
 use Rattle.dispatch_log.specs.declared.entry.Entry.{Entry}
-use Rattle.dispatch_log.specs.declared.entry.Entry.TheVariants.{Arrive, Done, Fail, Abort, Tick, Check, Limit, Direct, Joined, Granted, Moved, Freed, Retried, Left, Health, Ended}
+use Rattle.dispatch_log.specs.declared.entry.Entry.TheVariants.{Arrive, Done, Fail, Abort, Tick, Check, Limit, Direct}
+use Rattle.dispatch_log.specs.declared.entry.Entry.TheVariants.{Joined, Granted, Moved, Freed, Retried, Left, Health, Ended}
 use Rattle.dispatch_log.specs.declared.queue.Queue.{Queue}
 use Rattle.dispatch_log.specs.declared.queue.Queue.TheVariants.{Server}
 use Rattle.dispatch_log.specs.declared.row.Phase.{Phase}
@@ -19,7 +21,8 @@ use Rattle.dispatch_log.specs.declared.row.Phase.TheVariants.{Loose, Waiting, Se
 use Rattle.dispatch_log.specs.declared.row.Row.{Row}
 use Rattle.dispatch_log.specs.declared.setup.Setup.{Setup}
 use Rattle.dispatch_log.specs.Histories.{begins_event}
-use Rattle.dispatch_log.specs.Judgement.{Stage, placing, returning, ending, failing, leaving, aborting, telling, checking, falling, granting, HasSlot, IsTold, MayGrant, IsPut, MayCome, IsOver, has_expired, next_stage}
+use Rattle.dispatch_log.specs.Judgement.{Stage, placing, returning, ending, failing, leaving, aborting, telling, checking, falling}
+use Rattle.dispatch_log.specs.Judgement.{granting, HasSlot, IsTold, MayGrant, IsPut, MayCome, IsOver, has_expired, next_stage}
 use Rattle.dispatch_log.specs.Refusals.{is_waiting}
 use Rattle.dispatch_log.specs.Rows.{Rows, StandsAt, changed, in_phase, in_backend_since, gone, phase_waits_in, phase_is_served_by, phase_is_told}
 use Rattle.dispatch_log.specs.States.{State, scene, after}
@@ -114,20 +117,24 @@ module _ (weight : Grant → ℕ) (setup : Setup) (s : State) where
       (put weight 0 p p s.rows (Some r) (f r) (omega arith) stands)
 
   -- it has nothing out, and gets a verdict
-  gives : (u p : ℕ) (r : Row) (phase : Phase) (it : Verdict) → HaveOwnTickets s.rows → HaveOwnTickets (changed u (in_phase phase) s.rows) → StandsAt s.rows p r → r.key.ticket ≡ u
+  gives : (u p : ℕ) (r : Row) (phase : Phase) (it : Verdict) → HaveOwnTickets s.rows → HaveOwnTickets (changed u (in_phase phase) s.rows) → StandsAt s.rows p r
+      → r.key.ticket ≡ u
       → verdict_at r.phase ≡ None → verdict_at phase ≡ Some it
       → whole (changed u (in_phase phase) s.rows) ≡ whole s.rows + (weight (grant (place_in u (changed u (in_phase phase) s.rows)) u it) + 0)
   gives u p r phase it own then stands named none some =
-      let now = subst (λ rows. StandsAt rows p (record r { phase = phase })) (sym (changed_at s.rows u p r (in_phase phase) own stands named)) (get-set_same s.rows p (Some r) (Some (record r { phase = phase })) stands) in
+      let now = subst (λ rows. StandsAt rows p (record r { phase = phase })) (sym (changed_at s.rows u p r (in_phase phase) own stands named))
+      (get-set_same s.rows p (Some r) (Some (record r { phase = phase })) stands) in
       let at = place_at (changed u (in_phase phase) s.rows) u p (record r { phase = phase }) then now named in
       let before : weigh weight p (Some r) ≡ 0 = ap (λ (v : Option Verdict). total weight (granted p r.key.ticket v)) none in
-      let there : weigh weight p (in_phase phase r) ≡ weight (grant p r.key.ticket it) + 0 = ap (λ (v : Option Verdict). total weight (granted p r.key.ticket v)) some in
+      let there : weigh weight p (in_phase phase r) ≡ weight (grant p r.key.ticket it) + 0 =
+      ap (λ (v : Option Verdict). total weight (granted p r.key.ticket v)) some in
       let ticket : weight (grant p r.key.ticket it) ≡ weight (grant p u it) = ap (λ n. weight (grant p n it)) named in
       let place : weight (grant (place_in u (changed u (in_phase phase) s.rows)) u it) ≡ weight (grant p u it) = ap (λ n. weight (grant n u it)) at in
       omega (arith, step u p r (in_phase phase) own stands named, before, there, ticket, place)
 
   -- it has nothing out, and gets nothing
-  stays : (u p : ℕ) (r : Row) (f : Row → Option Row) → HaveOwnTickets s.rows → StandsAt s.rows p r → r.key.ticket ≡ u → verdict_at r.phase ≡ None → weigh weight p (f r) ≡ 0
+  stays : (u p : ℕ) (r : Row) (f : Row → Option Row) → HaveOwnTickets s.rows → StandsAt s.rows p r → r.key.ticket ≡ u → verdict_at r.phase ≡ None
+      → weigh weight p (f r) ≡ 0
       → whole (changed u f s.rows) ≡ whole s.rows
   stays u p r f own stands named none nothing =
       let before : weigh weight p (Some r) ≡ 0 = ap (λ (v : Option Verdict). total weight (granted p r.key.ticket v)) none in
@@ -139,7 +146,8 @@ module _ (weight : Grant → ℕ) (setup : Setup) (s : State) where
   takes u p r f own stands named nothing = omega (arith, step u p r f own stands named, of_ticket weight s.rows p u r own stands named, nothing)
 
   -- the placement of the row that is in no place
-  put_books : (t : ℕ) (old : Stage) (e : Entry) (at : Scene) (cursor : ℕ) (pin avoid : Option ℕ) → IsConsistent s.rows s.ticket old → HaveOwnTickets (after setup s e).rows → loose_ticket old ≡ Some t → IsPut at cursor pin avoid t e
+  put_books : (t : ℕ) (old : Stage) (e : Entry) (at : Scene) (cursor : ℕ) (pin avoid : Option ℕ) → IsConsistent s.rows s.ticket old
+      → HaveOwnTickets (after setup s e).rows → loose_ticket old ≡ Some t → IsPut at cursor pin avoid t e
       → whole (after setup s e).rows ≡ whole s.rows + given weight (after setup s e).rows e
   put_books t old (Direct u v) at cursor pin avoid is then one put =
       let it = is.owed t one in
@@ -154,11 +162,14 @@ module _ (weight : Grant → ℕ) (setup : Setup) (s : State) where
 
   -- every entry that may come and is no event
   pub books : (n : ℕ) (t : Stage) (e : Entry) → begins_event e ≡ false → IsConsistent s.rows s.ticket t → MayCome setup s n t e
-      → whole (after setup s e).rows + kept weight t s.rows ≡ whole s.rows + kept weight (next_stage t e) (after setup s e).rows + given weight (after setup s e).rows e
+      → whole (after setup s e).rows + kept weight t s.rows
+      ≡ whole s.rows + kept weight (next_stage t e) (after setup s e).rows + given weight (after setup s e).rows e
   books n t e none is may = by_entry t e none is may (consistent_after setup s n t e is may).tickets
     where
-      by_entry : (t : Stage) (e : Entry) → begins_event e ≡ false → IsConsistent s.rows s.ticket t → MayCome setup s n t e → HaveOwnTickets (after setup s e).rows
-          → whole (after setup s e).rows + kept weight t s.rows ≡ whole s.rows + kept weight (next_stage t e) (after setup s e).rows + given weight (after setup s e).rows e
+      by_entry : (t : Stage) (e : Entry) → begins_event e ≡ false → IsConsistent s.rows s.ticket t → MayCome setup s n t e
+          → HaveOwnTickets (after setup s e).rows
+          → whole (after setup s e).rows + kept weight t s.rows
+          ≡ whole s.rows + kept weight (next_stage t e) (after setup s e).rows + given weight (after setup s e).rows e
       by_entry t (Arrive m a) none is may then = false_true (sym none)
       by_entry t (Done m u) none is may then = false_true (sym none)
       by_entry t (Fail m u) none is may then = false_true (sym none)
@@ -176,28 +187,47 @@ module _ (weight : Grant → ℕ) (setup : Setup) (s : State) where
           )
       by_entry (placing t) (Direct u v) none is may then = omega (arith, put_books t (placing t) (Direct u v) (scene setup s) s.cursor _ None is then refl may)
       by_entry (placing t) (Joined u q) none is may then = omega (arith, put_books t (placing t) (Joined u q) (scene setup s) s.cursor _ None is then refl may)
-      by_entry (placing t) (Left u NoServer) none is may then = omega (arith, put_books t (placing t) (Left u NoServer) (scene setup s) s.cursor _ None is then refl may)
-      by_entry (leaving t w) (Direct u v) none is may then = omega (arith, put_books t (leaving t w) (Direct u v) (scene setup s) s.cursor None (Some w) is then refl may.put)
-      by_entry (leaving t w) (Joined u q) none is may then = omega (arith, put_books t (leaving t w) (Joined u q) (scene setup s) s.cursor None (Some w) is then refl may.put)
-      by_entry (leaving t w) (Left u NoServer) none is may then = omega (arith, put_books t (leaving t w) (Left u NoServer) (scene setup s) s.cursor None (Some w) is then refl may.put)
+      by_entry (placing t) (Left u NoServer) none is may then =
+          omega (arith, put_books t (placing t) (Left u NoServer) (scene setup s) s.cursor _ None is then refl may)
+      by_entry (leaving t w) (Direct u v) none is may then =
+          omega (arith, put_books t (leaving t w) (Direct u v) (scene setup s) s.cursor None (Some w) is then refl may.put)
+      by_entry (leaving t w) (Joined u q) none is may then =
+          omega (arith, put_books t (leaving t w) (Joined u q) (scene setup s) s.cursor None (Some w) is then refl may.put)
+      by_entry (leaving t w) (Left u NoServer) none is may then =
+          omega (arith, put_books t (leaving t w) (Left u NoServer) (scene setup s) s.cursor None (Some w) is then refl may.put)
       by_entry (leaving t w) (Left u Retries) none is may then =
           let it = is.owed t refl in
-          omega (arith, gives u it.place it.row (Told Retries) (verdict.Told Retries) is.tickets then it.stands (it.named ∙ sym may.0) (ap verdict_at it.loose) refl)
+          omega (
+            arith,
+            gives u it.place it.row (Told Retries) (verdict.Told Retries) is.tickets then it.stands (it.named
+                ∙ sym may.0) (ap verdict_at it.loose) refl,
+          )
       by_entry (leaving t w) e none is may then = absurd may.put
       by_entry (returning t) (Freed u v) none is may then =
           let slot = may.1 in
-          omega (arith, takes u slot.live.0 slot.row (in_phase Loose) is.tickets slot.live.1 slot.named refl, ap (λ n. total (only n weight) (outstanding s.rows)) may.0)
+          omega (
+            arith,
+            takes u slot.live.0 slot.row (in_phase Loose) is.tickets slot.live.1 slot.named refl,
+            ap (λ n. total (only n weight) (outstanding s.rows)) may.0,
+          )
       by_entry (failing t) (Freed u v) none is may then =
           let slot = may.1 in
-          omega (arith, takes u slot.live.0 slot.row (in_phase Loose) is.tickets slot.live.1 slot.named refl, ap (λ n. total (only n weight) (outstanding s.rows)) may.0)
+          omega (
+            arith,
+            takes u slot.live.0 slot.row (in_phase Loose) is.tickets slot.live.1 slot.named refl,
+            ap (λ n. total (only n weight) (outstanding s.rows)) may.0,
+          )
       by_entry (failing t) (Retried u v k) none is may then =
           let slot = may.1 in
           let p = slot.live.0 in
           let r = slot.row in
           let out : total (only u weight) (outstanding s.rows) ≡ weigh weight p (Some r) = of_ticket weight s.rows p u r is.tickets slot.live.1 slot.named in
-          let there : weigh weight p (Some r) ≡ weight (grant p r.key.ticket (verdict.Serve v)) + 0 = ap (λ (d : Option Verdict). total weight (granted p r.key.ticket d)) (serving_at v r.phase slot.phase) in
-          let ticket : weight (grant p r.key.ticket (verdict.Serve v)) ≡ weight (grant p u (verdict.Serve v)) = ap (λ n. weight (grant p n (verdict.Serve v))) slot.named in
-          let place : weight (grant (place_in u s.rows) u (verdict.Serve v)) ≡ weight (grant p u (verdict.Serve v)) = ap (λ n. weight (grant n u (verdict.Serve v))) (place_at s.rows u p r is.tickets slot.live.1 slot.named) in
+          let there : weigh weight p (Some r) ≡ weight (grant p r.key.ticket (verdict.Serve v)) + 0 =
+          ap (λ (d : Option Verdict). total weight (granted p r.key.ticket d)) (serving_at v r.phase slot.phase) in
+          let ticket : weight (grant p r.key.ticket (verdict.Serve v)) ≡ weight (grant p u (verdict.Serve v)) =
+          ap (λ n. weight (grant p n (verdict.Serve v))) slot.named in
+          let place : weight (grant (place_in u s.rows) u (verdict.Serve v)) ≡ weight (grant p u (verdict.Serve v)) =
+          ap (λ n. weight (grant n u (verdict.Serve v))) (place_at s.rows u p r is.tickets slot.live.1 slot.named) in
           omega (arith, out, there, ticket, place, ap (λ n. total (only n weight) (outstanding s.rows)) may.0)
       by_entry (ending t) (Ended u) none is may then =
           let it = is.owed t refl in
@@ -207,9 +237,17 @@ module _ (weight : Grant → ℕ) (setup : Setup) (s : State) where
           omega (arith, takes u told.live.0 told.row gone is.tickets told.live.1 told.named refl, ap (λ n. total (only n weight) (outstanding s.rows)) may.0)
       by_entry (aborting t) (Left u Aborted) none is may then =
           let it = may.1 in
-          omega (arith, gives u it.live.0 it.row (Told Aborted) (verdict.Told Aborted) is.tickets then it.live.1 it.named (waiting_none it.row.phase it.phase) refl)
+          omega (
+            arith,
+            gives u it.live.0 it.row (Told Aborted) (verdict.Told Aborted) is.tickets then it.live.1 it.named
+                (waiting_none it.row.phase it.phase) refl,
+          )
       by_entry telling (Left u Timeout) none is may then =
-          omega (arith, gives u may.expired.0.0 may.row (Told Timeout) (verdict.Told Timeout) is.tickets then may.expired.0.1 may.named (expired_none setup s.moment may.row.phase may.expired.1) refl)
+          omega (
+            arith,
+            gives u may.expired.0.0 may.row (Told Timeout) (verdict.Told Timeout) is.tickets then may.expired.0.1 may.named
+                (expired_none setup s.moment may.row.phase may.expired.1) refl,
+          )
       by_entry (checking w) (Health v true) none is may then = omega arith
       by_entry (checking w) (Health v false) none is may then = omega arith
       by_entry (falling w) (Moved u v) none is may then =

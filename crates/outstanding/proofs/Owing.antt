@@ -1,5 +1,6 @@
 -- What a book owes within a call, and what it pays by offers.
-use Rattle.std.proofs.Common.{◌≡◌, ◌≢◌, ℕ, zero, suc, ◌+◌, ◌<◌, ◌≤◌, ◌^◌, Bool, true, false, List, [], ◌∷◌, ◌++◌, All, Contains, Option, None, Some, length, map, slice_get, slice_index, refl, ap, sym, ◌∙◌, subst, arith}
+use Rattle.std.proofs.Common.{◌≡◌, ◌≢◌, ℕ, zero, suc, ◌+◌, ◌<◌, ◌≤◌, ◌^◌, Bool, true, false, List, [], ◌∷◌, ◌++◌}
+use Rattle.std.proofs.Common.{All, Contains, Option, None, Some, length, map, slice_get, slice_index, refl, ap, sym, ◌∙◌, subst, arith}
 use Rattle.std.specs.Option.{option_map_or}
 use Rattle.std.specs.List.{filter_map, cons_option}
 use Rattle.std.proofs.lemmas.Option.{slice_get_within}
@@ -44,7 +45,8 @@ use Rattle.outstanding.proofs.Turning.{back, turned}
 -- the state after an event is what its entries leave of the one before
 pub state_on : (h new : History) (e : Entry) (adds : AddsEvent h new e) → state_of new ≡ after_all h.setup (state_of h) (e ∷ adds.brought)
 state_on h new e adds =
-    ap (λ (s : Setup). after_all s new.base new.log) adds.setup ∙ ap (λ (b : State). after_all h.setup b new.log) adds.base ∙ ap (λ l. after_all h.setup h.base l) adds.log
+    ap (λ (s : Setup). after_all s new.base new.log) adds.setup ∙ ap (λ (b : State). after_all h.setup b new.log) adds.base
+    ∙ ap (λ l. after_all h.setup h.base l) adds.log
     ∙ after_on h.setup h.base h.log (e ∷ adds.brought)
 
 pub own_tickets : (h : History) → IsLegal h → HaveOwnTickets (state_of h).rows
@@ -57,11 +59,13 @@ pub weighs_on : (weight : Grant → ℕ) (h new : History) (e : Entry) → IsLeg
 weighs_on weight h new e legal event adds =
     let calm = at_stage (state_of h).rows (state_of h).ticket _ granting (legal_consistent h legal) (over_none h.setup (state_of h) _ legal.lawful.whole) in
     let it = turned weight h.setup (state_of h) (length h.log) granting e adds.brought event adds.one_event calm adds.lawful.judged adds.lawful.whole in
-    subst (λ (s : State). total weight (outstanding s.rows) + back weight e (state_of h).rows ≡ total weight (outstanding (state_of h).rows) + total weight (grants_of s.rows (verdicts (e ∷ adds.brought))))
+    subst (λ (s : State). total weight (outstanding s.rows) + back weight e (state_of h).rows
+    ≡ total weight (outstanding (state_of h).rows) + total weight (grants_of s.rows (verdicts (e ∷ adds.brought))))
     (sym (state_on h new e adds)) it
 
 -- the offers and returns that a log ends with
-offers_on : (h new : History) (e : Entry) (adds : AddsEvent h new e) (offers earlier : List (ℕ × Verdict)) → offers ≡ earlier ++ verdicts h.log → offers ++ verdicts (e ∷ adds.brought) ≡ earlier ++ verdicts new.log
+offers_on : (h new : History) (e : Entry) (adds : AddsEvent h new e) (offers earlier : List (ℕ × Verdict)) → offers ≡ earlier ++ verdicts h.log
+    → offers ++ verdicts (e ∷ adds.brought) ≡ earlier ++ verdicts new.log
 offers_on h new e adds offers earlier is =
     ap (λ l. l ++ verdicts (e ∷ adds.brought)) is ∙ append_assoc earlier (verdicts h.log) (verdicts (e ∷ adds.brought))
     ∙ ap (λ l. earlier ++ l) (sym (filter_map-append verdict_in h.log (e ∷ adds.brought)) ∙ ap verdicts (sym adds.log))
@@ -69,21 +73,25 @@ offers_on h new e adds offers earlier is =
 -- entries that are no events end nothing
 no_ending : (es : List Entry) → All (λ e. begins_event e ≡ false) es → endings es ≡ []
 no_ending [] none = refl
-no_ending (e ∷ es) none = ap (λ (o : Option (ℕ × Ending)). cons_option o (endings es)) (by_entry e (All-head (λ x. begins_event x ≡ false) e es none)) ∙ no_ending es (All-tail (λ x. begins_event x ≡ false) e es none)
+no_ending (e ∷ es) none = ap (λ (o : Option (ℕ × Ending)). cons_option o (endings es)) (by_entry e (All-head (λ x. begins_event x ≡ false) e es none))
+    ∙ no_ending es (All-tail (λ x. begins_event x ≡ false) e es none)
   where
     by_entry : (x : Entry) → begins_event x ≡ false → ending_in x ≡ None
     by_entry (Done m t) is = cc
     by_entry (Fail m t) is = cc
     by_entry x is = refl
 
-endings_on : (h new : History) (e : Entry) (adds : AddsEvent h new e) (returns earlier : List (ℕ × Ending)) → returns ≡ earlier ++ endings h.log → returns ++ cons_option (ending_in e) [] ≡ earlier ++ endings new.log
+endings_on : (h new : History) (e : Entry) (adds : AddsEvent h new e) (returns earlier : List (ℕ × Ending)) → returns ≡ earlier ++ endings h.log
+    → returns ++ cons_option (ending_in e) [] ≡ earlier ++ endings new.log
 endings_on h new e adds returns earlier is =
     let brought : endings (e ∷ adds.brought) ≡ cons_option (ending_in e) [] = ap (λ l. cons_option (ending_in e) l) (no_ending adds.brought adds.one_event) in
     ap (λ l. l ++ cons_option (ending_in e) []) is ∙ append_assoc earlier (endings h.log) (cons_option (ending_in e) [])
-    ∙ ap (λ l. earlier ++ l) (ap (λ l. endings h.log ++ l) (sym brought) ∙ sym (filter_map-append ending_in h.log (e ∷ adds.brought)) ∙ ap endings (sym adds.log))
+    ∙ ap (λ l. earlier ++ l) (ap (λ l. endings h.log ++ l) (sym brought) ∙ sym (filter_map-append ending_in h.log (e ∷ adds.brought))
+    ∙ ap endings (sym adds.log))
 
 -- an event that ends nothing: its verdicts are owed, and bounds are those of the new state
-pub owes : (h new : History) (view : KeeperView) (bounds : List ℕ) (e : Entry) → IsLegal h → IsBook h view → begins_event e ≡ true → (adds : AddsEvent h new e) → ending_in e ≡ None
+pub owes : (h new : History) (view : KeeperView) (bounds : List ℕ) (e : Entry) → IsLegal h → IsBook h view → begins_event e ≡ true → (adds : AddsEvent h new e)
+    → ending_in e ≡ None
     → ((weight : Grant → ℕ) → back weight e (state_of h).rows ≡ 0) → bounds ≡ map bound_by (state_of new).limits
     → IsOwing new (record view { bounds = bounds }) (e ∷ adds.brought)
 owes h new view bounds e legal is event adds none nothing bounded = record {
@@ -93,7 +101,8 @@ owes h new view bounds e legal is event adds none nothing bounded = record {
   offers = (is.offers.0, offers_on h new e adds (unplaced view.offers) is.offers.0 is.offers.1);
   returns = (
     is.returns.0,
-    sym (append-nil (returned view.returns)) ∙ ap (λ (o : Option (ℕ × Ending)). returned view.returns ++ cons_option o []) (sym none) ∙ endings_on h new e adds (returned view.returns) is.returns.0 is.returns.1,
+    sym (append-nil (returned view.returns)) ∙ ap (λ (o : Option (ℕ × Ending)). returned view.returns ++ cons_option o []) (sym none)
+        ∙ endings_on h new e adds (returned view.returns) is.returns.0 is.returns.1,
   );
 }
 
@@ -109,15 +118,19 @@ out_row h view g is there =
     subst (λ p. IsOutAt (state_of h).rows p g) at it.2
 
 -- an ending that came back: the grant is out no more, and its event is noted
-pub owes_end : (h new : History) (old view : KeeperView) (place : ℕ) (it : Return) (e : Entry) → IsLegal h → IsBook h old → Collects old view place it → begins_event e ≡ true → (adds : AddsEvent h new e)
-    → ending_in e ≡ Some (it.ticket, it.ending) → ((weight : Grant → ℕ) → back weight e (state_of h).rows ≡ total (only it.ticket weight) (outstanding (state_of h).rows))
+pub owes_end : (h new : History) (old view : KeeperView) (place : ℕ) (it : Return) (e : Entry) → IsLegal h → IsBook h old → Collects old view place it
+    → begins_event e ≡ true → (adds : AddsEvent h new e)
+    → ending_in e ≡ Some (it.ticket, it.ending)
+    → ((weight : Grant → ℕ) → back weight e (state_of h).rows ≡ total (only it.ticket weight) (outstanding (state_of h).rows))
     → (state_of new).limits ≡ (state_of h).limits → IsOwing new view (e ∷ adds.brought)
 owes_end h new old view place it e legal is collects event adds ends backs limits =
     let g = grant place it.ticket collects.verdict in
     let row = out_row h old g is collects.was_out in
     let weighs = λ (weight : Grant → ℕ).
-    (let own : total (only it.ticket weight) (outstanding (state_of h).rows) ≡ weigh weight place (Some row.row) = of_ticket weight (state_of h).rows place it.ticket row.row (own_tickets h legal) row.stands row.named in
-    let there : weigh weight place (Some row.row) ≡ weight (grant place row.row.key.ticket collects.verdict) + 0 = ap (λ (v : Option Verdict). total weight (granted place row.row.key.ticket v)) row.verdict in
+    (let own : total (only it.ticket weight) (outstanding (state_of h).rows) ≡ weigh weight place (Some row.row) =
+    of_ticket weight (state_of h).rows place it.ticket row.row (own_tickets h legal) row.stands row.named in
+    let there : weigh weight place (Some row.row) ≡ weight (grant place row.row.key.ticket collects.verdict) + 0 =
+    ap (λ (v : Option Verdict). total weight (granted place row.row.key.ticket v)) row.verdict in
     let ticket : weight (grant place row.row.key.ticket collects.verdict) ≡ weight g = ap (λ n. weight (grant place n collects.verdict)) row.named in
     let sum : back weight e (state_of h).rows ≡ weight g = omega (arith, own, there, ticket, backs weight) in sum)
     in
@@ -125,10 +138,15 @@ owes_end h new old view place it e legal is collects event adds ends backs limit
       terms = ap (λ (v : KeeperView). v.terms) collects.after ∙ is.terms ∙ ap terms_of (sym adds.setup);
       bounds = ap (λ (v : KeeperView). v.bounds) collects.after ∙ is.bounds ∙ ap (map bound_by) (sym limits);
       out = λ weight. omega (arith, is.out weight, collects.weighs weight, weighs weight, weighs_on weight h new e legal event adds);
-      offers = (is.offers.0, ap (λ (v : KeeperView). unplaced v.offers ++ verdicts (e ∷ adds.brought)) collects.after ∙ offers_on h new e adds (unplaced old.offers) is.offers.0 is.offers.1);
+      offers = (
+        is.offers.0,
+        ap (λ (v : KeeperView). unplaced v.offers ++ verdicts (e ∷ adds.brought)) collects.after
+            ∙ offers_on h new e adds (unplaced old.offers) is.offers.0 is.offers.1,
+      );
       returns = (
         is.returns.0,
-        ap (λ (v : KeeperView). returned v.returns) collects.after ∙ map-append _ old.returns (return_of g it.ending ∷ []) ∙ ap (λ (o : Option (ℕ × Ending)). returned old.returns ++ cons_option o []) (sym ends)
+        ap (λ (v : KeeperView). returned v.returns) collects.after ∙ map-append _ old.returns (return_of g it.ending ∷ [])
+            ∙ ap (λ (o : Option (ℕ × Ending)). returned old.returns ++ cons_option o []) (sym ends)
             ∙ endings_on h new e adds (returned old.returns) is.returns.0 is.returns.1,
       );
     }
@@ -163,13 +181,15 @@ pub record IsOwedAt (h : History) (view : KeeperView) (place ticket : ℕ) (it :
   pub verdict : verdict_at row.phase ≡ Some it
   pub more : (weight : Grant → ℕ) → total weight view.out + weight (grant place ticket it) ≤ total weight (outstanding (state_of h).rows)
 
-pub owed_at : (h : History) (view : KeeperView) (e : Entry) (es : List Entry) (it : ℕ × Verdict) → IsLegal h → IsOwing h view (e ∷ es) → verdict_in e ≡ Some it → IsOwedAt h view (place_in it.0 (state_of h).rows) it.0 it.1
+pub owed_at : (h : History) (view : KeeperView) (e : Entry) (es : List Entry) (it : ℕ × Verdict) → IsLegal h → IsOwing h view (e ∷ es) → verdict_in e ≡ Some it
+    → IsOwedAt h view (place_in it.0 (state_of h).rows) it.0 it.1
 owed_at h view e es it legal is told =
     let rows = (state_of h).rows in
     let place = place_in it.0 rows in
     let g = grant place it.0 it.1 in
     let same : verdicts (e ∷ es) ≡ it ∷ verdicts es = ap (λ (o : Option (ℕ × Verdict)). cons_option o (verdicts es)) told in
-    let more = λ (weight : Grant → ℕ). let whole : total weight (grants_of rows (verdicts (e ∷ es))) ≡ weight g + total weight (grants_of rows (verdicts es)) = ap (λ l. total weight (grants_of rows l)) same in
+    let more = λ (weight : Grant → ℕ). let whole : total weight (grants_of rows (verdicts (e ∷ es))) ≡ weight g + total weight (grants_of rows (verdicts es)) =
+    ap (λ l. total weight (grants_of rows l)) same in
     (let le : total weight view.out + weight g ≤ total weight (outstanding rows) = omega (arith, is.out weight, whole) in le)
     in
     let there = has_one same_grant grants_tell (outstanding rows) g (omega (arith, more (one same_grant g), one-same same_grant grants_tell g)) in
@@ -196,11 +216,14 @@ serving_phase (Waiting q m) s is = cc
 serving_phase (Serving v) s is = cc
 serving_phase phase s is = cc
 
-pub may_offer : (h : History) (view : KeeperView) (es : List Entry) (place ticket : ℕ) (it : Verdict) → IsLegal h → IsOwing h view es → IsOwedAt h view place ticket it → MayOffer view place ticket it
+pub may_offer : (h : History) (view : KeeperView) (es : List Entry) (place ticket : ℕ) (it : Verdict) → IsLegal h → IsOwing h view es
+    → IsOwedAt h view place ticket it → MayOffer view place ticket it
 may_offer h view es place ticket it legal is owed = record {
-  in_range = subst (λ (t : Terms). place < t.places) (sym is.terms) (let low : place < length rows = slice_get_within rows place (Some owed.row) owed.stands in omega (arith, low, bounds.places));
+  in_range = subst (λ (t : Terms). place < t.places) (sym is.terms) (let low : place < length rows = slice_get_within rows place (Some owed.row) owed.stands in
+      omega (arith, low, bounds.places));
   free = let one_there = owed.more (at_place place) in omega (arith, one_there, once_at place 0 rows, at_place-yes place (grant place ticket it) refl);
-  ticket_fits = let low : owed.row.key.ticket ≤ (state_of h).ticket = bounds.rows owed.row (place, owed.stands) in omega (arith, low, bounds.ticket, owed.named);
+  ticket_fits = let low : owed.row.key.ticket ≤ (state_of h).ticket = bounds.rows owed.row (place, owed.stands) in
+      omega (arith, low, bounds.ticket, owed.named);
   has_room = room it owed.verdict (owed.more);
 }
   where
@@ -210,11 +233,14 @@ may_offer h view es place ticket it legal is owed = record {
     bounds : IsWithin h
     bounds = within h legal
 
-    room : (v : Verdict) → verdict_at owed.row.phase ≡ Some v → ((weight : Grant → ℕ) → total weight view.out + weight (grant place ticket v) ≤ total weight (outstanding rows)) → HasRoom view v
+    room : (v : Verdict) → verdict_at owed.row.phase ≡ Some v
+        → ((weight : Grant → ℕ) → total weight view.out + weight (grant place ticket v) ≤ total weight (outstanding rows)) → HasRoom view v
     room (Told c) phase more = tt
     room (Serve s) phase more =
-        let there : s < length h.setup.servers = subst (IsAtOneOf (length h.setup.servers)) (serving_phase owed.row.phase s phase) (bounds.servers owed.row (place, owed.stands)) in
-        let terms : length view.terms.limits ≡ length h.setup.servers = ap (λ (t : Terms). length t.limits) is.terms ∙ length-map h.setup.servers (λ server. server.limit) in
+        let there : s < length h.setup.servers = subst (IsAtOneOf (length h.setup.servers)) (serving_phase owed.row.phase s phase)
+        (bounds.servers owed.row (place, owed.stands)) in
+        let terms : length view.terms.limits ≡ length h.setup.servers = ap (λ (t : Terms). length t.limits) is.terms
+        ∙ length-map h.setup.servers (λ server. server.limit) in
         let bound : slice_index view.bounds s ≡ bound_of (state_of h) s = ap (λ l. slice_index l s) is.bounds ∙ bound_at (state_of h).limits s in (
           omega (arith, there, terms),
           λ some.
@@ -224,7 +250,8 @@ may_offer h view es place ticket it legal is owed = record {
         )
 
 -- and is paid so
-pub offered : (h : History) (view : KeeperView) (e : Entry) (es : List Entry) (it : ℕ × Verdict) (place : ℕ) → IsOwing h view (e ∷ es) → verdict_in e ≡ Some it → place_in it.0 (state_of h).rows ≡ place
+pub offered : (h : History) (view : KeeperView) (e : Entry) (es : List Entry) (it : ℕ × Verdict) (place : ℕ) → IsOwing h view (e ∷ es) → verdict_in e ≡ Some it
+    → place_in it.0 (state_of h).rows ≡ place
     → IsOwing h (offer_after view (grant place it.0 it.1)) es
 offered h view e es it place is told at =
     let same : verdicts (e ∷ es) ≡ it ∷ verdicts es = ap (λ (o : Option (ℕ × Verdict)). cons_option o (verdicts es)) told in
@@ -232,13 +259,17 @@ offered h view e es it place is told at =
       terms = is.terms;
       bounds = is.bounds;
       out = λ weight.
-          (let whole : total weight (grants_of (state_of h).rows (verdicts (e ∷ es))) ≡ weight (grant (place_in it.0 (state_of h).rows) it.0 it.1) + total weight (grants_of (state_of h).rows (verdicts es)) = ap (λ l. total weight (grants_of (state_of h).rows l)) same in
+          (let whole : total weight (grants_of (state_of h).rows (verdicts (e ∷ es)))
+          ≡ weight (grant (place_in it.0 (state_of h).rows) it.0 it.1) + total weight (grants_of (state_of h).rows (verdicts es)) =
+          ap (λ l. total weight (grants_of (state_of h).rows l)) same in
           let here : weight (grant (place_in it.0 (state_of h).rows) it.0 it.1) ≡ weight (grant place it.0 it.1) = ap (λ p. weight (grant p it.0 it.1)) at in
-          let sum : total weight (view.out ++ grant place it.0 it.1 ∷ []) + total weight (grants_of (state_of h).rows (verdicts es)) ≡ total weight (outstanding (state_of h).rows) =
+          let sum : total weight (view.out ++ grant place it.0 it.1 ∷ []) + total weight (grants_of (state_of h).rows (verdicts es))
+          ≡ total weight (outstanding (state_of h).rows) =
           omega (arith, is.out weight, whole, here, total-push weight view.out (grant place it.0 it.1)) in sum);
       offers = (
         is.offers.0,
-        ap (λ l. l ++ verdicts es) (map-append (λ (g : Grant). (g.ticket, g.verdict)) view.offers (grant place it.0 it.1 ∷ [])) ∙ append_assoc (unplaced view.offers) (it ∷ []) (verdicts es)
+        ap (λ l. l ++ verdicts es) (map-append (λ (g : Grant). (g.ticket, g.verdict)) view.offers (grant place it.0 it.1 ∷ []))
+            ∙ append_assoc (unplaced view.offers) (it ∷ []) (verdicts es)
             ∙ ap (λ l. unplaced view.offers ++ l) (sym same) ∙ is.offers.1,
       );
       returns = is.returns;

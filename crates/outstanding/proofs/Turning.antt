@@ -1,5 +1,6 @@
 -- What one event does to what is outstanding: its verdicts are added, and what the event was about is taken away.
-use Rattle.std.proofs.Common.{◌≡◌, ◌≢◌, ℕ, zero, suc, ◌+◌, ◌==◌, Bool, true, false, cond, IsTrue, List, [], ◌∷◌, ◌++◌, All, Option, None, Some, slice_get, map, refl, ap, sym, ◌∙◌, subst, arith}
+use Rattle.std.proofs.Common.{◌≡◌, ◌≢◌, ℕ, zero, suc, ◌+◌, ◌==◌, Bool, true, false, cond, IsTrue, List, []}
+use Rattle.std.proofs.Common.{◌∷◌, ◌++◌, All, Option, None, Some, slice_get, map, refl, ap, sym, ◌∙◌, subst, arith}
 use Rattle.std.proofs.Math.ListN.{set}
 use Rattle.std.specs.List.{filter_map, cons_option}
 use Rattle.std.proofs.lemmas.Bool.Decides.{Decides-eqb}
@@ -12,13 +13,15 @@ use Rattle.list_facts.proofs.Never.{false_true}
 use Rattle.list_facts.proofs.Totals.{total-append}
 use Rattle.grant_board.specs.Views.{Grant, grant}
 use Rattle.dispatch_log.specs.declared.entry.Entry.{Entry}
-use Rattle.dispatch_log.specs.declared.entry.Entry.TheVariants.{Arrive, Done, Fail, Abort, Tick, Check, Limit, Direct, Joined, Granted, Moved, Freed, Retried, Left, Health, Ended}
+use Rattle.dispatch_log.specs.declared.entry.Entry.TheVariants.{Arrive, Done, Fail, Abort, Tick, Check, Limit, Direct}
+use Rattle.dispatch_log.specs.declared.entry.Entry.TheVariants.{Joined, Granted, Moved, Freed, Retried, Left, Health, Ended}
 use Rattle.dispatch_log.specs.declared.row.Phase.TheVariants.{Loose, Waiting, Serving, Told}
 use Rattle.dispatch_log.specs.declared.queue.Queue.TheVariants.{Backend}
 use Rattle.dispatch_log.specs.declared.row.Row.{Row}
 use Rattle.dispatch_log.specs.declared.setup.Setup.{Setup}
 use Rattle.dispatch_log.specs.Histories.{begins_event}
-use Rattle.dispatch_log.specs.Judgement.{Stage, placing, returning, ending, failing, leaving, aborting, telling, checking, falling, granting, MayGrant, MayBegin, MayCome, AllMayCome, IsOver, next_stage, stage_after}
+use Rattle.dispatch_log.specs.Judgement.{Stage, placing, returning, ending, failing, leaving, aborting, telling, checking}
+use Rattle.dispatch_log.specs.Judgement.{falling, granting, MayGrant, MayBegin, MayCome, AllMayCome, IsOver, next_stage, stage_after}
 use Rattle.dispatch_log.specs.Retries.{failed}
 use Rattle.dispatch_log.specs.Rows.{Rows, StandsAt, with_change, changed, in_phase, in_backend_since, has_ticket}
 use Rattle.dispatch_log.specs.States.{State, after, after_all, arrived}
@@ -70,10 +73,14 @@ places_after setup s n t (Abort m u) ticket quiet none may = false_true (sym non
 places_after setup s n t (Tick m) ticket quiet none may = false_true (sym none)
 places_after setup s n t (Check m v ok) ticket quiet none may = false_true (sym none)
 places_after setup s n t (Limit m v k) ticket quiet none may = false_true (sym none)
-places_after setup s n t (Direct u v) ticket quiet none may = place_kept ticket u (in_phase (Serving v)) s.rows (λ r. (record r { phase = Serving v }, refl, refl))
-places_after setup s n t (Joined u q) ticket quiet none may = place_kept ticket u (in_phase (Waiting q s.moment)) s.rows (λ r. (record r { phase = Waiting q s.moment }, refl, refl))
-places_after setup s n t (Granted u q v) ticket quiet none may = place_kept ticket u (in_phase (Serving v)) s.rows (λ r. (record r { phase = Serving v }, refl, refl))
-places_after setup s n t (Moved u v) ticket quiet none may = place_kept ticket u (in_backend_since s.moment) s.rows (λ r. (record r { pin = None; phase = Waiting Backend s.moment }, refl, refl))
+places_after setup s n t (Direct u v) ticket quiet none may =
+    place_kept ticket u (in_phase (Serving v)) s.rows (λ r. (record r { phase = Serving v }, refl, refl))
+places_after setup s n t (Joined u q) ticket quiet none may =
+    place_kept ticket u (in_phase (Waiting q s.moment)) s.rows (λ r. (record r { phase = Waiting q s.moment }, refl, refl))
+places_after setup s n t (Granted u q v) ticket quiet none may =
+    place_kept ticket u (in_phase (Serving v)) s.rows (λ r. (record r { phase = Serving v }, refl, refl))
+places_after setup s n t (Moved u v) ticket quiet none may =
+    place_kept ticket u (in_backend_since s.moment) s.rows (λ r. (record r { pin = None; phase = Waiting Backend s.moment }, refl, refl))
 places_after setup s n t (Freed u v) ticket quiet none may = place_kept ticket u (in_phase Loose) s.rows (λ r. (record r { phase = Loose }, refl, refl))
 places_after setup s n t (Retried u v k) ticket quiet none may = refl
 places_after setup s n t (Left u c) ticket quiet none may = place_kept ticket u (in_phase (Told c)) s.rows (λ r. (record r { phase = Told c }, refl, refl))
@@ -84,7 +91,8 @@ places_after setup s n (leaving t w) (Ended u) ticket quiet none may = absurd ma
 places_after setup s n t (Ended u) ticket quiet none may = absurd may
 
 -- and leads where none may end
-quiet_next : (setup : Setup) (s : State) (n : ℕ) (t : Stage) (e : Entry) → may_end t ≡ false → begins_event e ≡ false → MayCome setup s n t e → may_end (next_stage t e) ≡ false
+quiet_next : (setup : Setup) (s : State) (n : ℕ) (t : Stage) (e : Entry) → may_end t ≡ false → begins_event e ≡ false → MayCome setup s n t e
+    → may_end (next_stage t e) ≡ false
 quiet_next setup s n t (Arrive m a) quiet none may = false_true (sym none)
 quiet_next setup s n t (Done m u) quiet none may = false_true (sym none)
 quiet_next setup s n t (Fail m u) quiet none may = false_true (sym none)
@@ -117,16 +125,19 @@ quiet_next setup s n (ending t) e quiet none may = false_true (sym quiet)
 quiet_next setup s n t (Granted u q v) quiet none may = absurd may.0
 quiet_next setup s n t e quiet none may = absurd may
 
-places_on : (setup : Setup) (s : State) (n : ℕ) (t : Stage) (es : List Entry) (ticket : ℕ) → may_end t ≡ false → All (λ e. begins_event e ≡ false) es → AllMayCome setup s n t es
+places_on : (setup : Setup) (s : State) (n : ℕ) (t : Stage) (es : List Entry) (ticket : ℕ) → may_end t ≡ false → All (λ e. begins_event e ≡ false) es
+    → AllMayCome setup s n t es
     → place_in ticket (after_all setup s es).rows ≡ place_in ticket s.rows
 places_on setup s n t [] ticket quiet none all = refl
 places_on setup s n t (e ∷ es) ticket quiet none all =
     let here = All-head (λ x. begins_event x ≡ false) e es none in
-    places_on setup (after setup s e) (n + 1) (next_stage t e) es ticket (quiet_next setup s n t e quiet here all.0) (All-tail (λ x. begins_event x ≡ false) e es none) all.1
+    places_on setup (after setup s e) (n + 1) (next_stage t e) es ticket (quiet_next setup s n t e quiet here all.0)
+    (All-tail (λ x. begins_event x ≡ false) e es none) all.1
     ∙ places_after setup s n t e ticket quiet here all.0
 
 -- a verdict leads where no request may end
-verdict_quiet : (setup : Setup) (s : State) (n : ℕ) (t : Stage) (e : Entry) (it : ℕ × Verdict) → verdict_in e ≡ Some it → MayCome setup s n t e → may_end (next_stage t e) ≡ false
+verdict_quiet : (setup : Setup) (s : State) (n : ℕ) (t : Stage) (e : Entry) (it : ℕ × Verdict) → verdict_in e ≡ Some it → MayCome setup s n t e
+    → may_end (next_stage t e) ≡ false
 verdict_quiet setup s n (returning t) (Direct u v) it is may = absurd may
 verdict_quiet setup s n (returning t) (Granted u q v) it is may = absurd may.0
 verdict_quiet setup s n (returning t) (Retried u v k) it is may = absurd may
@@ -159,14 +170,17 @@ verdict_quiet setup s n t (Left u c) it is may = by_quiet (may_end t) refl
 verdict_quiet setup s n t e it is may = cc
 
 -- what an entry adds is added where its ticket stands in the end
-filtered : (rows : Rows) (weight : Grant → ℕ) (e : Entry) (es : List Entry) → total weight (grants_of rows (verdicts (e ∷ es))) ≡ given weight rows e + total weight (grants_of rows (verdicts es))
+filtered : (rows : Rows) (weight : Grant → ℕ) (e : Entry) (es : List Entry)
+    → total weight (grants_of rows (verdicts (e ∷ es))) ≡ given weight rows e + total weight (grants_of rows (verdicts es))
 filtered rows weight e es = by_verdict (verdict_in e) refl
   where
-    by_verdict : (o : Option (ℕ × Verdict)) → verdict_in e ≡ o → total weight (grants_of rows (verdicts (e ∷ es))) ≡ given weight rows e + total weight (grants_of rows (verdicts es))
+    by_verdict : (o : Option (ℕ × Verdict)) → verdict_in e ≡ o
+        → total weight (grants_of rows (verdicts (e ∷ es))) ≡ given weight rows e + total weight (grants_of rows (verdicts es))
     by_verdict None is = rw is (omega arith)
     by_verdict (Some it) is = rw is (omega arith)
 
-same_given : (one two : Rows) (weight : Grant → ℕ) (e : Entry) → ((it : ℕ × Verdict) → verdict_in e ≡ Some it → place_in it.0 two ≡ place_in it.0 one) → given weight one e ≡ given weight two e
+same_given : (one two : Rows) (weight : Grant → ℕ) (e : Entry) → ((it : ℕ × Verdict) → verdict_in e ≡ Some it → place_in it.0 two ≡ place_in it.0 one)
+    → given weight one e ≡ given weight two e
 same_given one two weight e same = by_verdict (verdict_in e) refl
   where
     by_verdict : (o : Option (ℕ × Verdict)) → verdict_in e ≡ o → given weight one e ≡ given weight two e
@@ -174,9 +188,11 @@ same_given one two weight e same = by_verdict (verdict_in e) refl
     by_verdict (Some it) is = rw is (ap (λ p. weight (grant p it.0 it.1) + 0) (sym (same it is)))
 
 -- entries that are no events
-booked : (weight : Grant → ℕ) (setup : Setup) (s : State) (n : ℕ) (t : Stage) (es : List Entry) → All (λ e. begins_event e ≡ false) es → IsConsistent s.rows s.ticket t → AllMayCome setup s n t es
+booked : (weight : Grant → ℕ) (setup : Setup) (s : State) (n : ℕ) (t : Stage) (es : List Entry) → All (λ e. begins_event e ≡ false) es
+    → IsConsistent s.rows s.ticket t → AllMayCome setup s n t es
     → total weight (outstanding (after_all setup s es).rows) + kept weight t s.rows
-    ≡ total weight (outstanding s.rows) + kept weight (stage_after t es) (after_all setup s es).rows + total weight (grants_of (after_all setup s es).rows (verdicts es))
+    ≡ total weight (outstanding s.rows) + kept weight (stage_after t es) (after_all setup s es).rows + total weight
+    (grants_of (after_all setup s es).rows (verdicts es))
 booked weight setup s n t [] none is all = omega arith
 booked weight setup s n t (e ∷ es) none is all =
     let here = All-head (λ x. begins_event x ≡ false) e es none in
@@ -185,7 +201,8 @@ booked weight setup s n t (e ∷ es) none is all =
     let end = (after_all setup (after setup s e) es).rows in
     let one = books weight setup s n t e here is all.0 in
     let rest = booked weight setup (after setup s e) (n + 1) (next_stage t e) es later now all.1 in
-    let same = same_given (after setup s e).rows end weight e (λ it told. places_on setup (after setup s e) (n + 1) (next_stage t e) es it.0 (verdict_quiet setup s n t e it told all.0) later all.1) in
+    let same = same_given (after setup s e).rows end weight e
+    (λ it told. places_on setup (after setup s e) (n + 1) (next_stage t e) es it.0 (verdict_quiet setup s n t e it told all.0) later all.1) in
     omega (arith, one, rest, same, filtered end weight e es)
 
 -- what an event takes away
@@ -195,7 +212,8 @@ back weight (Fail moment ticket) rows = total (only ticket weight) (outstanding 
 back weight entry rows = 0
 
 -- a change that keeps what is out
-outs_kept : (weight : Grant → ℕ) (u i : ℕ) (f : Row → Option Row) (rows : Rows) → ((r : Row) (p : ℕ) → weigh weight p (f r) ≡ weigh weight p (Some r)) → total weight (outstanding_from i (changed u f rows)) ≡ total weight (outstanding_from i rows)
+outs_kept : (weight : Grant → ℕ) (u i : ℕ) (f : Row → Option Row) (rows : Rows) → ((r : Row) (p : ℕ) → weigh weight p (f r) ≡ weigh weight p (Some r))
+    → total weight (outstanding_from i (changed u f rows)) ≡ total weight (outstanding_from i rows)
 outs_kept weight u i f [] keeps = refl
 outs_kept weight u i f (cell ∷ rows) keeps =
     omega (
@@ -216,7 +234,8 @@ outs_kept weight u i f (cell ∷ rows) keeps =
 
 -- an event itself leaves all that is outstanding, and owes what it is about
 begins : (weight : Grant → ℕ) (setup : Setup) (s : State) (n : ℕ) (t : Stage) (e : Entry) → begins_event e ≡ true → MayCome setup s n t e
-    → (total weight (outstanding (after setup s e).rows) ≡ total weight (outstanding s.rows)) × (kept weight (next_stage t e) (after setup s e).rows ≡ back weight e s.rows)
+    → (total weight (outstanding (after setup s e).rows) ≡ total weight (outstanding s.rows))
+    × (kept weight (next_stage t e) (after setup s e).rows ≡ back weight e s.rows)
 begins weight setup s n t (Arrive m a) is may =
     let even = put weight 0 a.place a.place s.rows None (Some (arrived a)) (omega arith) may.1.vacant in
     (omega (arith, even), refl)
@@ -231,7 +250,8 @@ begins weight setup s n t (Limit m v k) is may = (refl, refl)
 begins weight setup s n t e is may = cc
 
 -- a whole event
-pub turned : (weight : Grant → ℕ) (setup : Setup) (s : State) (n : ℕ) (t : Stage) (e : Entry) (brought : List Entry) → begins_event e ≡ true → All (λ x. begins_event x ≡ false) brought → IsConsistent s.rows s.ticket t
+pub turned : (weight : Grant → ℕ) (setup : Setup) (s : State) (n : ℕ) (t : Stage) (e : Entry) (brought : List Entry) → begins_event e ≡ true
+    → All (λ x. begins_event x ≡ false) brought → IsConsistent s.rows s.ticket t
     → AllMayCome setup s n t (e ∷ brought) → IsOver setup (after_all setup s (e ∷ brought)) (stage_after t (e ∷ brought))
     → total weight (outstanding (after_all setup s (e ∷ brought)).rows) + back weight e s.rows
     ≡ total weight (outstanding s.rows) + total weight (grants_of (after_all setup s (e ∷ brought)).rows (verdicts (e ∷ brought)))
@@ -241,7 +261,15 @@ turned weight setup s n t e brought event none is all over =
     let end = kept_over weight setup (after_all setup s (e ∷ brought)) (stage_after t (e ∷ brought)) (after_all setup s (e ∷ brought)).rows over in
     let told = no_verdict e event in
     let added = filtered (after_all setup s (e ∷ brought)).rows weight e brought in
-    omega (arith, begun.0, begun.1, rest, end, added, ap (λ (o : Option (ℕ × Verdict)). total weight (grants_of (after_all setup s (e ∷ brought)).rows (cons_option o []))) told)
+    omega (
+      arith,
+      begun.0,
+      begun.1,
+      rest,
+      end,
+      added,
+      ap (λ (o : Option (ℕ × Verdict)). total weight (grants_of (after_all setup s (e ∷ brought)).rows (cons_option o []))) told,
+    )
   where
     no_verdict : (x : Entry) → begins_event x ≡ true → verdict_in x ≡ None
     no_verdict (Arrive m a) is = refl

@@ -1,5 +1,6 @@
 -- What is outstanding, by weight.
-use Rattle.std.proofs.Common.{◌≡◌, ◌≢◌, ℕ, zero, suc, ◌+◌, ◌<◌, ◌≤◌, ◌==◌, Bool, true, false, cond, List, [], ◌∷◌, ◌++◌, Option, None, Some, Contains, length, slice_get, count_by, refl, ap, sym, ◌∙◌, subst, arith, inl, inr}
+use Rattle.std.proofs.Common.{◌≡◌, ◌≢◌, ℕ, zero, suc, ◌+◌, ◌<◌, ◌≤◌, ◌==◌, Bool, true, false, cond, List, [], ◌∷◌}
+use Rattle.std.proofs.Common.{◌++◌, Option, None, Some, Contains, length, slice_get, count_by, refl, ap, sym, ◌∙◌, subst, arith, inl, inr}
 use Rattle.std.proofs.Math.ListN.{set}
 use Rattle.std.proofs.lemmas.Bool.Decides.{Decides-eqb}
 use Rattle.std.proofs.lemmas.List.Elements.{Contains-append_cases}
@@ -34,7 +35,13 @@ module _ (weight : Grant → ℕ) where
       let is : cell ≡ old = same_Some cell old stands in
       let before : weigh weight q old ≡ weigh weight i cell = ap (λ n. weigh weight n old) here ∙ ap (λ x. weigh weight i x) (sym is) in
       let after : weigh weight q new ≡ weigh weight i new = ap (λ n. weigh weight n new) here in
-      omega (arith, total-append weight (grants_at i new) (outstanding_from (suc i) rows), total-append weight (grants_at i cell) (outstanding_from (suc i) rows), before, after)
+      omega (
+        arith,
+        total-append weight (grants_at i new) (outstanding_from (suc i) rows),
+        total-append weight (grants_at i cell) (outstanding_from (suc i) rows),
+        before,
+        after,
+      )
   put i (suc p) q (cell ∷ rows) old new at stands =
       omega (
         arith,
@@ -44,7 +51,8 @@ module _ (weight : Grant → ℕ) where
       )
 
   -- a place weighs at most the whole
-  pub at_le : (i p q : ℕ) (rows : Rows) (cell : Option Row) → q ≡ i + p → slice_get rows p ≡ Some cell → weigh weight q cell ≤ total weight (outstanding_from i rows)
+  pub at_le : (i p q : ℕ) (rows : Rows) (cell : Option Row) → q ≡ i + p → slice_get rows p ≡ Some cell
+      → weigh weight q cell ≤ total weight (outstanding_from i rows)
   at_le i p q [] cell at stands = cc
   at_le i zero q (c ∷ rows) cell at stands =
       let here : q ≡ i = omega arith in
@@ -54,7 +62,8 @@ module _ (weight : Grant → ℕ) where
       omega (arith, at_le (suc i) p q rows cell (omega arith) stands, total-append weight (grants_at i c) (outstanding_from (suc i) rows))
 
   -- where no place weighs anything, nothing does
-  pub none_weigh : (i : ℕ) (rows : Rows) → ((p q : ℕ) (cell : Option Row) → q ≡ i + p → slice_get rows p ≡ Some cell → weigh weight q cell ≡ 0) → total weight (outstanding_from i rows) ≡ 0
+  pub none_weigh : (i : ℕ) (rows : Rows) → ((p q : ℕ) (cell : Option Row) → q ≡ i + p → slice_get rows p ≡ Some cell → weigh weight q cell ≡ 0)
+      → total weight (outstanding_from i rows) ≡ 0
   none_weigh i [] none = refl
   none_weigh i (cell ∷ rows) none =
       omega (
@@ -68,7 +77,8 @@ module _ (weight : Grant → ℕ) where
 abbrev pub only : ℕ → (Grant → ℕ) → Grant → ℕ
 only ticket weight g = cond (g.ticket == ticket) (weight g) 0
 
-only_own : (weight : Grant → ℕ) (p t : ℕ) (r : Row) (v : Option Verdict) → r.key.ticket ≡ t → total (only t weight) (granted p r.key.ticket v) ≡ total weight (granted p r.key.ticket v)
+only_own : (weight : Grant → ℕ) (p t : ℕ) (r : Row) (v : Option Verdict) → r.key.ticket ≡ t
+    → total (only t weight) (granted p r.key.ticket v) ≡ total weight (granted p r.key.ticket v)
 only_own weight p t r None own = refl
 only_own weight p t r (Some v) own = ap {B = ℕ} (λ (b : Bool). cond b (weight (grant p r.key.ticket v)) 0 + 0) ((Decides-eqb r.key.ticket t).1 own)
 
@@ -81,7 +91,8 @@ only_other weight p t r (Some v) other = by_test (r.key.ticket == t) refl
     by_test false e = rw e refl
 
 -- what is outstanding of one ticket is what its place has
-pub of_ticket : (weight : Grant → ℕ) (rows : Rows) (p t : ℕ) (r : Row) → HaveOwnTickets rows → StandsAt rows p r → r.key.ticket ≡ t → total (only t weight) (outstanding rows) ≡ weigh weight p (Some r)
+pub of_ticket : (weight : Grant → ℕ) (rows : Rows) (p t : ℕ) (r : Row) → HaveOwnTickets rows → StandsAt rows p r → r.key.ticket ≡ t
+    → total (only t weight) (outstanding rows) ≡ weigh weight p (Some r)
 of_ticket weight rows p t r own stands named =
     let even = put (only t weight) 0 p p rows (Some r) None (omega arith) stands in
     let rest = none_weigh (only t weight) 0 (set rows p None) others in
@@ -141,7 +152,8 @@ once_at p i (cell ∷ rows) = by_test (i == p) refl (once_at p (suc i) rows)
         omega (arith, whole, elsewhere_weighs p i cell differs, rest)
 
 -- as many serve at a server as it serves
-served_by : (s place ticket : ℕ) (r : Row) (phase : Phase) → r.phase ≡ phase → count_of s (granted place ticket (verdict_at phase)) ≡ tally (is_served_by s (Some r))
+served_by : (s place ticket : ℕ) (r : Row) (phase : Phase) → r.phase ≡ phase
+    → count_of s (granted place ticket (verdict_at phase)) ≡ tally (is_served_by s (Some r))
 served_by s place ticket r Loose is = sym (ap (λ (x : Phase). tally (phase_is_served_by s x)) is)
 served_by s place ticket r (Waiting q m) is = sym (ap (λ (x : Phase). tally (phase_is_served_by s x)) is)
 served_by s place ticket r (Serving v) is = omega (arith, ap (λ (x : Phase). tally (phase_is_served_by s x)) is)
@@ -168,7 +180,8 @@ pub record IsOutAt (rows : Rows) (p : ℕ) (g : Grant) : Type 0 where
   pub named : row.key.ticket ≡ g.ticket
   pub verdict : verdict_at row.phase ≡ Some g.verdict
 
-cell_out : (i : ℕ) (r : Row) (v : Option Verdict) (g : Grant) → Contains (granted i r.key.ticket v) g → (g.place ≡ i) × (r.key.ticket ≡ g.ticket) × (v ≡ Some g.verdict)
+cell_out : (i : ℕ) (r : Row) (v : Option Verdict) (g : Grant) → Contains (granted i r.key.ticket v) g
+    → (g.place ≡ i) × (r.key.ticket ≡ g.ticket) × (v ≡ Some g.verdict)
 cell_out i r None g (k, near, is) = absurd (omega arith)
 cell_out i r (Some v) g (zero, near, is) = (ap (λ (x : Grant). x.place) (sym is), ap (λ (x : Grant). x.ticket) is, ap (λ (x : Grant). Some x.verdict) is)
 cell_out i r (Some v) g (suc k, near, is) = absurd (omega arith)
@@ -178,12 +191,14 @@ is_out i [] g (k, near, is) = absurd (omega arith)
 is_out i (cell ∷ rows) g there =
     elim (Contains-append_cases (grants_at i cell) (outstanding_from (suc i) rows) g there) [
       | inl here ↦ at cell here
-      | inr later ↦ let it = is_out (suc i) rows g later in (suc it.0, omega (arith, it.1), record { row = it.2.row; stands = it.2.stands; named = it.2.named; verdict = it.2.verdict })
+      | inr later ↦ let it = is_out (suc i) rows g later in
+          (suc it.0, omega (arith, it.1), record { row = it.2.row; stands = it.2.stands; named = it.2.named; verdict = it.2.verdict })
     ]
   where
     at : (c : Option Row) → Contains (grants_at i c) g → (p : ℕ) × (g.place ≡ i + p) × IsOutAt (c ∷ rows) p g
     at None (k, near, is) = absurd (omega arith)
-    at (Some r) here = let it = cell_out i r (verdict_at r.phase) g here in (0, omega (arith, it.0), record { row = r; stands = refl; named = it.1; verdict = it.2 })
+    at (Some r) here = let it = cell_out i r (verdict_at r.phase) g here in
+        (0, omega (arith, it.0), record { row = r; stands = refl; named = it.1; verdict = it.2 })
 
 same_suc : (k l : ℕ) → suc k ≡ suc l → k ≡ l
 same_suc k l e = omega arith

@@ -36,6 +36,7 @@ pub record IsBook (history : History) (view : KeeperView) : Type 0 where
 pub record IsOwing (history : History) (view : KeeperView) (entries : List Entry) : Type 0 where
   pub terms : view.terms ≡ terms_of history.setup
   pub bounds : view.bounds ≡ map bound_by (state_of history).limits
-  pub out : (weight : Grant → ℕ) → total weight view.out + total weight (grants_of (state_of history).rows (verdicts entries)) ≡ total weight (outstanding (state_of history).rows)
+  pub out : (weight : Grant → ℕ) → total weight view.out + total weight (grants_of (state_of history).rows (verdicts entries))
+      ≡ total weight (outstanding (state_of history).rows)
   pub offers : (earlier : List (ℕ × Verdict)) × (unplaced view.offers ++ verdicts entries ≡ earlier ++ verdicts history.log)
   pub returns : (earlier : List (ℕ × Ending)) × (returned view.returns ≡ earlier ++ endings history.log)

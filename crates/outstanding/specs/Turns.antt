@@ -18,7 +18,8 @@ pub record Visits (moment place : ℕ) (old : Booked) (woken : List ℕ) (new : 
 abbrev pub VisitsFrom : ℕ → ℕ → List ℕ → Booked → List ℕ → Booked → List ℕ → Type 0
 VisitsFrom moment first [] old woken new woken_then = (new ≡ old) × (woken_then ≡ woken)
 VisitsFrom moment first (place ∷ places) old woken new woken_then =
-    (first ≤ place) × ((next : Booked) × (woken_next : List ℕ) × Visits moment place old woken next woken_next × VisitsFrom moment (place + 1) places next woken_next new woken_then)
+    (first ≤ place) × ((next : Booked) × (woken_next : List ℕ) × Visits moment place old woken next woken_next
+    × VisitsFrom moment (place + 1) places next woken_next new woken_then)
 
 -- some places were
 abbrev pub VisitsSome : ℕ → Booked → List ℕ → Booked → List ℕ → Type 0
@@ -31,5 +32,6 @@ pub record Turns (moment : ℕ) (old : Booked) (woken : List ℕ) (new : Booked)
   pub woken_between : List ℕ
   pub visits : VisitsFrom moment 0 places old woken between woken_between
   pub all : (place : ℕ) → 0 < count_at place old.view.out → Contains places place
-  pub tick : (SomeExpires between.history moment × AddsEvent between.history new.history (Tick (effective between.history moment)) × CarriesOut between new woken_between woken_then)
+  pub tick : (SomeExpires between.history moment × AddsEvent between.history new.history (Tick (effective between.history moment))
+      × CarriesOut between new woken_between woken_then)
       ⊎ ((SomeExpires between.history moment → ⊥) × (new ≡ between) × (woken_then ≡ woken_between))

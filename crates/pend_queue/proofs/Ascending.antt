@@ -1,5 +1,6 @@
 -- Lists of pairs by rising key: their least pair, look-ups by key, and when two of them are the same list.
-use Rattle.std.proofs.Common.{◌≡◌, ◌⊎◌, ◌≢◌, Bool, true, false, cond, List, [], ◌∷◌, ◌++◌, drop, filter, Contains, IsPermutation, Option, Some, None, is_eq, refl, sym, ap, subst, ◌∙◌, inl, inr, Ordering, Less, Equal, Greater}
+use Rattle.std.proofs.Common.{◌≡◌, ◌⊎◌, ◌≢◌, Bool, true, false, cond, List, [], ◌∷◌, ◌++◌, drop, filter, Contains, IsPermutation}
+use Rattle.std.proofs.Common.{Option, Some, None, is_eq, refl, sym, ap, subst, ◌∙◌, inl, inr, Ordering, Less, Equal, Greater}
 use Rattle.std.specs.Cmp.{IsTotalOrder}
 use Rattle.std.specs.List.{AllByRecursion}
 use Rattle.std.proofs.lemmas.Cmp.{tied_itself, tied_back}
@@ -15,15 +16,21 @@ module _ {K V : Type 0} (cmp : K → K → Ordering) where
   IsAscending-drop [] up = tt
   IsAscending-drop (p ∷ ps) up = up.1
 
-  filter_step : (test : K × V → Bool) (p : K × V) (ps : List (K × V)) (b : Bool) → AllByRecursion (λ q. cmp p.0 q.0 ≡ Less) ps → IsAscending cmp (filter test ps) → IsAscending cmp (cond b (p ∷ filter test ps) (filter test ps))
-  filter_step test p ps true below rest = (each_from_members (λ q. cmp p.0 q.0 ≡ Less) (filter test ps) (λ q among. let kept = Contains-filter test ps q among in each_at_member (λ q. cmp p.0 q.0 ≡ Less) ps q below kept.0), rest)
+  filter_step : (test : K × V → Bool) (p : K × V) (ps : List (K × V)) (b : Bool) → AllByRecursion (λ q. cmp p.0 q.0 ≡ Less) ps
+      → IsAscending cmp (filter test ps) → IsAscending cmp (cond b (p ∷ filter test ps) (filter test ps))
+  filter_step test p ps true below rest = (
+    each_from_members (λ q. cmp p.0 q.0 ≡ Less) (filter test ps)
+        (λ q among. let kept = Contains-filter test ps q among in each_at_member (λ q. cmp p.0 q.0 ≡ Less) ps q below kept.0),
+    rest,
+  )
   filter_step test p ps false below rest = rest
 
   pub IsAscending-filter : (test : K × V → Bool) (ps : List (K × V)) → IsAscending cmp ps → IsAscending cmp (filter test ps)
   IsAscending-filter test [] up = tt
   IsAscending-filter test (p ∷ ps) up = filter_step test p ps (test p) up.0 (IsAscending-filter test ps up.1)
 
-  pub IsAscending-append : (ps qs : List (K × V)) → IsAscending cmp ps → IsAscending cmp qs → ((p q : K × V) → Contains ps p → Contains qs q → cmp p.0 q.0 ≡ Less) → IsAscending cmp (ps ++ qs)
+  pub IsAscending-append : (ps qs : List (K × V)) → IsAscending cmp ps → IsAscending cmp qs
+      → ((p q : K × V) → Contains ps p → Contains qs q → cmp p.0 q.0 ≡ Less) → IsAscending cmp (ps ++ qs)
   IsAscending-append [] qs up over across = over
   IsAscending-append (p ∷ ps) qs up over across = (
     each_from_members (λ q. cmp p.0 q.0 ≡ Less) (ps ++ qs) (λ q among. elim (Contains-append_cases ps qs q among) [
@@ -73,22 +80,27 @@ module _ {K V : Type 0} (cmp : K → K → Ordering) where
   ])
 
   pub absent-IsPermutation : (key : K) (ps qs : List (K × V)) → IsPermutation ps qs → IsAbsent cmp key ps → IsAbsent cmp key qs
-  absent-IsPermutation key ps qs moved absent = absent_from_members key qs (λ q among. absent_at_member key ps q absent (Contains-permutation qs ps q (IsPermutation-sym ps qs moved) among))
+  absent-IsPermutation key ps qs moved absent =
+      absent_from_members key qs (λ q among. absent_at_member key ps q absent (Contains-permutation qs ps q (IsPermutation-sym ps qs moved) among))
 
   pub apart_from_members : (ps qs : List (K × V)) → ((p q : K × V) → Contains ps p → Contains qs q → cmp p.0 q.0 ≢ Equal) → HaveNoCommonKey cmp ps qs
-  apart_from_members ps qs differ = each_from_members (λ q. IsAbsent cmp q.0 ps) qs (λ q second. absent_from_members q.0 ps (λ p first. differ p q first second))
+  apart_from_members ps qs differ = each_from_members (λ q. IsAbsent cmp q.0 ps) qs
+      (λ q second. absent_from_members q.0 ps (λ p first. differ p q first second))
 
   pub apart_at_members : (ps qs : List (K × V)) (p q : K × V) → HaveNoCommonKey cmp ps qs → Contains ps p → Contains qs q → cmp p.0 q.0 ≢ Equal
   apart_at_members ps qs p q apart first second = absent_at_member q.0 ps p (each_at_member (λ q. IsAbsent cmp q.0 ps) qs q apart second) first
 
   -- a look-up by key, at the head and then in the rest
   module _ (key : K) (q : K × V) (ps : List (K × V)) where
-    some_step : (p : K × V) (o : Ordering) → cmp q.0 key ≡ o → (pair_at cmp key ps ≡ Some p → Contains ps p × (cmp p.0 key ≡ Equal)) → cond (is_eq o) (Some q) (pair_at cmp key ps) ≡ Some p → Contains (q ∷ ps) p × (cmp p.0 key ≡ Equal)
-    some_step p Equal tied rest found = let same : q ≡ p = cc in (subst (Contains (q ∷ ps)) same (Contains-head q ps), subst (λ (z : K × V). cmp z.0 key ≡ Equal) same tied)
+    some_step : (p : K × V) (o : Ordering) → cmp q.0 key ≡ o → (pair_at cmp key ps ≡ Some p → Contains ps p × (cmp p.0 key ≡ Equal))
+        → cond (is_eq o) (Some q) (pair_at cmp key ps) ≡ Some p → Contains (q ∷ ps) p × (cmp p.0 key ≡ Equal)
+    some_step p Equal tied rest found = let same : q ≡ p = cc in
+        (subst (Contains (q ∷ ps)) same (Contains-head q ps), subst (λ (z : K × V). cmp z.0 key ≡ Equal) same tied)
     some_step p Less below rest found = let later = rest found in (Contains-tail q ps p later.0, later.1)
     some_step p Greater above rest found = let later = rest found in (Contains-tail q ps p later.0, later.1)
 
-    none_step : (o : Ordering) → cmp q.0 key ≡ o → (pair_at cmp key ps ≡ None → IsAbsent cmp key ps) → cond (is_eq o) (Some q) (pair_at cmp key ps) ≡ None → IsAbsent cmp key (q ∷ ps)
+    none_step : (o : Ordering) → cmp q.0 key ≡ o → (pair_at cmp key ps ≡ None → IsAbsent cmp key ps) → cond (is_eq o) (Some q) (pair_at cmp key ps) ≡ None
+        → IsAbsent cmp key (q ∷ ps)
     none_step Equal tied rest found = cc
     none_step Less below rest found = (λ tied. cc, rest found)
     none_step Greater above rest found = (λ tied. cc, rest found)
@@ -120,7 +132,11 @@ module _ {K V : Type 0} {cmp : K → K → Ordering} (order : IsTotalOrder cmp) 
 
   -- a key above which the head is stands nowhere in the list
   pub absent_below_head : (key : K) (p : K × V) (ps : List (K × V)) → IsAscending cmp (p ∷ ps) → cmp key p.0 ≡ Less → IsAbsent cmp key (p ∷ ps)
-  absent_below_head key p ps up below = (less_not_tied order key p.0 below, absent_from_members cmp key ps (λ q among. less_not_tied order key q.0 (order.trans key p.0 q.0 below (each_at_member (λ q. cmp p.0 q.0 ≡ Less) ps q up.0 among))))
+  absent_below_head key p ps up below = (
+    less_not_tied order key p.0 below,
+    absent_from_members cmp key ps (λ q among.
+        less_not_tied order key q.0 (order.trans key p.0 q.0 below (each_at_member (λ q. cmp p.0 q.0 ≡ Less) ps q up.0 among))),
+  )
 
   -- the head's key is not among the rest
   pub absent_from_rest : (p : K × V) (ps : List (K × V)) → IsAscending cmp (p ∷ ps) → IsAbsent cmp p.0 ps
@@ -132,7 +148,8 @@ module _ {K V : Type 0} {cmp : K → K → Ordering} (order : IsTotalOrder cmp) 
   same_key_same_pair (x ∷ ps) p q up first second tied = elim (Contains-cases x ps p first) [
     | inl here ↦ elim (Contains-cases x ps q second) [
       | inl there ↦ sym here ∙ there
-      | inr later ↦ let below : cmp p.0 q.0 ≡ Less = subst (λ (z : K × V). cmp z.0 q.0 ≡ Less) here (each_at_member (λ q. cmp x.0 q.0 ≡ Less) ps q up.0 later) in cc
+      | inr later ↦ let below : cmp p.0 q.0 ≡ Less =
+          subst (λ (z : K × V). cmp z.0 q.0 ≡ Less) here (each_at_member (λ q. cmp x.0 q.0 ≡ Less) ps q up.0 later) in cc
     ]
     | inr later ↦ elim (Contains-cases x ps q second) [
       | inl there ↦
@@ -153,13 +170,15 @@ module _ {K V : Type 0} {cmp : K → K → Ordering} (order : IsTotalOrder cmp) 
           is ∙ ap Some (same_key_same_pair ps q p up found.0 among (order.congr q.0 key p.0 found.1 ∙ tied_back order p.0 key tied))
 
   -- two ascending lists of the same pairs have one head, and then the same pairs in the rest
-  module _ (p q : K × V) (ps qs : List (K × V)) (up : IsAscending cmp (p ∷ ps)) (over : IsAscending cmp (q ∷ qs)) (there : (x : K × V) → Contains (p ∷ ps) x → Contains (q ∷ qs) x) where
+  module _ (p q : K × V) (ps qs : List (K × V)) (up : IsAscending cmp (p ∷ ps)) (over : IsAscending cmp (q ∷ qs)) (there : (x : K × V) → Contains (p ∷ ps) x
+      → Contains (q ∷ qs) x) where
     same_heads : ((x : K × V) → Contains (q ∷ qs) x → Contains (p ∷ ps) x) → p ≡ q
     same_heads back = elim (Contains-cases q qs p (there p (Contains-head p ps))) [
       | inl here ↦ sym here
       | inr later ↦ elim (Contains-cases p ps q (back q (Contains-head q qs))) [
         | inl here ↦ here
-        | inr also ↦ absurd (less_one_way order p.0 q.0 (each_at_member (λ x. cmp p.0 x.0 ≡ Less) ps q up.0 also) (each_at_member (λ x. cmp q.0 x.0 ≡ Less) qs p over.0 later))
+        | inr also ↦ absurd (less_one_way order p.0 q.0 (each_at_member (λ x. cmp p.0 x.0 ≡ Less) ps q up.0 also)
+            (each_at_member (λ x. cmp q.0 x.0 ≡ Less) qs p over.0 later))
       ]
     ]
 
@@ -170,7 +189,8 @@ module _ {K V : Type 0} {cmp : K → K → Ordering} (order : IsTotalOrder cmp) 
     ]
 
   -- ascending lists of the same pairs are the same list
-  pub same_from_members : (ps qs : List (K × V)) → IsAscending cmp ps → IsAscending cmp qs → ((x : K × V) → Contains ps x → Contains qs x) → ((x : K × V) → Contains qs x → Contains ps x) → ps ≡ qs
+  pub same_from_members : (ps qs : List (K × V)) → IsAscending cmp ps → IsAscending cmp qs → ((x : K × V) → Contains ps x → Contains qs x)
+      → ((x : K × V) → Contains qs x → Contains ps x) → ps ≡ qs
   same_from_members [] [] up over there back = refl
   same_from_members [] (q ∷ qs) up over there back = absurd (Contains-nil q (back q (Contains-head q qs)))
   same_from_members (p ∷ ps) [] up over there back = absurd (Contains-nil p (there p (Contains-head p ps)))
@@ -180,4 +200,6 @@ module _ {K V : Type 0} {cmp : K → K → Ordering} (order : IsTotalOrder cmp) 
       ap (λ l. p ∷ l) rest ∙ ap (λ x. x ∷ qs) same
 
   pub same_from_permutation : (ps qs : List (K × V)) → IsAscending cmp ps → IsAscending cmp qs → IsPermutation ps qs → ps ≡ qs
-  same_from_permutation ps qs up over moved = same_from_members ps qs up over (λ x among. Contains-permutation ps qs x moved among) (λ x among. Contains-permutation qs ps x (IsPermutation-sym ps qs moved) among)
+  same_from_permutation ps qs up over moved =
+      same_from_members ps qs up over (λ x among. Contains-permutation ps qs x moved among)
+      (λ x among. Contains-permutation qs ps x (IsPermutation-sym ps qs moved) among)

@@ -1,5 +1,7 @@
 -- Pairs by falling key, as the list queue keeps them: the reverse of the list that contracts see.
-use Rattle.std.proofs.Common.{◌≡◌, ℕ, zero, suc, ◌+◌, ◌<◌, ◌≤◌, List, [], ◌∷◌, ◌++◌, length, take, drop, get_or, reverse, insert, remove, All, Contains, Result, Ok, Err, IfOk, IfErr, Some, refl, sym, ap, subst, ◌∙◌, inl, inr, Ordering, Less, Equal, Greater, arith, length-take, length-drop, take-append-drop, drop-cons}
+use Rattle.std.proofs.Common.{◌≡◌, ℕ, zero, suc, ◌+◌, ◌<◌, ◌≤◌, List, [], ◌∷◌, ◌++◌, length, take, drop}
+use Rattle.std.proofs.Common.{get_or, reverse, insert, remove, All, Contains, Result, Ok, Err, IfOk, IfErr, Some, refl, sym}
+use Rattle.std.proofs.Common.{ap, subst, ◌∙◌, inl, inr, Ordering, Less, Equal, Greater, arith, length-take, length-drop, take-append-drop, drop-cons}
 use Rattle.std.specs.Cmp.{IsTotalOrder}
 use Rattle.std.specs.List.{AllByRecursion}
 use Rattle.std.specs.List.Sorted.{IsNonDecreasingBy, IsSearchInRange, IsBinarySearchResult}
@@ -53,7 +55,8 @@ module _ {K V : Type 0} {cmp : K → K → Ordering} (order : IsTotalOrder cmp) 
   falls (x ∷ xs) up i zero d before within = absurd (omega arith)
   falls (x ∷ xs) up zero (suc j) d before within =
       let parts = ascending_parts cmp (reverse xs) (x ∷ []) (subst (IsAscending cmp) (reverse-cons x xs) up) in
-      parts.across (get_or xs j d) x (Contains-permutation xs (reverse xs) _ (IsPermutation-reverse xs) (Contains-get_or xs j d (omega arith))) (Contains-head x [])
+      parts.across (get_or xs j d) x (Contains-permutation xs (reverse xs) _ (IsPermutation-reverse xs) (Contains-get_or xs j d (omega arith)))
+      (Contains-head x [])
   falls (x ∷ xs) up (suc i) (suc j) d before within =
       let parts = ascending_parts cmp (reverse xs) (x ∷ []) (subst (IsAscending cmp) (reverse-cons x xs) up) in
       falls xs parts.first i j d (omega arith) (omega arith)
@@ -66,8 +69,12 @@ module _ {K V : Type 0} {cmp : K → K → Ordering} (order : IsTotalOrder cmp) 
     ]
 
     -- a binary search by key ends at the key, or at the gap for it
-    pub searched : (r : Result ℕ ℕ) → IsSearchInRange r (length xs) → IsBinarySearchResult (λ p. cmp key p.0) xs r → record { found : IfOk r (IsAt cmp key xs); absent : IfErr r (IsGapFor cmp key xs) }
-    searched (Ok at) in_range tied = record { found = record { in_range = in_range; has_key = λ d. tied_back order key (get_or xs at d).0 (tied d) }; absent = tt }
+    pub searched : (r : Result ℕ ℕ) → IsSearchInRange r (length xs) → IsBinarySearchResult (λ p. cmp key p.0) xs r
+        → record { found : IfOk r (IsAt cmp key xs); absent : IfErr r (IsGapFor cmp key xs) }
+    searched (Ok at) in_range tied = record {
+      found = record { in_range = in_range; has_key = λ d. tied_back order key (get_or xs at d).0 (tied d) };
+      absent = tt;
+    }
     searched (Err at) in_range parted = record {
       found = tt;
       absent = record {
@@ -75,10 +82,12 @@ module _ {K V : Type 0} {cmp : K → K → Ordering} (order : IsTotalOrder cmp) 
         greater_before = λ k d within.
             let long = length-take at xs in
             let below : k < at = omega arith in
-            subst (λ (p : K × V). cmp p.0 key ≡ Greater) (sym (get_or-take at xs k d below)) (greater_from_less order key (get_or xs k d).0 ((parted comparisons_rise).0 k d (omega arith) below));
+            subst (λ (p : K × V). cmp p.0 key ≡ Greater) (sym (get_or-take at xs k d below))
+            (greater_from_less order key (get_or xs k d).0 ((parted comparisons_rise).0 k d (omega arith) below));
         smaller_after = λ k d within.
             let long = length-drop at xs in
-            subst (λ (p : K × V). cmp p.0 key ≡ Less) (sym (get_or-drop at xs k d)) (less_from_greater order key (get_or xs (at + k) d).0 ((parted comparisons_rise).1 (at + k) d (omega arith) (omega arith)));
+            subst (λ (p : K × V). cmp p.0 key ≡ Less) (sym (get_or-drop at xs k d))
+            (less_from_greater order key (get_or xs (at + k) d).0 ((parted comparisons_rise).1 (at + k) d (omega arith) (omega arith)));
       };
     }
 
@@ -86,14 +95,17 @@ module _ {K V : Type 0} {cmp : K → K → Ordering} (order : IsTotalOrder cmp) 
   pub reverse-insert : (xs : List (K × V)) (new : K × V) (i : ℕ) → IsGapFor cmp new.0 xs i → reverse (insert xs i new) ≡ inserted cmp new (reverse xs)
   reverse-insert xs new i gap =
       reverse_around (take i xs) (drop i xs) new
-      ∙ sym (inserted_between cmp new (reverse (drop i xs)) (reverse (take i xs)) (each_in_reverse (λ p. cmp p.0 new.0 ≡ Less) (drop i xs) gap.smaller_after) (each_in_reverse (λ p. cmp p.0 new.0 ≡ Greater) (take i xs) gap.greater_before))
+      ∙ sym (inserted_between cmp new (reverse (drop i xs)) (reverse (take i xs)) (each_in_reverse (λ p. cmp p.0 new.0 ≡ Less) (drop i xs) gap.smaller_after)
+      (each_in_reverse (λ p. cmp p.0 new.0 ≡ Greater) (take i xs) gap.greater_before))
       ∙ ap (inserted cmp new) (sym (reverse_parts i xs))
 
   -- a key that has a gap is absent
   pub absent_in_gap : (xs : List (K × V)) (key : K) (i : ℕ) → IsGapFor cmp key xs i → IsAbsent cmp key (reverse xs)
   absent_in_gap xs key i gap = subst (IsAbsent cmp key) (sym (reverse_parts i xs)) (absent-append cmp key (reverse (drop i xs)) (reverse (take i xs))
-      (absent_from_members cmp key _ (λ p among tied. let below : cmp p.0 key ≡ Less = each_at_member (λ p. cmp p.0 key ≡ Less) _ p (each_in_reverse (λ p. cmp p.0 key ≡ Less) (drop i xs) gap.smaller_after) among in cc))
-      (absent_from_members cmp key _ (λ p among tied. let above : cmp p.0 key ≡ Greater = each_at_member (λ p. cmp p.0 key ≡ Greater) _ p (each_in_reverse (λ p. cmp p.0 key ≡ Greater) (take i xs) gap.greater_before) among in cc)))
+      (absent_from_members cmp key _ (λ p among tied. let below : cmp p.0 key ≡ Less =
+      each_at_member (λ p. cmp p.0 key ≡ Less) _ p (each_in_reverse (λ p. cmp p.0 key ≡ Less) (drop i xs) gap.smaller_after) among in cc))
+      (absent_from_members cmp key _ (λ p among tied. let above : cmp p.0 key ≡ Greater =
+      each_at_member (λ p. cmp p.0 key ≡ Greater) _ p (each_in_reverse (λ p. cmp p.0 key ≡ Greater) (take i xs) gap.greater_before) among in cc)))
 
   -- a key that has a place is not
   module _ (xs : List (K × V)) (key : K) (i : ℕ) (d : K × V) (at : IsAt cmp key xs i) where
@@ -114,5 +126,6 @@ module _ {K V : Type 0} {cmp : K → K → Ordering} (order : IsTotalOrder cmp) 
     pub reverse-remove : IsAscending cmp (reverse xs) → reverse (remove xs i) ≡ without cmp key (reverse xs)
     reverse-remove up =
         reverse-append (take i xs) (drop (suc i) xs)
-        ∙ sym (without_between order key (get_or xs i d) (reverse (drop (suc i) xs)) (reverse (take i xs)) (subst (IsAscending cmp) around_place up) (at.has_key d))
+        ∙ sym (without_between order key (get_or xs i d) (reverse (drop (suc i) xs)) (reverse (take i xs)) (subst (IsAscending cmp) around_place up)
+        (at.has_key d))
         ∙ ap (without cmp key) (sym around_place)

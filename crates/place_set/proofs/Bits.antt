@@ -2,13 +2,15 @@
 use Rattle.std.proofs.lemmas.Bool.Decides.{nat_tests}
 use Rattle.std.proofs.Math.Nat.{div-le_self}
 use Rattle.std.proofs.lemmas.Nat.{shr-shr}
-use Rattle.std.proofs.Common.{zero, replicate, div-one, Bool, true, false, nat_lt, ◌≡◌, ◌≢◌, ℕ, suc, ◌+◌, ◌-◌, ◌*◌, ◌/◌, ◌%◌, ◌^◌, ◌<◌, ◌≤◌, ◌⊎◌, ◌↔◌, inl, inr, List, length, slice_index, slice_set, bit_and, bit_or, w64, refl, ap, sym, ◌∙◌, subst, arith}
+use Rattle.std.proofs.Common.{zero, replicate, div-one, Bool, true, false, nat_lt, ◌≡◌, ◌≢◌, ℕ, suc, ◌+◌, ◌-◌, ◌*◌, ◌/◌, ◌%◌, ◌^◌, ◌<◌}
+use Rattle.std.proofs.Common.{◌≤◌, ◌⊎◌, ◌↔◌, inl, inr, List, length, slice_index, slice_set, bit_and, bit_or, w64, refl, ap, sym, ◌∙◌, subst, arith}
 use mathlib.Core.Logic.{dite}
 use native.Mathlib.Decide.{ℕ_discrete}
 use Rattle.std.specs.Int.{bit_at, bit_not, trailing_zeros}
 use Rattle.std.proofs.Math.Nat.{mod-add-div'}
 use Rattle.std.proofs.lemmas.List.{get_or-set_same, get_or-set_other, get_or_past}
-use Rattle.std.proofs.lemmas.Nat.Bits.{bit_at-zero, bit_at_set_same, bit_at_set_other, bit_at_clear_same, bit_at_clear_other, bit_at-trailing_zeros, bit_at_above}
+use Rattle.std.proofs.lemmas.Nat.Bits.{bit_at-zero, bit_at_set_same, bit_at_set_other, bit_at_clear_same}
+use Rattle.std.proofs.lemmas.Nat.Bits.{bit_at_clear_other, bit_at-trailing_zeros, bit_at_above}
 use Rattle.place_set.specs.Sets.{Has, IsNext}
 
 -- a place is its word and its bit
@@ -46,7 +48,8 @@ module _ (words : List ℕ) (p word : ℕ) (long : p / 64 < length words) where
   pub bit_elsewhere : ((b : ℕ) → b < 64 → b ≢ p % 64 → bit_at word b ≡ bit_at (slice_index words (p / 64)) b)
       → (q : ℕ) → q ≢ p → bit_at (slice_index (slice_set words (p / 64) word) (q / 64)) (q % 64) ≡ bit_at (slice_index words (q / 64)) (q % 64)
   bit_elsewhere kept q apart = dite (ℕ_discrete (q / 64) (p / 64))
-      (λ same. ap (λ n. bit_at n (q % 64)) (own_word q same) ∙ kept (q % 64) (bit_low q) (λ bit. apart (same_place q p same bit)) ∙ ap (λ n. bit_at (slice_index words n) (q % 64)) (sym same))
+      (λ same. ap (λ n. bit_at n (q % 64)) (own_word q same) ∙ kept (q % 64) (bit_low q) (λ bit. apart (same_place q p same bit))
+      ∙ ap (λ n. bit_at (slice_index words n) (q % 64)) (sym same))
       (λ other. ap (λ n. bit_at n (q % 64)) (other_word q other))
 
 -- one place more
@@ -84,7 +87,8 @@ shifted : (n k i : ℕ) → bit_at (n / 2 ^ k) i ≡ bit_at n (k + i)
 shifted n k i = ap (λ m. m % 2) (shr-shr n k i)
 
 -- the first place of a set from one on, where its word has one
-pub first_in : (words : List ℕ) (from rest : ℕ) → from / 64 < 64 → rest ≡ slice_index words (from / 64) / 2 ^ (from % 64) → rest ≢ 0 → slice_index words (from / 64) < 2 ^ 64 → IsNext words from (from + trailing_zeros w64 rest)
+pub first_in : (words : List ℕ) (from rest : ℕ) → from / 64 < 64 → rest ≡ slice_index words (from / 64) / 2 ^ (from % 64) → rest ≢ 0
+    → slice_index words (from / 64) < 2 ^ 64 → IsNext words from (from + trailing_zeros w64 rest)
 first_in words from rest low is some fits =
     let word = slice_index words (from / 64) in
     let bit = from % 64 in
@@ -103,8 +107,10 @@ first_in words from rest low is some fits =
           let at_word : other / 64 ≡ from / 64 = omega (arith, within) in
           let at_bit : other % 64 ≡ bit + (other - from) = omega (arith, within) in
           let zero : bit_at rest (other - from) ≡ 0 = lowest.2 (other - from) (omega arith) in
-          let here : bit_at word (bit + (other - from)) ≡ 1 = ap (λ b. bit_at word b) (sym at_bit) ∙ ap (λ n. bit_at (slice_index words n) (other % 64)) (sym at_word) ∙ has in
-          let moved : bit_at rest (other - from) ≡ bit_at word (bit + (other - from)) = ap (λ n. bit_at n (other - from)) is ∙ shifted word bit (other - from) in
+          let here : bit_at word (bit + (other - from)) ≡ 1 = ap (λ b. bit_at word b) (sym at_bit)
+          ∙ ap (λ n. bit_at (slice_index words n) (other % 64)) (sym at_word) ∙ has in
+          let moved : bit_at rest (other - from) ≡ bit_at word (bit + (other - from)) = ap (λ n. bit_at n (other - from)) is
+          ∙ shifted word bit (other - from) in
           absurd (omega (arith, zero, here, moved));
     }
   where
@@ -141,7 +147,8 @@ first_later words first word after low some fits empty =
     }
   where
     by_word : (other : ℕ) → 64 * first ≤ other → other < word * 64 + trailing_zeros w64 (slice_index words word) → Has words other
-        → ((o : ℕ) → word * 64 ≤ o → o < word * 64 + trailing_zeros w64 (slice_index words word) → Has words o → ⊥) → (c : Bool) → nat_lt (other / 64) word ≡ c → ⊥
+        → ((o : ℕ) → word * 64 ≤ o → o < word * 64 + trailing_zeros w64 (slice_index words word) → Has words o → ⊥) → (c : Bool) → nat_lt (other / 64) word ≡ c
+        → ⊥
     by_word other from before has later true e =
         let lower : other / 64 < word = grind (arith, nat_tests) in
         none_in words other (empty (other / 64) (omega arith) lower) has
@@ -150,7 +157,8 @@ first_later words first word after low some fits empty =
         later other (omega (arith, no_lower)) before has
 
 -- none where no word from one on has a bit
-pub none_later : (words : List ℕ) (first : ℕ) → length words ≡ 64 → ((w : ℕ) → first ≤ w → w < 64 → slice_index words w ≡ 0) → (place : ℕ) → 64 * first ≤ place → Has words place → ⊥
+pub none_later : (words : List ℕ) (first : ℕ) → length words ≡ 64 → ((w : ℕ) → first ≤ w → w < 64 → slice_index words w ≡ 0) → (place : ℕ) → 64 * first ≤ place
+    → Has words place → ⊥
 none_later words first long empty place after has = by_word (nat_lt (place / 64) 64) refl
   where
     by_word : (c : Bool) → nat_lt (place / 64) 64 ≡ c → ⊥
@@ -165,5 +173,6 @@ none_here words from low fits empty other after before has =
     let at_bit : other % 64 ≡ from % 64 + (other - from) = omega arith in
     let here : bit_at (slice_index words (from / 64)) (from % 64 + (other - from)) ≡ 1 =
     ap (λ b. bit_at (slice_index words (from / 64)) b) (sym at_bit) ∙ ap (λ n. bit_at (slice_index words n) (other % 64)) (sym at_word) ∙ has in
-    let none : bit_at (slice_index words (from / 64) / 2 ^ (from % 64)) (other - from) ≡ 0 = ap (λ n. bit_at n (other - from)) empty ∙ bit_at-zero (other - from) in
+    let none : bit_at (slice_index words (from / 64) / 2 ^ (from % 64)) (other - from) ≡ 0 = ap (λ n. bit_at n (other - from)) empty
+    ∙ bit_at-zero (other - from) in
     absurd (omega (arith, here, none, shifted (slice_index words (from / 64)) (from % 64) (other - from)))

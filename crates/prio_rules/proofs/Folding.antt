@@ -23,7 +23,8 @@ pub begins-front : (ignore_case : Bool) (value text front : List ℕ) → front 
     → bytes_eq (folded ignore_case value) (folded ignore_case front) ≡ begins (folded ignore_case value) (folded ignore_case text)
 begins-front ignore_case value text front is =
     ap (bytes_eq (folded ignore_case value))
-    (ap (folded ignore_case) is ∙ folded-take ignore_case (length value) text ∙ ap (λ n. take n (folded ignore_case text)) (sym (length-folded ignore_case value)))
+    (ap (folded ignore_case) is ∙ folded-take ignore_case (length value) text
+    ∙ ap (λ n. take n (folded ignore_case text)) (sym (length-folded ignore_case value)))
 
 pub ends-end : (ignore_case : Bool) (value text end : List ℕ) → end ≡ drop (length text - length value) text
     → bytes_eq (folded ignore_case value) (folded ignore_case end) ≡ ends_with (λ a b. a == b) (folded ignore_case text) (folded ignore_case value)

@@ -27,7 +27,8 @@ set_at name test (acl ∷ acls) (suc i) d below here before =
     rw first (ap (λ more. acl ∷ more) (set_at name test acls i d (omega arith) here (λ k k_below. before (suc k) (omega arith))))
 
 -- the first of the name gets it
-pub with_test-at : (name : List ℕ) (test : Test) (acls : List Acl) (i : ℕ) (acl : Acl) → acl_index name acls ≡ Some i → acl ≡ get_or acls i acl → with_test name test acls ≡ set acls i (more_of test acl)
+pub with_test-at : (name : List ℕ) (test : Test) (acls : List Acl) (i : ℕ) (acl : Acl) → acl_index name acls ≡ Some i → acl ≡ get_or acls i acl
+    → with_test name test acls ≡ set acls i (more_of test acl)
 with_test-at name test acls i acl at is =
     let found = position-Some (is_named name) acls i acl at in
     set_at name test acls i acl found.0 found.1 found.2 ∙ ap (λ (one : Acl). set acls i (more_of test one)) (sym is)
@@ -44,7 +45,8 @@ stays_below true n at = cc
 stays_below false n at = refl
 
 -- where there is none, it is a new ACL
-pub with_test-new : (name : List ℕ) (test : Test) (acls : List Acl) → acl_index name acls ≡ None → with_test name test acls ≡ acls ++ record { name = name; tests = test ∷ [] } ∷ []
+pub with_test-new : (name : List ℕ) (test : Test) (acls : List Acl) → acl_index name acls ≡ None
+    → with_test name test acls ≡ acls ++ record { name = name; tests = test ∷ [] } ∷ []
 with_test-new name test acls at =
     let past : length acls ≤ position_or_len (is_named name) acls = ltb-false _ _ (stays_below _ _ at) in
     none_named name test acls (λ k d below. fails_before_first (is_named name) acls k d (omega arith))

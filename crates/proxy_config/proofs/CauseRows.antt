@@ -1,5 +1,6 @@
 -- Where the causes that the lines before a line decide can stand.
-use Rattle.std.proofs.Common.{◌≡◌, ◌∙◌, ◌⊎◌, inl, inr, ◌||◌, ℕ, Bool, true, false, cond, not, List, [], ◌∷◌, Option, Some, None, Result, Ok, Err, refl, sym, ap, subst}
+use Rattle.std.proofs.Common.{◌≡◌, ◌∙◌, ◌⊎◌, inl, inr, ◌||◌, ℕ, Bool, true, false, cond, not, List}
+use Rattle.std.proofs.Common.{[], ◌∷◌, Option, Some, None, Result, Ok, Err, refl, sym, ap, subst}
 use Rattle.std.specs.Option.{is_some}
 use Rattle.std.specs.List.{list_any}
 use Rattle.proxy_words.specs.Text.{uncommented}
@@ -20,7 +21,8 @@ use Rattle.proxy_config.specs.Keywords.{keyword_of}
 use Rattle.proxy_config.specs.Settings as server
 use Rattle.proxy_config.specs.Draft as draft
 use Rattle.proxy_config.specs.Rows.{words_of, in_values, takes, IsMisplaced, BeginsRefused, IsRead, EachInItsRow}
-use Rattle.proxy_config.proofs.Causes.{is_of_words, Within, within_ok, within_err, within_bind, within_or, within_unless, within_word, within_end, within_shared, within_settings, within_acl, within_rule, within_pin}
+use Rattle.proxy_config.proofs.Causes.{is_of_words, Within, within_ok, within_err, within_bind, within_or, within_unless}
+use Rattle.proxy_config.proofs.Causes.{within_word, within_end, within_shared, within_settings, within_acl, within_rule, within_pin}
 
 abbrev is_count : Cause → Bool
 is_count causes.Limit = true
@@ -75,7 +77,8 @@ defaults_line d words = within_bind _ _ (optional_name words) (λ name. within_o
 -- a `listen`, where none stood before
 first_listen : (d : Draft) (n : ℕ) (words : List (List ℕ)) → is_some d.listen ≡ false → Within is_of_words (draft.listen_line d n words)
 unfolding draft.listen_line
-first_listen d n words first = rw first (within_bind _ _ (within_word words) (λ name. within_bind _ _ (within_unless _ causes.Name refl) (λ named. within_bind _ _ (within_end name.1) (λ e. within_ok _))))
+first_listen d n words first = rw first (within_bind _ _ (within_word words)
+    (λ name. within_bind _ _ (within_unless _ causes.Name refl) (λ named. within_bind _ _ (within_end name.1) (λ e. within_ok _))))
 
 second_listen : (d : Draft) (n : ℕ) (words : List (List ℕ)) → is_some d.listen ≡ true → draft.listen_line d n words ≡ Err causes.Section
 unfolding draft.listen_line
@@ -85,26 +88,32 @@ second_listen d n words second = rw second refl
 bind_in : (d : Draft) (words : List (List ℕ)) → draft.in_listen d.section ≡ true → Within is_placed (draft.bind_line d words)
 unfolding draft.bind_line
 bind_in d words inside = rw inside (within_bind _ _ (within_unless _ causes.Twice refl) (λ again.
-    weaker is_count (within_bind _ _ (within_word words) (λ word. within_bind _ _ (within_or _ causes.Address refl) (λ b. within_bind _ _ (within_end word.1) (λ e. within_ok _))))))
+    weaker is_count (within_bind _ _ (within_word words)
+    (λ word. within_bind _ _ (within_or _ causes.Address refl) (λ b. within_bind _ _ (within_end word.1) (λ e. within_ok _))))))
 
 server_in : (d : Draft) (words : List (List ℕ)) → draft.in_listen d.section ≡ true → Within is_placed (draft.server_line d words)
 unfolding draft.server_line
-server_in d words inside = rw inside (within_bind _ _ (within_unless _ causes.Limit refl) (λ limit. within_bind _ _ (weaker is_count (within_word words)) (λ name.
-    within_bind _ _ (within_unless (not (is_name name.0)) causes.Name refl) (λ named. within_bind _ _ (within_unless (is_some (server_index name.0 d.servers)) causes.Twice refl) (λ again.
+server_in d words inside = rw inside (within_bind _ _ (within_unless _ causes.Limit refl)
+    (λ limit. within_bind _ _ (weaker is_count (within_word words)) (λ name.
+    within_bind _ _ (within_unless (not (is_name name.0)) causes.Name refl)
+    (λ named. within_bind _ _ (within_unless (is_some (server_index name.0 d.servers)) causes.Twice refl) (λ again.
     weaker is_count (within_bind _ _ (within_word name.1) (λ second. within_bind _ _ (within_or (address_of second.0) causes.Address refl) (λ address.
     within_bind _ _ (within_settings server.built_in second.1) (λ s. within_ok _)))))))))
 
 test_in : (d : Draft) (words : List (List ℕ)) → draft.in_listen d.section ≡ true → Within is_placed (draft.test_line d words)
 unfolding draft.test_line
-test_in d words inside = rw inside (within_bind _ _ (within_unless _ causes.Limit refl) (λ limit. within_bind _ _ (weaker is_count (within_acl d.acls words)) (λ acls. within_ok _)))
+test_in d words inside = rw inside (within_bind _ _ (within_unless _ causes.Limit refl)
+    (λ limit. within_bind _ _ (weaker is_count (within_acl d.acls words)) (λ acls. within_ok _)))
 
 request_in : (d : Draft) (words : List (List ℕ)) → draft.in_listen d.section ≡ true → Within is_placed (draft.request_line d words)
 unfolding draft.request_line
-request_in d words inside = rw inside (within_bind _ _ (within_unless _ causes.Limit refl) (λ limit. within_bind _ _ (weaker is_count (within_rule d.acls words)) (λ rule. within_ok _)))
+request_in d words inside = rw inside (within_bind _ _ (within_unless _ causes.Limit refl)
+    (λ limit. within_bind _ _ (weaker is_count (within_rule d.acls words)) (λ rule. within_ok _)))
 
 use_in : (servers : List Server) (d : Draft) (words : List (List ℕ)) → draft.in_listen d.section ≡ true → Within is_placed (draft.use_line servers d words)
 unfolding draft.use_line
-use_in servers d words inside = rw inside (within_bind _ _ (within_unless _ causes.Limit refl) (λ limit. within_bind _ _ (weaker is_count (within_pin servers d.acls words)) (λ pin. within_ok _)))
+use_in servers d words inside = rw inside
+    (within_bind _ _ (within_unless _ causes.Limit refl) (λ limit. within_bind _ _ (weaker is_count (within_pin servers d.acls words)) (λ pin. within_ok _)))
 
 -- and outside it
 bind_out : (d : Draft) (words : List (List ℕ)) → draft.in_listen d.section ≡ false → draft.bind_line d words ≡ Err causes.Place
@@ -127,14 +136,16 @@ use_out : (servers : List Server) (d : Draft) (words : List (List ℕ)) → draf
 unfolding draft.use_line
 use_out servers d words outside = rw outside refl
 
-value_out : (d : Draft) (kind : Shared) (words : List (List ℕ)) (section : Section) → d.section ≡ section → in_values section ≡ false → draft.value_line d kind words ≡ Err causes.Place
+value_out : (d : Draft) (kind : Shared) (words : List (List ℕ)) (section : Section) → d.section ≡ section → in_values section ≡ false
+    → draft.value_line d kind words ≡ Err causes.Place
 unfolding draft.value_line
 value_out d kind words sections.Outside is outside = rw is refl
 value_out d kind words sections.Global is outside = rw is refl
 value_out d kind words sections.Defaults is outside = cc
 value_out d kind words sections.Listen is outside = cc
 
-value_in : (d : Draft) (kind : Shared) (words : List (List ℕ)) (section : Section) → d.section ≡ section → in_values section ≡ true → Within is_of_words (draft.value_line d kind words)
+value_in : (d : Draft) (kind : Shared) (words : List (List ℕ)) (section : Section) → d.section ≡ section → in_values section ≡ true
+    → Within is_of_words (draft.value_line d kind words)
 unfolding draft.value_line
 value_in d kind words sections.Outside is inside = absurd (let none = inside in cc)
 value_in d kind words sections.Global is inside = absurd (let none = inside in cc)
@@ -142,7 +153,8 @@ value_in d kind words sections.Defaults is inside = rw is (within_bind _ _ (with
 value_in d kind words sections.Listen is inside = rw is (within_bind _ _ (within_shared kind d.values words) (λ v. within_ok _))
 
 -- a line whose section doesn't take it
-pub line_out : (servers : List Server) (d : Draft) (n : ℕ) (keyword : Keyword) (words : List (List ℕ)) → takes d.section keyword ≡ false → draft.keyword_line servers d n keyword words ≡ Err causes.Place
+pub line_out : (servers : List Server) (d : Draft) (n : ℕ) (keyword : Keyword) (words : List (List ℕ)) → takes d.section keyword ≡ false
+    → draft.keyword_line servers d n keyword words ≡ Err causes.Place
 line_out servers d n keywords.Global words outside = absurd (let none = outside in cc)
 line_out servers d n keywords.Defaults words outside = absurd (let none = outside in cc)
 line_out servers d n keywords.Listen words outside = absurd (let none = outside in cc)
@@ -163,7 +175,8 @@ begins keywords.Refused = true
 begins other = false
 
 -- a line that its section takes and that begins none
-line_in : (servers : List Server) (d : Draft) (n : ℕ) (keyword : Keyword) (words : List (List ℕ)) → begins keyword ≡ false → takes d.section keyword ≡ true → Within is_placed (draft.keyword_line servers d n keyword words)
+line_in : (servers : List Server) (d : Draft) (n : ℕ) (keyword : Keyword) (words : List (List ℕ)) → begins keyword ≡ false → takes d.section keyword ≡ true
+    → Within is_placed (draft.keyword_line servers d n keyword words)
 line_in servers d n keywords.Global words other inside = absurd (let none = other in cc)
 line_in servers d n keywords.Defaults words other inside = absurd (let none = other in cc)
 line_in servers d n keywords.Listen words other inside = absurd (let none = other in cc)
@@ -176,11 +189,14 @@ line_in servers d n keywords.HttpRequest words other inside = request_in d words
 line_in servers d n keywords.UseServer words other inside = use_in servers d words inside
 
 -- a line that begins a section, taken or refused
-listen_row : (d : Draft) (n : ℕ) (words : List (List ℕ)) (b : Bool) → is_some d.listen ≡ b → Within (λ cause. is_of_words cause || is_section cause) (draft.listen_line d n words)
-listen_row d n words true second = subst (λ (r : Result Draft Cause). Within (λ cause. is_of_words cause || is_section cause) r) (sym (second_listen d n words second)) (within_err causes.Section refl)
+listen_row : (d : Draft) (n : ℕ) (words : List (List ℕ)) (b : Bool) → is_some d.listen ≡ b
+    → Within (λ cause. is_of_words cause || is_section cause) (draft.listen_line d n words)
+listen_row d n words true second = subst (λ (r : Result Draft Cause). Within (λ cause. is_of_words cause || is_section cause) r)
+    (sym (second_listen d n words second)) (within_err causes.Section refl)
 listen_row d n words false first = weaker is_section (first_listen d n words first)
 
-section_row : (servers : List Server) (d : Draft) (n : ℕ) (keyword : Keyword) (words : List (List ℕ)) → begins keyword ≡ true → Within (λ cause. is_of_words cause || is_section cause) (draft.keyword_line servers d n keyword words)
+section_row : (servers : List Server) (d : Draft) (n : ℕ) (keyword : Keyword) (words : List (List ℕ)) → begins keyword ≡ true
+    → Within (λ cause. is_of_words cause || is_section cause) (draft.keyword_line servers d n keyword words)
 section_row servers d n keywords.Global words one = weaker is_section (global_line d words)
 section_row servers d n keywords.Defaults words one = weaker is_section (defaults_line d words)
 section_row servers d n keywords.Listen words one = listen_row d n words (is_some d.listen) refl
@@ -188,7 +204,8 @@ section_row servers d n keywords.Refused words one = within_err causes.Section r
 section_row servers d n other words one = absurd (let none = one in cc)
 
 -- a fault in the place of a line is that of a keyword that its section doesn't take
-place_only : (servers : List Server) (d : Draft) (n : ℕ) (keyword : Keyword) (words : List (List ℕ)) (b t : Bool) → begins keyword ≡ b → takes d.section keyword ≡ t
+place_only : (servers : List Server) (d : Draft) (n : ℕ) (keyword : Keyword) (words : List (List ℕ)) (b t : Bool) → begins keyword ≡ b
+    → takes d.section keyword ≡ t
     → draft.keyword_line servers d n keyword words ≡ Err causes.Place → takes d.section keyword ≡ false
 place_only servers d n keyword words true t one taken is = absurd (never causes.Place (section_row servers d n keyword words one) refl is)
 place_only servers d n keyword words false true other taken is = absurd (never causes.Place (line_in servers d n keyword words other taken) refl is)
@@ -213,21 +230,25 @@ all_lines within = record { fault = λ cause is. wider cause (within.fault cause
     wider causes.Condition holds = refl
 
 -- neither of the other two causes stands in a line of a keyword
-line_causes : (servers : List Server) (d : Draft) (n : ℕ) (keyword : Keyword) (words : List (List ℕ)) (b t : Bool) → begins keyword ≡ b → takes d.section keyword ≡ t
+line_causes : (servers : List Server) (d : Draft) (n : ℕ) (keyword : Keyword) (words : List (List ℕ)) (b t : Bool) → begins keyword ≡ b
+    → takes d.section keyword ≡ t
     → Within is_of_lines (draft.keyword_line servers d n keyword words)
 line_causes servers d n keyword words true t one taken = all_lines (section_row servers d n keyword words one)
 line_causes servers d n keyword words false true other taken = weaker is_section (weaker is_place (line_in servers d n keyword words other taken))
 line_causes servers d n keyword words false false other taken =
     subst (λ (r : Result Draft Cause). Within is_of_lines r) (sym (line_out servers d n keyword words taken)) (within_err causes.Place refl)
 
-not_of_section : (servers : List Server) (d : Draft) (n : ℕ) (keyword : Keyword) (words : List (List ℕ)) (t : Bool) → begins keyword ≡ false → takes d.section keyword ≡ t
+not_of_section : (servers : List Server) (d : Draft) (n : ℕ) (keyword : Keyword) (words : List (List ℕ)) (t : Bool) → begins keyword ≡ false
+    → takes d.section keyword ≡ t
     → draft.keyword_line servers d n keyword words ≡ Err causes.Section → ⊥
 not_of_section servers d n keyword words true other taken is = never causes.Section (line_in servers d n keyword words other taken) refl is
 not_of_section servers d n keyword words false other taken is =
-    let both : (let one : Result Draft Cause = Err causes.Section in one ≡ Err causes.Place) = sym is ∙ line_out servers d n keyword words taken in absurd (let none = both in cc)
+    let both : (let one : Result Draft Cause = Err causes.Section in one ≡ Err causes.Place) = sym is ∙ line_out servers d n keyword words taken in
+    absurd (let none = both in cc)
 
 -- a fault of a section is that of one that is refused
-section_only : (servers : List Server) (d : Draft) (n : ℕ) (keyword : Keyword) (words : List (List ℕ)) → draft.keyword_line servers d n keyword words ≡ Err causes.Section
+section_only : (servers : List Server) (d : Draft) (n : ℕ) (keyword : Keyword) (words : List (List ℕ))
+    → draft.keyword_line servers d n keyword words ≡ Err causes.Section
     → (keyword ≡ keywords.Refused) ⊎ ((keyword ≡ keywords.Listen) × (is_some d.listen ≡ true))
 section_only servers d n keywords.Global words is = absurd (never causes.Section (global_line d words) refl is)
 section_only servers d n keywords.Defaults words is = absurd (never causes.Section (defaults_line d words) refl is)
@@ -237,18 +258,23 @@ section_only servers d n keywords.Listen words is = inr (refl, again (is_some d.
     again true second = second
     again false first = absurd (never causes.Section (first_listen d n words first) refl is)
 section_only servers d n keywords.Refused words is = inl refl
-section_only servers d n (keywords.Shared kind) words is = absurd (not_of_section servers d n (keywords.Shared kind) words (takes d.section (keywords.Shared kind)) refl refl is)
+section_only servers d n (keywords.Shared kind) words is =
+    absurd (not_of_section servers d n (keywords.Shared kind) words (takes d.section (keywords.Shared kind)) refl refl is)
 section_only servers d n keywords.Bind words is = absurd (not_of_section servers d n keywords.Bind words (takes d.section keywords.Bind) refl refl is)
 section_only servers d n keywords.Server words is = absurd (not_of_section servers d n keywords.Server words (takes d.section keywords.Server) refl refl is)
 section_only servers d n keywords.Acl words is = absurd (not_of_section servers d n keywords.Acl words (takes d.section keywords.Acl) refl refl is)
-section_only servers d n keywords.HttpRequest words is = absurd (not_of_section servers d n keywords.HttpRequest words (takes d.section keywords.HttpRequest) refl refl is)
-section_only servers d n keywords.UseServer words is = absurd (not_of_section servers d n keywords.UseServer words (takes d.section keywords.UseServer) refl refl is)
+section_only servers d n keywords.HttpRequest words is =
+    absurd (not_of_section servers d n keywords.HttpRequest words (takes d.section keywords.HttpRequest) refl refl is)
+section_only servers d n keywords.UseServer words is =
+    absurd (not_of_section servers d n keywords.UseServer words (takes d.section keywords.UseServer) refl refl is)
 
 -- the same of a line by its words
 words_causes : (servers : List Server) (d : Draft) (n : ℕ) (words : List (List ℕ)) → Within is_of_lines (draft.words_line servers d n words)
 unfolding draft.words_line
 words_causes servers d n [] = within_ok d
-words_causes servers d n (word ∷ words) = within_bind _ _ (within_or (keyword_of word) causes.Keyword refl) (λ keyword. line_causes servers d n keyword words (begins keyword) (takes d.section keyword) refl refl)
+words_causes servers d n (word ∷ words) =
+    within_bind _ _ (within_or (keyword_of word) causes.Keyword refl)
+    (λ keyword. line_causes servers d n keyword words (begins keyword) (takes d.section keyword) refl refl)
 
 words_place : (servers : List Server) (d : Draft) (n : ℕ) (words : List (List ℕ)) → draft.words_line servers d n words ≡ Err causes.Place → IsMisplaced d words
 unfolding draft.words_line
@@ -256,27 +282,33 @@ words_place servers d n [] is = absurd (let none = is in cc)
 words_place servers d n (word ∷ words) is = of (keyword_of word) refl
   where
     of : (o : Option Keyword) → keyword_of word ≡ o → (keyword : Keyword) × (keyword_of word ≡ Some keyword) × (takes d.section keyword ≡ false)
-    of None known = absurd (let fault : (let one : Result Draft Cause = Err causes.Keyword in one ≡ Err causes.Place) = (rw known at is) in let none = fault in cc)
+    of None known = absurd (let fault : (let one : Result Draft Cause = Err causes.Keyword in one ≡ Err causes.Place) = (rw known at is) in let none = fault in
+        cc)
     of (Some keyword) known = (keyword, known, place_only servers d n keyword words (begins keyword) (takes d.section keyword) refl refl (rw known at is))
 
-words_misplaced : (servers : List Server) (d : Draft) (n : ℕ) (words : List (List ℕ)) → IsMisplaced d words → draft.words_line servers d n words ≡ Err causes.Place
+words_misplaced : (servers : List Server) (d : Draft) (n : ℕ) (words : List (List ℕ)) → IsMisplaced d words
+    → draft.words_line servers d n words ≡ Err causes.Place
 unfolding draft.words_line
 words_misplaced servers d n [] is = absurd is
 words_misplaced servers d n (word ∷ words) is = rw is.1 (line_out servers d n is.0 words is.2)
 
-words_section : (servers : List Server) (d : Draft) (n : ℕ) (words : List (List ℕ)) → draft.words_line servers d n words ≡ Err causes.Section → BeginsRefused d words
+words_section : (servers : List Server) (d : Draft) (n : ℕ) (words : List (List ℕ)) → draft.words_line servers d n words ≡ Err causes.Section
+    → BeginsRefused d words
 unfolding draft.words_line
 words_section servers d n [] is = absurd (let none = is in cc)
 words_section servers d n (word ∷ words) is = of (keyword_of word) refl
   where
-    of : (o : Option Keyword) → keyword_of word ≡ o → (keyword_of word ≡ Some keywords.Refused) ⊎ ((keyword_of word ≡ Some keywords.Listen) × (is_some d.listen ≡ true))
-    of None known = absurd (let fault : (let one : Result Draft Cause = Err causes.Keyword in one ≡ Err causes.Section) = (rw known at is) in let none = fault in cc)
+    of : (o : Option Keyword) → keyword_of word ≡ o
+        → (keyword_of word ≡ Some keywords.Refused) ⊎ ((keyword_of word ≡ Some keywords.Listen) × (is_some d.listen ≡ true))
+    of None known = absurd (let fault : (let one : Result Draft Cause = Err causes.Keyword in one ≡ Err causes.Section) = (rw known at is) in
+        let none = fault in cc)
     of (Some keyword) known = elim (section_only servers d n keyword words (rw known at is)) [
       | inl refused ↦ inl (known ∙ ap Some refused)
       | inr again ↦ inr (known ∙ ap Some again.0, again.1)
     ]
 
-words_refused : (servers : List Server) (d : Draft) (n : ℕ) (words : List (List ℕ)) → BeginsRefused d words → draft.words_line servers d n words ≡ Err causes.Section
+words_refused : (servers : List Server) (d : Draft) (n : ℕ) (words : List (List ℕ)) → BeginsRefused d words
+    → draft.words_line servers d n words ≡ Err causes.Section
 unfolding draft.words_line
 words_refused servers d n [] is = absurd is
 words_refused servers d n (word ∷ words) (inl refused) = rw refused refl
@@ -288,7 +320,8 @@ stepped ignored quoted too_long d read = cond ignored (unless too_long causes.Li
     (unless quoted causes.Quoting >>= λ plain. unless too_long causes.Limit >>= λ short. read)
 
 step_is : (servers : List Server) (too_long : Bool) (d : Draft) (n : ℕ) (line : List ℕ) → draft.step servers too_long d n line
-    ≡ stepped (draft.is_ignored d.section (words_of line)) (list_any draft.is_quoting (uncommented line)) too_long d (draft.words_line servers d n (words_of line))
+    ≡ stepped (draft.is_ignored d.section (words_of line)) (list_any draft.is_quoting (uncommented line)) too_long d
+    (draft.words_line servers d n (words_of line))
 unfolding draft.step
 step_is servers too_long d n line = refl
 
@@ -313,7 +346,8 @@ read_only false true too_long d read cause is other = absurd (no_other causes.Qu
 read_only false false true d read cause is other = absurd (no_other causes.Limit cause refl is other)
 read_only false false false d read cause is other = (refl, refl, refl, is)
 
-quoting_only : (ignored quoted too_long : Bool) (d : Draft) (read : Result Draft Cause) → Within is_of_lines read → stepped ignored quoted too_long d read ≡ Err causes.Quoting
+quoting_only : (ignored quoted too_long : Bool) (d : Draft) (read : Result Draft Cause) → Within is_of_lines read
+    → stepped ignored quoted too_long d read ≡ Err causes.Quoting
     → (ignored ≡ false) × (quoted ≡ true)
 quoting_only true quoted true d read within is = absurd (let none = is in cc)
 quoting_only true quoted false d read within is = absurd (let none = is in cc)

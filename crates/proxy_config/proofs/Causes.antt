@@ -46,7 +46,8 @@ within_err {A} {may} cause holds = record { fault = λ other is. let same : caus
     same_cause : {a b : Cause} → (let one : Result A Cause = Err a in one ≡ Err b) → a ≡ b
     same_cause is = cc
 
-pub within_bind : {A B : Type 0} {may : Cause → Bool} (r : Result A Cause) (f : A → Result B Cause) → Within may r → ((x : A) → Within may (f x)) → Within may (r >>= f)
+pub within_bind : {A B : Type 0} {may : Cause → Bool} (r : Result A Cause) (f : A → Result B Cause) → Within may r → ((x : A) → Within may (f x))
+    → Within may (r >>= f)
 within_bind (Ok x) f first next = next x
 within_bind (Err cause) f first next = within_err cause (first.fault cause refl)
 
@@ -72,20 +73,24 @@ within_end (word ∷ words) = within_err causes.Words refl
 
 fixed_line : (only : List ℕ) (v : Values) (words : List (List ℕ)) → Within is_of_words (values.fixed_line only v words)
 unfolding values.fixed_line
-fixed_line only v words = within_bind _ _ (within_word words) (λ w. within_bind _ _ (within_unless _ causes.Keyword refl) (λ u. within_bind _ _ (within_end w.1) (λ e. within_ok _)))
+fixed_line only v words = within_bind _ _ (within_word words)
+    (λ w. within_bind _ _ (within_unless _ causes.Keyword refl) (λ u. within_bind _ _ (within_end w.1) (λ e. within_ok _)))
 
 retries_line : (v : Values) (words : List (List ℕ)) → Within is_of_words (values.retries_line v words)
 unfolding values.retries_line
-retries_line v words = within_bind _ _ (within_word words) (λ w. within_bind _ _ (within_or _ causes.Number refl) (λ n. within_bind _ _ (within_end w.1) (λ e. within_ok _)))
+retries_line v words = within_bind _ _ (within_word words)
+    (λ w. within_bind _ _ (within_or _ causes.Number refl) (λ n. within_bind _ _ (within_end w.1) (λ e. within_ok _)))
 
 option_line : (v : Values) (words : List (List ℕ)) → Within is_of_words (values.option_line v words)
 unfolding values.option_line
-option_line v words = within_bind _ _ (within_word words) (λ w. within_bind _ _ (within_or _ causes.Keyword refl) (λ s. within_bind _ _ (within_end w.1) (λ e. within_ok _)))
+option_line v words = within_bind _ _ (within_word words)
+    (λ w. within_bind _ _ (within_or _ causes.Keyword refl) (λ s. within_bind _ _ (within_end w.1) (λ e. within_ok _)))
 
 timeout_line : (v : Values) (words : List (List ℕ)) → Within is_of_words (values.timeout_line v words)
 unfolding values.timeout_line
 timeout_line v words = within_bind _ _ (within_word words) (λ w. within_bind _ _ (within_or _ causes.Keyword refl) (λ kind.
-    within_bind _ _ (within_word w.1) (λ second. within_bind _ _ (within_or _ causes.Number refl) (λ t. within_bind _ _ (within_end second.1) (λ e. within_ok _)))))
+    within_bind _ _ (within_word w.1) (λ second.
+    within_bind _ _ (within_or _ causes.Number refl) (λ t. within_bind _ _ (within_end second.1) (λ e. within_ok _)))))
 
 pub within_shared : (kind : Shared) (v : Values) (words : List (List ℕ)) → Within is_of_words (values.shared_line kind v words)
 within_shared shared.Mode v words = fixed_line _ v words
@@ -105,9 +110,11 @@ one_setting Fall word s = within_bind _ _ (within_or _ causes.Number refl) (λ n
 
 pub within_settings : (s : Settings) (words : List (List ℕ)) → Within is_of_words (settings.settings s words)
 within_settings s [] = within_ok s
-within_settings s (word ∷ []) = within_if _ _ _ (within_ok _) (within_bind _ _ (within_or (settings.setting_of word) causes.Keyword refl) (λ setting. within_err causes.Words refl))
+within_settings s (word ∷ []) = within_if _ _ _ (within_ok _)
+    (within_bind _ _ (within_or (settings.setting_of word) causes.Keyword refl) (λ setting. within_err causes.Words refl))
 within_settings s (word ∷ value ∷ words) = within_if _ _ _ (within_settings (record s { check = true }) (value ∷ words))
-    (within_bind _ _ (within_or (settings.setting_of word) causes.Keyword refl) (λ setting. within_bind _ _ (one_setting setting value s) (λ next. within_settings next words)))
+    (within_bind _ _ (within_or (settings.setting_of word) causes.Keyword refl)
+    (λ setting. within_bind _ _ (one_setting setting value s) (λ next. within_settings next words)))
 
 head_at : (words : List (List ℕ)) → Within is_of_words (tests.head_at words)
 unfolding tests.head_at
@@ -123,11 +130,13 @@ values_to_end (word ∷ words) = within_bind _ _ (value_of word) (λ v. within_b
 
 values_to_brace : (words : List (List ℕ)) → Within is_of_words (tests.values_to_brace words)
 values_to_brace [] = within_err causes.Words refl
-values_to_brace (word ∷ words) = within_if _ _ _ (within_ok _) (within_bind _ _ (value_of word) (λ v. within_bind _ _ (values_to_brace words) (λ more. within_ok _)))
+values_to_brace (word ∷ words) = within_if _ _ _ (within_ok _)
+    (within_bind _ _ (value_of word) (λ v. within_bind _ _ (values_to_brace words) (λ more. within_ok _)))
 
 test_to_end : (words : List (List ℕ)) → Within is_of_words (tests.test_to_end words)
 unfolding tests.test_to_end
-test_to_end words = within_bind _ _ (head_at words) (λ head. within_bind _ _ (value_of head.2) (λ first. within_bind _ _ (values_to_end head.3) (λ more. within_ok _)))
+test_to_end words = within_bind _ _ (head_at words)
+    (λ head. within_bind _ _ (value_of head.2) (λ first. within_bind _ _ (values_to_end head.3) (λ more. within_ok _)))
 
 test_in_braces : (words : List (List ℕ)) → Within is_of_words (tests.test_in_braces words)
 unfolding tests.test_in_braces
@@ -137,12 +146,14 @@ test_in_braces words = within_bind _ _ (head_at words) (λ head. within_bind _ _
 operand_at : (acls : List Acl) (negated : Bool) (word : List ℕ) (words : List (List ℕ)) → Within is_of_words (conditions.operand_at acls negated word words)
 unfolding conditions.operand_at
 operand_at acls negated word words = within_if (bytes_eq word (codes "{")) _ _ (within_bind _ _ (test_in_braces words) (λ t. within_ok _))
-    (within_bind _ _ (within_unless (not (is_acl_name word)) causes.Condition refl) (λ named. within_bind _ _ (within_or (conditions.acl_index word acls) causes.Unknown refl) (λ i. within_ok _)))
+    (within_bind _ _ (within_unless (not (is_acl_name word)) causes.Condition refl)
+    (λ named. within_bind _ _ (within_or (conditions.acl_index word acls) causes.Unknown refl) (λ i. within_ok _)))
 
 term_at : (acls : List Acl) (word : List ℕ) (words : List (List ℕ)) → Within is_of_words (conditions.term_at acls word words)
 unfolding conditions.term_at
 term_at acls [] words = operand_at acls false [] words
-term_at acls (byte ∷ []) words = within_if _ _ _ (within_bind _ _ (within_word words) (λ next. operand_at acls true next.0 next.1)) (operand_at acls false (byte ∷ []) words)
+term_at acls (byte ∷ []) words = within_if _ _ _ (within_bind _ _ (within_word words) (λ next. operand_at acls true next.0 next.1))
+    (operand_at acls false (byte ∷ []) words)
 term_at acls (byte ∷ second ∷ rest) words = within_if _ _ _ (operand_at acls true (second ∷ rest) words) (operand_at acls false (byte ∷ second ∷ rest) words)
 
 alternatives : (n : ℕ) (acls : List Acl) (begins : Bool) (words : List (List ℕ)) → Within is_of_words (conditions.alternatives n acls begins words)
@@ -169,14 +180,17 @@ optional_guard acls (word ∷ words) = within_bind _ _ (guard_at acls word words
 
 pub within_acl : (acls : List Acl) (words : List (List ℕ)) → Within is_of_words (rules.acl_line acls words)
 unfolding rules.acl_line
-within_acl acls words = within_bind _ _ (within_word words) (λ name. within_bind _ _ (within_unless _ causes.Name refl) (λ named. within_bind _ _ (test_to_end name.1) (λ test. within_ok _)))
+within_acl acls words = within_bind _ _ (within_word words)
+    (λ name. within_bind _ _ (within_unless _ causes.Name refl) (λ named. within_bind _ _ (test_to_end name.1) (λ test. within_ok _)))
 
 pub within_rule : (acls : List Acl) (words : List (List ℕ)) → Within is_of_words (rules.rule_line acls words)
 unfolding rules.rule_line
 within_rule acls words = within_bind _ _ (within_word words) (λ first. within_bind _ _ (within_or _ causes.Keyword refl) (λ action.
-    within_bind _ _ (within_word first.1) (λ second. within_bind _ _ (within_or _ causes.Condition refl) (λ value. within_bind _ _ (optional_guard acls second.1) (λ guard. within_ok _)))))
+    within_bind _ _ (within_word first.1) (λ second.
+    within_bind _ _ (within_or _ causes.Condition refl) (λ value. within_bind _ _ (optional_guard acls second.1) (λ guard. within_ok _)))))
 
 pub within_pin : (servers : List Server) (acls : List Acl) (words : List (List ℕ)) → Within is_of_words (rules.pin_line servers acls words)
 unfolding rules.pin_line
 within_pin servers acls words = within_bind _ _ (within_word words) (λ name. within_bind _ _ (within_unless (not (is_name name.0)) causes.Name refl) (λ named.
-    within_bind _ _ (within_or (rules.server_index name.0 servers) causes.Unknown refl) (λ server. within_bind _ _ (within_word name.1) (λ first. within_bind _ _ (guard_at acls first.0 first.1) (λ guard. within_ok _)))))
+    within_bind _ _ (within_or (rules.server_index name.0 servers) causes.Unknown refl)
+    (λ server. within_bind _ _ (within_word name.1) (λ first. within_bind _ _ (guard_at acls first.0 first.1) (λ guard. within_ok _)))))

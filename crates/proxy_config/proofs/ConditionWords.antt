@@ -1,5 +1,6 @@
 -- The words of a condition, read and spelled.
-use Rattle.std.proofs.Common.{◌≡◌, ◌∙◌, ◌⊎◌, inl, inr, ◌≤◌, ◌==◌, ℕ, zero, suc, Bool, true, false, not, List, [], ◌∷◌, ◌++◌, length, Result, Ok, refl, sym, ap, subst, arith, append_assoc, length-append, codes}
+use Rattle.std.proofs.Common.{◌≡◌, ◌∙◌, ◌⊎◌, inl, inr, ◌≤◌, ◌==◌, ℕ, zero, suc, Bool, true, false, not, List}
+use Rattle.std.proofs.Common.{[], ◌∷◌, ◌++◌, length, Result, Ok, refl, sym, ap, subst, arith, append_assoc, length-append, codes}
 use Rattle.std.specs.List.{list_all, onto_first}
 use Rattle.std.specs.Option.{ok_or}
 use Rattle.std.specs.Str.{bytes_eq}
@@ -26,7 +27,8 @@ not_false true is = refl
 not_false false is = cc
 
 -- an operand was spelled as one
-operand_at-found : (acls : List Acl) (negated : Bool) (word : List ℕ) (words : List (List ℕ)) (x : Term × List (List ℕ)) → operand_at acls negated word words ≡ Ok x
+operand_at-found : (acls : List Acl) (negated : Bool) (word : List ℕ) (words : List (List ℕ)) (x : Term × List (List ℕ))
+    → operand_at acls negated word words ≡ Ok x
     → (x.0.negated ≡ negated) × (front : List (List ℕ)) × (word ∷ words ≡ front ++ x.1) × IsOperand acls front x.0.operand
 unfolding operand_at
 operand_at-found acls negated word words x is = elim (chosen (bytes_eq word (codes "{")) _ _ _ is) [
@@ -34,20 +36,33 @@ operand_at-found acls negated word words x is = elim (chosen (bytes_eq word (cod
       let read = bind_ok (test_in_braces words) _ x test in
       let spelled = test_in_braces-found words read.0 read.1 in
       let opening : word ≡ codes "{" = same_text word (codes "{") brace in
-      subst (λ (y : Term × List (List ℕ)). (y.0.negated ≡ negated) × (front : List (List ℕ)) × (word ∷ words ≡ front ++ y.1) × IsOperand acls front y.0.operand) (from_ok _ x read.2) (
+      subst (λ (y : Term × List (List ℕ)). (y.0.negated ≡ negated) × (front : List (List ℕ)) × (word ∷ words ≡ front ++ y.1) × IsOperand acls front y.0.operand)
+      (from_ok _ x read.2) (
         refl,
         (codes "{" ∷ spelled.0) ++ codes "}" ∷ [],
-        ap (λ (w : List ℕ). w ∷ words) opening ∙ ap (λ (ws : List (List ℕ)). codes "{" ∷ ws) spelled.1 ∙ sym (append_assoc (codes "{" ∷ spelled.0) (codes "}" ∷ []) read.0.1),
+        ap (λ (w : List ℕ). w ∷ words) opening ∙ ap (λ (ws : List (List ℕ)). codes "{" ∷ ws) spelled.1
+            ∙ sym (append_assoc (codes "{" ∷ spelled.0) (codes "}" ∷ []) read.0.1),
         (spelled.0, refl, spelled.2, spelled.3),
       )
   | inr (other, name) ↦
       let named = bind_ok (unless (not (is_acl_name word)) causes.Condition) _ x name in
       let index = bind_ok (ok_or (acl_index word acls) causes.Unknown) _ x named.2 in
-      subst (λ (y : Term × List (List ℕ)). (y.0.negated ≡ negated) × (front : List (List ℕ)) × (word ∷ words ≡ front ++ y.1) × IsOperand acls front y.0.operand) (from_ok _ x index.2)
-      (refl, word ∷ [], refl, (word, refl, not_false (is_acl_name word) (unless_ok (not (is_acl_name word)) causes.Condition named.0 named.1), ok_or_ok (acl_index word acls) causes.Unknown index.0 index.1))
+      subst (λ (y : Term × List (List ℕ)). (y.0.negated ≡ negated) × (front : List (List ℕ)) × (word ∷ words ≡ front ++ y.1) × IsOperand acls front y.0.operand)
+      (from_ok _ x index.2) (
+        refl,
+        word ∷ [],
+        refl,
+        (
+          word,
+          refl,
+          not_false (is_acl_name word) (unless_ok (not (is_acl_name word)) causes.Condition named.0 named.1),
+          ok_or_ok (acl_index word acls) causes.Unknown index.0 index.1,
+        ),
+      )
 ]
 
-signed_plain : (negated : Bool) (acls : List Acl) (words : List (List ℕ)) (operand : Operand) → negated ≡ false → IsOperand acls words operand → IsSigned negated acls words operand
+signed_plain : (negated : Bool) (acls : List Acl) (words : List (List ℕ)) (operand : Operand) → negated ≡ false → IsOperand acls words operand
+    → IsSigned negated acls words operand
 signed_plain negated acls words operand plain is = subst (λ (b : Bool). IsSigned b acls words operand) (sym plain) is
 
 signed_not : (negated : Bool) (acls : List Acl) (words unsigned : List (List ℕ)) (operand : Operand) → negated ≡ true → IsOperand acls unsigned operand
@@ -60,7 +75,8 @@ operand_some acls (operands.Acl index) is = absurd (let none = is.1 in cc)
 operand_some acls (operands.Test test) is = absurd (let none = is.1 in cc)
 
 -- a sign goes to the first word
-sign_first : (acls : List Acl) (operand : Operand) (word : List ℕ) (words front rest : List (List ℕ)) → IsOperand acls front operand → word ∷ words ≡ front ++ rest
+sign_first : (acls : List Acl) (operand : Operand) (word : List ℕ) (words front rest : List (List ℕ)) → IsOperand acls front operand
+    → word ∷ words ≡ front ++ rest
     → (33 ∷ word) ∷ words ≡ with_sign front ++ rest
 sign_first acls operand word words [] rest is spelled = absurd (operand_some acls operand is)
 sign_first acls operand word words (first ∷ front) rest is spelled = cc
@@ -120,18 +136,21 @@ separated-first acls words front rest term (terms ∷ next ∷ rows) spelled is 
 )
 
 -- a separator before other rows
-separated-separator : (acls : List Acl) (separator : List ℕ) (words : List (List ℕ)) (rows : List (List Term)) → is_or separator ≡ true → AreSeparated acls words rows
+separated-separator : (acls : List Acl) (separator : List ℕ) (words : List (List ℕ)) (rows : List (List Term)) → is_or separator ≡ true
+    → AreSeparated acls words rows
     → AreSeparated acls (separator ∷ words) ([] ∷ rows)
 separated-separator acls separator words [] is more = absurd more
 separated-separator acls separator words (next ∷ rows) is more = ([], separator, words, refl, refl, is, more)
 
-none_empty-first : (begins : Bool) (term : Term) (rows : List (List Term)) → NoneEmpty (rows_after false rows) → NoneEmpty (rows_after begins (onto_first term rows))
+none_empty-first : (begins : Bool) (term : Term) (rows : List (List Term)) → NoneEmpty (rows_after false rows)
+    → NoneEmpty (rows_after begins (onto_first term rows))
 none_empty-first true term [] some = (omega arith, tt)
 none_empty-first true term (row ∷ rows) some = (omega arith, some)
 none_empty-first false term [] some = tt
 none_empty-first false term (row ∷ rows) some = some
 
-no_words : (acls : List Acl) (rows : List (List Term)) → (let one : Result (List (List Term)) Cause = Ok ([] ∷ []) in one ≡ Ok rows) → AreSeparated acls [] rows × NoneEmpty (rows_after false rows)
+no_words : (acls : List Acl) (rows : List (List Term)) → (let one : Result (List (List Term)) Cause = Ok ([] ∷ []) in one ≡ Ok rows)
+    → AreSeparated acls [] rows × NoneEmpty (rows_after false rows)
 no_words acls rows is = subst (λ (all : List (List Term)). AreSeparated acls [] all × NoneEmpty (rows_after false all)) (from_ok _ rows is) (refl, tt)
 
 -- what was read is separated rows, none of which is empty
@@ -245,12 +264,14 @@ signed_again acls front true operand is =
         o.1,
         joined ∙ ap with_sign o.2,
         refl,
-        λ rest. ap (λ (w : List ℕ). term_at acls (33 ∷ w) (o.1 ++ rest)) o.6.2 ∙ ap (λ (w : List ℕ). operand_at acls true w (o.1 ++ rest)) (sym o.6.2) ∙ o.5 true rest,
+        λ rest. ap (λ (w : List ℕ). term_at acls (33 ∷ w) (o.1 ++ rest)) o.6.2 ∙ ap (λ (w : List ℕ). operand_at acls true w (o.1 ++ rest)) (sym o.6.2)
+            ∙ o.5 true rest,
       )
     ]
 
 -- the first term of a row, and the rows after it
-separated-split : (acls : List Acl) (words : List (List ℕ)) (term : Term) (terms : List Term) (more : List (List Term)) → AreSeparated acls words ((term ∷ terms) ∷ more)
+separated-split : (acls : List Acl) (words : List (List ℕ)) (term : Term) (terms : List Term) (more : List (List Term))
+    → AreSeparated acls words ((term ∷ terms) ∷ more)
     → (front : List (List ℕ)) × (rest : List (List ℕ)) × (words ≡ front ++ rest) × IsTerm acls front term × AreSeparated acls rest (terms ∷ more)
 separated-split acls words term terms [] is = is
 separated-split acls words term terms (next ∷ rows) is =
@@ -267,14 +288,16 @@ others_some true terms more some = some.1
 others_some false terms more some = some
 
 -- separated rows, none of which is empty, are read
-alternatives-again : (n : ℕ) (acls : List Acl) (begins : Bool) (words : List (List ℕ)) (rows : List (List Term)) → length words ≤ n → AreSeparated acls words rows
+alternatives-again : (n : ℕ) (acls : List Acl) (begins : Bool) (words : List (List ℕ)) (rows : List (List Term)) → length words ≤ n
+    → AreSeparated acls words rows
     → NoneEmpty (rows_after begins rows) → alternatives n acls begins words ≡ Ok rows
 unfolding alternatives
 alternatives-again n acls begins words [] enough is some = absurd is
 alternatives-again n acls true words ([] ∷ more) enough is some = absurd (omega (arith, some.0))
 alternatives-again zero acls false words ([] ∷ []) enough is some = rw is refl
 alternatives-again (suc n) acls false words ([] ∷ []) enough is some = rw is refl
-alternatives-again zero acls false words ([] ∷ next ∷ rows) enough is some = absurd (omega (arith, ap length (is.3 ∙ ap (λ (ws : List (List ℕ)). ws ++ is.1 ∷ is.2) is.4)))
+alternatives-again zero acls false words ([] ∷ next ∷ rows) enough is some =
+    absurd (omega (arith, ap length (is.3 ∙ ap (λ (ws : List (List ℕ)). ws ++ is.1 ∷ is.2) is.4)))
 alternatives-again (suc n) acls false words ([] ∷ next ∷ rows) enough is some =
     let spelled : words ≡ is.1 ∷ is.2 = is.3 ∙ ap (λ (ws : List (List ℕ)). ws ++ is.1 ∷ is.2) is.4 in
     let again = alternatives-again n acls true is.2 (next ∷ rows) (omega (arith, ap length spelled)) is.6 some in

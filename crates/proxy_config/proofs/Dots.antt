@@ -13,6 +13,8 @@ pub ip-five : (word a after_a b after_b c after_c d after_d : List ℕ) → slic
     → slice_split is_dot after_a ≡ b ∷ slice_split is_dot after_b → slice_split is_dot after_b ≡ c ∷ slice_split is_dot after_c
     → slice_split is_dot after_c ≡ d ∷ slice_split is_dot after_d → None ≡ ip word
 ip-five word a after_a b after_b c after_c d after_d first second third fourth =
-    let parts : slice_split is_dot word ≡ a ∷ b ∷ c ∷ d ∷ slice_split is_dot after_d = first ∙ ap (λ x. a ∷ x) (second ∙ ap (λ x. b ∷ x) (third ∙ ap (λ x. c ∷ x) fourth)) in
+    let parts : slice_split is_dot word ≡ a ∷ b ∷ c ∷ d ∷ slice_split is_dot after_d = first
+    ∙ ap (λ x. a ∷ x) (second ∙ ap (λ x. b ∷ x) (third ∙ ap (λ x. c ∷ x) fourth)) in
     let more : 4 < length (slice_split is_dot word) = omega (arith, ap length parts, length-slice_split is_dot after_d) in
-    sym (ap (λ test. cond (test && list_all is_octet (slice_split is_dot word)) (Some (map value_of (slice_split is_dot word))) None) (above_four (length (slice_split is_dot word)) more))
+    sym (ap (λ test. cond (test && list_all is_octet (slice_split is_dot word)) (Some (map value_of (slice_split is_dot word))) None)
+    (above_four (length (slice_split is_dot word)) more))

@@ -1,5 +1,6 @@
 -- What `run` answers, line by line.
-use Rattle.std.proofs.Common.{◌≡◌, ◌∙◌, ◌⊎◌, inl, inr, ◌+◌, ℕ, ◌==◌, Bool, true, false, cond, List, [], ◌∷◌, ◌++◌, length, Option, Some, None, Result, Ok, Err, refl, sym, ap, subst, arith}
+use Rattle.std.proofs.Common.{◌≡◌, ◌∙◌, ◌⊎◌, inl, inr, ◌+◌, ℕ, ◌==◌, Bool, true, false, cond, List, []}
+use Rattle.std.proofs.Common.{◌∷◌, ◌++◌, length, Option, Some, None, Result, Ok, Err, refl, sym, ap, subst, arith}
 use Rattle.std.specs.Result.{IfOk, IfErr}
 use Rattle.std.specs.Str.Lines.{lines}
 use Rattle.proxy_config.specs.declared.faults.Cause.{Cause}
@@ -19,11 +20,13 @@ same_err : {A : Type 0} (f g : ConfigFault) → (let one : Result A ConfigFault 
 same_err f g same = cc
 
 -- what a line and those after it come to is its fault, or what they come to from the draft that it leaves
-after_ok : (n : ℕ) (taken : Result Draft Cause) (more : Draft → Result Draft ConfigFault) (e : Draft) → then_lines n taken more ≡ Ok e → (next : Draft) × (taken ≡ Ok next) × (more next ≡ Ok e)
+after_ok : (n : ℕ) (taken : Result Draft Cause) (more : Draft → Result Draft ConfigFault) (e : Draft) → then_lines n taken more ≡ Ok e
+    → (next : Draft) × (taken ≡ Ok next) × (more next ≡ Ok e)
 after_ok n (Ok next) more e is = (next, refl, is)
 after_ok n (Err cause) more e is = cc
 
-run-ok : (servers : List Server) (long : Option ℕ) (d : Draft) (n : ℕ) (lines : List (List ℕ)) (e : Draft) → run servers long d n lines ≡ Ok e → TakenIn servers long d n lines e
+run-ok : (servers : List Server) (long : Option ℕ) (d : Draft) (n : ℕ) (lines : List (List ℕ)) (e : Draft) → run servers long d n lines ≡ Ok e
+    → TakenIn servers long d n lines e
 run-ok servers long d n [] e is = cc
 run-ok servers long d n (line ∷ lines) e is =
     let next = after_ok n (step servers (is_line long n) d n line) (λ next. run servers long next (n + 1) lines) e is in
@@ -40,7 +43,8 @@ record Fault (servers : List Server) (long : Option ℕ) (d : Draft) (n : ℕ) (
   number : fault.line ≡ length before + n
   cause : step servers (is_line long fault.line) draft fault.line line ≡ Err fault.cause
 
-later : (servers : List Server) (long : Option ℕ) (d next : Draft) (n : ℕ) (line : List ℕ) (lines : List (List ℕ)) (fault : ConfigFault) → step servers (is_line long n) d n line ≡ Ok next
+later : (servers : List Server) (long : Option ℕ) (d next : Draft) (n : ℕ) (line : List ℕ) (lines : List (List ℕ)) (fault : ConfigFault)
+    → step servers (is_line long n) d n line ≡ Ok next
     → Fault servers long next (n + 1) lines fault → Fault servers long d n (line ∷ lines) fault
 later servers long d next n line lines fault taken f = record {
   before = line ∷ f.before;
@@ -53,7 +57,8 @@ later servers long d next n line lines fault taken f = record {
   cause = f.cause;
 }
 
-here : (servers : List Server) (long : Option ℕ) (d : Draft) (n : ℕ) (line : List ℕ) (lines : List (List ℕ)) (cause : Cause) → step servers (is_line long n) d n line ≡ Err cause
+here : (servers : List Server) (long : Option ℕ) (d : Draft) (n : ℕ) (line : List ℕ) (lines : List (List ℕ)) (cause : Cause)
+    → step servers (is_line long n) d n line ≡ Err cause
     → Fault servers long d n (line ∷ lines) (record { line = n; cause = cause })
 here servers long d n line lines cause faulty = record {
   before = [];
@@ -66,24 +71,30 @@ here servers long d n line lines cause faulty = record {
   cause = faulty;
 }
 
-after_fault : (servers : List Server) (long : Option ℕ) (d : Draft) (n : ℕ) (line : List ℕ) (lines : List (List ℕ)) (fault : ConfigFault) (taken : Result Draft Cause)
-    → step servers (is_line long n) d n line ≡ taken → ((next : Draft) → run servers long next (n + 1) lines ≡ Err fault → Fault servers long next (n + 1) lines fault)
+after_fault : (servers : List Server) (long : Option ℕ) (d : Draft) (n : ℕ) (line : List ℕ) (lines : List (List ℕ)) (fault : ConfigFault)
+    (taken : Result Draft Cause)
+    → step servers (is_line long n) d n line ≡ taken
+    → ((next : Draft) → run servers long next (n + 1) lines ≡ Err fault → Fault servers long next (n + 1) lines fault)
     → then_lines n taken (λ next. run servers long next (n + 1) lines) ≡ Err fault → Fault servers long d n (line ∷ lines) fault
 after_fault servers long d n line lines fault (Ok next) taken more is = later servers long d next n line lines fault taken (more next is)
 after_fault servers long d n line lines fault (Err cause) taken more is =
     subst (λ (f : ConfigFault). Fault servers long d n (line ∷ lines) f) (same_err _ _ is) (here servers long d n line lines cause taken)
 
-run-fault : (servers : List Server) (long : Option ℕ) (d : Draft) (n : ℕ) (lines : List (List ℕ)) (fault : ConfigFault) → run servers long d n lines ≡ Err fault → Fault servers long d n lines fault
+run-fault : (servers : List Server) (long : Option ℕ) (d : Draft) (n : ℕ) (lines : List (List ℕ)) (fault : ConfigFault) → run servers long d n lines ≡ Err fault
+    → Fault servers long d n lines fault
 run-fault servers long d n [] fault is = absurd (let no = is in cc)
 run-fault servers long d n (line ∷ lines) fault is =
-    after_fault servers long d n line lines fault (step servers (is_line long n) d n line) refl (λ next more. run-fault servers long next (n + 1) lines fault more) is
+    after_fault servers long d n line lines fault (step servers (is_line long n) d n line) refl
+    (λ next more. run-fault servers long next (n + 1) lines fault more) is
 
 -- what `finished` answers
-finished_ok : (read : Result Draft ConfigFault) (config : Config) → finished read ≡ Ok config → (d : Draft) × (read ≡ Ok d) × (whole d.listen d.bind d ≡ Ok config)
+finished_ok : (read : Result Draft ConfigFault) (config : Config) → finished read ≡ Ok config
+    → (d : Draft) × (read ≡ Ok d) × (whole d.listen d.bind d ≡ Ok config)
 finished_ok (Ok d) config is = (d, refl, is)
 finished_ok (Err fault) config is = cc
 
-finished_fault : (read : Result Draft ConfigFault) (fault : ConfigFault) → finished read ≡ Err fault → (read ≡ Err fault) ⊎ ((d : Draft) × (read ≡ Ok d) × (whole d.listen d.bind d ≡ Err fault))
+finished_fault : (read : Result Draft ConfigFault) (fault : ConfigFault) → finished read ≡ Err fault
+    → (read ≡ Err fault) ⊎ ((d : Draft) × (read ≡ Ok d) × (whole d.listen d.bind d ≡ Err fault))
 finished_fault (Ok d) fault is = inr (d, refl, is)
 finished_fault (Err first) fault is = inl (ap Err (same_err _ _ is))
 
@@ -92,7 +103,8 @@ reading-ok bytes config is =
     let end = finished_ok (run (declared_servers bytes) (long_line bytes) start 1 (lines bytes)) config is in
     record { draft = end.0; taken_in = run-ok _ _ _ _ _ end.0 end.1; whole = end.2 }
 
-chosen_whole : (none : Bool) (line : ℕ) (config : Config) (fault : ConfigFault) → (let one : Result Config ConfigFault = cond none (missing line) (Ok config) in one ≡ Err fault) → fault.cause ≡ causes.Missing
+chosen_whole : (none : Bool) (line : ℕ) (config : Config) (fault : ConfigFault)
+    → (let one : Result Config ConfigFault = cond none (missing line) (Ok config) in one ≡ Err fault) → fault.cause ≡ causes.Missing
 chosen_whole true line config fault is = ap (λ (f : ConfigFault). f.cause) (sym (same_err _ _ is))
 chosen_whole false line config fault is = cc
 
@@ -101,11 +113,21 @@ missing_cause None bind d fault is = ap (λ (f : ConfigFault). f.cause) (sym (sa
 missing_cause (Some line) None d fault is = ap (λ (f : ConfigFault). f.cause) (sym (same_err _ _ is))
 missing_cause (Some line) (Some bind) d fault is = chosen_whole (length d.servers == 0) line _ fault is
 
-pub reading-fault : (bytes : List ℕ) (fault : ConfigFault) → reading bytes ≡ Err fault → FirstFault (declared_servers bytes) (long_line bytes) (lines bytes) fault ⊎ Lacks bytes fault
+pub reading-fault : (bytes : List ℕ) (fault : ConfigFault) → reading bytes ≡ Err fault
+    → FirstFault (declared_servers bytes) (long_line bytes) (lines bytes) fault ⊎ Lacks bytes fault
 reading-fault bytes fault is =
     elim (finished_fault (run (declared_servers bytes) (long_line bytes) start 1 (lines bytes)) fault is) [
       | inl faulty ↦ let f = run-fault (declared_servers bytes) (long_line bytes) start 1 (lines bytes) fault faulty in
-          inl (record { before = f.before; line = f.line; after = f.after; draft = f.draft; is = f.is; taken_in = f.taken_in; number = f.number; cause = f.cause })
+          inl (record {
+            before = f.before;
+            line = f.line;
+            after = f.after;
+            draft = f.draft;
+            is = f.is;
+            taken_in = f.taken_in;
+            number = f.number;
+            cause = f.cause;
+          })
       | inr end ↦ inr (record {
         draft = end.0;
         taken_in = run-ok (declared_servers bytes) (long_line bytes) start 1 (lines bytes) end.0 end.1;
@@ -125,11 +147,14 @@ answers-fault (Err errors.NoMemory) bytes is = tt
 answers-fault (Err (errors.Fault fault)) bytes is = reading-fault bytes fault is
 
 -- A faulty line names itself, whatever follows it.
-pub run-names : (servers : List Server) (long : Option ℕ) (lines : List (List ℕ)) (fault : ConfigFault) → FirstFault servers long lines fault → run servers long start 1 lines ≡ Err fault
+pub run-names : (servers : List Server) (long : Option ℕ) (lines : List (List ℕ)) (fault : ConfigFault) → FirstFault servers long lines fault
+    → run servers long start 1 lines ≡ Err fault
 run-names servers long lines fault first =
-    ap (run servers long start 1) first.is ∙ names servers long start first.draft 1 first.before first.line first.after fault first.taken_in (omega (arith, first.number)) first.cause
+    ap (run servers long start 1) first.is ∙ names servers long start first.draft 1 first.before first.line first.after fault first.taken_in
+    (omega (arith, first.number)) first.cause
   where
-    names : (servers : List Server) (long : Option ℕ) (d e : Draft) (n : ℕ) (before : List (List ℕ)) (line : List ℕ) (after : List (List ℕ)) (fault : ConfigFault)
+    names : (servers : List Server) (long : Option ℕ) (d e : Draft) (n : ℕ) (before : List (List ℕ)) (line : List ℕ) (after : List (List ℕ))
+        (fault : ConfigFault)
         → TakenIn servers long d n before e → fault.line ≡ length before + n → step servers (is_line long fault.line) e fault.line line ≡ Err fault.cause
         → run servers long d n (before ++ line ∷ after) ≡ Err fault
     names servers long d e n [] line after fault taken number cause =

@@ -1,5 +1,6 @@
 -- Each index of an ACL in a guard that was read is one of the ACLs so far, and stays one.
-use Rattle.std.proofs.Common.{◌≡◌, inl, inr, ◌<◌, ◌≤◌, ◌++◌, ℕ, suc, Bool, true, false, cond, List, [], ◌∷◌, length, Option, Some, None, Ok, subst, arith, codes, not}
+use Rattle.std.proofs.Common.{◌≡◌, inl, inr, ◌<◌, ◌≤◌, ◌++◌, ℕ, suc, Bool, true, false, cond}
+use Rattle.std.proofs.Common.{List, [], ◌∷◌, length, Option, Some, None, Ok, subst, arith, codes, not}
 use Rattle.std.specs.Option.{IfSome, ok_or}
 use Rattle.std.specs.List.{All, AllByRecursion, position}
 use Rattle.std.specs.Str.{bytes_eq}
@@ -38,37 +39,45 @@ operand_sound : (acls : List Acl) (words : List (List ℕ)) (operand : Operand) 
 operand_sound acls words (operands.Acl index) is = position_below (λ acl. bytes_eq acl.name is.0) acls index is.3
 operand_sound acls words (operands.Test test) is = tt
 
-signed_sound : (acls : List Acl) (negated : Bool) (words : List (List ℕ)) (operand : Operand) → IsSigned negated acls words operand → IsSoundOperand (length acls) operand
+signed_sound : (acls : List Acl) (negated : Bool) (words : List (List ℕ)) (operand : Operand) → IsSigned negated acls words operand
+    → IsSoundOperand (length acls) operand
 signed_sound acls false words operand is = operand_sound acls words operand is
 signed_sound acls true words operand is = operand_sound acls is.0 operand is.1
 
-terms_sound : (acls : List Acl) (words : List (List ℕ)) (terms : List Term) → AreTerms acls words terms → AllByRecursion (λ term. IsSoundOperand (length acls) term.operand) terms
+terms_sound : (acls : List Acl) (words : List (List ℕ)) (terms : List Term) → AreTerms acls words terms
+    → AllByRecursion (λ term. IsSoundOperand (length acls) term.operand) terms
 terms_sound acls words [] are = tt
 terms_sound acls words (term ∷ terms) are = (signed_sound acls term.negated are.0 term.operand are.3, terms_sound acls are.1 terms are.4)
 
-row_sound : (acls : List Acl) (words : List (List ℕ)) (terms : List Term) → AreTerms acls words terms → All (λ term. IsSoundOperand (length acls) term.operand) terms
+row_sound : (acls : List Acl) (words : List (List ℕ)) (terms : List Term) → AreTerms acls words terms
+    → All (λ term. IsSoundOperand (length acls) term.operand) terms
 row_sound acls words terms are = All-from_recursion (λ term. IsSoundOperand (length acls) term.operand) terms (terms_sound acls words terms are)
 
-rows_sound : (acls : List Acl) (words : List (List ℕ)) (rows : List (List Term)) → AreSeparated acls words rows → AllByRecursion (λ terms. All (λ term. IsSoundOperand (length acls) term.operand) terms) rows
+rows_sound : (acls : List Acl) (words : List (List ℕ)) (rows : List (List Term)) → AreSeparated acls words rows
+    → AllByRecursion (λ terms. All (λ term. IsSoundOperand (length acls) term.operand) terms) rows
 rows_sound acls words [] are = tt
 rows_sound acls words (terms ∷ []) are = (row_sound acls words terms are, tt)
 rows_sound acls words (terms ∷ next ∷ more) are = (row_sound acls are.0 terms are.4, rows_sound acls are.2 (next ∷ more) are.6)
 
 condition_sound : (acls : List Acl) (words : List (List ℕ)) (c : Condition) → condition acls words ≡ Ok c → IsSoundCondition (length acls) c
 condition_sound acls words c is =
-    All-from_recursion (λ terms. All (λ term. IsSoundOperand (length acls) term.operand) terms) c.alternatives (rows_sound acls words c.alternatives (condition-found acls words c is).0)
+    All-from_recursion (λ terms. All (λ term. IsSoundOperand (length acls) term.operand) terms) c.alternatives
+    (rows_sound acls words c.alternatives (condition-found acls words c is).0)
 
 guard_sound : (acls : List Acl) (word : List ℕ) (words : List (List ℕ)) (guard : Guard) → guard_at acls word words ≡ Ok guard → IsSoundGuard (length acls) guard
 unfolding guard_at
 guard_sound acls word words guard is = elim (chosen (bytes_eq word (codes "if")) _ _ _ is) [
-  | inl plain ↦ let c = bind_ok (condition acls words) _ guard plain.1 in subst (IsSoundGuard (length acls)) (from_ok _ guard c.2) (condition_sound acls words c.0 c.1)
+  | inl plain ↦ let c = bind_ok (condition acls words) _ guard plain.1 in
+      subst (IsSoundGuard (length acls)) (from_ok _ guard c.2) (condition_sound acls words c.0 c.1)
   | inr other ↦ elim (chosen (bytes_eq word (codes "unless")) _ _ _ other.1) [
-    | inl reversed ↦ let c = bind_ok (condition acls words) _ guard reversed.1 in subst (IsSoundGuard (length acls)) (from_ok _ guard c.2) (condition_sound acls words c.0 c.1)
+    | inl reversed ↦ let c = bind_ok (condition acls words) _ guard reversed.1 in
+        subst (IsSoundGuard (length acls)) (from_ok _ guard c.2) (condition_sound acls words c.0 c.1)
     | inr none ↦ absurd (let fault = none.1 in cc)
   ]
 ]
 
-optional_sound : (acls : List Acl) (words : List (List ℕ)) (guard : Option Guard) → optional_guard acls words ≡ Ok guard → IfSome guard (IsSoundGuard (length acls))
+optional_sound : (acls : List Acl) (words : List (List ℕ)) (guard : Option Guard) → optional_guard acls words ≡ Ok guard
+    → IfSome guard (IsSoundGuard (length acls))
 unfolding optional_guard
 optional_sound acls [] guard is = subst (λ (o : Option Guard). IfSome o (IsSoundGuard (length acls))) (from_ok None guard is) tt
 optional_sound acls (word ∷ words) guard is =
@@ -86,7 +95,8 @@ rule_sound acls words rule is =
     subst (λ (r : Rule). IfSome r.guard (IsSoundGuard (length acls))) (from_ok _ rule guard.2) (optional_sound acls second.0.1 guard.0 guard.1)
 
 -- a pin is of one of the known servers, and its guard of the ACLs
-pub pin_sound : (known : List Server) (acls : List Acl) (words : List (List ℕ)) (pin : Pin) → pin_line known acls words ≡ Ok pin → (pin.server < length known) × IsSoundGuard (length acls) pin.guard
+pub pin_sound : (known : List Server) (acls : List Acl) (words : List (List ℕ)) (pin : Pin) → pin_line known acls words ≡ Ok pin
+    → (pin.server < length known) × IsSoundGuard (length acls) pin.guard
 unfolding pin_line
 pin_sound known acls words pin is =
     let name = bind_ok (word_at words) _ pin is in
@@ -95,7 +105,10 @@ pin_sound known acls words pin is =
     let first = bind_ok (word_at name.0.1) _ pin index.2 in
     let guard = bind_ok (guard_at acls first.0.0 first.0.1) _ pin first.2 in
     let below : index.0 < length known = position_below (λ one. bytes_eq one.name name.0.0) known index.0 (ok_or_ok _ causes.Unknown index.0 index.1) in
-    subst (λ (one : Pin). (one.server < length known) × IsSoundGuard (length acls) one.guard) (from_ok _ pin guard.2) (below, guard_sound acls first.0.0 first.0.1 guard.0 guard.1)
+    subst (λ (one : Pin). (one.server < length known) × IsSoundGuard (length acls) one.guard) (from_ok _ pin guard.2) (
+      below,
+      guard_sound acls first.0.0 first.0.1 guard.0 guard.1,
+    )
 
 -- more ACLs take nothing away
 more_operand : (n m : ℕ) → n ≤ m → (operand : Operand) → IsSoundOperand n operand → IsSoundOperand m operand
@@ -105,13 +118,15 @@ more_operand n m more (operands.Test test) sound = tt
 more_condition : (n m : ℕ) → n ≤ m → (c : Condition) → IsSoundCondition n c → IsSoundCondition m c
 more_condition n m more c sound =
     All-weaker (λ terms. All (λ term. IsSoundOperand n term.operand) terms) (λ terms. All (λ term. IsSoundOperand m term.operand) terms)
-    (λ terms row. All-weaker (λ term. IsSoundOperand n term.operand) (λ term. IsSoundOperand m term.operand) (λ term. more_operand n m more term.operand) terms row) c.alternatives sound
+    (λ terms row. All-weaker (λ term. IsSoundOperand n term.operand) (λ term. IsSoundOperand m term.operand)
+    (λ term. more_operand n m more term.operand) terms row) c.alternatives sound
 
 more_guard : (n m : ℕ) → n ≤ m → (guard : Guard) → IsSoundGuard n guard → IsSoundGuard m guard
 more_guard n m more (guards.If c) sound = more_condition n m more c sound
 more_guard n m more (guards.Unless c) sound = more_condition n m more c sound
 
-pub more_rules : (n m : ℕ) → n ≤ m → (rules : List Rule) → AllByRecursion (λ rule. IfSome rule.guard (IsSoundGuard n)) rules → AllByRecursion (λ rule. IfSome rule.guard (IsSoundGuard m)) rules
+pub more_rules : (n m : ℕ) → n ≤ m → (rules : List Rule) → AllByRecursion (λ rule. IfSome rule.guard (IsSoundGuard n)) rules
+    → AllByRecursion (λ rule. IfSome rule.guard (IsSoundGuard m)) rules
 more_rules n m more [] all = tt
 more_rules n m more (rule ∷ rules) all = (by_guard rule.guard all.0, more_rules n m more rules all.1)
   where
@@ -119,7 +134,8 @@ more_rules n m more (rule ∷ rules) all = (by_guard rule.guard all.0, more_rule
     by_guard None sound = tt
     by_guard (Some guard) sound = more_guard n m more guard sound
 
-pub more_pins : (n m : ℕ) → n ≤ m → (pins : List Pin) → AllByRecursion (λ pin. IsSoundGuard n pin.guard) pins → AllByRecursion (λ pin. IsSoundGuard m pin.guard) pins
+pub more_pins : (n m : ℕ) → n ≤ m → (pins : List Pin) → AllByRecursion (λ pin. IsSoundGuard n pin.guard) pins
+    → AllByRecursion (λ pin. IsSoundGuard m pin.guard) pins
 more_pins n m more [] all = tt
 more_pins n m more (pin ∷ pins) all = (more_guard n m more pin.guard all.0, more_pins n m more pins all.1)
 
@@ -127,7 +143,8 @@ with_test-longer : (name : List ℕ) (test : Test) (acls : List Acl) → length 
 with_test-longer name test [] = omega arith
 with_test-longer name test (acl ∷ acls) = by_name (bytes_eq acl.name name) (with_test-longer name test acls)
   where
-    by_name : (b : Bool) → length acls ≤ length (with_test name test acls) → suc (length acls) ≤ length (cond b (record acl { tests = acl.tests ++ test ∷ [] } ∷ acls) (acl ∷ with_test name test acls))
+    by_name : (b : Bool) → length acls ≤ length (with_test name test acls)
+        → suc (length acls) ≤ length (cond b (record acl { tests = acl.tests ++ test ∷ [] } ∷ acls) (acl ∷ with_test name test acls))
     by_name true longer = omega arith
     by_name false longer = omega arith
 

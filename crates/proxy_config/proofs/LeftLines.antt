@@ -32,7 +32,8 @@ use Rattle.proxy_config.specs.Settings as server
 use Rattle.proxy_config.specs.Values as values
 use Rattle.proxy_config.specs.Draft as draft
 use Rattle.proxy_config.specs.LeftToRight.{CannotStand, IsLeftToRight}
-use Rattle.proxy_config.proofs.LeftReaders.{Blame, count, stands, always, LeftReader, same, left_ok, left_err, left_unless, left_or, left_if, left_word, left_end, left_made, left_cons, left_none}
+use Rattle.proxy_config.proofs.LeftReaders.{Blame, count, stands, always, LeftReader, same, left_ok, left_err}
+use Rattle.proxy_config.proofs.LeftReaders.{left_unless, left_or, left_if, left_word, left_end, left_made, left_cons, left_none}
 use Rattle.proxy_config.proofs.LeftTests.{left_test, left_guard, left_optional}
 
 left_fixed : (n : ℕ) (only : List ℕ) (v : Values) → LeftReader n (values.fixed_line only v)
@@ -49,7 +50,8 @@ left_option n v = left_word _ (λ word. left_or (values.switch_of word) causes.K
 
 left_timeout : (n : ℕ) (v : Values) → LeftReader n (values.timeout_line v)
 unfolding values.timeout_line
-left_timeout n v = left_word _ (λ first. left_or (values.timeout_of first) causes.Keyword _ (λ timeout. left_word _ (λ second. left_or (time second) causes.Number _ (λ t. left_end (values.with_timeout timeout t v)))))
+left_timeout n v = left_word _ (λ first. left_or (values.timeout_of first) causes.Keyword _
+    (λ timeout. left_word _ (λ second. left_or (time second) causes.Number _ (λ t. left_end (values.with_timeout timeout t v)))))
 
 left_shared : (n : ℕ) (kind : Shared) (v : Values) → LeftReader n (values.shared_line kind v)
 left_shared n shared.Mode v = left_fixed n (codes "http") v
@@ -71,7 +73,8 @@ left_set {n} setting word s next left = by_value (server.set setting word s) ref
 -- what reads on behind a word of the settings
 setting_behind : Settings → List ℕ → List (List ℕ) → Result Settings Cause
 setting_behind s word words = cond (server.is_check word) (server.settings (record s { check = true }) words)
-    (ok_or (server.setting_of word) causes.Keyword >>= λ setting. word_at words >>= λ value. server.set setting value.0 s >>= λ next. server.settings next value.1)
+    (ok_or (server.setting_of word) causes.Keyword >>= λ setting. word_at words >>= λ value. server.set setting value.0 s >>= λ next.
+    server.settings next value.1)
 
 setting_step : (s : Settings) (word : List ℕ) (words : List (List ℕ)) → server.settings s (word ∷ words) ≡ setting_behind s word words
 unfolding setting_behind
@@ -87,11 +90,13 @@ left_settings (suc n) s = left_cons (server.settings s) (setting_behind s) (sett
 
 left_acl : (n : ℕ) (acls : List Acl) → LeftReader n (acl_line acls)
 unfolding acl_line
-left_acl n acls = left_word _ (λ name. left_unless (not (is_acl_name name)) causes.Name _ (left_made test_to_end (λ test. with_test name test acls) (left_test n)))
+left_acl n acls = left_word _ (λ name. left_unless (not (is_acl_name name)) causes.Name _
+    (left_made test_to_end (λ test. with_test name test acls) (left_test n)))
 
 left_rule : (n : ℕ) (acls : List Acl) → LeftReader n (rule_line acls)
 unfolding rule_line
-left_rule n acls = left_word _ (λ first. left_or (action_of first) causes.Keyword _ (λ action. left_word _ (λ second. left_or (expression_of second) causes.Condition _ (λ value.
+left_rule n acls = left_word _ (λ first. left_or (action_of first) causes.Keyword _
+    (λ action. left_word _ (λ second. left_or (expression_of second) causes.Condition _ (λ value.
     left_made (optional_guard acls) (λ guard. record { action = action; value = value; guard = guard }) (left_optional n acls)))))
 
 left_pin : (n : ℕ) (servers : List Server) (acls : List Acl) → LeftReader n (pin_line servers acls)
@@ -106,7 +111,8 @@ left_global n d = left_end (record d { section = sections.Global })
 left_name : (n : ℕ) → LeftReader n draft.optional_name
 unfolding draft.optional_name
 left_name zero = left_none draft.optional_name (λ other is. absurd (let none = is in cc))
-left_name (suc n) = left_cons draft.optional_name (λ word others. unless (not (is_name word)) causes.Name >>= λ named. end_at others) (λ word others. refl) (λ other is. absurd (let none = is in cc))
+left_name (suc n) = left_cons draft.optional_name (λ word others. unless (not (is_name word)) causes.Name >>= λ named. end_at others) (λ word others. refl)
+    (λ other is. absurd (let none = is in cc))
     (λ word. left_unless (not (is_name word)) causes.Name _ (same end_at (λ words. end_at words >>= λ end. Ok tt) end_same (left_end tt)))
   where
     end_same : (words : List (List ℕ)) → end_at words ≡ (end_at words >>= λ end. Ok tt)
@@ -129,29 +135,36 @@ left_bind n d = left_unless (not (draft.in_listen d.section)) causes.Place _ (le
 
 left_server : (n : ℕ) (d : Draft) → LeftReader n (draft.server_line d)
 unfolding draft.server_line
-left_server n d = left_unless (not (draft.in_listen d.section)) causes.Place _ (left_unless (nat_le draft.most_servers (length d.servers)) causes.Limit _ (left_word _ (λ name.
-    left_unless (not (is_name name)) causes.Name _ (left_unless (is_some (server_index name d.servers)) causes.Twice _ (left_word _ (λ second. left_or (address_of second) causes.Address _ (λ address.
+left_server n d = left_unless (not (draft.in_listen d.section)) causes.Place _
+    (left_unless (nat_le draft.most_servers (length d.servers)) causes.Limit _ (left_word _ (λ name.
+    left_unless (not (is_name name)) causes.Name _
+    (left_unless (is_some (server_index name d.servers)) causes.Twice _ (left_word _ (λ second. left_or (address_of second) causes.Address _ (λ address.
     left_made (server.settings server.built_in) _ (left_settings n server.built_in))))))))
 
 left_test_line : (n : ℕ) (d : Draft) → LeftReader n (draft.test_line d)
 unfolding draft.test_line
-left_test_line n d = left_unless (not (draft.in_listen d.section)) causes.Place _ (left_unless (nat_le draft.most_acl_lines d.acl_lines) causes.Limit _ (left_made (acl_line d.acls) _ (left_acl n d.acls)))
+left_test_line n d = left_unless (not (draft.in_listen d.section)) causes.Place _
+    (left_unless (nat_le draft.most_acl_lines d.acl_lines) causes.Limit _ (left_made (acl_line d.acls) _ (left_acl n d.acls)))
 
 left_request : (n : ℕ) (d : Draft) → LeftReader n (draft.request_line d)
 unfolding draft.request_line
-left_request n d = left_unless (not (draft.in_listen d.section)) causes.Place _ (left_unless (nat_le draft.most_rules (length d.rules + length d.pins)) causes.Limit _ (left_made (rule_line d.acls) _ (left_rule n d.acls)))
+left_request n d = left_unless (not (draft.in_listen d.section)) causes.Place _
+    (left_unless (nat_le draft.most_rules (length d.rules + length d.pins)) causes.Limit _ (left_made (rule_line d.acls) _ (left_rule n d.acls)))
 
 left_use : (n : ℕ) (servers : List Server) (d : Draft) → LeftReader n (draft.use_line servers d)
 unfolding draft.use_line
-left_use n servers d = left_unless (not (draft.in_listen d.section)) causes.Place _ (left_unless (nat_le draft.most_rules (length d.rules + length d.pins)) causes.Limit _ (left_made (pin_line servers d.acls) _ (left_pin n servers d.acls)))
+left_use n servers d = left_unless (not (draft.in_listen d.section)) causes.Place _
+    (left_unless (nat_le draft.most_rules (length d.rules + length d.pins)) causes.Limit _ (left_made (pin_line servers d.acls) _ (left_pin n servers d.acls)))
 
 left_value_line : (n : ℕ) (d : Draft) (kind : Shared) (section : Section) → d.section ≡ section → LeftReader n (draft.value_line d kind)
 unfolding draft.value_line
 left_value_line n d kind sections.Outside is = same (draft.value_line d kind) (λ words. Err causes.Place) (λ words. rw is refl) (left_err causes.Place)
 left_value_line n d kind sections.Global is = same (draft.value_line d kind) (λ words. Err causes.Place) (λ words. rw is refl) (left_err causes.Place)
-left_value_line n d kind sections.Defaults is = same (draft.value_line d kind) (λ words. values.shared_line kind d.defaults words >>= λ v. Ok (record d { defaults = v })) (λ words. rw is refl)
+left_value_line n d kind sections.Defaults is =
+    same (draft.value_line d kind) (λ words. values.shared_line kind d.defaults words >>= λ v. Ok (record d { defaults = v })) (λ words. rw is refl)
     (left_made (values.shared_line kind d.defaults) _ (left_shared n kind d.defaults))
-left_value_line n d kind sections.Listen is = same (draft.value_line d kind) (λ words. values.shared_line kind d.values words >>= λ v. Ok (record d { values = v })) (λ words. rw is refl)
+left_value_line n d kind sections.Listen is =
+    same (draft.value_line d kind) (λ words. values.shared_line kind d.values words >>= λ v. Ok (record d { values = v })) (λ words. rw is refl)
     (left_made (values.shared_line kind d.values) _ (left_shared n kind d.values))
 
 left_keyword : (n : ℕ) (servers : List Server) (d : Draft) (line : ℕ) (keyword : Keyword) → LeftReader n (draft.keyword_line servers d line keyword)
@@ -169,8 +182,10 @@ left_keyword n servers d line keywords.UseServer = left_use n servers d
 left_line : (n : ℕ) (servers : List Server) (d : Draft) (line : ℕ) → LeftReader n (draft.words_line servers d line)
 unfolding draft.words_line
 left_line zero servers d line = left_none (draft.words_line servers d line) (λ other is. absurd (let none = is in cc))
-left_line (suc n) servers d line = left_cons (draft.words_line servers d line) (λ word others. ok_or (keyword_of word) causes.Keyword >>= λ keyword. draft.keyword_line servers d line keyword others)
-    (λ word others. refl) (λ other is. absurd (let none = is in cc)) (λ word. left_or (keyword_of word) causes.Keyword _ (λ keyword. left_keyword n servers d line keyword))
+left_line (suc n) servers d line = left_cons (draft.words_line servers d line)
+    (λ word others. ok_or (keyword_of word) causes.Keyword >>= λ keyword. draft.keyword_line servers d line keyword others)
+    (λ word others. refl) (λ other is. absurd (let none = is in cc))
+    (λ word. left_or (keyword_of word) causes.Keyword _ (λ keyword. left_keyword n servers d line keyword))
 
 -- each line is read from the left
 pub words_line-left : (servers : List Server) (d : Draft) (line : ℕ) → IsLeftToRight (draft.words_line servers d line)

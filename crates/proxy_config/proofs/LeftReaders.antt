@@ -1,5 +1,6 @@
 -- Readers that take words from the left.
-use Rattle.std.proofs.Common.{◌≡◌, ◌∙◌, ◌≤◌, ◌++◌, ℕ, suc, Bool, true, false, cond, List, [], ◌∷◌, length, Option, Some, None, Result, Ok, Err, refl, sym, ap, arith}
+use Rattle.std.proofs.Common.{◌≡◌, ◌∙◌, ◌≤◌, ◌++◌, ℕ, suc, Bool, true, false, cond, List, []}
+use Rattle.std.proofs.Common.{◌∷◌, length, Option, Some, None, Result, Ok, Err, refl, sym, ap, arith}
 use Rattle.std.specs.Option.{ok_or}
 use Rattle.proxy_config.specs.declared.faults.Cause.{Cause}
 use Rattle.proxy_config.specs.declared.faults.Cause.TheVariants as causes
@@ -44,7 +45,8 @@ cons read behind word words cause goes_on none (always whatever) = stands (recor
 })
 
 -- a reader that does the same
-pub same : {A : Type 0} {n : ℕ} (read other : List (List ℕ) → Result A Cause) → ((words : List (List ℕ)) → read words ≡ other words) → LeftReader n other → LeftReader n read
+pub same : {A : Type 0} {n : ℕ} (read other : List (List ℕ) → Result A Cause) → ((words : List (List ℕ)) → read words ≡ other words) → LeftReader n other
+    → LeftReader n read
 same read other is left = record { blame = λ words cause few fault. moved words cause (left.blame words cause few (sym (is words) ∙ fault)) }
   where
     moved : (words : List (List ℕ)) (cause : Cause) → Blame other words cause → Blame read words cause
@@ -75,7 +77,8 @@ pub left_or : {A B : Type 0} {n : ℕ} (o : Option A) (cause : Cause) (next : Li
 left_or (Some x) cause next left = left x
 left_or None cause next left = left_err cause
 
-pub left_if : {A : Type 0} {n : ℕ} (b : Bool) (one other : List (List ℕ) → Result A Cause) → LeftReader n one → LeftReader n other → LeftReader n (λ words. cond b (one words) (other words))
+pub left_if : {A : Type 0} {n : ℕ} (b : Bool) (one other : List (List ℕ) → Result A Cause) → LeftReader n one → LeftReader n other
+    → LeftReader n (λ words. cond b (one words) (other words))
 left_if true one other first second = first
 left_if false one other first second = second
 
@@ -94,19 +97,25 @@ left_word {A} {n} next left = record { blame = of }
     of : (words : List (List ℕ)) (cause : Cause) → length words ≤ n → (word_at words >>= next) ≡ Err cause → Blame (λ words. word_at words >>= next) words cause
     of [] cause few fault = count (sym (from_err causes.Words cause fault))
     of (word ∷ words) cause few fault =
-        cons (λ words. word_at words >>= next) (λ words. next (word, words)) word words cause (λ others. refl) (λ other is. sym (from_err causes.Words other is))
+        cons (λ words. word_at words >>= next) (λ words. next (word, words)) word words cause (λ others. refl)
+        (λ other is. sym (from_err causes.Words other is))
         ((left word).blame words cause (omega arith) fault)
 
 pub left_end : {A : Type 0} {n : ℕ} (value : A) → LeftReader n (λ words. end_at words >>= λ end. Ok value)
 left_end {A} {n} value = record { blame = of }
   where
-    of : (words : List (List ℕ)) (cause : Cause) → length words ≤ n → (end_at words >>= λ end. Ok value) ≡ Err cause → Blame (λ words. end_at words >>= λ end. Ok value) words cause
+    of : (words : List (List ℕ)) (cause : Cause) → length words ≤ n → (end_at words >>= λ end. Ok value) ≡ Err cause
+        → Blame (λ words. end_at words >>= λ end. Ok value) words cause
     of [] cause few fault = absurd (let none = fault in cc)
     of (word ∷ words) cause few fault = count (sym (from_err causes.Words cause fault))
 
 -- a reader to the end of the words, and what is made of its value
-pub left_made : {A B : Type 0} {n : ℕ} (read : List (List ℕ) → Result A Cause) (make : A → B) → LeftReader n read → LeftReader n (λ words. read words >>= λ x. Ok (make x))
-left_made {A} {B} {n} read make left = record { blame = λ words cause few fault. moved words cause (left.blame words cause few (only (read words) cause fault)) }
+pub left_made : {A B : Type 0} {n : ℕ} (read : List (List ℕ) → Result A Cause) (make : A → B) → LeftReader n read
+    → LeftReader n (λ words. read words >>= λ x. Ok (make x))
+left_made {A} {B} {n} read make left = record {
+  blame = λ words cause few fault.
+      moved words cause (left.blame words cause few (only (read words) cause fault));
+}
   where
     only : (r : Result A Cause) (cause : Cause) → (r >>= λ x. Ok (make x)) ≡ Err cause → r ≡ Err cause
     only (Ok x) cause fault = absurd (let none = fault in cc)
@@ -144,7 +153,8 @@ left_cons {A} {n} read behind goes_on none left = record { blame = of }
   where
     of : (words : List (List ℕ)) (cause : Cause) → length words ≤ suc n → read words ≡ Err cause → Blame read words cause
     of [] cause few fault = count (none cause fault)
-    of (word ∷ words) cause few fault = cons read (behind word) word words cause (goes_on word) none ((left word).blame words cause (omega arith) (sym (goes_on word words) ∙ fault))
+    of (word ∷ words) cause few fault = cons read (behind word) word words cause (goes_on word) none
+        ((left word).blame words cause (omega arith) (sym (goes_on word words) ∙ fault))
 
 -- a reader of no words
 pub left_none : {A : Type 0} (read : List (List ℕ) → Result A Cause) → ((other : Cause) → read [] ≡ Err other → other ≡ causes.Words) → LeftReader 0 read

@@ -1,5 +1,6 @@
 -- Tests and conditions are read from the left.
-use Rattle.std.proofs.Common.{◌≡◌, ◌∙◌, ◌==◌, ℕ, zero, suc, Bool, true, false, cond, not, List, [], ◌∷◌, length, Some, None, Result, Ok, Err, refl, sym, ap, arith, codes}
+use Rattle.std.proofs.Common.{◌≡◌, ◌∙◌, ◌==◌, ℕ, zero, suc, Bool, true, false, cond, not, List, []}
+use Rattle.std.proofs.Common.{◌∷◌, length, Some, None, Result, Ok, Err, refl, sym, ap, arith, codes}
 use Rattle.std.specs.Option.{ok_or}
 use Rattle.std.specs.List.{onto_first}
 use Rattle.std.specs.Str.{bytes_eq}
@@ -18,7 +19,8 @@ use Rattle.proxy_config.specs.Conditions.{acl_index, alternatives, condition, gu
 use Rattle.proxy_config.proofs.Outcomes.{same_next}
 use Rattle.proxy_config.proofs.Lengths.{term_at-shorter}
 use Rattle.proxy_config.proofs.Alternatives.{alternatives-enough}
-use Rattle.proxy_config.proofs.LeftReaders.{LeftReader, same, left_err, left_unless, left_or, left_if, left_value, left_word, left_made, left_cons, left_none, fewer, assoc, cond_bind, from_err}
+use Rattle.proxy_config.proofs.LeftReaders.{LeftReader, same, left_err, left_unless, left_or, left_if, left_value, left_word}
+use Rattle.proxy_config.proofs.LeftReaders.{left_made, left_cons, left_none, fewer, assoc, cond_bind, from_err}
 
 -- the values to the end of the line
 no_fault : {A : Type 0} (x : A) (other : Cause) → (let read : Result A Cause = Ok x in read ≡ Err other) → other ≡ causes.Words
@@ -29,11 +31,13 @@ words_fault other is = sym (from_err causes.Words other is)
 
 left_values : (n : ℕ) → LeftReader n values_to_end
 left_values zero = left_none values_to_end (no_fault [])
-left_values (suc n) = left_cons values_to_end (λ word others. value_of word >>= λ value. values_to_end others >>= λ more. Ok (value ∷ more)) (λ word others. refl) (no_fault [])
+left_values (suc n) = left_cons values_to_end (λ word others. value_of word >>= λ value. values_to_end others >>= λ more. Ok (value ∷ more))
+    (λ word others. refl) (no_fault [])
     (λ word. left_value word (λ words value. values_to_end words >>= λ more. Ok (value ∷ more)) (left_made values_to_end (λ more. word ∷ more) (left_values n)))
 
 -- the values up to the brace, and then what reads on
-left_brace : {B : Type 0} (n : ℕ) (next : List (List ℕ) × List (List ℕ) → Result B Cause) → ((values : List (List ℕ)) → LeftReader n (λ words. next (values, words)))
+left_brace : {B : Type 0} (n : ℕ) (next : List (List ℕ) × List (List ℕ) → Result B Cause)
+    → ((values : List (List ℕ)) → LeftReader n (λ words. next (values, words)))
     → LeftReader n (λ words. values_to_brace words >>= next)
 left_brace zero next left = left_none (λ words. values_to_brace words >>= next) words_fault
 left_brace (suc n) next left = left_cons (λ words. values_to_brace words >>= next)
@@ -47,7 +51,8 @@ left_brace (suc n) next left = left_cons (λ words. values_to_brace words >>= ne
 
 -- a test's beginning, and then what reads on
 left_head : {B : Type 0} {n : ℕ} (next : Subject × Bool × List ℕ × List (List ℕ) → Result B Cause)
-    → ((subject : Subject) (ignore_case : Bool) (value : List ℕ) → LeftReader n (λ words. next (subject, ignore_case, value, words))) → LeftReader n (λ words. head_at words >>= next)
+    → ((subject : Subject) (ignore_case : Bool) (value : List ℕ) → LeftReader n (λ words. next (subject, ignore_case, value, words)))
+    → LeftReader n (λ words. head_at words >>= next)
 unfolding head_at
 left_head next left = same _
     (λ words. word_at words >>= λ first. ok_or (subject_of first.0) causes.Condition >>= λ subject. word_at first.1 >>= λ second.
@@ -55,16 +60,19 @@ left_head next left = same _
     (λ words. assoc (word_at words) _ next ∙ same_next (word_at words) _ _ (λ first first_is.
     assoc (ok_or (subject_of first.0) causes.Condition) _ next ∙ same_next (ok_or (subject_of first.0) causes.Condition) _ _ (λ subject subject_is.
     assoc (word_at first.1) _ next ∙ same_next (word_at first.1) _ _ (λ second second_is.
-    cond_bind (bytes_eq second.0 (codes "-i")) _ _ next ∙ ap (λ r. cond (bytes_eq second.0 (codes "-i")) r (next (subject, false, second.0, second.1))) (assoc (word_at second.1) _ next)))))
+    cond_bind (bytes_eq second.0 (codes "-i")) _ _ next
+    ∙ ap (λ r. cond (bytes_eq second.0 (codes "-i")) r (next (subject, false, second.0, second.1))) (assoc (word_at second.1) _ next)))))
     (left_word _ (λ first. left_or (subject_of first) causes.Condition _ (λ subject. left_word _ (λ second. left_if (bytes_eq second (codes "-i")) _ _
     (left_word _ (λ third. left subject true third)) (left subject false second)))))
 
 pub left_test : (n : ℕ) → LeftReader n test_to_end
 unfolding test_to_end
-left_test n = left_head _ (λ subject ignore_case value. left_value value _ (left_made values_to_end (λ more. record { subject = subject; ignore_case = ignore_case; values = value ∷ more }) (left_values n)))
+left_test n = left_head _ (λ subject ignore_case value.
+    left_value value _ (left_made values_to_end (λ more. record { subject = subject; ignore_case = ignore_case; values = value ∷ more }) (left_values n)))
 
 -- a test in braces, and then what reads on
-left_braces : {B : Type 0} {n : ℕ} (next : Test × List (List ℕ) → Result B Cause) → ((test : Test) → LeftReader n (λ words. next (test, words))) → LeftReader n (λ words. test_in_braces words >>= next)
+left_braces : {B : Type 0} {n : ℕ} (next : Test × List (List ℕ) → Result B Cause) → ((test : Test) → LeftReader n (λ words. next (test, words)))
+    → LeftReader n (λ words. test_in_braces words >>= next)
 unfolding test_in_braces
 left_braces {B} {n} next left = same _
     (λ words. head_at words >>= λ head. unless (is_brace head.2) causes.Condition >>= λ brace. value_of head.2 >>= λ first. values_to_brace head.3 >>= λ more.
@@ -76,26 +84,34 @@ left_braces {B} {n} next left = same _
     (left_brace n _ (λ values. left (record { subject = subject; ignore_case = ignore_case; values = value ∷ values }))))))
 
 -- a term's operand, and then what reads on
-left_operand : {B : Type 0} {n : ℕ} (acls : List Acl) (negated : Bool) (word : List ℕ) (next : Term × List (List ℕ) → Result B Cause) → ((term : Term) → LeftReader n (λ words. next (term, words)))
+left_operand : {B : Type 0} {n : ℕ} (acls : List Acl) (negated : Bool) (word : List ℕ) (next : Term × List (List ℕ) → Result B Cause)
+    → ((term : Term) → LeftReader n (λ words. next (term, words)))
     → LeftReader n (λ words. operand_at acls negated word words >>= next)
 unfolding operand_at
 left_operand acls negated word next left = same _
     (λ words. cond (bytes_eq word (codes "{")) (test_in_braces words >>= λ test. next (record { negated = negated; operand = operands.Test test.0 }, test.1))
-    (unless (not (is_acl_name word)) causes.Condition >>= λ named. ok_or (acl_index word acls) causes.Unknown >>= λ index. next (record { negated = negated; operand = operands.Acl index }, words)))
+    (unless (not (is_acl_name word)) causes.Condition >>= λ named. ok_or (acl_index word acls) causes.Unknown >>= λ index.
+    next (record { negated = negated; operand = operands.Acl index }, words)))
     (λ words. cond_bind (bytes_eq word (codes "{")) _ _ next
-    ∙ ap (λ r. cond (bytes_eq word (codes "{")) r (((unless (not (is_acl_name word)) causes.Condition) >>= λ named. ok_or (acl_index word acls) causes.Unknown >>= λ index. Ok (record { negated = negated; operand = operands.Acl index }, words)) >>= next)) (assoc (test_in_braces words) _ next)
+    ∙ ap (λ r. cond (bytes_eq word (codes "{")) r
+    (((unless (not (is_acl_name word)) causes.Condition) >>= λ named. ok_or (acl_index word acls) causes.Unknown >>= λ index.
+    Ok (record { negated = negated; operand = operands.Acl index }, words)) >>= next)) (assoc (test_in_braces words) _ next)
     ∙ ap (cond (bytes_eq word (codes "{")) (test_in_braces words >>= λ test. next (record { negated = negated; operand = operands.Test test.0 }, test.1)))
-    (assoc (unless (not (is_acl_name word)) causes.Condition) _ next ∙ same_next (unless (not (is_acl_name word)) causes.Condition) _ _ (λ named named_is. assoc (ok_or (acl_index word acls) causes.Unknown) _ next)))
+    (assoc (unless (not (is_acl_name word)) causes.Condition) _ next
+    ∙ same_next (unless (not (is_acl_name word)) causes.Condition) _ _ (λ named named_is. assoc (ok_or (acl_index word acls) causes.Unknown) _ next)))
     (left_if (bytes_eq word (codes "{")) _ _ (left_braces _ (λ test. left (record { negated = negated; operand = operands.Test test })))
-    (left_unless (not (is_acl_name word)) causes.Condition _ (left_or (acl_index word acls) causes.Unknown _ (λ index. left (record { negated = negated; operand = operands.Acl index })))))
+    (left_unless (not (is_acl_name word)) causes.Condition _
+    (left_or (acl_index word acls) causes.Unknown _ (λ index. left (record { negated = negated; operand = operands.Acl index })))))
 
 -- a term, and then what reads on
-left_term : {B : Type 0} {n : ℕ} (acls : List Acl) (word : List ℕ) (next : Term × List (List ℕ) → Result B Cause) → ((term : Term) → LeftReader n (λ words. next (term, words)))
+left_term : {B : Type 0} {n : ℕ} (acls : List Acl) (word : List ℕ) (next : Term × List (List ℕ) → Result B Cause)
+    → ((term : Term) → LeftReader n (λ words. next (term, words)))
     → LeftReader n (λ words. term_at acls word words >>= next)
 unfolding term_at
 left_term acls [] next left = left_operand acls false [] next left
 left_term acls (byte ∷ []) next left = same _
-    (λ words. cond (byte == 33) (word_at words >>= λ second. operand_at acls true second.0 second.1 >>= next) (operand_at acls false (byte ∷ []) words >>= next))
+    (λ words. cond (byte == 33) (word_at words >>= λ second. operand_at acls true second.0 second.1 >>= next)
+    (operand_at acls false (byte ∷ []) words >>= next))
     (λ words. cond_bind (byte == 33) _ _ next ∙ ap (λ r. cond (byte == 33) r (operand_at acls false (byte ∷ []) words >>= next)) (assoc (word_at words) _ next))
     (left_if (byte == 33) _ _ (left_word _ (λ second. left_operand acls true second next left)) (left_operand acls false (byte ∷ []) next left))
 left_term acls (byte ∷ second ∷ rest) next left = same _
@@ -113,9 +129,11 @@ row_behind acls begins word words = cond (is_or word) (cond begins (Err causes.C
 
 row_step : (acls : List Acl) (begins : Bool) (word : List ℕ) (words : List (List ℕ)) → whole_rows acls begins (word ∷ words) ≡ row_behind acls begins word words
 unfolding whole_rows row_behind alternatives
-row_step acls begins word words = ap (cond (is_or word) (cond begins (Err causes.Condition) (alternatives (length words) acls true words >>= λ more. Ok ([] ∷ more))))
+row_step acls begins word words = ap (cond (is_or word)
+    (cond begins (Err causes.Condition) (alternatives (length words) acls true words >>= λ more. Ok ([] ∷ more))))
     (same_next (term_at acls word words) _ _ (λ term is. let shorter = term_at-shorter acls word words term is in
-    ap (λ (r : Result (List (List Term)) Cause). r >>= λ more. Ok (onto_first term.0 more)) (alternatives-enough (length words) (length term.1) acls false term.1 shorter (omega arith))))
+    ap (λ (r : Result (List (List Term)) Cause). r >>= λ more. Ok (onto_first term.0 more))
+    (alternatives-enough (length words) (length term.1) acls false term.1 shorter (omega arith))))
 
 rows_none : (acls : List Acl) (begins : Bool) (other : Cause) → whole_rows acls begins [] ≡ Err other → other ≡ causes.Words
 unfolding whole_rows alternatives
@@ -126,7 +144,8 @@ left_rows : (n : ℕ) (acls : List Acl) (begins : Bool) → LeftReader n (whole_
 unfolding row_behind
 left_rows zero acls begins = left_none (whole_rows acls begins) (rows_none acls begins)
 left_rows (suc n) acls begins = left_cons (whole_rows acls begins) (row_behind acls begins) (row_step acls begins) (rows_none acls begins)
-    (λ word. left_if (is_or word) _ _ (left_if begins _ _ (left_err causes.Condition) (left_made (whole_rows acls true) (λ more. [] ∷ more) (left_rows n acls true)))
+    (λ word. left_if (is_or word) _ _ (left_if begins _ _ (left_err causes.Condition)
+    (left_made (whole_rows acls true) (λ more. [] ∷ more) (left_rows n acls true)))
     (left_term acls word _ (λ term. left_made (whole_rows acls false) (onto_first term) (left_rows n acls false))))
 
 left_condition : (n : ℕ) (acls : List Acl) → LeftReader n (condition acls)
@@ -141,5 +160,6 @@ left_guard n acls word = left_if (bytes_eq word (codes "if")) _ _ (left_made (co
 pub left_optional : (n : ℕ) (acls : List Acl) → LeftReader n (optional_guard acls)
 unfolding optional_guard
 left_optional zero acls = left_none (optional_guard acls) (no_fault None)
-left_optional (suc n) acls = left_cons (optional_guard acls) (λ word others. guard_at acls word others >>= λ guard. Ok (Some guard)) (λ word others. refl) (no_fault None)
+left_optional (suc n) acls = left_cons (optional_guard acls) (λ word others. guard_at acls word others >>= λ guard. Ok (Some guard)) (λ word others. refl)
+    (no_fault None)
     (λ word. left_made (guard_at acls word) Some (left_guard n acls word))

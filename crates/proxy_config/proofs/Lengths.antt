@@ -39,7 +39,8 @@ values_to_brace-shorter [] x is = cc
 values_to_brace-shorter (word ∷ words) x is = elim (chosen (is_brace word) _ _ _ is) [
   | inl (brace, ends) ↦ let same = from_ok _ x ends in omega (arith, ap (λ (y : List (List ℕ) × List (List ℕ)). length y.1) same)
   | inr (more, goes_on) ↦ let value = bind_ok (value_of word) _ x goes_on in let others = bind_ok (values_to_brace words) _ x value.2 in
-      let same = from_ok _ x others.2 in let shorter = values_to_brace-shorter words others.0 others.1 in omega (arith, ap (λ (y : List (List ℕ) × List (List ℕ)). length y.1) same)
+      let same = from_ok _ x others.2 in let shorter = values_to_brace-shorter words others.0 others.1 in
+      omega (arith, ap (λ (y : List (List ℕ) × List (List ℕ)). length y.1) same)
 ]
 
 test_in_braces-shorter : (words : List (List ℕ)) (x : Test × List (List ℕ)) → test_in_braces words ≡ Ok x → length x.1 ≤ length words
@@ -52,7 +53,8 @@ test_in_braces-shorter words x is =
     let same = from_ok _ x more.2 in
     omega (arith, head_at-shorter words head.0 head.1, values_to_brace-shorter head.0.3 more.0 more.1, ap (λ (y : Test × List (List ℕ)). length y.1) same)
 
-operand_at-shorter : (acls : List Acl) (negated : Bool) (word : List ℕ) (words : List (List ℕ)) (x : Term × List (List ℕ)) → operand_at acls negated word words ≡ Ok x → length x.1 ≤ length words
+operand_at-shorter : (acls : List Acl) (negated : Bool) (word : List ℕ) (words : List (List ℕ)) (x : Term × List (List ℕ))
+    → operand_at acls negated word words ≡ Ok x → length x.1 ≤ length words
 unfolding operand_at
 operand_at-shorter acls negated word words x is = elim (chosen (bytes_eq word (codes "{")) _ _ _ is) [
   | inl (brace, test) ↦ let inside = bind_ok (test_in_braces words) _ x test in let same = from_ok _ x inside.2 in
@@ -62,7 +64,8 @@ operand_at-shorter acls negated word words x is = elim (chosen (bytes_eq word (c
       omega (arith, ap (λ (y : Term × List (List ℕ)). length y.1) same)
 ]
 
-pub term_at-shorter : (acls : List Acl) (word : List ℕ) (words : List (List ℕ)) (x : Term × List (List ℕ)) → term_at acls word words ≡ Ok x → length x.1 ≤ length words
+pub term_at-shorter : (acls : List Acl) (word : List ℕ) (words : List (List ℕ)) (x : Term × List (List ℕ)) → term_at acls word words ≡ Ok x
+    → length x.1 ≤ length words
 unfolding term_at
 term_at-shorter acls [] words x is = operand_at-shorter acls false [] words x is
 term_at-shorter acls (byte ∷ []) words x is = elim (chosen (byte == 33) _ _ _ is) [

@@ -22,7 +22,8 @@ same_then n (Ok x) f g same = same x
 same_then n (Err cause) f g same = refl
 
 -- what comes after the pins may be another thing that is the same for as many pins
-same_pins : {A : Type 0} (servers : List Server) (wishes : List Wish) (f g : List Pin → Result A ConfigFault) → ((ps : List Pin) → length ps ≡ length wishes → f ps ≡ g ps) → with_pins servers wishes f ≡ with_pins servers wishes g
+same_pins : {A : Type 0} (servers : List Server) (wishes : List Wish) (f g : List Pin → Result A ConfigFault)
+    → ((ps : List Pin) → length ps ≡ length wishes → f ps ≡ g ps) → with_pins servers wishes f ≡ with_pins servers wishes g
 same_pins servers [] f g same = same [] refl
 same_pins servers (wish ∷ wishes) f g same = same_then wish.line (wished.pin_of servers wish) _ _ (λ pin.
     same_pins servers wishes (λ ps. f (pin ∷ ps)) (λ ps. g (pin ∷ ps)) (λ ps count. same (pin ∷ ps) (ap (λ (n : ℕ). suc n) count)))
@@ -51,19 +52,23 @@ pins_first servers [] f g = refl
 pins_first servers (wish ∷ wishes) f g = first_pin wish.line (wished.pin_of servers wish) _ _ g (λ pin. pins_first servers wishes (λ ps. f (pin ∷ ps)) g)
 
 -- What is known comes to the first fault of a pin, to the known fault behind the pins, or to a draft with the pins.
-settled_first : (servers : List Server) (p : Progress) (r : Result (List Pin) ConfigFault) → with_pins servers p.wishes Ok ≡ r → settled servers p ≡ chained r (λ ps. unless_known p.fault (Ok (fit ps p.draft)))
+settled_first : (servers : List Server) (p : Progress) (r : Result (List Pin) ConfigFault) → with_pins servers p.wishes Ok ≡ r
+    → settled servers p ≡ chained r (λ ps. unless_known p.fault (Ok (fit ps p.draft)))
 unfolding chained
-settled_first servers p r is = pins_first servers p.wishes Ok (λ ps. unless_known p.fault (Ok (fit ps p.draft))) ∙ ap (λ (r : Result (List Pin) ConfigFault). chained r (λ ps. unless_known p.fault (Ok (fit ps p.draft)))) is
+settled_first servers p r is = pins_first servers p.wishes Ok (λ ps. unless_known p.fault (Ok (fit ps p.draft)))
+    ∙ ap (λ (r : Result (List Pin) ConfigFault). chained r (λ ps. unless_known p.fault (Ok (fit ps p.draft)))) is
 
 pub settled_err : (servers : List Server) (p : Progress) (fault : ConfigFault) → with_pins servers p.wishes Ok ≡ Err fault → settled servers p ≡ Err fault
 unfolding chained
 settled_err servers p fault is = settled_first servers p (Err fault) is
 
-pub settled_known : (servers : List Server) (p : Progress) (ps : List Pin) (fault : ConfigFault) → with_pins servers p.wishes Ok ≡ Ok ps → p.fault ≡ Some fault → settled servers p ≡ Err fault
+pub settled_known : (servers : List Server) (p : Progress) (ps : List Pin) (fault : ConfigFault) → with_pins servers p.wishes Ok ≡ Ok ps → p.fault ≡ Some fault
+    → settled servers p ≡ Err fault
 unfolding chained
 settled_known servers p ps fault is known = settled_first servers p (Ok ps) is ∙ ap (λ (k : Option ConfigFault). unless_known k (Ok (fit ps p.draft))) known
 
-pub settled_whole : (servers : List Server) (p : Progress) (ps : List Pin) → with_pins servers p.wishes Ok ≡ Ok ps → p.fault ≡ None → settled servers p ≡ Ok (fit ps p.draft)
+pub settled_whole : (servers : List Server) (p : Progress) (ps : List Pin) → with_pins servers p.wishes Ok ≡ Ok ps → p.fault ≡ None
+    → settled servers p ≡ Ok (fit ps p.draft)
 unfolding chained
 settled_whole servers p ps is known = settled_first servers p (Ok ps) is ∙ ap (λ (k : Option ConfigFault). unless_known k (Ok (fit ps p.draft))) known
 
@@ -80,9 +85,11 @@ then_granted servers ps n d wish k line = by_pin (wished.pin_of servers wish)
     by_pin (Err cause) = ap (λ (m : ℕ). Err (record { line = m; cause = cause })) (sym line)
 
 -- a line that is read makes no difference
-after_line : (servers : List Server) (long : Option ℕ) (p : Progress) (n : ℕ) (lines : List (List ℕ)) (keyword : Option Keyword) (known : Option ConfigFault) (r : Result (Draft × Option Wish) Cause)
+after_line : (servers : List Server) (long : Option ℕ) (p : Progress) (n : ℕ) (lines : List (List ℕ)) (keyword : Option Keyword) (known : Option ConfigFault)
+    (r : Result (Draft × Option Wish) Cause)
     → p.fault ≡ known → ((d : Draft) (wish : Wish) → r ≡ Ok (d, Some wish) → wish.line ≡ n)
-    → with_pins servers p.wishes (λ ps. unless_known known (then_lines n (r >>= granted servers ps) (λ next. run servers long next (n + 1) lines))) ≡ coming servers long (took known p n keyword r) (n + 1) lines
+    → with_pins servers p.wishes (λ ps. unless_known known (then_lines n (r >>= granted servers ps) (λ next. run servers long next (n + 1) lines)))
+    ≡ coming servers long (took known p n keyword r) (n + 1) lines
 after_line servers long p n lines keyword None (Ok (d, None)) known line = rw known refl
 after_line servers long p n lines keyword None (Ok (d, Some wish)) known line =
     rw known (same_pins servers p.wishes _ _ (λ ps count. then_granted servers ps n d wish (λ next. run servers long next (n + 1) lines) (line d wish refl))
@@ -94,6 +101,8 @@ after_line servers long p n lines keyword (Some fault) (Err cause) known line = 
 pub coming-take : (servers : List Server) (long : Option ℕ) (p : Progress) (n : ℕ) (line : List ℕ) (lines : List (List ℕ))
     → coming servers long p n (line ∷ lines) ≡ coming servers long (take_line (is_line long n) p n line) (n + 1) lines
 coming-take servers long p n line lines =
-    same_pins servers p.wishes _ _ (λ ps count. ap (λ (r : Result Draft Cause). unless_known p.fault (then_lines n r (λ next. run servers long next (n + 1) lines)))
+    same_pins servers p.wishes _ _ (λ ps count.
+    ap (λ (r : Result Draft Cause). unless_known p.fault (then_lines n r (λ next. run servers long next (n + 1) lines)))
     (step_granted servers ps (is_line long n) p.draft n line ∙ ap (λ (m : ℕ). wished.step m (is_line long n) p.draft n line >>= granted servers ps) count))
-    ∙ after_line servers long p n lines (keyword_in line) p.fault (wished.step (length p.wishes) (is_line long n) p.draft n line) refl (λ d wish is. (of_line (length p.wishes) (is_line long n) p.draft d n line wish is).0)
+    ∙ after_line servers long p n lines (keyword_in line) p.fault (wished.step (length p.wishes) (is_line long n) p.draft n line) refl
+    (λ d wish is. (of_line (length p.wishes) (is_line long n) p.draft d n line wish is).0)

@@ -4,7 +4,8 @@ use Rattle.proxy_config.specs.declared.settings.Settings.{Settings}
 use Rattle.proxy_config.specs.declared.settings.Setting.{Setting}
 use Rattle.proxy_config.specs.Settings.{is_check, set, setting_of, settings}
 
-pub settings-check : (s : Settings) (word : List ℕ) (words : List (List ℕ)) → is_check word ≡ true → settings s (word ∷ words) ≡ settings (record s { check = true }) words
+pub settings-check : (s : Settings) (word : List ℕ) (words : List (List ℕ)) → is_check word ≡ true
+    → settings s (word ∷ words) ≡ settings (record s { check = true }) words
 settings-check s word [] check = rw check refl
 settings-check s word (value ∷ words) check = rw check refl
 

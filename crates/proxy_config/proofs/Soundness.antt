@@ -1,5 +1,6 @@
 -- Each line that is taken in keeps what holds of accepted configurations.
-use Rattle.std.proofs.Common.{◌≡◌, inl, inr, ◌+◌, ◌<◌, ◌≤◌, ◌^◌, ◌==◌, ℕ, Bool, true, false, cond, not, List, [], ◌∷◌, length, Option, Some, None, Result, Ok, Err, refl, sym, subst, arith, length-append}
+use Rattle.std.proofs.Common.{◌≡◌, inl, inr, ◌+◌, ◌<◌, ◌≤◌, ◌^◌, ◌==◌, ℕ, Bool, true, false, cond, not, List}
+use Rattle.std.proofs.Common.{[], ◌∷◌, length, Option, Some, None, Result, Ok, Err, refl, sym, subst, arith, length-append}
 use Rattle.std.specs.Option.{ok_or, is_some, option_and_then, IfSome}
 use Rattle.std.specs.List.{AllByRecursion, list_any}
 use Rattle.std.specs.Str.Lines.{lines}
@@ -57,7 +58,8 @@ use Rattle.proxy_config.proofs.GuardRanges.{acls_longer, more_pins, more_rules, 
 use Rattle.proxy_config.proofs.Surveys.{survey-taken}
 
 -- what a number or a time within ends is
-number_in-most : (least most : ℕ) (o : Option ℕ) (n : ℕ) → option_and_then (λ m. cond (nat_lt m least) None (cond (nat_lt most m) None (Some m))) o ≡ Some n → n ≤ most
+number_in-most : (least most : ℕ) (o : Option ℕ) (n : ℕ) → option_and_then (λ m. cond (nat_lt m least) None (cond (nat_lt most m) None (Some m))) o ≡ Some n
+    → n ≤ most
 number_in-most least most None n is = absurd (let none = is in cc)
 number_in-most least most (Some m) n is = elim (chosen (nat_lt m least) _ _ _ is) [
   | inl small ↦ absurd (let none = small.1 in cc)
@@ -140,14 +142,50 @@ built_in_sound : SoundValues values.built_in
 built_in_sound = record { retries = omega arith; queue = omega arith; connect = omega arith; client = omega arith; server = omega arith }
 
 set_sound : (timeout : Timeout) (t : ℕ) (v : Values) → t < 2 ^ 62 → SoundValues v → SoundValues (values.with_timeout timeout t v)
-set_sound timeouts.Queue t v small sound = record { retries = sound.retries; queue = small; connect = sound.connect; client = sound.client; server = sound.server }
-set_sound timeouts.Connect t v small sound = record { retries = sound.retries; queue = sound.queue; connect = small; client = sound.client; server = sound.server }
-set_sound timeouts.Client t v small sound = record { retries = sound.retries; queue = sound.queue; connect = sound.connect; client = small; server = sound.server }
-set_sound timeouts.Server t v small sound = record { retries = sound.retries; queue = sound.queue; connect = sound.connect; client = sound.client; server = small }
+set_sound timeouts.Queue t v small sound = record {
+  retries = sound.retries;
+  queue = small;
+  connect = sound.connect;
+  client = sound.client;
+  server = sound.server;
+}
+set_sound timeouts.Connect t v small sound = record {
+  retries = sound.retries;
+  queue = sound.queue;
+  connect = small;
+  client = sound.client;
+  server = sound.server;
+}
+set_sound timeouts.Client t v small sound = record {
+  retries = sound.retries;
+  queue = sound.queue;
+  connect = sound.connect;
+  client = small;
+  server = sound.server;
+}
+set_sound timeouts.Server t v small sound = record {
+  retries = sound.retries;
+  queue = sound.queue;
+  connect = sound.connect;
+  client = sound.client;
+  server = small;
+}
 
 switched_sound : (switch : Switch) (v : Values) → SoundValues v → SoundValues (values.switched switch v)
-switched_sound switches.Redispatch v sound = record { retries = sound.retries; queue = sound.queue; connect = sound.connect; client = sound.client; server = sound.server }
-switched_sound switches.Abortonclose v sound = record { retries = sound.retries; queue = sound.queue; connect = sound.connect; client = sound.client; server = sound.server }
+switched_sound switches.Redispatch v sound = record {
+  retries = sound.retries;
+  queue = sound.queue;
+  connect = sound.connect;
+  client = sound.client;
+  server = sound.server;
+}
+switched_sound switches.Abortonclose v sound = record {
+  retries = sound.retries;
+  queue = sound.queue;
+  connect = sound.connect;
+  client = sound.client;
+  server = sound.server;
+}
 switched_sound switches.Unused v sound = sound
 
 fixed_sound : (only : List ℕ) (v w : Values) (words : List (List ℕ)) → values.fixed_line only v words ≡ Ok w → SoundValues v → SoundValues w
@@ -165,7 +203,13 @@ retries_sound v w words is sound =
     let n = bind_ok (ok_or (numeral 9 word.0.0) causes.Number) _ w word.2 in
     let end = bind_ok (end_at word.0.1) _ w n.2 in
     let small : n.0 < 10 ^ 9 = numeral_small 9 word.0.0 n.0 (ok_or_ok _ causes.Number n.0 n.1) in
-    subst SoundValues (from_ok _ w end.2) (record { retries = omega (arith, small); queue = sound.queue; connect = sound.connect; client = sound.client; server = sound.server })
+    subst SoundValues (from_ok _ w end.2) (record {
+      retries = omega (arith, small);
+      queue = sound.queue;
+      connect = sound.connect;
+      client = sound.client;
+      server = sound.server;
+    })
 
 option_sound : (v w : Values) (words : List (List ℕ)) → values.option_line v words ≡ Ok w → SoundValues v → SoundValues w
 unfolding values.option_line
@@ -209,33 +253,87 @@ global_keeps : (known : List Server) (d e : Draft) (words : List (List ℕ)) →
 unfolding draft.global_line
 global_keeps known d e words is sound =
     let end = bind_ok (end_at words) _ e is in
-    subst (SoundDraft known) (from_ok _ e end.2) (record { most = sound.most; servers = sound.servers; rules = sound.rules; pins = sound.pins; rule_guards = sound.rule_guards; pin_guards = sound.pin_guards; defaults = sound.defaults; values = sound.values })
+    subst (SoundDraft known) (from_ok _ e end.2)
+    (record {
+      most = sound.most;
+      servers = sound.servers;
+      rules = sound.rules;
+      pins = sound.pins;
+      rule_guards = sound.rule_guards;
+      pin_guards = sound.pin_guards;
+      defaults = sound.defaults;
+      values = sound.values;
+    })
 
 defaults_keep : (known : List Server) (d e : Draft) (words : List (List ℕ)) → draft.defaults_line d words ≡ Ok e → SoundDraft known d → SoundDraft known e
 unfolding draft.defaults_line
 defaults_keep known d e words is sound =
     let name = bind_ok (draft.optional_name words) _ e is in
-    subst (SoundDraft known) (from_ok _ e name.2) (record { most = sound.most; servers = sound.servers; rules = sound.rules; pins = sound.pins; rule_guards = sound.rule_guards; pin_guards = sound.pin_guards; defaults = built_in_sound; values = sound.values })
+    subst (SoundDraft known) (from_ok _ e name.2)
+    (record {
+      most = sound.most;
+      servers = sound.servers;
+      rules = sound.rules;
+      pins = sound.pins;
+      rule_guards = sound.rule_guards;
+      pin_guards = sound.pin_guards;
+      defaults = built_in_sound;
+      values = sound.values;
+    })
 
-listen_keeps : (known : List Server) (d e : Draft) (n : ℕ) (words : List (List ℕ)) → draft.listen_line d n words ≡ Ok e → SoundDraft known d → SoundDraft known e
+listen_keeps : (known : List Server) (d e : Draft) (n : ℕ) (words : List (List ℕ)) → draft.listen_line d n words ≡ Ok e → SoundDraft known d
+    → SoundDraft known e
 unfolding draft.listen_line
 listen_keeps known d e n words is sound =
     let again = bind_ok (unless (is_some d.listen) causes.Section) _ e is in
     let name = bind_ok (word_at words) _ e again.2 in
     let named = bind_ok (unless (not (is_name name.0.0)) causes.Name) _ e name.2 in
     let end = bind_ok (end_at name.0.1) _ e named.2 in
-    subst (SoundDraft known) (from_ok _ e end.2) (record { most = sound.most; servers = sound.servers; rules = sound.rules; pins = sound.pins; rule_guards = sound.rule_guards; pin_guards = sound.pin_guards; defaults = sound.defaults; values = sound.defaults })
+    subst (SoundDraft known) (from_ok _ e end.2)
+    (record {
+      most = sound.most;
+      servers = sound.servers;
+      rules = sound.rules;
+      pins = sound.pins;
+      rule_guards = sound.rule_guards;
+      pin_guards = sound.pin_guards;
+      defaults = sound.defaults;
+      values = sound.defaults;
+    })
 
-value_keeps : (known : List Server) (d e : Draft) (kind : Shared) (words : List (List ℕ)) (section : Section) → d.section ≡ section → draft.value_line d kind words ≡ Ok e → SoundDraft known d → SoundDraft known e
+value_keeps : (known : List Server) (d e : Draft) (kind : Shared) (words : List (List ℕ)) (section : Section) → d.section ≡ section
+    → draft.value_line d kind words ≡ Ok e → SoundDraft known d → SoundDraft known e
 unfolding draft.value_line
-value_keeps known d e kind words sections.Outside at_ is sound = let fault : (let one : Result Draft Cause = Err causes.Place in one ≡ Ok e) = (rw at_ at is) in absurd (let none = fault in cc)
-value_keeps known d e kind words sections.Global at_ is sound = let fault : (let one : Result Draft Cause = Err causes.Place in one ≡ Ok e) = (rw at_ at is) in absurd (let none = fault in cc)
+value_keeps known d e kind words sections.Outside at_ is sound = let fault : (let one : Result Draft Cause = Err causes.Place in one ≡ Ok e) = (rw at_ at is) in
+    absurd (let none = fault in cc)
+value_keeps known d e kind words sections.Global at_ is sound = let fault : (let one : Result Draft Cause = Err causes.Place in one ≡ Ok e) = (rw at_ at is) in
+    absurd (let none = fault in cc)
 value_keeps known d e kind words sections.Defaults at_ is sound =
     let v = bind_ok (values.shared_line kind d.defaults words) _ e (rw at_ at is) in
-    subst (SoundDraft known) (from_ok _ e v.2) (record { most = sound.most; servers = sound.servers; rules = sound.rules; pins = sound.pins; rule_guards = sound.rule_guards; pin_guards = sound.pin_guards; defaults = shared_sound kind d.defaults v.0 words v.1 sound.defaults; values = sound.values })
+    subst (SoundDraft known) (from_ok _ e v.2)
+    (record {
+      most = sound.most;
+      servers = sound.servers;
+      rules = sound.rules;
+      pins = sound.pins;
+      rule_guards = sound.rule_guards;
+      pin_guards = sound.pin_guards;
+      defaults = shared_sound kind d.defaults v.0 words v.1 sound.defaults;
+      values = sound.values;
+    })
 value_keeps known d e kind words sections.Listen at_ is sound =
     let v = bind_ok (values.shared_line kind d.values words) _ e (rw at_ at is) in
-    subst (SoundDraft known) (from_ok _ e v.2) (record { most = sound.most; servers = sound.servers; rules = sound.rules; pins = sound.pins; rule_guards = sound.rule_guards; pin_guards = sound.pin_guards; defaults = sound.defaults; values = shared_sound kind d.values v.0 words v.1 sound.values })
+    subst (SoundDraft known) (from_ok _ e v.2)
+    (record {
+      most = sound.most;
+      servers = sound.servers;
+      rules = sound.rules;
+      pins = sound.pins;
+      rule_guards = sound.rule_guards;
+      pin_guards = sound.pin_guards;
+      defaults = sound.defaults;
+      values = shared_sound kind d.values v.0 words v.1 sound.values;
+    })
 
 bind_keeps : (known : List Server) (d e : Draft) (words : List (List ℕ)) → draft.bind_line d words ≡ Ok e → SoundDraft known d → SoundDraft known e
 unfolding draft.bind_line
@@ -245,7 +343,17 @@ bind_keeps known d e words is sound =
     let word = bind_ok (word_at words) _ e again.2 in
     let bind = bind_ok (ok_or (bind_of word.0.0) causes.Address) _ e word.2 in
     let end = bind_ok (end_at word.0.1) _ e bind.2 in
-    subst (SoundDraft known) (from_ok _ e end.2) (record { most = sound.most; servers = sound.servers; rules = sound.rules; pins = sound.pins; rule_guards = sound.rule_guards; pin_guards = sound.pin_guards; defaults = sound.defaults; values = sound.values })
+    subst (SoundDraft known) (from_ok _ e end.2)
+    (record {
+      most = sound.most;
+      servers = sound.servers;
+      rules = sound.rules;
+      pins = sound.pins;
+      rule_guards = sound.rule_guards;
+      pin_guards = sound.pin_guards;
+      defaults = sound.defaults;
+      values = sound.values;
+    })
 
 test_keeps : (known : List Server) (d e : Draft) (words : List (List ℕ)) → draft.test_line d words ≡ Ok e → SoundDraft known d → SoundDraft known e
 unfolding draft.test_line
@@ -277,7 +385,8 @@ request_keeps known d e words is sound =
       servers = sound.servers;
       rules = omega (arith, length-append d.rules (rule.0 ∷ []));
       pins = sound.pins;
-      rule_guards = all_push (λ rule. IfSome rule.guard (IsSoundGuard (length d.acls))) d.rules rule.0 sound.rule_guards (rule_sound d.acls words rule.0 rule.1);
+      rule_guards = all_push (λ rule. IfSome rule.guard (IsSoundGuard (length d.acls))) d.rules rule.0 sound.rule_guards
+          (rule_sound d.acls words rule.0 rule.1);
       pin_guards = sound.pin_guards;
       defaults = sound.defaults;
       values = sound.values;
@@ -315,7 +424,8 @@ server_keeps known d e words is sound =
     let s = bind_ok (server.settings server.built_in second.0.1) _ e address.2 in
     let room : length d.servers < 64 = leb-false 64 _ (unless_ok _ causes.Limit limit.0 limit.1) in
     let built_in : SoundSettings server.built_in = record { weight = omega arith; inter = omega arith; rise = omega arith; fall = omega arith } in
-    let one : IsSoundServer (draft.server_of name.0.0 address.0 s.0) = server_sound name.0.0 address.0 s.0 (settings_keep server.built_in second.0.1 s.0 s.1 built_in) in
+    let one : IsSoundServer (draft.server_of name.0.0 address.0 s.0) =
+    server_sound name.0.0 address.0 s.0 (settings_keep server.built_in second.0.1 s.0 s.1 built_in) in
     subst (SoundDraft known) (from_ok _ e s.2) (record {
       most = omega (arith, length-append d.servers (draft.server_of name.0.0 address.0 s.0 ∷ []));
       servers = all_push IsSoundServer d.servers (draft.server_of name.0.0 address.0 s.0) sound.servers one;
@@ -327,7 +437,8 @@ server_keeps known d e words is sound =
       values = sound.values;
     })
 
-line_keeps : (known : List Server) (d e : Draft) (n : ℕ) (keyword : Keyword) (words : List (List ℕ)) → draft.keyword_line known d n keyword words ≡ Ok e → SoundDraft known d → SoundDraft known e
+line_keeps : (known : List Server) (d e : Draft) (n : ℕ) (keyword : Keyword) (words : List (List ℕ)) → draft.keyword_line known d n keyword words ≡ Ok e
+    → SoundDraft known d → SoundDraft known e
 line_keeps known d e n keywords.Global words is sound = global_keeps known d e words is sound
 line_keeps known d e n keywords.Defaults words is sound = defaults_keep known d e words is sound
 line_keeps known d e n keywords.Listen words is sound = listen_keeps known d e n words is sound
@@ -339,14 +450,16 @@ line_keeps known d e n keywords.Acl words is sound = test_keeps known d e words 
 line_keeps known d e n keywords.HttpRequest words is sound = request_keeps known d e words is sound
 line_keeps known d e n keywords.UseServer words is sound = use_keeps known d e words is sound
 
-words_keep : (known : List Server) (d e : Draft) (n : ℕ) (words : List (List ℕ)) → draft.words_line known d n words ≡ Ok e → SoundDraft known d → SoundDraft known e
+words_keep : (known : List Server) (d e : Draft) (n : ℕ) (words : List (List ℕ)) → draft.words_line known d n words ≡ Ok e → SoundDraft known d
+    → SoundDraft known e
 unfolding draft.words_line
 words_keep known d e n [] is sound = subst (SoundDraft known) (from_ok d e is) sound
 words_keep known d e n (word ∷ words) is sound =
     let keyword = bind_ok (ok_or (keyword_of word) causes.Keyword) _ e is in
     line_keeps known d e n keyword.0 words keyword.2 sound
 
-step_keeps : (known : List Server) (too_long : Bool) (d e : Draft) (n : ℕ) (line : List ℕ) → draft.step known too_long d n line ≡ Ok e → SoundDraft known d → SoundDraft known e
+step_keeps : (known : List Server) (too_long : Bool) (d e : Draft) (n : ℕ) (line : List ℕ) → draft.step known too_long d n line ≡ Ok e → SoundDraft known d
+    → SoundDraft known e
 unfolding draft.step
 step_keeps known too_long d e n line is sound = elim (chosen (draft.is_ignored d.section (words (uncommented line))) _ _ _ is) [
   | inl ignored ↦ let short = bind_ok (unless too_long causes.Limit) _ e ignored.1 in subst (SoundDraft known) (from_ok d e short.2) sound
@@ -356,7 +469,8 @@ step_keeps known too_long d e n line is sound = elim (chosen (draft.is_ignored d
       words_keep known d e n (words (uncommented line)) short.2 sound
 ]
 
-taken_keep : (known : List Server) (long : Option ℕ) (d e : Draft) (n : ℕ) (lines : List (List ℕ)) → TakenIn known long d n lines e → SoundDraft known d → SoundDraft known e
+taken_keep : (known : List Server) (long : Option ℕ) (d e : Draft) (n : ℕ) (lines : List (List ℕ)) → TakenIn known long d n lines e → SoundDraft known d
+    → SoundDraft known e
 taken_keep known long d e n [] taken sound = subst (SoundDraft known) (sym taken) sound
 taken_keep known long d e n (line ∷ lines) taken sound =
     taken_keep known long taken.0 e (n + 1) lines taken.2 (step_keeps known (is_line long n) d taken.0 n line taken.1 sound)
@@ -408,7 +522,16 @@ whole_sound (Some line) (Some bind) d config is sound = elim (chosen (length d.s
 pub says-sound : (bytes : List ℕ) (config : Config) → Says bytes config → IsSound config
 says-sound bytes config says =
     let known = declared_servers bytes in
-    let start : SoundDraft known draft.start = record { most = omega arith; servers = tt; rules = omega arith; pins = tt; rule_guards = tt; pin_guards = tt; defaults = built_in_sound; values = built_in_sound } in
+    let start : SoundDraft known draft.start = record {
+      most = omega arith;
+      servers = tt;
+      rules = omega arith;
+      pins = tt;
+      rule_guards = tt;
+      pin_guards = tt;
+      defaults = built_in_sound;
+      values = built_in_sound;
+    } in
     let same : known ≡ says.draft.servers = survey-taken known (long_line bytes) draft.start says.draft 1 (lines bytes) says.taken_in in
     whole_sound says.draft.listen says.draft.bind says.draft config says.whole
     (subst (λ (servers : List Server). SoundDraft servers says.draft) same

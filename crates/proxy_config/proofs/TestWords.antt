@@ -1,5 +1,6 @@
 -- The words of a test, read and spelled.
-use Rattle.std.proofs.Common.{◌≡◌, ◌∙◌, inl, inr, ◌<◌, ◌==◌, ◌||◌, ℕ, Bool, true, false, List, [], ◌∷◌, ◌++◌, length, Some, Ok, refl, sym, ap, subst, arith, append_assoc, codes}
+use Rattle.std.proofs.Common.{◌≡◌, ◌∙◌, inl, inr, ◌<◌, ◌==◌, ◌||◌, ℕ, Bool, true, false, List, []}
+use Rattle.std.proofs.Common.{◌∷◌, ◌++◌, length, Some, Ok, refl, sym, ap, subst, arith, append_assoc, codes}
 use Rattle.std.specs.List.{list_any}
 use Rattle.std.specs.Option.{ok_or}
 use Rattle.std.specs.Str.{bytes_eq}
@@ -78,7 +79,8 @@ values_to_brace-found (word ∷ words) values rest is = elim (chosen (is_brace w
       let same = from_ok _ (values, rest) more.2 in
       let all : value.0 ∷ more.0.0 ≡ values = ap (λ (x : List (List ℕ) × List (List ℕ)). x.0) same in
       let after : more.0.1 ≡ rest = ap (λ (x : List (List ℕ) × List (List ℕ)). x.1) same in
-      subst (λ (vs : List (List ℕ)). (word ∷ words ≡ vs ++ codes "}" ∷ rest) × (list_any is_dashed vs ≡ false) × (list_any is_brace vs ≡ false)) (ap (λ (w : List ℕ). w ∷ more.0.0) plain.1 ∙ all) (
+      subst (λ (vs : List (List ℕ)). (word ∷ words ≡ vs ++ codes "}" ∷ rest) × (list_any is_dashed vs ≡ false) × (list_any is_brace vs ≡ false))
+      (ap (λ (w : List ℕ). w ∷ more.0.0) plain.1 ∙ all) (
         ap (λ (ws : List (List ℕ)). word ∷ ws) (others.0 ∙ ap (λ (r : List (List ℕ)). more.0.0 ++ codes "}" ∷ r) after),
         neither plain.0 others.1,
         neither other others.2,
@@ -103,16 +105,23 @@ head_at-found (first ∷ second ∷ words) x is =
           let text : second ≡ codes "-i" = same_text second (codes "-i") ignores in
           let value = bind_ok (word_at words) _ x third in
           let same = from_ok _ x value.2 in
-          subst (λ (y : Subject × Bool × List ℕ × List (List ℕ)). (subject : List ℕ) × (subject_of subject ≡ Some y.0) × (first ∷ second ∷ words ≡ (subject ∷ flag y.1) ++ y.2 ∷ y.3)) same
-          (first, known, ap (λ (w : List ℕ). first ∷ w ∷ words) text ∙ ap (λ (ws : List (List ℕ)). first ∷ codes "-i" ∷ ws) (word_at-found words value.0 value.1))
+          subst (λ (y : Subject × Bool × List ℕ × List (List ℕ)). (subject : List ℕ) × (subject_of subject ≡ Some y.0)
+          × (first ∷ second ∷ words ≡ (subject ∷ flag y.1) ++ y.2 ∷ y.3)) same (
+            first,
+            known,
+            ap (λ (w : List ℕ). first ∷ w ∷ words) text
+                ∙ ap (λ (ws : List (List ℕ)). first ∷ codes "-i" ∷ ws) (word_at-found words value.0 value.1),
+          )
       | inr (other, here) ↦
           let same = from_ok _ x here in
-          subst (λ (y : Subject × Bool × List ℕ × List (List ℕ)). (subject : List ℕ) × (subject_of subject ≡ Some y.0) × (first ∷ second ∷ words ≡ (subject ∷ flag y.1) ++ y.2 ∷ y.3)) same
+          subst (λ (y : Subject × Bool × List ℕ × List (List ℕ)). (subject : List ℕ) × (subject_of subject ≡ Some y.0)
+          × (first ∷ second ∷ words ≡ (subject ∷ flag y.1) ++ y.2 ∷ y.3)) same
           (first, known, refl)
     ]
 
 -- a test's beginning is read as it is spelled
-head_at-again : (subject : List ℕ) (of : Subject) (ignore_case : Bool) (value : List ℕ) (rest : List (List ℕ)) → subject_of subject ≡ Some of → is_dashed value ≡ false
+head_at-again : (subject : List ℕ) (of : Subject) (ignore_case : Bool) (value : List ℕ) (rest : List (List ℕ)) → subject_of subject ≡ Some of
+    → is_dashed value ≡ false
     → head_at ((subject ∷ flag ignore_case) ++ value ∷ rest) ≡ Ok (of, ignore_case, value, rest)
 unfolding head_at
 head_at-again subject of true value rest known plain = rw known refl
@@ -125,11 +134,13 @@ in_braces : (words : List (List ℕ)) (of : Subject) (ignore_case : Bool) (value
     → ((subject : List ℕ) × (subject_of subject ≡ Some of) × (words ≡ (subject ∷ flag ignore_case) ++ value ∷ behind))
     → is_brace value ≡ false → is_dashed value ≡ false → value ≡ first
     → (behind ≡ others ++ codes "}" ∷ rest) × (list_any is_dashed others ≡ false) × (list_any is_brace others ≡ false)
-    → (inside : List (List ℕ)) × (words ≡ inside ++ codes "}" ∷ rest) × IsTest inside (record { subject = of; ignore_case = ignore_case; values = first ∷ others })
+    → (inside : List (List ℕ)) × (words ≡ inside ++ codes "}" ∷ rest)
+    × IsTest inside (record { subject = of; ignore_case = ignore_case; values = first ∷ others })
     × (list_any is_brace (first ∷ others) ≡ false)
 in_braces words of ignore_case value first behind others rest start open_ plain same more = (
   (start.0 ∷ flag ignore_case) ++ first ∷ others,
-  start.2 ∙ ap (λ (v : List ℕ). (start.0 ∷ flag ignore_case) ++ v ∷ behind) same ∙ ap (λ (ws : List (List ℕ)). (start.0 ∷ flag ignore_case) ++ first ∷ ws) more.0
+  start.2 ∙ ap (λ (v : List ℕ). (start.0 ∷ flag ignore_case) ++ v ∷ behind) same
+      ∙ ap (λ (ws : List (List ℕ)). (start.0 ∷ flag ignore_case) ++ first ∷ ws) more.0
       ∙ sym (append_assoc (start.0 ∷ flag ignore_case) (first ∷ others) (codes "}" ∷ rest)),
   record { subject = start.0; known = start.1; is = refl; some = omega arith; plain = neither (ap is_dashed (sym same) ∙ plain) more.1 },
   neither (ap is_brace (sym same) ∙ open_) more.2,
@@ -145,13 +156,15 @@ test_in_braces-found words x is =
     let first = bind_ok (value_of head.0.2) _ x brace.2 in
     let more = bind_ok (values_to_brace head.0.3) _ x first.2 in
     let plain = value_of-ok head.0.2 first.0 first.1 in
-    subst (λ (y : Test × List (List ℕ)). (inside : List (List ℕ)) × (words ≡ inside ++ codes "}" ∷ y.1) × IsTest inside y.0 × (list_any is_brace y.0.values ≡ false)) (from_ok _ x more.2)
+    subst (λ (y : Test × List (List ℕ)). (inside : List (List ℕ)) × (words ≡ inside ++ codes "}" ∷ y.1) × IsTest inside y.0
+    × (list_any is_brace y.0.values ≡ false)) (from_ok _ x more.2)
     (in_braces words head.0.0 head.0.1 head.0.2 first.0 head.0.3 more.0.0 more.0.1 (head_at-found words head.0 head.1)
     (unless_ok (is_brace head.0.2) causes.Condition brace.0 brace.1) plain.0 plain.1 (values_to_brace-found head.0.3 more.0.0 more.0.1 more.1))
 
 braces_again : (subject : List ℕ) (of : Subject) (ignore_case : Bool) (values rest : List (List ℕ)) → subject_of subject ≡ Some of → 0 < length values
     → list_any is_dashed values ≡ false → list_any is_brace values ≡ false
-    → test_in_braces (((subject ∷ flag ignore_case) ++ values) ++ codes "}" ∷ rest) ≡ Ok (record { subject = of; ignore_case = ignore_case; values = values }, rest)
+    → test_in_braces (((subject ∷ flag ignore_case) ++ values) ++ codes "}" ∷ rest)
+    ≡ Ok (record { subject = of; ignore_case = ignore_case; values = values }, rest)
 unfolding test_in_braces
 braces_again subject of ignore_case [] rest known some plain open_ = absurd (omega arith)
 braces_again subject of ignore_case (value ∷ values) rest known some plain open_ =

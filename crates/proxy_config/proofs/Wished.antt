@@ -56,7 +56,8 @@ from_both d e v w is =
     let wish : (let one : Option Wish = Some v in one ≡ Some w) = ap (λ (x : Draft × Option Wish). x.1) same in
     (let v_is = wish in cc, ap (λ (x : Draft × Option Wish). x.0) (sym same))
 
-of_keyword : (pins : ℕ) (d e : Draft) (n : ℕ) (keyword : Keyword) (ws : List (List ℕ)) (wish : Wish) → wished.keyword_line pins d n keyword ws ≡ Ok (e, Some wish) → Own d e n wish
+of_keyword : (pins : ℕ) (d e : Draft) (n : ℕ) (keyword : Keyword) (ws : List (List ℕ)) (wish : Wish)
+    → wished.keyword_line pins d n keyword ws ≡ Ok (e, Some wish) → Own d e n wish
 of_keyword pins d e n keywords.Global ws wish is = absurd (plain_none _ e wish is)
 of_keyword pins d e n keywords.Defaults ws wish is = absurd (plain_none _ e wish is)
 of_keyword pins d e n keywords.Listen ws wish is = absurd (plain_none _ e wish is)
@@ -78,7 +79,8 @@ of_words pins d e n (word ∷ ws) wish is =
     let keyword = bind_ok (ok_or (keyword_of word) causes.Keyword) _ (e, Some wish) is in
     of_keyword pins d e n keyword.0 ws wish keyword.2
 
-pub of_line : (pins : ℕ) (too_long : Bool) (d e : Draft) (n : ℕ) (line : List ℕ) (wish : Wish) → wished.step pins too_long d n line ≡ Ok (e, Some wish) → (wish.line ≡ n) × (e ≡ d)
+pub of_line : (pins : ℕ) (too_long : Bool) (d e : Draft) (n : ℕ) (line : List ℕ) (wish : Wish) → wished.step pins too_long d n line ≡ Ok (e, Some wish)
+    → (wish.line ≡ n) × (e ≡ d)
 unfolding wished.step
 of_line pins too_long d e n line wish is = elim (chosen (draft.is_ignored d.section (words (uncommented line))) _ _ _ is) [
   | inl ignored ↦ let short = bind_ok (unless too_long causes.Limit) _ (e, Some wish) ignored.1 in absurd (no_wish d e wish short.2)
@@ -89,21 +91,25 @@ of_line pins too_long d e n line wish is = elim (chosen (draft.is_ignored d.sect
 ]
 
 -- and ends no section
-keyword_ends_none : (pins : ℕ) (d e : Draft) (n : ℕ) (keyword : Keyword) (ws : List (List ℕ)) (wish : Wish) → wished.keyword_line pins d n keyword ws ≡ Ok (e, Some wish) → ends_listen d (Some keyword) ≡ false
+keyword_ends_none : (pins : ℕ) (d e : Draft) (n : ℕ) (keyword : Keyword) (ws : List (List ℕ)) (wish : Wish)
+    → wished.keyword_line pins d n keyword ws ≡ Ok (e, Some wish) → ends_listen d (Some keyword) ≡ false
 keyword_ends_none pins d e n keywords.Refused ws wish is = absurd (let none = is in cc)
 keyword_ends_none pins d e n keywords.Listen ws wish is = absurd (plain_none _ e wish is)
 keyword_ends_none pins d e n keyword ws wish is = refl
 
-words_end_none : (pins : ℕ) (d e : Draft) (n : ℕ) (ws : List (List ℕ)) (wish : Wish) → wished.words_line pins d n ws ≡ Ok (e, Some wish) → ends_listen d (first_keyword ws) ≡ false
+words_end_none : (pins : ℕ) (d e : Draft) (n : ℕ) (ws : List (List ℕ)) (wish : Wish) → wished.words_line pins d n ws ≡ Ok (e, Some wish)
+    → ends_listen d (first_keyword ws) ≡ false
 unfolding wished.words_line
 words_end_none pins d e n [] wish is = refl
 words_end_none pins d e n (word ∷ ws) wish is = by_keyword (keyword_of word) is
   where
-    by_keyword : (known : Option Keyword) → (ok_or known causes.Keyword >>= λ keyword. wished.keyword_line pins d n keyword ws) ≡ Ok (e, Some wish) → ends_listen d known ≡ false
+    by_keyword : (known : Option Keyword) → (ok_or known causes.Keyword >>= λ keyword. wished.keyword_line pins d n keyword ws) ≡ Ok (e, Some wish)
+        → ends_listen d known ≡ false
     by_keyword None is = refl
     by_keyword (Some keyword) is = keyword_ends_none pins d e n keyword ws wish is
 
-pub asks_ends_none : (pins : ℕ) (too_long : Bool) (d e : Draft) (n : ℕ) (line : List ℕ) (wish : Wish) → wished.step pins too_long d n line ≡ Ok (e, Some wish) → ends_listen d (keyword_in line) ≡ false
+pub asks_ends_none : (pins : ℕ) (too_long : Bool) (d e : Draft) (n : ℕ) (line : List ℕ) (wish : Wish) → wished.step pins too_long d n line ≡ Ok (e, Some wish)
+    → ends_listen d (keyword_in line) ≡ false
 unfolding wished.step
 asks_ends_none pins too_long d e n line wish is = elim (chosen (draft.is_ignored d.section (words (uncommented line))) _ _ _ is) [
   | inl ignored ↦ let short = bind_ok (unless too_long causes.Limit) _ (e, Some wish) ignored.1 in absurd (no_wish d e wish short.2)

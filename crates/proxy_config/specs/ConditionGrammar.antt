@@ -47,7 +47,8 @@ IsTerm acls words term = IsSigned term.negated acls words term.operand
 -- terms in a row
 abbrev pub AreTerms : List Acl → List (List ℕ) → List Term → Type 0
 AreTerms acls words [] = words ≡ []
-AreTerms acls words (term ∷ terms) = (front : List (List ℕ)) × (rest : List (List ℕ)) × (words ≡ front ++ rest) × IsTerm acls front term × AreTerms acls rest terms
+AreTerms acls words (term ∷ terms) = (front : List (List ℕ)) × (rest : List (List ℕ)) × (words ≡ front ++ rest) × IsTerm acls front term
+    × AreTerms acls rest terms
 
 -- rows of terms, with an `or` or `||` between each two
 abbrev pub AreSeparated : List Acl → List (List ℕ) → List (List Term) → Type 0

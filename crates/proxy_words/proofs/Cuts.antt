@@ -1,5 +1,6 @@
 -- How a text is cut into its first line or word and the rest.
-use Rattle.std.proofs.Common.{◌≡◌, ℕ, zero, suc, ◌+◌, ◌<◌, ◌≤◌, ◌∙◌, Bool, true, false, cond, Some, None, List, [], ◌∷◌, length, take, drop, get_or, filter, position, ◌==◌, not, refl, ap, subst, arith}
+use Rattle.std.proofs.Common.{◌≡◌, ℕ, zero, suc, ◌+◌, ◌<◌, ◌≤◌, ◌∙◌, Bool, true, false, cond, Some, None, List}
+use Rattle.std.proofs.Common.{[], ◌∷◌, length, take, drop, get_or, filter, position, ◌==◌, not, refl, ap, subst, arith}
 use Rattle.std.specs.List.{slice_split, onto_first, position_or_len}
 use Rattle.std.specs.Str.Lines.{lines, lines_of_parts, strip_carriage_return}
 use Rattle.std.proofs.lemmas.List.Splits.{slice_split_first, slice_split_none, slice_split-cons_yes, slice_split-cons_no, length-slice_split}
@@ -29,7 +30,8 @@ slice_split-whole p xs at =
     slice_split_none p xs (λ k d below. fails_before_first p xs k d (omega arith))
 
 -- a part that others follow is a line
-lines_of_parts-cons : (part : List ℕ) (parts : List (List ℕ)) → 0 < length parts → lines_of_parts (part ∷ parts) ≡ strip_carriage_return part ∷ lines_of_parts parts
+lines_of_parts-cons : (part : List ℕ) (parts : List (List ℕ)) → 0 < length parts
+    → lines_of_parts (part ∷ parts) ≡ strip_carriage_return part ∷ lines_of_parts parts
 lines_of_parts-cons part [] some = absurd (omega arith)
 lines_of_parts-cons part (next ∷ parts) some = refl
 
@@ -60,7 +62,11 @@ length-lines-cons byte text true feed =
     let some : 0 < length (slice_split is_line_feed text) = omega (arith, length-slice_split is_line_feed text) in
     omega (arith, ap (λ parts. length (lines_of_parts parts)) (slice_split-cons_yes is_line_feed byte text feed), ap length (lines_of_parts-cons [] _ some))
 length-lines-cons byte text false feed =
-    omega (arith, ap (λ parts. length (lines_of_parts parts)) (slice_split-cons_no is_line_feed byte text feed), length-lines-onto byte (slice_split is_line_feed text))
+    omega (
+      arith,
+      ap (λ parts. length (lines_of_parts parts)) (slice_split-cons_no is_line_feed byte text feed),
+      length-lines-onto byte (slice_split is_line_feed text),
+    )
 
 -- each line has a byte of its own, if only its line feed
 pub length-lines : (text : List ℕ) → length (lines text) ≤ length text
@@ -75,7 +81,8 @@ past_first p line zero here first = cc
 past_first p line (suc n) here first = omega arith
 
 -- a line that begins with a byte of a word begins with that word
-pub words-first : (line : List ℕ) (n : ℕ) → (0 < length line → is_blank (get_or line 0 0) ≡ false) → position is_blank line ≡ Some n → words line ≡ take n line ∷ words (drop (n + 1) line)
+pub words-first : (line : List ℕ) (n : ℕ) → (0 < length line → is_blank (get_or line 0 0) ≡ false) → position is_blank line ≡ Some n
+    → words line ≡ take n line ∷ words (drop (n + 1) line)
 words-first line n starts at =
     let found = position-Some is_blank line n 0 at in
     let later : 0 < n = past_first is_blank line n found.1 (starts (omega arith)) in

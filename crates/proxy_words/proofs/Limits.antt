@@ -1,5 +1,6 @@
 -- How great a number and a time can be that a word is.
-use Rattle.std.proofs.Common.{◌≡◌, ℕ, ◌+◌, ◌-◌, ◌*◌, ◌/◌, ◌^◌, ◌<◌, ◌≤◌, ◌&&◌, not, nat_le, ◌==◌, Bool, true, false, cond, List, [], ◌∷◌, length, drop, Option, Some, None, take_while, codes, refl, subst, arith}
+use Rattle.std.proofs.Common.{◌≡◌, ℕ, ◌+◌, ◌-◌, ◌*◌, ◌/◌, ◌^◌, ◌<◌, ◌≤◌, ◌&&◌, not, nat_le, ◌==◌, Bool, true}
+use Rattle.std.proofs.Common.{false, cond, List, [], ◌∷◌, length, drop, Option, Some, None, take_while, codes, refl, subst, arith}
 use Rattle.std.specs.List.{list_all}
 use Rattle.std.specs.Option.{option_and_then}
 use Rattle.std.specs.Str.{bytes_eq}
@@ -61,6 +62,7 @@ milliseconds_small unit n t small is =
 pub time_small : (word : List ℕ) (t : ℕ) → time word ≡ Some t → t < 2 ^ 57
 time_small word t is = by_number (numeral 9 (take_while is_digit word)) refl is
   where
-    by_number : (o : Option ℕ) → numeral 9 (take_while is_digit word) ≡ o → option_and_then (in_milliseconds (drop (digits_len word) word)) o ≡ Some t → t < 2 ^ 57
+    by_number : (o : Option ℕ) → numeral 9 (take_while is_digit word) ≡ o → option_and_then (in_milliseconds (drop (digits_len word) word)) o ≡ Some t
+        → t < 2 ^ 57
     by_number None e is = let none : None ≡ Some t = is in cc
     by_number (Some n) e is = milliseconds_small (drop (digits_len word) word) n t (numeral_small 9 (take_while is_digit word) n e) is

@@ -8,7 +8,8 @@ use Rattle.std.proofs.lemmas.Bool.Decides.{nat_tests}
 use Rattle.proxy_words.specs.Numerals.{is_digit, value_of}
 
 -- the next digit moves what was read one place up
-value_of-cons : (n digit : ℕ) (digits : List ℕ) → (n * 10 + (digit - 48)) * 10 ^ length digits + value_of digits ≡ n * 10 ^ length (digit ∷ digits) + value_of (digit ∷ digits)
+value_of-cons : (n digit : ℕ) (digits : List ℕ)
+    → (n * 10 + (digit - 48)) * 10 ^ length digits + value_of digits ≡ n * 10 ^ length (digit ∷ digits) + value_of (digit ∷ digits)
 value_of-cons n digit digits = rw pow-suc (omega arith)
 
 pub value_of-drop : (digits : List ℕ) (i n : ℕ) → i < length digits

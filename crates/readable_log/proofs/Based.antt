@@ -1,5 +1,6 @@
 -- What a base tells of its live requests: their keys, and where they wait.
-use Rattle.std.proofs.Common.{◌≡◌, ◌≢◌, ℕ, zero, suc, ◌==◌, ◌&&◌, ◌||◌, nat_lt, Bool, true, false, cond, [], ◌∷◌, Option, None, Some, IsTrue, refl, ap, sym, ◌∙◌, subst, arith}
+use Rattle.std.proofs.Common.{◌≡◌, ◌≢◌, ℕ, zero, suc, ◌==◌, ◌&&◌, ◌||◌, nat_lt, Bool, true, false, cond}
+use Rattle.std.proofs.Common.{[], ◌∷◌, Option, None, Some, IsTrue, refl, ap, sym, ◌∙◌, subst, arith}
 use Rattle.std.specs.List.{fold}
 use Rattle.std.specs.Option.{option_map_or, IsSomeAnd}
 use Rattle.std.proofs.lemmas.Bool.Decides.{Decides-eqb}
@@ -42,7 +43,8 @@ same_suc k l e = omega arith
 later : (cell : Option Row) (rows : Rows) → HaveOwnTickets (cell ∷ rows) → HaveOwnTickets rows
 later cell rows own = record { own = λ k l u v a b e. same_suc k l (own.own (suc k) (suc l) u v a b e) }
 
-pub known_row : (t : ℕ) (before : Option Key) (rows : Rows) (p : ℕ) (r : Row) → StandsAt rows p r → r.key.ticket ≡ t → HaveOwnTickets rows → key_by t before rows ≡ Some r.key
+pub known_row : (t : ℕ) (before : Option Key) (rows : Rows) (p : ℕ) (r : Row) → StandsAt rows p r → r.key.ticket ≡ t → HaveOwnTickets rows
+    → key_by t before rows ≡ Some r.key
 known_row t before [] p r at named own = cc
 known_row t before (None ∷ rows) zero r at named own = cc
 known_row t before (None ∷ rows) (suc p) r at named own = known_row t before rows p r at named (later None rows own)
@@ -70,12 +72,14 @@ waited_row (None ∷ rows) (suc p) r q at waits = waited_row rows p r q at waits
 waited_row (Some w ∷ rows) zero r q at waits =
     let it : r ≡ w = sym (same_Some w r (same_Some (Some w) (Some r) at)) in
     let own : (w.key.ticket == r.key.ticket) ≡ true = (Decides-eqb w.key.ticket r.key.ticket).1 (ap (λ (x : Row). x.key.ticket) (sym it)) in
-    let there : option_map_or (same_queue q) (queue_in w.phase) false ≡ true = waits_there q w.phase (subst (λ (x : Row). IsTrue (phase_waits_in q x.phase)) it waits) in
+    let there : option_map_or (same_queue q) (queue_in w.phase) false ≡ true =
+    waits_there q w.phase (subst (λ (x : Row). IsTrue (phase_waits_in q x.phase)) it waits) in
     both (waited r.key.ticket q (base_rows rows)) own there
   where
     both : {a b : Bool} (c : Bool) → a ≡ true → b ≡ true → (a && b) || c ≡ true
     both c e f = rw (e, f) refl
-waited_row (Some w ∷ rows) (suc p) r q at waits = right ((w.key.ticket == r.key.ticket) && option_map_or (same_queue q) (queue_in w.phase) false) (waited_row rows p r q at waits)
+waited_row (Some w ∷ rows) (suc p) r q at waits =
+    right ((w.key.ticket == r.key.ticket) && option_map_or (same_queue q) (queue_in w.phase) false) (waited_row rows p r q at waits)
   where
     right : (a : Bool) {b : Bool} → b ≡ true → a || b ≡ true
     right true e = refl

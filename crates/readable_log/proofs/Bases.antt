@@ -1,5 +1,6 @@
 -- Bases, as they are kept.
-use Rattle.std.proofs.Common.{◌≡◌, ℕ, zero, suc, ◌+◌, ◌-◌, ◌<◌, ◌≤◌, List, [], ◌∷◌, ◌++◌, Option, None, Some, map, take, length, replicate, slice_index_or, length-take-le, refl, ap, sym, ◌∙◌, arith}
+use Rattle.std.proofs.Common.{◌≡◌, ℕ, zero, suc, ◌+◌, ◌-◌, ◌<◌, ◌≤◌, List, [], ◌∷◌, ◌++◌, Option}
+use Rattle.std.proofs.Common.{None, Some, map, take, length, replicate, slice_index_or, length-take-le, refl, ap, sym, ◌∙◌, arith}
 use Rattle.std.proofs.Math.Seq.{take-suc}
 use Rattle.dispatch_log.specs.declared.row.Row.{Row}
 use Rattle.readable_log.specs.Windows.{base_row, base_rows}
@@ -17,9 +18,17 @@ no_results (suc n) = ap (λ l. [] ∷ l) (no_results n)
 
 -- a base by its parts
 abbrev pub base_of : Rows → List (Option Standing) → List Allowance → ℕ → ℕ → ℕ → State
-base_of rows healths limits moment ticket cursor = record { rows = rows; results = map results_by healths; limits = limits; moment = moment; ticket = ticket; cursor = cursor }
+base_of rows healths limits moment ticket cursor = record {
+  rows = rows;
+  results = map results_by healths;
+  limits = limits;
+  moment = moment;
+  ticket = ticket;
+  cursor = cursor;
+}
 
-pub opened : (setup : Setup) (rows : Rows) (healths : List (Option Standing)) (limits : List Allowance) (moment cursor : ℕ) → rows ≡ replicate setup.places None → healths ≡ replicate (length setup.servers) None → limits ≡ opening_limits setup.servers → moment ≡ 0 → cursor ≡ length setup.servers - 1
+pub opened : (setup : Setup) (rows : Rows) (healths : List (Option Standing)) (limits : List Allowance) (moment cursor : ℕ) → rows ≡ replicate setup.places None
+    → healths ≡ replicate (length setup.servers) None → limits ≡ opening_limits setup.servers → moment ≡ 0 → cursor ≡ length setup.servers - 1
     → base_of rows healths limits moment 0 cursor ≡ opening_state setup
 opened setup rows healths limits moment cursor by_rows by_healths by_limits by_moment by_cursor =
     let none = replicate (length setup.servers) None in
@@ -29,7 +38,8 @@ opened setup rows healths limits moment cursor by_rows by_healths by_limits by_m
     ∙ ap (λ x. base_of vacant none x moment 0 cursor) by_limits
     ∙ ap (λ x. base_of vacant none (opening_limits setup.servers) x 0 cursor) by_moment
     ∙ ap (λ x. base_of vacant none (opening_limits setup.servers) 0 0 x) by_cursor
-    ∙ ap (λ x. record { rows = vacant; results = x; limits = opening_limits setup.servers; moment = 0; ticket = 0; cursor = length setup.servers - 1 }) (no_results (length setup.servers))
+    ∙ ap (λ x. record { rows = vacant; results = x; limits = opening_limits setup.servers; moment = 0; ticket = 0; cursor = length setup.servers - 1 })
+    (no_results (length setup.servers))
 
 -- the live requests of the places so far
 abbrev pub listed_row : Option Row → List BaseRow
@@ -42,10 +52,12 @@ base_rows-push [] (Some row) = refl
 base_rows-push (None ∷ rows) cell = base_rows-push rows cell
 base_rows-push (Some row ∷ rows) cell = ap (λ l. base_row row ∷ l) (base_rows-push rows cell)
 
-pub base_rows-more : (rows : Rows) (i : ℕ) (cell : Option Row) → i < length rows → cell ≡ slice_index_or rows i cell → base_rows (take (i + 1) rows) ≡ base_rows (take i rows) ++ listed_row cell
+pub base_rows-more : (rows : Rows) (i : ℕ) (cell : Option Row) → i < length rows → cell ≡ slice_index_or rows i cell
+    → base_rows (take (i + 1) rows) ≡ base_rows (take i rows) ++ listed_row cell
 base_rows-more rows i cell more is =
     let next : suc i ≡ i + 1 = omega arith in
-    ap (λ k. base_rows (take k rows)) (sym next) ∙ ap base_rows (take-suc rows i cell more) ∙ base_rows-push (take i rows) (slice_index_or rows i cell) ∙ ap (λ x. base_rows (take i rows) ++ listed_row x) (sym is)
+    ap (λ k. base_rows (take k rows)) (sym next) ∙ ap base_rows (take-suc rows i cell more) ∙ base_rows-push (take i rows) (slice_index_or rows i cell)
+    ∙ ap (λ x. base_rows (take i rows) ++ listed_row x) (sym is)
 
 base_rows-few : (rows : Rows) → length (base_rows rows) ≤ length rows
 base_rows-few [] = omega arith

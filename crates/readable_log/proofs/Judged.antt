@@ -1,5 +1,6 @@
 -- Logs that are judged entry by entry keep the order of their queues, and are readable.
-use Rattle.std.proofs.Common.{◌≡◌, ℕ, ◌+◌, ◌≤◌, true, List, [], ◌∷◌, ◌++◌, Option, None, Some, IsSome, is_some, length, IsTrue, refl, ap, sym, subst, arith, inl, inr, append_assoc, length-append}
+use Rattle.std.proofs.Common.{◌≡◌, ℕ, ◌+◌, ◌≤◌, true, List, [], ◌∷◌, ◌++◌, Option, None, Some, IsSome}
+use Rattle.std.proofs.Common.{is_some, length, IsTrue, refl, ap, sym, subst, arith, inl, inr, append_assoc, length-append}
 use Rattle.std.specs.Option.{unwrap_or, IfSome, IsSomeAnd}
 use Rattle.std.proofs.lemmas.Bool.{false≢true}
 use Rattle.std.proofs.lemmas.List.{append-nil}
@@ -48,12 +49,16 @@ arrived_ticket setup s e a is = cc
 below_after : (setup : Setup) (s : State) (n : ℕ) (t : Stage) (e : Entry) → AreBelow s → MayCome setup s n t e → AreBelow (after setup s e)
 below_after setup s n t e below may row live =
     elim (origin setup s e live.0 row live.1) [
-      | inl came ↦ let h : row.key.ticket ≡ came.arrival.ticket = ap (λ (r : Row). r.key.ticket) came.row in let k : (after setup s e).ticket ≡ came.arrival.ticket = arrived_ticket setup s e came.arrival came.is in omega arith
-      | inr was ↦ let h : was.row.key.ticket ≤ s.ticket = below was.row (live.0, was.stands) in let k : s.ticket ≤ (after setup s e).ticket = ticket_rises setup s n t e may in let same : was.row.key.ticket ≡ row.key.ticket = ap (λ (x : Key). x.ticket) was.key in omega arith
+      | inl came ↦ let h : row.key.ticket ≡ came.arrival.ticket = ap (λ (r : Row). r.key.ticket) came.row in
+          let k : (after setup s e).ticket ≡ came.arrival.ticket = arrived_ticket setup s e came.arrival came.is in omega arith
+      | inr was ↦ let h : was.row.key.ticket ≤ s.ticket = below was.row (live.0, was.stands) in
+          let k : s.ticket ≤ (after setup s e).ticket = ticket_rises setup s n t e may in
+          let same : was.row.key.ticket ≡ row.key.ticket = ap (λ (x : Key). x.ticket) was.key in omega arith
     ]
 
 -- a slot may go to whoever waits in a queue that it may go to
-takes_own : (here : Scene) (server : ℕ) (q : Queue) (phase : Phase) → IsTrue (may_take here server q) → IsTrue (phase_waits_in q phase) → IsTrue (may_go_to here server phase)
+takes_own : (here : Scene) (server : ℕ) (q : Queue) (phase : Phase) → IsTrue (may_take here server q) → IsTrue (phase_waits_in q phase)
+    → IsTrue (may_go_to here server phase)
 takes_own here server q Loose take waits = absurd (false≢true waits)
 takes_own here server q (Serving v) take waits = absurd (false≢true waits)
 takes_own here server q (Told c) take waits = absurd (false≢true waits)
@@ -82,12 +87,14 @@ keeps setup s n t e below may = record { fresh = tt; least = tt }
 
 all_keep : (setup : Setup) (s : State) (n : ℕ) (t : Stage) (es : List Entry) → AreBelow s → AllMayCome setup s n t es → AllKeepOrder setup s es
 all_keep setup s n t [] below all = tt
-all_keep setup s n t (e ∷ es) below all = (keeps setup s n t e below all.0, all_keep setup (after setup s e) (n + 1) (next_stage t e) es (below_after setup s n t e below all.0) all.1)
+all_keep setup s n t (e ∷ es) below all =
+    (keeps setup s n t e below all.0, all_keep setup (after setup s e) (n + 1) (next_stage t e) es (below_after setup s n t e below all.0) all.1)
 
 base_below : (setup : Setup) (base : State) → IsBase setup base → AreBelow base
 base_below setup base is row live = (base_consistent setup base is).below live.0 row live.1
 
-pub judged_keep_order : (setup : Setup) (base : State) (log : List Entry) → IsBase setup base → AllMayCome setup base 0 granting log → AllKeepOrder setup base log
+pub judged_keep_order : (setup : Setup) (base : State) (log : List Entry) → IsBase setup base → AllMayCome setup base 0 granting log
+    → AllKeepOrder setup base log
 judged_keep_order setup base log is all = all_keep setup base 0 granting log (base_below setup base is) all
 
 -- ---- readable
@@ -115,14 +122,16 @@ record IsRead (base : List BaseRow) (setup : Setup) (past : List Entry) (s : Sta
   begun : length past ≡ 0 → (t ≡ granting) × IsSettled (scene setup s)
 
 module _ (base : List BaseRow) (setup : Setup) where
-  has_come : (past : List Entry) (u : ℕ) (row : Row) → HasArrived base past row.key.ticket row.key.class row.key.due → row.key.ticket ≡ u → IsSome (key_known base u past)
+  has_come : (past : List Entry) (u : ℕ) (row : Row) → HasArrived base past row.key.ticket row.key.class row.key.due → row.key.ticket ≡ u
+      → IsSome (key_known base u past)
   has_come past u row has named = subst (λ n. IsSome (key_known base n past)) named (go (key_known base row.key.ticket past) has)
     where
       go : (o : Option Key) → IsSomeAnd o (λ it. (it.class ≡ row.key.class) × (it.due ≡ row.key.due)) → is_some o ≡ true
       go None h = absurd h
       go (Some a) h = refl
 
-  begins : (past : List Entry) (s : State) (t : Stage) (e : Entry) (m : ℕ) → IsRead base setup past s t → s.moment ≤ m → moment_in e ≡ Some m → grant_in e ≡ None → MayFollow base past e
+  begins : (past : List Entry) (s : State) (t : Stage) (e : Entry) (m : ℕ) → IsRead base setup past s t → s.moment ≤ m → moment_in e ≡ Some m
+      → grant_in e ≡ None → MayFollow base past e
   begins past s t e m is later at none = record {
     begins = λ h. ap is_some at;
     later = subst (λ o. IfSome o (λ moment. moment_of past ≤ moment)) (sym at) (let low = is.moment in omega (arith, low, later));
@@ -149,7 +158,8 @@ module _ (base : List BaseRow) (setup : Setup) where
   may_follow past s n granting e is may = absurd may
   may_follow past s n t e is may = record { begins = λ h. (let b = (is.begun h).0 in cc); later = tt; arrived = tt; joined = tt }
 
-  read_after : (past : List Entry) (s : State) (n : ℕ) (t : Stage) (e : Entry) → IsRead base setup past s t → MayCome setup s n t e → IsRead base setup (past ++ e ∷ []) (after setup s e) (next_stage t e)
+  read_after : (past : List Entry) (s : State) (n : ℕ) (t : Stage) (e : Entry) → IsRead base setup past s t → MayCome setup s n t e
+      → IsRead base setup (past ++ e ∷ []) (after setup s e) (next_stage t e)
   read_after past s n t e is may = record {
     below = below_after setup s n t e is.below may;
     arrived = have_arrived_after base setup past s e is.arrived (keeps setup s n t e is.below may);
@@ -158,11 +168,16 @@ module _ (base : List BaseRow) (setup : Setup) where
     begun = λ h. absurd (omega (arith, h, length-append past (e ∷ [])));
   }
 
-  all_follow : (past : List Entry) (s : State) (n : ℕ) (t : Stage) (es : List Entry) → IsRead base setup past s t → AllMayCome setup s n t es → AllFollow base past es
+  all_follow : (past : List Entry) (s : State) (n : ℕ) (t : Stage) (es : List Entry) → IsRead base setup past s t → AllMayCome setup s n t es
+      → AllFollow base past es
   all_follow past s n t [] is all = tt
-  all_follow past s n t (e ∷ es) is all = (may_follow past s n t e is all.0, all_follow (past ++ e ∷ []) (after setup s e) (n + 1) (next_stage t e) es (read_after past s n t e is all.0) all.1)
+  all_follow past s n t (e ∷ es) is all = (
+    may_follow past s n t e is all.0,
+    all_follow (past ++ e ∷ []) (after setup s e) (n + 1) (next_stage t e) es (read_after past s n t e is all.0) all.1,
+  )
 
-pub judged_readable : (setup : Setup) (base : State) (log : List Entry) → IsBase setup base → AllMayCome setup base 0 granting log → IsReadable (record { base = base_rows base.rows; entries = log })
+pub judged_readable : (setup : Setup) (base : State) (log : List Entry) → IsBase setup base → AllMayCome setup base 0 granting log
+    → IsReadable (record { base = base_rows base.rows; entries = log })
 judged_readable setup base log is all = all_follow (base_rows base.rows) setup [] base 0 granting log opened all
   where
     opened : IsRead (base_rows base.rows) setup [] base granting
@@ -181,5 +196,6 @@ last_follows base past [] e all = subst (λ l. MayFollow base l e) (sym (append-
 last_follows base past (x ∷ es) e all = subst (λ l. MayFollow base l e) (append_assoc past (x ∷ []) es) (last_follows base (past ++ x ∷ []) es e all.1)
 
 -- the last entry of a judged log may follow those before it
-pub judged_follows : (setup : Setup) (base : State) (log : List Entry) (e : Entry) → IsBase setup base → AllMayCome setup base 0 granting (log ++ e ∷ []) → MayFollow (base_rows base.rows) log e
+pub judged_follows : (setup : Setup) (base : State) (log : List Entry) (e : Entry) → IsBase setup base → AllMayCome setup base 0 granting (log ++ e ∷ [])
+    → MayFollow (base_rows base.rows) log e
 judged_follows setup base log e is all = last_follows (base_rows base.rows) [] log e (judged_readable setup base (log ++ e ∷ []) is all)

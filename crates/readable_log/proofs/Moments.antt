@@ -34,7 +34,8 @@ from_start base past (e ∷ es) all (suc q) =
     let same : moment_of (past ++ (e ∷ take q es)) ≡ moment_of ((past ++ e ∷ []) ++ take q es) = rw append_assoc refl in
     omega arith
 
-rises : (base : List BaseRow) (past es : List Entry) → AllFollow base past es → (p q : ℕ) → p ≤ q → moment_of (past ++ take p es) ≤ moment_of (past ++ take q es)
+rises : (base : List BaseRow) (past es : List Entry) → AllFollow base past es → (p q : ℕ) → p ≤ q
+    → moment_of (past ++ take p es) ≤ moment_of (past ++ take q es)
 rises base past es all zero q h = subst (λ l. moment_of l ≤ moment_of (past ++ take q es)) (sym (append-nil past)) (from_start base past es all q)
 rises base past es all (suc p) zero h = absurd (omega arith)
 rises base past [] all (suc p) (suc q) h = omega arith

@@ -19,7 +19,8 @@ use Rattle.dispatch_log.proofs.RowLemmas.{HaveOwnTickets, row_of_at}
 use Rattle.dispatch_log.proofs.SameRows.{row_of-same}
 use Rattle.readable_log.specs.declared.base.BaseRow.{BaseRow}
 use Rattle.readable_log.specs.declared.grant.Grant.{Grant}
-use Rattle.readable_log.specs.Grants.{Wait, moment_in, grant_in, moment_of, moment_at, newer_key, key_known, last_from, joins, joining_of, grant_of, grant_after, grants_after, grants}
+use Rattle.readable_log.specs.Grants.{Wait, moment_in, grant_in, moment_of, moment_at, newer_key, key_known}
+use Rattle.readable_log.specs.Grants.{last_from, joins, joining_of, grant_of, grant_after, grants_after, grants}
 use Rattle.readable_log.specs.Windows.{base_rows, base_key, window_in}
 use Rattle.readable_log.proofs.Based.{other_rows, known_row}
 
@@ -28,12 +29,14 @@ key_of_row : (rows : Rows) (t : ℕ) → HaveOwnTickets rows → base_key t (bas
 key_of_row rows t own = by_row (row_of t rows) refl
   where
     by_row : (o : Option Row) → row_of t rows ≡ o → base_key t (base_rows rows) ≡ option_map (λ (row : Row). row.key) (row_of t rows)
-    by_row None e = other_rows t None rows (λ p w at named. none_some (sym e ∙ row_of_at rows t p w own at named)) ∙ sym (ap (option_map (λ (row : Row). row.key)) e)
+    by_row None e = other_rows t None rows (λ p w at named. none_some (sym e ∙ row_of_at rows t p w own at named))
+        ∙ sym (ap (option_map (λ (row : Row). row.key)) e)
     by_row (Some r) e =
         let it = row_of_found rows t r e in
         known_row t None rows it.place r it.stands it.named own ∙ sym (ap (option_map (λ (row : Row). row.key)) e)
 
-key_same : (rows other : Rows) → HaveSameRows rows other → HaveOwnTickets rows → HaveOwnTickets other → (t : ℕ) → base_key t (base_rows rows) ≡ base_key t (base_rows other)
+key_same : (rows other : Rows) → HaveSameRows rows other → HaveOwnTickets rows → HaveOwnTickets other → (t : ℕ)
+    → base_key t (base_rows rows) ≡ base_key t (base_rows other)
 key_same rows other same own theirs t =
     key_of_row rows t own ∙ ap (option_map (λ (row : Row). row.key)) (row_of-same rows other same own theirs t) ∙ sym (key_of_row other t theirs)
 
@@ -57,7 +60,8 @@ module _ (base other : List BaseRow) (same : (t : ℕ) → base_key t base ≡ b
       ∙ ap (λ (l : List Grant). option_map_or (λ grant. grant ∷ []) (grant_after other past e) [] ++ l) (grants-same (past ++ e ∷ []) es)
 
 -- what is read of entries one by one
-fold_unplaced : {A : Type 0} (f : A → Entry → A) → ((a : A) (e : Entry) → f a (unplaced e) ≡ f a e) → (a : A) (es : List Entry) → fold f a (map unplaced es) ≡ fold f a es
+fold_unplaced : {A : Type 0} (f : A → Entry → A) → ((a : A) (e : Entry) → f a (unplaced e) ≡ f a e) → (a : A) (es : List Entry)
+    → fold f a (map unplaced es) ≡ fold f a es
 fold_unplaced f same a [] = refl
 fold_unplaced f same a (e ∷ es) = fold_unplaced f same (f a (unplaced e)) es ∙ ap (λ b. fold f b es) (same a e)
 
@@ -80,7 +84,8 @@ moment_of_unplaced es = fold_unplaced _ each 0 es
     each m (Arrive n a) = refl
     each m e = refl
 
-last_unplaced : (t : ℕ) (q : Queue) (count found : ℕ) (es : List Entry) → last_from (joins t q) count found (map unplaced es) ≡ last_from (joins t q) count found es
+last_unplaced : (t : ℕ) (q : Queue) (count found : ℕ) (es : List Entry)
+    → last_from (joins t q) count found (map unplaced es) ≡ last_from (joins t q) count found es
 last_unplaced t q count found [] = refl
 last_unplaced t q count found (e ∷ es) =
     last_unplaced t q (count + 1) (cond (joins t q (unplaced e)) (count + 1) found) es
@@ -92,7 +97,12 @@ grant_of_unplaced past wait key =
       queue = wait.queue;
       class = key.class;
       moment = m;
-      stay = record { ticket = wait.ticket; joined = joining_of wait.ticket wait.queue (map unplaced past); slot = length (map unplaced past) + 1; due = key.due };
+      stay = record {
+        ticket = wait.ticket;
+        joined = joining_of wait.ticket wait.queue (map unplaced past);
+        slot = length (map unplaced past) + 1;
+        due = key.due;
+      };
     }) (moment_of_unplaced past)
     ∙ ap (λ (j : ℕ). record {
       queue = wait.queue;
@@ -109,24 +119,29 @@ grant_of_unplaced past wait key =
 
 grant_unplaced : (base : List BaseRow) (past : List Entry) (e : Entry) → grant_after base (map unplaced past) (unplaced e) ≡ grant_after base past e
 grant_unplaced base past e =
-    ap (λ (o : Option Wait). option_map_or (λ wait. option_map_or (λ key. Some (grant_of (map unplaced past) wait key)) (key_known base wait.ticket (map unplaced past)) None) o None) (grant_in_unplaced e)
+    ap (λ (o : Option Wait). option_map_or (λ wait.
+    option_map_or (λ key. Some (grant_of (map unplaced past) wait key)) (key_known base wait.ticket (map unplaced past)) None) o None) (grant_in_unplaced e)
     ∙ by_wait (grant_in e)
   where
-    by_key : (wait : Wait) (o : Option Key) → option_map_or (λ key. Some (grant_of (map unplaced past) wait key)) o None ≡ option_map_or (λ key. Some (grant_of past wait key)) o None
+    by_key : (wait : Wait) (o : Option Key) → option_map_or (λ key. Some (grant_of (map unplaced past) wait key)) o None
+        ≡ option_map_or (λ key. Some (grant_of past wait key)) o None
     by_key wait None = refl
     by_key wait (Some key) = ap Some (grant_of_unplaced past wait key)
 
-    by_wait : (o : Option Wait) → option_map_or (λ wait. option_map_or (λ key. Some (grant_of (map unplaced past) wait key)) (key_known base wait.ticket (map unplaced past)) None) o None
+    by_wait : (o : Option Wait) → option_map_or
+        (λ wait. option_map_or (λ key. Some (grant_of (map unplaced past) wait key)) (key_known base wait.ticket (map unplaced past)) None) o None
         ≡ option_map_or (λ wait. option_map_or (λ key. Some (grant_of past wait key)) (key_known base wait.ticket past) None) o None
     by_wait None = refl
     by_wait (Some wait) =
-        ap (λ (o : Option Key). option_map_or (λ key. Some (grant_of (map unplaced past) wait key)) o None) (fold_unplaced (newer_key wait.ticket) (newer_unplaced wait.ticket) (base_key wait.ticket base) past)
+        ap (λ (o : Option Key). option_map_or (λ key. Some (grant_of (map unplaced past) wait key)) o None)
+        (fold_unplaced (newer_key wait.ticket) (newer_unplaced wait.ticket) (base_key wait.ticket base) past)
         ∙ by_key wait (key_known base wait.ticket past)
 
 grants_unplaced : (base : List BaseRow) (past es : List Entry) → grants_after base (map unplaced past) (map unplaced es) ≡ grants_after base past es
 grants_unplaced base past [] = refl
 grants_unplaced base past (e ∷ es) =
-    ap (λ (o : Option Grant). option_map_or (λ grant. grant ∷ []) o [] ++ grants_after base (map unplaced past ++ unplaced e ∷ []) (map unplaced es)) (grant_unplaced base past e)
+    ap (λ (o : Option Grant). option_map_or (λ grant. grant ∷ []) o [] ++ grants_after base (map unplaced past ++ unplaced e ∷ []) (map unplaced es))
+    (grant_unplaced base past e)
     ∙ ap (λ (l : List Grant). option_map_or (λ grant. grant ∷ []) (grant_after base past e) [] ++ l)
     (ap (λ (l : List Entry). grants_after base l (map unplaced es)) (sym (map-append unplaced past (e ∷ []))) ∙ grants_unplaced base (past ++ e ∷ []) es)
 
@@ -136,7 +151,8 @@ same_grants h other legal its same =
     ∙ ap (grants_after (base_rows other.base.rows) []) (sym same.log)
     ∙ grants_unplaced (base_rows other.base.rows) [] h.log
     ∙ sym (grants-same (base_rows h.base.rows) (base_rows other.base.rows)
-    (key_same h.base.rows other.base.rows same.base.rows (base_consistent h.setup h.base legal.begins).tickets (base_consistent other.setup other.base its.begins).tickets) [] h.log)
+    (key_same h.base.rows other.base.rows same.base.rows (base_consistent h.setup h.base legal.begins).tickets
+    (base_consistent other.setup other.base its.begins).tickets) [] h.log)
 
 pub same_moments : (h other : History) → AreSameHistories h other → (n : ℕ) → moment_at other.log n ≡ moment_at h.log n
 same_moments h other same n =

@@ -1,5 +1,6 @@
 -- One entry more.
-use Rattle.std.proofs.Common.{◌≡◌, ℕ, ◌+◌, ◌<◌, ◌≤◌, ℤ, List, [], ◌∷◌, ◌++◌, Option, None, Some, is_some, IsTrue, length, refl, ap, sym, ◌∙◌, subst, arith, append_assoc, length-append}
+use Rattle.std.proofs.Common.{◌≡◌, ℕ, ◌+◌, ◌<◌, ◌≤◌, ℤ, List, [], ◌∷◌, ◌++◌, Option, None}
+use Rattle.std.proofs.Common.{Some, is_some, IsTrue, length, refl, ap, sym, ◌∙◌, subst, arith, append_assoc, length-append}
 use Rattle.std.specs.Option.{unwrap_or, option_map_or, IsSomeAnd}
 use Rattle.std.proofs.lemmas.List.{append-nil}
 use Rattle.due_key.specs.declared.key.Key.{Key}
@@ -20,17 +21,24 @@ listed o = option_map_or (λ grant. grant ∷ []) o []
 
 -- a grant by its parts
 abbrev pub granted_by : Queue → ℤ → ℕ → ℕ → ℕ → ℕ → ℤ → Grant
-granted_by queue class moment ticket joined slot due = record { queue = queue; class = class; moment = moment; stay = record { ticket = ticket; joined = joined; slot = slot; due = due } }
+granted_by queue class moment ticket joined slot due = record {
+  queue = queue;
+  class = class;
+  moment = moment;
+  stay = record { ticket = ticket; joined = joined; slot = slot; due = due };
+}
 
 module _ (base : List BaseRow) where
   abbrev pub window_with : List Entry → Window
   window_with entries = record { base = base; entries = entries }
 
-  grants_after-push : (past es : List Entry) (e : Entry) → grants_after base past (es ++ e ∷ []) ≡ grants_after base past es ++ listed (grant_after base (past ++ es) e)
+  grants_after-push : (past es : List Entry) (e : Entry)
+      → grants_after base past (es ++ e ∷ []) ≡ grants_after base past es ++ listed (grant_after base (past ++ es) e)
   grants_after-push past [] e = append-nil (listed (grant_after base past e)) ∙ ap (λ l. listed (grant_after base l e)) (sym (append-nil past))
   grants_after-push past (x ∷ es) e =
       ap (λ l. listed (grant_after base past x) ++ l)
-      (grants_after-push (past ++ x ∷ []) es e ∙ ap (λ l. grants_after base (past ++ x ∷ []) es ++ listed (grant_after base l e)) (append_assoc past (x ∷ []) es))
+      (grants_after-push (past ++ x ∷ []) es e ∙ ap (λ l. grants_after base (past ++ x ∷ []) es ++ listed (grant_after base l e))
+      (append_assoc past (x ∷ []) es))
       ∙ sym (append_assoc (listed (grant_after base past x)) (grants_after base (past ++ x ∷ []) es) (listed (grant_after base (past ++ x ∷ es) e)))
 
   pub grants-push : (log : List Entry) (e : Entry) → grants (window_with (log ++ e ∷ [])) ≡ grants (window_with log) ++ listed (grant_after base log e)
@@ -38,7 +46,8 @@ module _ (base : List BaseRow) where
 
   all_follow_push : (past es : List Entry) (e : Entry) → AllFollow base past es → MayFollow base (past ++ es) e → AllFollow base past (es ++ e ∷ [])
   all_follow_push past [] e all may = (subst (λ l. MayFollow base l e) (append-nil past) may, tt)
-  all_follow_push past (x ∷ es) e all may = (all.0, all_follow_push (past ++ x ∷ []) es e all.1 (subst (λ l. MayFollow base l e) (sym (append_assoc past (x ∷ []) es)) may))
+  all_follow_push past (x ∷ es) e all may =
+      (all.0, all_follow_push (past ++ x ∷ []) es e all.1 (subst (λ l. MayFollow base l e) (sym (append_assoc past (x ∷ []) es)) may))
 
   pub readable_push : (log : List Entry) (e : Entry) → IsReadable (window_with log) → MayFollow base log e → IsReadable (window_with (log ++ e ∷ []))
   readable_push log e readable may = all_follow_push [] log e readable may
@@ -48,7 +57,8 @@ module _ (base : List BaseRow) where
   grants_after-length past [] = omega arith
   grants_after-length past (e ∷ es) = go (grant_after base past e) (grants_after-length (past ++ e ∷ []) es)
     where
-      go : (o : Option Grant) → length (grants_after base (past ++ e ∷ []) es) ≤ length es → length (listed o ++ grants_after base (past ++ e ∷ []) es) ≤ length (e ∷ es)
+      go : (o : Option Grant) → length (grants_after base (past ++ e ∷ []) es) ≤ length es
+          → length (listed o ++ grants_after base (past ++ e ∷ []) es) ≤ length (e ∷ es)
       go None h = omega arith
       go (Some g) h = omega arith
 
@@ -56,7 +66,8 @@ module _ (base : List BaseRow) where
   grants-length log = grants_after-length [] log
 
   -- what is kept with an entry more that is no grant
-  pub kept_push : (list : List Entry) (granted : List Grant) (moment most : ℕ) (e : Entry) → IsKept base list granted moment most → length list < most → MayFollow base list e → grant_in e ≡ None
+  pub kept_push : (list : List Entry) (granted : List Grant) (moment most : ℕ) (e : Entry) → IsKept base list granted moment most → length list < most
+      → MayFollow base list e → grant_in e ≡ None
       → IsKept base (list ++ e ∷ []) granted (unwrap_or (moment_in e) moment) most
   kept_push list granted moment most e kept short may none = record {
     within = omega (arith, length-append list (e ∷ []));
@@ -66,7 +77,8 @@ module _ (base : List BaseRow) where
   }
     where
       ungranted : grants (window_with list) ++ listed (grant_after base list e) ≡ grants (window_with list) ++ []
-      ungranted = ap (λ (o : Option Wait). grants (window_with list) ++ listed (option_map_or (λ w. option_map_or (λ (k : Key). Some (grant_of list w k)) (key_known base w.ticket list) None) o None)) none
+      ungranted = ap (λ (o : Option Wait). grants (window_with list) ++ listed
+          (option_map_or (λ w. option_map_or (λ (k : Key). Some (grant_of list w k)) (key_known base w.ticket list) None) o None)) none
 
   -- the key whose class and due date are known
   record Known (past : List Entry) (ticket : ℕ) (class due : ℤ) : Type 0 where
@@ -83,7 +95,8 @@ module _ (base : List BaseRow) where
       go (Some k) e h = record { key = k; is = e; class_is = h.0; due_is = h.1 }
 
   -- a grant may follow inside an event where its ticket has arrived and joined the queue
-  pub grant_may_follow : (list : List Entry) (ticket server : ℕ) (queue : Queue) (class due : ℤ) → 0 < length list → HasArrived base list ticket class due → IsTrue (has_joined base ticket queue list) → MayFollow base list (Granted ticket queue server)
+  pub grant_may_follow : (list : List Entry) (ticket server : ℕ) (queue : Queue) (class due : ℤ) → 0 < length list → HasArrived base list ticket class due
+      → IsTrue (has_joined base ticket queue list) → MayFollow base list (Granted ticket queue server)
   grant_may_follow list ticket server queue class due begun arrived waits =
       let has = known list ticket class due arrived in
       record {
@@ -94,17 +107,20 @@ module _ (base : List BaseRow) where
       }
 
   -- the grant that it is
-  pub grant_is : (list : List Entry) (ticket server joined : ℕ) (queue : Queue) (class due : ℤ) → HasArrived base list ticket class due → joining_of ticket queue list ≡ joined
+  pub grant_is : (list : List Entry) (ticket server joined : ℕ) (queue : Queue) (class due : ℤ) → HasArrived base list ticket class due
+      → joining_of ticket queue list ≡ joined
       → grant_after base list (Granted ticket queue server) ≡ Some (granted_by queue class (moment_of list) ticket joined (length list + 1) due)
   grant_is list ticket server joined queue class due arrived is_joined =
       let has = known list ticket class due arrived in
-      ap (λ (o : Option Key). option_map_or (λ (k : Key). Some (granted_by queue k.class (moment_of list) ticket (joining_of ticket queue list) (length list + 1) k.due)) o None) has.is
+      ap (λ (o : Option Key). option_map_or (λ (k : Key).
+      Some (granted_by queue k.class (moment_of list) ticket (joining_of ticket queue list) (length list + 1) k.due)) o None) has.is
       ∙ ap (λ c. Some (granted_by queue c (moment_of list) ticket (joining_of ticket queue list) (length list + 1) has.key.due)) has.class_is
       ∙ ap (λ d. Some (granted_by queue class (moment_of list) ticket (joining_of ticket queue list) (length list + 1) d)) has.due_is
       ∙ ap (λ j. Some (granted_by queue class (moment_of list) ticket j (length list + 1) due)) is_joined
 
   -- what is kept with a grant more
-  pub kept_grant : (list : List Entry) (granted : List Grant) (moment most ticket server joined : ℕ) (queue : Queue) (class due : ℤ) → IsKept base list granted moment most → length list < most → 0 < length list
+  pub kept_grant : (list : List Entry) (granted : List Grant) (moment most ticket server joined : ℕ) (queue : Queue) (class due : ℤ)
+      → IsKept base list granted moment most → length list < most → 0 < length list
       → HasArrived base list ticket class due → joining_of ticket queue list ≡ joined → IsTrue (has_joined base ticket queue list)
       → IsKept base (list ++ Granted ticket queue server ∷ []) (granted ++ granted_by queue class moment ticket joined (length list + 1) due ∷ []) moment most
   kept_grant list granted moment most ticket server joined queue class due kept short begun arrived is_joined waits = record {
@@ -113,6 +129,7 @@ module _ (base : List BaseRow) where
     granted_are =
         ap (λ l. l ++ granted_by queue class moment ticket joined (length list + 1) due ∷ []) kept.granted_are
         ∙ ap (λ m. grants (window_with list) ++ granted_by queue class m ticket joined (length list + 1) due ∷ []) kept.moment_is
-        ∙ sym (grants-push list (Granted ticket queue server) ∙ ap (λ o. grants (window_with list) ++ listed o) (grant_is list ticket server joined queue class due arrived is_joined));
+        ∙ sym (grants-push list (Granted ticket queue server)
+        ∙ ap (λ o. grants (window_with list) ++ listed o) (grant_is list ticket server joined queue class due arrived is_joined));
     moment_is = kept.moment_is ∙ sym (moment_of_none list (Granted ticket queue server) refl);
   }

@@ -13,7 +13,8 @@ use Rattle.readable_log.specs.Ordered.{AllKeepOrder, HaveArrived, HaveJoined}
 use Rattle.readable_log.proofs.Back.{WasThere, origin, have_arrived_after, loose_nowhere}
 use Rattle.readable_log.proofs.Joinings.{joined-push}
 
-pub have_joined_after : (base : List BaseRow) (setup : Setup) (past : List Entry) (s : State) (e : Entry) → HaveJoined base past s.rows → HaveJoined base (past ++ e ∷ []) (after setup s e).rows
+pub have_joined_after : (base : List BaseRow) (setup : Setup) (past : List Entry) (s : State) (e : Entry) → HaveJoined base past s.rows
+    → HaveJoined base (past ++ e ∷ []) (after setup s e).rows
 have_joined_after base setup past s e have r q live waits =
     elim (origin setup s e live.0 r live.1) [
       | inl came ↦ absurd (loose_nowhere q (subst (λ (x : Row). IsTrue (phase_waits_in q x.phase)) came.row waits))
@@ -24,18 +25,24 @@ have_joined_after base setup past s e have r q live waits =
     go was true is = refl
     go was false is = subst (λ (k : Key). IsTrue (has_joined base k.ticket q past)) was.key (have was.row q (live.0, was.stands) (was.waited q waits is))
 
-pub arrived_from : (base : List BaseRow) (setup : Setup) (past es : List Entry) (s : State) → HaveArrived base past s.rows → AllKeepOrder setup s es → HaveArrived base (past ++ es) (after_all setup s es).rows
+pub arrived_from : (base : List BaseRow) (setup : Setup) (past es : List Entry) (s : State) → HaveArrived base past s.rows → AllKeepOrder setup s es
+    → HaveArrived base (past ++ es) (after_all setup s es).rows
 arrived_from base setup past [] s have keep = subst (λ l. HaveArrived base l s.rows) (sym (append-nil past)) have
 arrived_from base setup past (e ∷ es) s have keep =
-    subst (λ l. HaveArrived base l (after_all setup (after setup s e) es).rows) (append_assoc past (e ∷ []) es) (arrived_from base setup (past ++ e ∷ []) es (after setup s e) (have_arrived_after base setup past s e have keep.0) keep.1)
+    subst (λ l. HaveArrived base l (after_all setup (after setup s e) es).rows) (append_assoc past (e ∷ []) es)
+    (arrived_from base setup (past ++ e ∷ []) es (after setup s e) (have_arrived_after base setup past s e have keep.0) keep.1)
 
-pub joined_from : (base : List BaseRow) (setup : Setup) (past es : List Entry) (s : State) → HaveJoined base past s.rows → HaveJoined base (past ++ es) (after_all setup s es).rows
+pub joined_from : (base : List BaseRow) (setup : Setup) (past es : List Entry) (s : State) → HaveJoined base past s.rows
+    → HaveJoined base (past ++ es) (after_all setup s es).rows
 joined_from base setup past [] s have = subst (λ l. HaveJoined base l s.rows) (sym (append-nil past)) have
 joined_from base setup past (e ∷ es) s have =
-    subst (λ l. HaveJoined base l (after_all setup (after setup s e) es).rows) (append_assoc past (e ∷ []) es) (joined_from base setup (past ++ e ∷ []) es (after setup s e) (have_joined_after base setup past s e have))
+    subst (λ l. HaveJoined base l (after_all setup (after setup s e) es).rows) (append_assoc past (e ∷ []) es)
+    (joined_from base setup (past ++ e ∷ []) es (after setup s e) (have_joined_after base setup past s e have))
 
-pub rows_arrived : (base : List BaseRow) (setup : Setup) (start : State) (log : List Entry) → HaveArrived base [] start.rows → AllKeepOrder setup start log → HaveArrived base log (after_all setup start log).rows
+pub rows_arrived : (base : List BaseRow) (setup : Setup) (start : State) (log : List Entry) → HaveArrived base [] start.rows → AllKeepOrder setup start log
+    → HaveArrived base log (after_all setup start log).rows
 rows_arrived base setup start log = arrived_from base setup [] log start
 
-pub rows_joined : (base : List BaseRow) (setup : Setup) (start : State) (log : List Entry) → HaveJoined base [] start.rows → HaveJoined base log (after_all setup start log).rows
+pub rows_joined : (base : List BaseRow) (setup : Setup) (start : State) (log : List Entry) → HaveJoined base [] start.rows
+    → HaveJoined base log (after_all setup start log).rows
 rows_joined base setup start log = joined_from base setup [] log start

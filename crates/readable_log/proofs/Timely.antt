@@ -1,5 +1,6 @@
 -- What a readable log's grants have: their moments, and slots that rise and lie after the joinings.
-use Rattle.std.proofs.Common.{◌≡◌, ◌+◌, ◌≤◌, List, [], ◌∷◌, ◌++◌, Option, None, Some, length, take, refl, ap, sym, ◌∙◌, subst, arith, append_assoc, length-append}
+use Rattle.std.proofs.Common.{◌≡◌, ◌+◌, ◌≤◌, List, [], ◌∷◌, ◌++◌, Option, None, Some}
+use Rattle.std.proofs.Common.{length, take, refl, ap, sym, ◌∙◌, subst, arith, append_assoc, length-append}
 use Rattle.std.specs.List.{AllByRecursion}
 use Rattle.std.specs.Option.{option_map_or}
 use Rattle.std.proofs.lemmas.List.{take_at}
@@ -8,7 +9,8 @@ use Rattle.due_key.specs.declared.key.Key.{Key}
 use Rattle.dispatch_log.specs.declared.entry.Entry.{Entry}
 use Rattle.dispatch_log.specs.declared.entry.Entry.TheVariants.{Granted}
 use Rattle.readable_log.specs.declared.grant.Grant.{Grant}
-use Rattle.readable_log.specs.Grants.{Wait, moment_in, grant_in, moment_of, moment_at, key_known, joins, joining_of, grant_of, grant_after, grants_after, grants}
+use Rattle.readable_log.specs.Grants.{Wait, moment_in, grant_in, moment_of, moment_at, key_known}
+use Rattle.readable_log.specs.Grants.{joins, joining_of, grant_of, grant_after, grants_after, grants}
 use Rattle.readable_log.specs.Readable.{MayFollow, AllFollow, IsReadable}
 use Rattle.readable_log.specs.Timely.{IsTimely}
 use Rattle.readable_log.specs.Windows.{Window}
@@ -32,15 +34,19 @@ pub record Follows (base : List BaseRow) (past : List Entry) (entry : Entry) (gr
 pub follows : (base : List BaseRow) (past : List Entry) (e : Entry) (g : Grant) → grant_after base past e ≡ Some g → Follows base past e g
 follows base past e g h = by_wait (grant_in e) refl h
   where
-    by_key : (w : Wait) → grant_in e ≡ Some w → (o : Option Key) → key_known base w.ticket past ≡ o → option_map_or (λ (k : Key). Some (grant_of past w k)) o None ≡ Some g → Follows base past e g
+    by_key : (w : Wait) → grant_in e ≡ Some w → (o : Option Key) → key_known base w.ticket past ≡ o
+        → option_map_or (λ (k : Key). Some (grant_of past w k)) o None ≡ Some g → Follows base past e g
     by_key w is None known made = cc
     by_key w is (Some k) known made = record { wait = w; key = k; is = is; known = known; made = sym (same_Some _ _ made) }
 
-    by_wait : (o : Option Wait) → grant_in e ≡ o → option_map_or (λ (w : Wait). option_map_or (λ (k : Key). Some (grant_of past w k)) (key_known base w.ticket past) None) o None ≡ Some g → Follows base past e g
+    by_wait : (o : Option Wait) → grant_in e ≡ o
+        → option_map_or (λ (w : Wait). option_map_or (λ (k : Key). Some (grant_of past w k)) (key_known base w.ticket past) None) o None ≡ Some g
+        → Follows base past e g
     by_wait None is made = cc
     by_wait (Some w) is made = by_key w is (key_known base w.ticket past) refl made
 
-timely_one : (base : List BaseRow) (past es : List Entry) (e : Entry) (g : Grant) → MayFollow base past e → grant_after base past e ≡ Some g → IsTimely (record { base = base; entries = past ++ e ∷ es }) g
+timely_one : (base : List BaseRow) (past es : List Entry) (e : Entry) (g : Grant) → MayFollow base past e → grant_after base past e ≡ Some g
+    → IsTimely (record { base = base; entries = past ++ e ∷ es }) g
 timely_one base past es e g may h =
     let f = follows base past e g h in
     let w = f.wait in
@@ -50,22 +56,26 @@ timely_one base past es e g may h =
     let low : joining_of w.ticket w.queue past ≤ 0 + length past = last_from-le (joins w.ticket w.queue) 0 0 past (omega arith) in
     let long : length (past ++ e ∷ []) ≡ length past + 1 = omega (arith, length-append past (e ∷ [])) in
     let split : past ++ e ∷ es ≡ (past ++ e ∷ []) ++ es = rw append_assoc refl in
-    let here : take (length past + 1) (past ++ e ∷ es) ≡ past ++ e ∷ [] = subst (λ l. take (length past + 1) l ≡ past ++ e ∷ []) (sym split) (take_at (past ++ e ∷ []) es (length past + 1) long) in
+    let here : take (length past + 1) (past ++ e ∷ es) ≡ past ++ e ∷ [] =
+    subst (λ l. take (length past + 1) l ≡ past ++ e ∷ []) (sym split) (take_at (past ++ e ∷ []) es (length past + 1) long) in
     record {
       moment = moment ∙ sym (moment_of_none past e (grants_no_event e w f.is)) ∙ ap moment_of (sym here) ∙ ap (moment_at (past ++ e ∷ es)) (sym slot);
       joined = omega arith;
     }
 
-timely_after : (base : List BaseRow) (past es : List Entry) → AllFollow base past es → AllByRecursion (IsTimely (record { base = base; entries = past ++ es })) (grants_after base past es)
+timely_after : (base : List BaseRow) (past es : List Entry) → AllFollow base past es
+    → AllByRecursion (IsTimely (record { base = base; entries = past ++ es })) (grants_after base past es)
 timely_after base past [] all = tt
 timely_after base past (e ∷ es) all =
     by_grant (grant_after base past e) refl
-    (subst (λ log. AllByRecursion (IsTimely (record { base = base; entries = log })) (grants_after base (past ++ e ∷ []) es)) (append_assoc past (e ∷ []) es) (timely_after base (past ++ e ∷ []) es all.1))
+    (subst (λ log. AllByRecursion (IsTimely (record { base = base; entries = log })) (grants_after base (past ++ e ∷ []) es)) (append_assoc past (e ∷ []) es)
+    (timely_after base (past ++ e ∷ []) es all.1))
   where
     window : Window
     window = record { base = base; entries = past ++ e ∷ es }
 
-    by_grant : (o : Option Grant) → grant_after base past e ≡ o → AllByRecursion (IsTimely window) (grants_after base (past ++ e ∷ []) es) → AllByRecursion (IsTimely window) (option_map_or (λ (g : Grant). g ∷ []) o [] ++ grants_after base (past ++ e ∷ []) es)
+    by_grant : (o : Option Grant) → grant_after base past e ≡ o → AllByRecursion (IsTimely window) (grants_after base (past ++ e ∷ []) es)
+        → AllByRecursion (IsTimely window) (option_map_or (λ (g : Grant). g ∷ []) o [] ++ grants_after base (past ++ e ∷ []) es)
     by_grant None is rest = rest
     by_grant (Some g) is rest = (timely_one base past es e g all.0 is, rest)
 

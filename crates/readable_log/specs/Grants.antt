@@ -99,7 +99,8 @@ grant_after base past entry =
 -- the grants of entries that follow the entries of a log
 abbrev pub grants_after : List BaseRow → List Entry → List Entry → List Grant
 grants_after base past [] = []
-grants_after base past (entry ∷ entries) = option_map_or (λ grant. grant ∷ []) (grant_after base past entry) [] ++ grants_after base (past ++ entry ∷ []) entries
+grants_after base past (entry ∷ entries) =
+    option_map_or (λ grant. grant ∷ []) (grant_after base past entry) [] ++ grants_after base (past ++ entry ∷ []) entries
 
 -- the grants of a window, in order
 abbrev pub grants : Window → List Grant

@@ -40,4 +40,5 @@ HaveArrived base log rows = (row : Row) → IsRow rows row → HasArrived base l
 
 -- each row that waits was put into its queue by an entry, or waited there in the base
 abbrev pub HaveJoined : List BaseRow → List Entry → Rows → Type 0
-HaveJoined base log rows = (row : Row) (queue : Queue) → IsRow rows row → IsTrue (phase_waits_in queue row.phase) → IsTrue (has_joined base row.key.ticket queue log)
+HaveJoined base log rows = (row : Row) (queue : Queue) → IsRow rows row → IsTrue (phase_waits_in queue row.phase)
+    → IsTrue (has_joined base row.key.ticket queue log)

@@ -23,7 +23,13 @@ lacks_data_end size body l len lacks other rest same e =
 
 pub lacks_line : (l : List ℕ) → LacksSizeLine l → LacksChunk l
 lacks_line l lacks = record {
-  no_chunk = λ has. lacks (has.0.line, (has.0.body ++ crlf_bytes) ++ has.1, has.2.line, has.3 ∙ append_assoc (print_chunk_line has.0.line) (has.0.body ++ crlf_bytes) has.1);
+  no_chunk = λ has. lacks (
+    has.0.line,
+    (has.0.body ++ crlf_bytes) ++ has.1,
+    has.2.line,
+    has.3
+        ∙ append_assoc (print_chunk_line has.0.line) (has.0.body ++ crlf_bytes) has.1,
+  );
   no_end = λ has. lacks (has.0, has.1, has.2, has.4);
 }
 
@@ -31,7 +37,8 @@ lacks_line l lacks = record {
 pub only_line : (l k : ChunkLine) (x y : List ℕ) → IsSizeLine l → IsSizeLine k → print_chunk_line l ++ x ≡ print_chunk_line k ++ y → (l ≡ k) × (x ≡ y)
 only_line l k x y is other e = chunk_line_unique (print_chunk_line l ++ x) l k x y (is.line, refl) (other.line, e)
 
-pub lacks_data : (l : ChunkLine) (size : ℕ) (x : List ℕ) → IsSizeLine l → chunk_size l ≡ size → 0 < size → LacksData size x → LacksChunk (print_chunk_line l ++ x)
+pub lacks_data : (l : ChunkLine) (size : ℕ) (x : List ℕ) → IsSizeLine l → chunk_size l ≡ size → 0 < size → LacksData size x
+    → LacksChunk (print_chunk_line l ++ x)
 lacks_data l size x is sized some lacks = record {
   no_chunk = λ has.
       let same = only_line l has.0.line x ((has.0.body ++ crlf_bytes) ++ has.1) is has.2.line

@@ -21,7 +21,8 @@ emits_none w turns waiting = record {
   fine = refl;
 }
 
-pub emits_trans : {a b c : Stream} {t u v : ℕ} {p q r first second : List ℕ} → Emits a b t u p q first → Emits b c u v q r second → Emits a c t v p r (first ++ second)
+pub emits_trans : {a b c : Stream} {t u v : ℕ} {p q r first second : List ℕ} → Emits a b t u p q first → Emits b c u v q r second
+    → Emits a c t v p r (first ++ second)
 emits_trans {a} {b} {c} {p = p} {q = q} {r = r} {first = first} {second = second} x y = record {
   front = x.front ++ y.front;
   wrote = Wrote-trans x.wrote y.wrote;
@@ -43,7 +44,8 @@ stops_by Read a b c turns same cause = cause
 stops_by Framing a b c turns same cause = cause
 
 -- some text went on its way, and of what waits and of what follows a front was written
-pub emits_stops : {a b c : Stream} {t u v : ℕ} {p q first : List ℕ} {fault : Fault} (second : List ℕ) → Emits a b t u p q first → Stops b c u v (q ++ second) fault
+pub emits_stops : {a b c : Stream} {t u v : ℕ} {p q first : List ℕ} {fault : Fault} (second : List ℕ) → Emits a b t u p q first
+    → Stops b c u v (q ++ second) fault
     → Stops a c t v (p ++ (first ++ second)) fault
 emits_stops {a} {b} {c} {v = v} {p = p} {q = q} {first = first} {fault = fault} second x y = record {
   front = record {

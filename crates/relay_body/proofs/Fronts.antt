@@ -6,7 +6,8 @@ use Rattle.httparse.specs.Grammar.{ChunkLine, print_chunk_line, HasNoChunkLine, 
 use Rattle.relay_body.specs.Chunks.{LacksSizeLine}
 
 -- a line in the first bytes is one of all
-pub line_whole : (n : ℕ) (held : List ℕ) (l : ChunkLine) (rest : List ℕ) → take n held ≡ print_chunk_line l ++ rest → held ≡ print_chunk_line l ++ (rest ++ drop n held)
+pub line_whole : (n : ℕ) (held : List ℕ) (l : ChunkLine) (rest : List ℕ) → take n held ≡ print_chunk_line l ++ rest
+    → held ≡ print_chunk_line l ++ (rest ++ drop n held)
 line_whole n held l rest e = sym (take-append-drop n held) ∙ ap (λ x. x ++ drop n held) e ∙ append_assoc (print_chunk_line l) rest (drop n held)
 
 -- what no chunk line can become never has a size line

@@ -1,5 +1,6 @@
 -- Lines at the front of an input.
-use Rattle.std.proofs.Common.{◌≡◌, ◌∙◌, ℕ, zero, suc, ◌+◌, ◌<◌, ◌≤◌, List, [], ◌∷◌, ◌++◌, length, get_or, take, drop, refl, sym, ap, arith, append_assoc, length-append}
+use Rattle.std.proofs.Common.{◌≡◌, ◌∙◌, ℕ, zero, suc, ◌+◌, ◌<◌, ◌≤◌, List, [], ◌∷◌}
+use Rattle.std.proofs.Common.{◌++◌, length, get_or, take, drop, refl, sym, ap, arith, append_assoc, length-append}
 use Rattle.std.specs.Prelude.{◌⊎◌}
 use Rattle.std.proofs.Common.{inl, inr}
 use Rattle.std.specs.List.{flat_map, AllByRecursion}
@@ -53,7 +54,8 @@ first_lacks (x ∷ lines) blank most l rest lacks all few e =
     (e ∙ ap (λ m. m ++ rest) whole ∙ append_assoc (print_line x) tail rest)
 
 -- a line, and then trailers that lack
-line_lacks : (lines : List (List ℕ)) (blank : LineEnd) (x : List ℕ) (n m : ℕ) (l rest : List ℕ) → IsTrailer x → m ≡ length (print_line x) + n → LacksTrailers n l
+line_lacks : (lines : List (List ℕ)) (blank : LineEnd) (x : List ℕ) (n m : ℕ) (l rest : List ℕ) → IsTrailer x → m ≡ length (print_line x) + n
+    → LacksTrailers n l
     → AllByRecursion IsTrailer lines → length (flat_map print_line lines ++ print_end blank) ≤ m
     → print_line x ++ l ≡ (flat_map print_line lines ++ print_end blank) ++ rest → ⊥
 line_lacks [] lf x n m l rest is sum lacks all few e = is.some (only_front x [] l rest is.whole tt e).0

@@ -1,5 +1,6 @@
 -- Steps one after the other.
-use Rattle.std.proofs.Common.{◌≡◌, ◌∙◌, ℕ, ◌+◌, ◌*◌, ◌≤◌, List, [], ◌++◌, length, refl, sym, ap, arith, append_assoc, append-nil, subst, inl, inr, length-append}
+use Rattle.std.proofs.Common.{◌≡◌, ◌∙◌, ℕ, ◌+◌, ◌*◌, ◌≤◌, List, [], ◌++◌, length}
+use Rattle.std.proofs.Common.{refl, sym, ap, arith, append_assoc, append-nil, subst, inl, inr, length-append}
 use Rattle.std.specs.Io.KnownBytes.{IsAtEnd}
 use Rattle.std.proofs.KnownBytes.{Consumes-nil, Consumes-trans}
 use Rattle.counted_io.specs.Streams.{Stream}
@@ -105,7 +106,8 @@ moves_breaks {a} {b} {c} {used} {text} {more_used} {more_text} {fault} Lacks Who
         wrote = Wrote-trans p.writes q.writes.wrote;
         all = joined a.pipe.outbox text p.front b.pipe.outbox more_text q.writes.front q.writes.rest p.waiting q.writes.all;
       };
-      blames = blames_earlier fault a b c Lacks Whole used (b.pipe.inbox ++ q.taken) (a.pipe.inbox ++ (p.taken ++ q.taken)) p.good_reads p.good_writes step front q.blames;
+      blames = blames_earlier fault a b c Lacks Whole used (b.pipe.inbox ++ q.taken)
+          (a.pipe.inbox ++ (p.taken ++ q.taken)) p.good_reads p.good_writes step front q.blames;
     }
 
 pub moves_as : {a b : Ends} {used text same_used same_text : List ℕ} → used ≡ same_used → text ≡ same_text → Moves a b used text → Moves a b same_used same_text
@@ -185,7 +187,8 @@ breaks_end {a} {b} {used} Lacks p end lacks = record {
 }
 
 -- no continuation of the input has what is wanted
-pub breaks_framing : {a b : Ends} {used text : List ℕ} (Lacks : List ℕ → Type 0) → Moves a b used text → ((more : List ℕ) → Lacks ((used ++ b.pipe.inbox) ++ more))
+pub breaks_framing : {a b : Ends} {used text : List ℕ} (Lacks : List ℕ → Type 0) → Moves a b used text
+    → ((more : List ℕ) → Lacks ((used ++ b.pipe.inbox) ++ more))
     → Breaks a b used text Lacks Framing
 breaks_framing {a} {b} {used} Lacks p never = record {
   taken = p.taken;
@@ -197,7 +200,8 @@ breaks_framing {a} {b} {used} Lacks p never = record {
 }
 
 -- a fault after which nothing lacks, as a fault where something may
-pub breaks_weaker : {a b : Ends} {used text : List ℕ} {fault : Fault} (Lacks : List ℕ → Type 0) → Breaks a b used text LacksNothing fault → Breaks a b used text Lacks fault
+pub breaks_weaker : {a b : Ends} {used text : List ℕ} {fault : Fault} (Lacks : List ℕ → Type 0) → Breaks a b used text LacksNothing fault
+    → Breaks a b used text Lacks fault
 breaks_weaker {a} {b} {fault = fault} Lacks p = record {
   taken = p.taken;
   reads = p.reads;
@@ -254,4 +258,13 @@ breaks_of {a} Lacks Whole step p = moves_breaks Lacks Whole step (moves_none a) 
 pub moves_smaller : {a b : Ends} {used text : List ℕ} → Moves a b used text
     → b.pipe.turns * 65537 + length b.pipe.inbox + length used ≤ a.pipe.turns * 65537 + length a.pipe.inbox
 moves_smaller {a} {b} {used} p =
-    omega (arith, p.reads.spent, p.reads.few, p.reads.reads, p.reads.writes, ap length p.held, length-append a.pipe.inbox p.taken, length-append used b.pipe.inbox)
+    omega (
+      arith,
+      p.reads.spent,
+      p.reads.few,
+      p.reads.reads,
+      p.reads.writes,
+      ap length p.held,
+      length-append a.pipe.inbox p.taken,
+      length-append used b.pipe.inbox,
+    )

@@ -14,7 +14,8 @@ chunk_some c is =
     omega (arith, is.some, length-append (print_chunk_line c.line) (c.body ++ crlf_bytes), length-append c.body crlf_bytes)
 
 -- a body begins with a chunk or with the last line
-first_lacks : (chunks : List Chunk) (last : ChunkLine) (t : Trailers) (l rest : List ℕ) → LacksChunk l → AllByRecursion IsChunk chunks → IsSizeLine last → chunk_size last ≡ 0
+first_lacks : (chunks : List Chunk) (last : ChunkLine) (t : Trailers) (l rest : List ℕ) → LacksChunk l → AllByRecursion IsChunk chunks → IsSizeLine last
+    → chunk_size last ≡ 0
     → l ≡ (flat_map print_chunk chunks ++ (print_chunk_line last ++ print_trailers t)) ++ rest → ⊥
 first_lacks [] last t l rest lacks all is zero e =
     lacks.no_end (last, print_trailers t ++ rest, is, zero, e ∙ append_assoc (print_chunk_line last) (print_trailers t) rest)
@@ -48,16 +49,19 @@ chunk_lacks (d ∷ chunks) last t c l rest is lacks all line zero trailers e =
     ∙ ap (λ x. x ++ rest) (append_assoc (print_chunk d) (flat_map print_chunk chunks) (print_chunk_line last ++ print_trailers t))
     ∙ append_assoc (print_chunk d) tail rest in
     let same = only_line c.line d.line ((c.body ++ crlf_bytes) ++ l) ((d.body ++ crlf_bytes) ++ (tail ++ rest)) is.line all.0.line
-    (sym (append_assoc (print_chunk_line c.line) (c.body ++ crlf_bytes) l) ∙ whole ∙ append_assoc (print_chunk_line d.line) (d.body ++ crlf_bytes) (tail ++ rest)) in
+    (sym (append_assoc (print_chunk_line c.line) (c.body ++ crlf_bytes) l) ∙ whole
+    ∙ append_assoc (print_chunk_line d.line) (d.body ++ crlf_bytes) (tail ++ rest)) in
     let size : length c.body ≡ length d.body = sym is.size ∙ ap chunk_size same.0 ∙ all.0.size in
-    let long : length (c.body ++ crlf_bytes) ≡ length (d.body ++ crlf_bytes) = omega (arith, size, length-append c.body crlf_bytes, length-append d.body crlf_bytes) in
+    let long : length (c.body ++ crlf_bytes) ≡ length (d.body ++ crlf_bytes) =
+    omega (arith, size, length-append c.body crlf_bytes, length-append d.body crlf_bytes) in
     lacks (record { chunks = chunks; last = last; trailers = t }) rest (record { chunks = all.1; last = line; no_more = zero; trailers = trailers })
     (same_behind (c.body ++ crlf_bytes) (d.body ++ crlf_bytes) l (tail ++ rest) long same.1)
 
 pub chunks_then : (chunks : List Chunk) (l : List ℕ) → AllByRecursion IsChunk chunks → LacksChunked l → LacksChunked (flat_map print_chunk chunks ++ l)
 chunks_then [] l all lacks b rest is e = lacks b rest is e
 chunks_then (c ∷ chunks) l all lacks b rest is e =
-    chunk_lacks b.chunks b.last b.trailers c (flat_map print_chunk chunks ++ l) rest all.0 (chunks_then chunks l all.1 lacks) is.chunks is.last is.no_more is.trailers
+    chunk_lacks b.chunks b.last b.trailers c (flat_map print_chunk chunks ++ l) rest all.0
+    (chunks_then chunks l all.1 lacks) is.chunks is.last is.no_more is.trailers
     (sym (append_assoc (print_chunk c) (flat_map print_chunk chunks) l) ∙ e)
 
 -- the last line, and then no trailers
@@ -77,7 +81,8 @@ last_lacks (d ∷ chunks) last t k l rest is zero lacks all line trailers e =
     let none : length d.body ≡ 0 = sym all.0.size ∙ sym (ap chunk_size same.0) ∙ zero in
     omega (arith, none, all.0.some)
 
-pub lacks_trailers : (chunks : List Chunk) (k : ChunkLine) (l : List ℕ) → AllByRecursion IsChunk chunks → IsSizeLine k → chunk_size k ≡ 0 → LacksTrailers 16384 l
+pub lacks_trailers : (chunks : List Chunk) (k : ChunkLine) (l : List ℕ) → AllByRecursion IsChunk chunks → IsSizeLine k → chunk_size k ≡ 0
+    → LacksTrailers 16384 l
     → LacksChunked ((flat_map print_chunk chunks ++ print_chunk_line k) ++ l)
 lacks_trailers chunks k l all is zero lacks b rest whole e =
     chunks_then chunks (print_chunk_line k ++ l) all

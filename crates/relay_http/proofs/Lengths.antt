@@ -44,7 +44,8 @@ first_faulty first rest part more e none =
     sym (ap (λ l. stated_of (l ++ flat_map parts rest)) e ∙ ap count_or_fault is)
 
 -- what all parts make, once the first is a number
-all_parts : (first : List ℕ) (rest : List (List ℕ)) (part : List ℕ) (more : List (List ℕ)) (count : ℕ) → parts first ≡ part ∷ more → numeral 18 part ≡ Some count
+all_parts : (first : List ℕ) (rest : List (List ℕ)) (part : List ℕ) (more : List (List ℕ)) (count : ℕ) → parts first ≡ part ∷ more
+    → numeral 18 part ≡ Some count
     → stated_of (flat_map parts (first ∷ rest))
     ≡ count_or_fault (cond (list_all (is_number count) (parts first) && list_all (λ value. list_all (is_number count) (parts value)) rest) (Some count) None)
 all_parts first rest part more count e number =
@@ -61,13 +62,15 @@ all_parts first rest part more count e number =
     ∙ ap count_or_fault is
     ∙ ap (λ b. count_or_fault (cond b (Some count) None)) (rests ∙ ap (λ b. b && list_all (λ value. list_all p (parts value)) rest) (sym firsts))
 
-pub not_all : (first : List ℕ) (rest : List (List ℕ)) (part : List ℕ) (more : List (List ℕ)) (count : ℕ) → parts first ≡ part ∷ more → numeral 18 part ≡ Some count
+pub not_all : (first : List ℕ) (rest : List (List ℕ)) (part : List ℕ) (more : List (List ℕ)) (count : ℕ) → parts first ≡ part ∷ more
+    → numeral 18 part ≡ Some count
     → list_all (is_number count) (parts first) ≡ false → Faulty ≡ stated_of (flat_map parts (first ∷ rest))
 not_all first rest part more count e number differs =
     sym (all_parts first rest part more count e number
     ∙ ap (λ b. count_or_fault (cond (b && list_all (λ value. list_all (is_number count) (parts value)) rest) (Some count) None)) differs)
 
-pub by_rest : (first : List ℕ) (rest : List (List ℕ)) (part : List ℕ) (more : List (List ℕ)) (count : ℕ) (b : Bool) → parts first ≡ part ∷ more → numeral 18 part ≡ Some count
+pub by_rest : (first : List ℕ) (rest : List (List ℕ)) (part : List ℕ) (more : List (List ℕ)) (count : ℕ) (b : Bool) → parts first ≡ part ∷ more
+    → numeral 18 part ≡ Some count
     → list_all (is_number count) (parts first) ≡ true → list_all (λ value. list_all (is_number count) (parts value)) rest ≡ b
     → count_or_fault (cond b (Some count) None) ≡ stated_of (flat_map parts (first ∷ rest))
 by_rest first rest part more count b e number same others =
@@ -82,7 +85,8 @@ coded_old : (unstated : Framing) (b : Bool) → framing_of Http10 unstated (cond
 coded_old unstated true = refl
 coded_old unstated false = refl
 
-coded_too : (version : Version) (unstated : Framing) (b : Bool) (o : Option ℕ) → framing_of version unstated (cond b Coded.Chunked Coded.Other) (count_or_fault o) ≡ None
+coded_too : (version : Version) (unstated : Framing) (b : Bool) (o : Option ℕ)
+    → framing_of version unstated (cond b Coded.Chunked Coded.Other) (count_or_fault o) ≡ None
 coded_too Http10 unstated true None = refl
 coded_too Http10 unstated true (Some n) = refl
 coded_too Http10 unstated false None = refl

@@ -41,7 +41,8 @@ refused_new : (status : ℕ) (b : Bool) → summaries.is_refused status Http11 (
 refused_new status true = refl
 refused_new status false = refl
 
-refused_same : (status : ℕ) (version : Version) (codings : List (List ℕ)) → summaries.is_refused status version (coding_of codings) ≡ framings.is_refused status version codings
+refused_same : (status : ℕ) (version : Version) (codings : List (List ℕ))
+    → summaries.is_refused status version (coding_of codings) ≡ framings.is_refused status version codings
 refused_same status Http10 [] = refl
 refused_same status Http11 [] = refl
 refused_same status Http10 (coding ∷ []) = refused_old status (is_chunked coding)
@@ -49,8 +50,10 @@ refused_same status Http11 (coding ∷ []) = refused_new status (is_chunked codi
 refused_same status Http10 (coding ∷ other ∷ codings) = refl
 refused_same status Http11 (coding ∷ other ∷ codings) = refl
 
-pub plan_is : (method : List ℕ) (a : Answer) (result : Option Plan) (status other : ℕ) (to_head : Bool) (version later : Version) (coding : Coding) (stated : Stated)
-    → status ≡ a.status → version ≡ a.version → coding ≡ coding_of (values_of (codes "Transfer-Encoding") a.fields) → false ≡ summaries.is_refused status version coding
+pub plan_is : (method : List ℕ) (a : Answer) (result : Option Plan) (status other : ℕ) (to_head : Bool) (version later : Version) (coding : Coding)
+    (stated : Stated)
+    → status ≡ a.status → version ≡ a.version → coding ≡ coding_of (values_of (codes "Transfer-Encoding") a.fields)
+    → false ≡ summaries.is_refused status version coding
     → other ≡ a.status → later ≡ a.version → to_head ≡ bytes_eq method (codes "HEAD") → stated ≡ stated_of (parts_of (codes "Content-Length") a.fields)
     → result ≡ plan_of other to_head later coding stated → result ≡ answer_plan method a
 plan_is method a result status other to_head version later coding stated s v c taken o l h d is =

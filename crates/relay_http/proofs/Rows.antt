@@ -147,7 +147,8 @@ head_of_chunked : answer_plan (codes "HEAD") (answer 200 Http11 (chunked ∷ [])
 unfolding answer chunked
 head_of_chunked = refl
 
-head_of_length_and_coding : answer_plan (codes "HEAD") (answer 200 Http11 (chunked ∷ length_is (codes "7") ∷ [])) ≡ Some (record { body = Empty; stated = Length 7 })
+head_of_length_and_coding : answer_plan (codes "HEAD") (answer 200 Http11 (chunked ∷ length_is (codes "7") ∷ []))
+    ≡ Some (record { body = Empty; stated = Length 7 })
 unfolding answer chunked length_is
 head_of_length_and_coding = refl
 

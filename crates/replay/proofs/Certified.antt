@@ -14,7 +14,8 @@ use Rattle.script.specs.Certificates.{IsCertified}
 pub same_window : (history : History) (log : Recorded) → log.base ≡ history.base → log.entries ≡ history.log → window_of log ≡ window_in history
 same_window history log based logged = cc
 
-pub certified : (history : History) (window : Window) (reports : List Report) → window ≡ window_in history → IsLegal history → IsDispatched history → AreReports window reports → IsCertified history reports
+pub certified : (history : History) (window : Window) (reports : List Report) → window ≡ window_in history → IsLegal history → IsDispatched history
+    → AreReports window reports → IsCertified history reports
 certified history window reports same legal dispatched are =
     let chosen : AreReports (window_in history) reports = subst (λ (w : Window). AreReports w reports) same are in
     record {

@@ -7,10 +7,13 @@ use Rattle.std.specs.Io.KnownBytes.{Appends}
 use Rattle.replay.specs.Transfers.{WritesFront}
 
 -- so many more bytes of what is left
-pub front_more : (text : List ℕ) (at count : ℕ) → count ≤ length text - at → take at text ++ take count (take (length text - at) (drop at text)) ≡ take (at + count) text
-front_more text at count within = ap (λ (l : List ℕ). take at text ++ l) (take-take count (length text - at) (drop at text) within) ∙ sym (take-add at count text)
+pub front_more : (text : List ℕ) (at count : ℕ) → count ≤ length text - at
+    → take at text ++ take count (take (length text - at) (drop at text)) ≡ take (at + count) text
+front_more text at count within = ap (λ (l : List ℕ). take at text ++ l) (take-take count (length text - at) (drop at text) within)
+    ∙ sym (take-add at count text)
 
-pub written_more : (a b c : Option (List ℕ)) (text : List ℕ) (at count : ℕ) → count ≤ length text - at → Appends a b (take at text) → Appends b c (take count (take (length text - at) (drop at text))) → Appends a c (take (at + count) text)
+pub written_more : (a b c : Option (List ℕ)) (text : List ℕ) (at count : ℕ) → count ≤ length text - at → Appends a b (take at text)
+    → Appends b c (take count (take (length text - at) (drop at text))) → Appends a c (take (at + count) text)
 written_more a b c text at count within before more = subst (Appends a c) (front_more text at count within) (Appends-trans a b c (take at text) _ before more)
 
 pub front_written : (a b : Option (List ℕ)) (text : List ℕ) (at : ℕ) → Appends a b (take at text) → WritesFront a b text

@@ -20,7 +20,8 @@ use Rattle.replay.proofs.Certified.{certified}
 opening_certified : (settings : Settings) → IsCertified (opening settings) []
 opening_certified settings =
     let legal = new_legal (opening settings) (setup_of settings) refl in
-    certified (opening settings) (window_in (opening settings)) [] refl legal (dispatched (opening settings) legal) (record { chosen = tt; ascending = tt; complete = tt })
+    certified (opening settings) (window_in (opening settings)) [] refl legal (dispatched (opening settings) legal)
+    (record { chosen = tt; ascending = tt; complete = tt })
 
 default_sound : IsSound (setup_of (settings_of []))
 default_sound = record {
@@ -36,10 +37,24 @@ default_sound = record {
 }
 
 empty_script : IsTraceOf [] []
-empty_script = record { last = opening (settings_of []); answers = []; reports = []; answered = (refl, refl); certified = opening_certified (settings_of []); written = refl }
+empty_script = record {
+  last = opening (settings_of []);
+  answers = [];
+  reports = [];
+  answered = (refl, refl);
+  certified = opening_certified (settings_of []);
+  written = refl;
+}
 
 comments_ask_for_nothing : IsTraceOf (codes "# nothing\n\n \t\n") []
-comments_ask_for_nothing = record { last = opening (settings_of []); answers = []; reports = []; answered = (refl, refl); certified = opening_certified (settings_of []); written = refl }
+comments_ask_for_nothing = record {
+  last = opening (settings_of []);
+  answers = [];
+  reports = [];
+  answered = (refl, refl);
+  certified = opening_certified (settings_of []);
+  written = refl;
+}
 
 -- nobody has the ticket, so the history stays as it is
 unknown_ticket : IsTraceOf (codes "5 done 9") (codes "refused 4\n")
@@ -48,7 +63,14 @@ unknown_ticket = record {
   last = opening (settings_of []);
   answers = codes "refused 4\n";
   reports = [];
-  answered = (opening (settings_of []), codes "refused 4\n", [], inl record { refusal = NoSuchTicket; applies = refl; unchanged = refl; written = refl }, refl, (refl, refl));
+  answered = (
+    opening (settings_of []),
+    codes "refused 4\n",
+    [],
+    inl record { refusal = NoSuchTicket; applies = refl; unchanged = refl; written = refl },
+    refl,
+    (refl, refl),
+  );
   certified = opening_certified (settings_of []);
   written = refl;
 }
@@ -67,7 +89,14 @@ roll_row =
       last = next;
       answers = codes "roll\n";
       reports = [];
-      answered = (next, codes "roll\n", [], record { reports = []; begins = refl; certified = opening_certified (settings_of []); written = refl }, refl, (refl, refl));
+      answered = (
+        next,
+        codes "roll\n",
+        [],
+        record { reports = []; begins = refl; certified = opening_certified (settings_of []); written = refl },
+        refl,
+        (refl, refl),
+      );
       certified = none;
       written = refl;
     }
@@ -85,7 +114,14 @@ unknown_server =
       last = opening settings;
       answers = codes "refused 6\n";
       reports = [];
-      answered = (opening settings, codes "refused 6\n", [], inl record { refusal = NoSuchServer; applies = refl; unchanged = refl; written = refl }, refl, (refl, refl));
+      answered = (
+        opening settings,
+        codes "refused 6\n",
+        [],
+        inl record { refusal = NoSuchServer; applies = refl; unchanged = refl; written = refl },
+        refl,
+        (refl, refl),
+      );
       certified = opening_certified settings;
       written = refl;
     }
@@ -99,11 +135,25 @@ check_of_unknown_server =
       last = opening settings;
       answers = codes "refused 6\n";
       reports = [];
-      answered = (opening settings, codes "refused 6\n", [], inl record { refusal = NoSuchServer; applies = refl; unchanged = refl; written = refl }, refl, (refl, refl));
+      answered = (
+        opening settings,
+        codes "refused 6\n",
+        [],
+        inl record { refusal = NoSuchServer; applies = refl; unchanged = refl; written = refl },
+        refl,
+        (refl, refl),
+      );
       certified = opening_certified settings;
       written = refl;
     }
 
 -- what no line says is as without header lines
-one_place : setup_of (settings_of (codes "places 1" ∷ [])) ≡ record { servers = (setup_of (settings_of [])).servers; places = 1; log = 262144; retries = 3; redispatch = false; queue_timeout = 0 }
+one_place : setup_of (settings_of (codes "places 1" ∷ [])) ≡ record {
+  servers = (setup_of (settings_of [])).servers;
+  places = 1;
+  log = 262144;
+  retries = 3;
+  redispatch = false;
+  queue_timeout = 0;
+}
 one_place = refl

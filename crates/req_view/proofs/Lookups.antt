@@ -1,5 +1,6 @@
 -- A map that has each field's span under its name says which values a name has.
-use Rattle.std.proofs.Common.{◌≡◌, ℕ, ◌+◌, ◌<◌, ◌≤◌, ◌∙◌, Bool, true, false, cond, List, [], ◌∷◌, ◌++◌, filter, length, take, map, get_or, refl, sym, ap, arith, append_assoc, length-append}
+use Rattle.std.proofs.Common.{◌≡◌, ℕ, ◌+◌, ◌<◌, ◌≤◌, ◌∙◌, Bool, true, false, cond, List, [], ◌∷◌}
+use Rattle.std.proofs.Common.{◌++◌, filter, length, take, map, get_or, refl, sym, ap, arith, append_assoc, length-append}
 use Rattle.std.specs.List.{All, fold}
 use Rattle.std.specs.Str.{bytes_eq}
 use Rattle.std.proofs.Math.ListN.{get_or-map}
@@ -54,8 +55,11 @@ spans-values text name (field ∷ fields) =
   where
     one_more : (b : Bool)
         → map (span_bytes text) (under (lowercase name) (map (named_span text) fields)) ≡ values_of name (map (header_bytes text) fields)
-        → map (span_bytes text) (map (λ (p : List ℕ × Span). p.1) (cond b (named_span text field ∷ filter (λ p. bytes_eq p.0 (lowercase name)) (map (named_span text) fields)) (filter (λ p. bytes_eq p.0 (lowercase name)) (map (named_span text) fields))))
-        ≡ map (λ (f : NamedValue). f.1) (cond b (header_bytes text field ∷ filter (is_named name) (map (header_bytes text) fields)) (filter (is_named name) (map (header_bytes text) fields)))
+        → map (span_bytes text) (map (λ (p : List ℕ × Span). p.1)
+        (cond b (named_span text field ∷ filter (λ p. bytes_eq p.0 (lowercase name)) (map (named_span text) fields))
+        (filter (λ p. bytes_eq p.0 (lowercase name)) (map (named_span text) fields))))
+        ≡ map (λ (f : NamedValue). f.1) (cond b (header_bytes text field ∷ filter (is_named name) (map (header_bytes text) fields))
+        (filter (is_named name) (map (header_bytes text) fields)))
     one_more true rest = ap (λ values. span_bytes text field.value ∷ values) rest
     one_more false rest = rest
 

@@ -54,7 +54,8 @@ tunnel : ¬ (IsWelcome (record { method = codes "CONNECT"; target = codes "h:1";
 tunnel welcome = welcome.wants_no_tunnel refl
 
 -- values come in the order of the fields, whatever the case of the name
-values_row : values_of (codes "x-due") ((codes "X-Due", codes "5, 70") ∷ (codes "A", codes "b") ∷ (codes "x-DUE", codes "6") ∷ []) ≡ codes "5, 70" ∷ codes "6" ∷ []
+values_row : values_of (codes "x-due") ((codes "X-Due", codes "5, 70") ∷ (codes "A", codes "b") ∷ (codes "x-DUE", codes "6") ∷ [])
+    ≡ codes "5, 70" ∷ codes "6" ∷ []
 values_row = refl
 
 -- `GET / HTTP/1.1`, a field and the empty line are 27 bytes

@@ -1,5 +1,6 @@
 -- A script's lines are taken in one by one.
-use Rattle.std.proofs.Common.{◌≡◌, ℕ, ◌+◌, Bool, true, false, ◌||◌, List, [], ◌∷◌, ◌++◌, length, take, drop, filter_map, Option, Some, None, if◌then◌else◌, refl, sym, ap, ◌∙◌, append_assoc, append-nil, length-append, drop_at}
+use Rattle.std.proofs.Common.{◌≡◌, ℕ, ◌+◌, Bool, true, false, ◌||◌, List, [], ◌∷◌, ◌++◌, length, take, drop}
+use Rattle.std.proofs.Common.{filter_map, Option, Some, None, if◌then◌else◌, refl, sym, ap, ◌∙◌, append_assoc, append-nil, length-append, drop_at}
 use Rattle.std.proofs.lemmas.List.{take_at}
 use Rattle.std.proofs.Math.Bool.{or-false, or_comm}
 use Rattle.std.specs.List.{cons_option, last_or, list_any}
@@ -21,15 +22,19 @@ last_or-with_last xs None = refl
 last_or-with_last xs (Some x) = last_or-append None xs (x ∷ [])
 
 -- what is found in settings and in one more
-found-more : {X : Type 0} (found : Setting → Option X) (settings : List Setting) (setting : Setting) → filter_map found (settings ++ setting ∷ []) ≡ with_last (filter_map found settings) (found setting)
+found-more : {X : Type 0} (found : Setting → Option X) (settings : List Setting) (setting : Setting)
+    → filter_map found (settings ++ setting ∷ []) ≡ with_last (filter_map found settings) (found setting)
 found-more found settings setting = filter_map-append found settings (setting ∷ []) ∙ append-option (filter_map found settings) (found setting)
 
-last-more : {X : Type 0} (found : Setting → Option X) (settings : List Setting) (setting : Setting) → last_or None (filter_map found (settings ++ setting ∷ [])) ≡ option_or (found setting) (last_or None (filter_map found settings))
+last-more : {X : Type 0} (found : Setting → Option X) (settings : List Setting) (setting : Setting)
+    → last_or None (filter_map found (settings ++ setting ∷ [])) ≡ option_or (found setting) (last_or None (filter_map found settings))
 last-more found settings setting = ap (last_or None) (found-more found settings setting) ∙ last_or-with_last (filter_map found settings) (found setting)
 
-any-more : (test : Setting → Bool) (settings : List Setting) (setting : Setting) → list_any test (settings ++ setting ∷ []) ≡ (test setting || list_any test settings)
+any-more : (test : Setting → Bool) (settings : List Setting) (setting : Setting)
+    → list_any test (settings ++ setting ∷ []) ≡ (test setting || list_any test settings)
 any-more test settings setting =
-    list_any-append test settings (setting ∷ []) ∙ ap (λ b. list_any test settings || b) (or-false (test setting)) ∙ or_comm (list_any test settings) (test setting)
+    list_any-append test settings (setting ∷ []) ∙ ap (λ b. list_any test settings || b) (or-false (test setting))
+    ∙ or_comm (list_any test settings) (test setting)
 
 -- what one setting more comes to
 all_of-more : (settings : List Setting) (setting : Setting) → all_of (settings ++ setting ∷ []) ≡ with_setting (all_of settings) setting
@@ -43,7 +48,8 @@ all_of-more settings setting =
     let timeout = last-more timeout_in settings setting in
     cc
 
-all_of-option : (settings : List Setting) (setting : Option Setting) → all_of (settings ++ cons_option setting []) ≡ option_map_or (with_setting (all_of settings)) setting (all_of settings)
+all_of-option : (settings : List Setting) (setting : Option Setting)
+    → all_of (settings ++ cons_option setting []) ≡ option_map_or (with_setting (all_of settings)) setting (all_of settings)
 all_of-option settings None = ap all_of (append-nil settings)
 all_of-option settings (Some setting) = all_of-more settings setting
 
@@ -79,7 +85,8 @@ one_more all left rest line header next number (before, are) cut other good take
     stepless = list_any-append is_step before (line ∷ []) ∙ ap (λ b. list_any is_step before || (b || false)) other ∙ ap (λ b. b || false) are.stepless;
     count = ap (λ n. n + 1) are.count ∙ sym (length-append before (line ∷ []));
     faultless = are.faultless ∙ ap (fault_behind before) cut
-        ∙ ap (λ b. if b then Some (length before + 1) else fault_behind (before ++ line ∷ []) rest) (sym (test_of all before left line header number are) ∙ good);
+        ∙ ap (λ b. if b then Some (length before + 1) else fault_behind (before ++ line ∷ []) rest) (sym (test_of all before left line header number are)
+        ∙ good);
   },
 )
 

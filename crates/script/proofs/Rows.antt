@@ -164,10 +164,27 @@ no_place : setting_of (codes "places 0") ≡ None
 no_place = refl
 
 -- the last of the lines of one word stands
-settings_row : settings_of (codes "places 2" ∷ codes "server a 0 0 2" ∷ codes "# none" ∷ codes "places 3" ∷ []) ≡ record { names = codes "a" ∷ []; servers = record { limit = 0; maxqueue = 0; weight = 2; rise_fall = None } ∷ []; places = Some 3; log = None; retries = None; redispatch = false; queue_timeout = None }
+settings_row : settings_of (codes "places 2" ∷ codes "server a 0 0 2" ∷ codes "# none" ∷ codes "places 3" ∷ []) ≡ record {
+  names = codes "a" ∷ [];
+  servers = record { limit = 0; maxqueue = 0; weight = 2; rise_fall = None } ∷ [];
+  places = Some 3;
+  log = None;
+  retries = None;
+  redispatch = false;
+  queue_timeout = None;
+}
 settings_row = refl
 
-events_settings_row : settings_of (codes "retries 5" ∷ codes "queue-timeout 10" ∷ codes "redispatch" ∷ codes "retries 0" ∷ codes "server b 1 0 1 2 1" ∷ []) ≡ record { names = codes "b" ∷ []; servers = record { limit = 1; maxqueue = 0; weight = 1; rise_fall = Some (2, 1) } ∷ []; places = None; log = None; retries = Some 0; redispatch = true; queue_timeout = Some 10 }
+events_settings_row : settings_of (codes "retries 5" ∷ codes "queue-timeout 10" ∷ codes "redispatch" ∷ codes "retries 0" ∷ codes "server b 1 0 1 2 1" ∷ [])
+    ≡ record {
+      names = codes "b" ∷ [];
+      servers = record { limit = 1; maxqueue = 0; weight = 1; rise_fall = Some (2, 1) } ∷ [];
+      places = None;
+      log = None;
+      retries = Some 0;
+      redispatch = true;
+      queue_timeout = Some 10;
+    }
 events_settings_row = refl
 
 late_header : fault_of (codes "places 1\n7 done 1\nlog 9") ≡ Some 3
@@ -233,7 +250,8 @@ left_text : entry_text names (entries.Left 2 NoServer) ≡ codes "  left 2 noser
 unfolding digits
 left_text = refl
 
-causes_text : entry_text names (entries.Left 2 Aborted) ++ entry_text names (entries.Left 3 Timeout) ++ entry_text names (entries.Left 4 NoMoreRetries) ≡ codes "  left 2 aborted\n  left 3 timeout\n  left 4 retries\n"
+causes_text : entry_text names (entries.Left 2 Aborted) ++ entry_text names (entries.Left 3 Timeout) ++ entry_text names (entries.Left 4 NoMoreRetries)
+    ≡ codes "  left 2 aborted\n  left 3 timeout\n  left 4 retries\n"
 unfolding digits
 causes_text = refl
 
@@ -274,7 +292,16 @@ unfolding digits
 refused_text = refl
 
 -- the tickets of the critical stays stand behind the numbers, by slots
-report_row : report_text names (record { queue = queues.Backend; class = negsuc 0; granted = 2; worst = pos 19; due = negsuc 4; after = 0; to = 14; critical = stay 3 ∷ stay 2 ∷ [] }) ≡ codes "queue * class -1 granted 2 worst 19 due -5 after 0 to 14 critical 3 2\n"
+report_row : report_text names (record {
+  queue = queues.Backend;
+  class = negsuc 0;
+  granted = 2;
+  worst = pos 19;
+  due = negsuc 4;
+  after = 0;
+  to = 14;
+  critical = stay 3 ∷ stay 2 ∷ [];
+}) ≡ codes "queue * class -1 granted 2 worst 19 due -5 after 0 to 14 critical 3 2\n"
 unfolding digits
 report_row = refl
 
@@ -286,6 +313,15 @@ no_report = refl
 roll_alone : roll_text names [] ≡ codes "roll\n"
 roll_alone = refl
 
-report_behind_a_roll : roll_text names (record { queue = queues.Backend; class = pos 0; granted = 1; worst = negsuc 89; due = pos 100; after = 0; to = 8; critical = stay 2 ∷ [] } ∷ []) ≡ codes "roll\nqueue * class 0 granted 1 worst -90 due 100 after 0 to 8 critical 2\n"
+report_behind_a_roll : roll_text names (record {
+  queue = queues.Backend;
+  class = pos 0;
+  granted = 1;
+  worst = negsuc 89;
+  due = pos 100;
+  after = 0;
+  to = 8;
+  critical = stay 2 ∷ [];
+} ∷ []) ≡ codes "roll\nqueue * class 0 granted 1 worst -90 due 100 after 0 to 8 critical 2\n"
 unfolding digits
 report_behind_a_roll = refl

@@ -1,5 +1,6 @@
 -- What the header lines of a script say.
-use Rattle.std.specs.Prelude.{◌≡◌, ℕ, ◌<◌, ◌≤◌, ◌^◌, nat_lt, ◌||◌, Bool, true, false, List, [], ◌∷◌, length, All, filter_map, Option, Some, None, option_map, option_and_then, IfSome, IsTrue, if◌then◌else◌, codes}
+use Rattle.std.specs.Prelude.{◌≡◌, ℕ, ◌<◌, ◌≤◌, ◌^◌, nat_lt, ◌||◌, Bool, true, false, List, [], ◌∷◌}
+use Rattle.std.specs.Prelude.{length, All, filter_map, Option, Some, None, option_map, option_and_then, IfSome, IsTrue, if◌then◌else◌, codes}
 use Rattle.std.specs.List.{list_any, last_or}
 use Rattle.std.specs.Str.{bytes_eq}
 use Rattle.proxy_words.specs.Text.{words}
@@ -42,12 +43,15 @@ checks_of rise fall = option_and_then (λ raising. option_map (λ felling. (rais
 -- a server's name, and what it may take: maxconn, maxqueue and weight, and how its checks count, where it is checked
 abbrev pub server_of : List ℕ → List ℕ → List ℕ → List ℕ → Option (ℕ × ℕ) → Option Setting
 server_of name limit maxqueue weight checks =
-    option_and_then (λ name. option_and_then (λ most. option_and_then (λ waiting. option_map (λ share. Server name (record { limit = most; maxqueue = waiting; weight = share; rise_fall = checks })) (number_in 0 256 weight)) (numeral 9 maxqueue)) (numeral 9 limit)) (named name)
+    option_and_then (λ name. option_and_then (λ most.
+    option_and_then (λ waiting. option_map (λ share. Server name (record { limit = most; maxqueue = waiting; weight = share; rise_fall = checks }))
+    (number_in 0 256 weight)) (numeral 9 maxqueue)) (numeral 9 limit)) (named name)
 
 -- a server, by the words behind `server`: it is checked where rise and fall are there
 abbrev pub server_line : List (List ℕ) → Option Setting
 server_line (name ∷ limit ∷ maxqueue ∷ weight ∷ []) = server_of name limit maxqueue weight None
-server_line (name ∷ limit ∷ maxqueue ∷ weight ∷ rise ∷ fall ∷ []) = option_and_then (λ checks. server_of name limit maxqueue weight (Some checks)) (checks_of rise fall)
+server_line (name ∷ limit ∷ maxqueue ∷ weight ∷ rise ∷ fall ∷ []) =
+    option_and_then (λ checks. server_of name limit maxqueue weight (Some checks)) (checks_of rise fall)
 server_line others = None
 
 -- what a header line's words set

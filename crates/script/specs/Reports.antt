@@ -16,11 +16,13 @@ tickets_text stays = flat_map ticket_text stays
 
 -- whom a report is about, under these names of the servers: how many requests from which queue and of which class
 abbrev pub group_text : List (List ℕ) → Report → List ℕ
-group_text names report = codes "queue " ++ queue_name names report.queue ++ codes " class " ++ signed_decimal report.class ++ codes " granted " ++ decimal report.granted
+group_text names report = codes "queue " ++ queue_name names report.queue ++ codes " class " ++ signed_decimal report.class ++ codes " granted " ++ decimal
+    report.granted
 
 -- the greatest lateness, the due date of the worst stay, the cut, and the position of that stay's slot
 abbrev pub worst_text : Report → List ℕ
-worst_text report = codes " worst " ++ signed_decimal report.worst ++ codes " due " ++ signed_decimal report.due ++ codes " after " ++ decimal report.after ++ codes " to " ++ decimal report.to
+worst_text report = codes " worst " ++ signed_decimal report.worst ++ codes " due " ++ signed_decimal report.due ++ codes " after " ++ decimal report.after ++
+    codes " to " ++ decimal report.to
 
 -- the line of a report, with the tickets of its critical stays
 abbrev pub report_text : List (List ℕ) → Report → List ℕ

@@ -5,7 +5,8 @@ use Rattle.std.specs.Str.{bytes_eq}
 use Rattle.dispatch_log.specs.declared.entry.Entry.{Entry}
 use Rattle.dispatch_log.specs.declared.entry.Entry.TheVariants as entries
 use Rattle.dispatch_log.specs.declared.refusal.Refusal.{Refusal}
-use Rattle.dispatch_log.specs.Histories.{History, next_window, effective, refuses_arrival, refuses_done, refuses_failure, refuses_abort, refuses_tick, refuses_check, refuses_limit}
+use Rattle.dispatch_log.specs.Histories.{History, next_window, effective, refuses_arrival, refuses_done}
+use Rattle.dispatch_log.specs.Histories.{refuses_failure, refuses_abort, refuses_tick, refuses_check, refuses_limit}
 use Rattle.dispatch_log.specs.Legal.{AddsEvent}
 use Rattle.late_cert.specs.declared.report.Report.{Report}
 use Rattle.script.specs.Certificates.{IsCertified}
@@ -42,8 +43,10 @@ IsEventOf names history (Done moment ticket) (entries.Done at leaver) = (at ≡ 
 IsEventOf names history (Fail moment ticket) (entries.Fail at failed) = (at ≡ effective history moment) × (failed ≡ ticket)
 IsEventOf names history (Abort moment ticket) (entries.Abort at leaver) = (at ≡ effective history moment) × (leaver ≡ ticket)
 IsEventOf names history (Tick moment) (entries.Tick at) = at ≡ effective history moment
-IsEventOf names history (Check moment name answered) (entries.Check at server ok) = (at ≡ effective history moment) × (server ≡ number_of names name) × (ok ≡ answered)
-IsEventOf names history (Limit moment name limit) (entries.Limit at server most) = (at ≡ effective history moment) × (server ≡ number_of names name) × (most ≡ limit)
+IsEventOf names history (Check moment name answered) (entries.Check at server ok) = (at ≡ effective history moment) × (server ≡ number_of names name)
+    × (ok ≡ answered)
+IsEventOf names history (Limit moment name limit) (entries.Limit at server most) = (at ≡ effective history moment) × (server ≡ number_of names name)
+    × (most ≡ limit)
 IsEventOf names history step entry = ⊥
 
 -- a step that is refused leaves the history as it was, and the line of its refusal
@@ -76,4 +79,5 @@ Answers names old new step text = IsRefused names old new step text ⊎ IsAccept
 abbrev pub IsScriptText : List (List ℕ) → History → List Step → History → List ℕ → Type 0
 IsScriptText names history [] last text = (last ≡ history) × (text ≡ [])
 IsScriptText names history (step ∷ steps) last text =
-    (new : History) × (front : List ℕ) × (rest : List ℕ) × Answers names history new step front × (text ≡ front ++ rest) × IsScriptText names new steps last rest
+    (new : History) × (front : List ℕ) × (rest : List ℕ) × Answers names history new step front × (text ≡ front ++ rest)
+    × IsScriptText names new steps last rest

@@ -1,5 +1,6 @@
 -- What the lines of a script ask, its header lines aside.
-use Rattle.std.specs.Prelude.{ℕ, Bool, true, false, ◌==◌, ◌||◌, List, [], ◌∷◌, length, filter_map, Option, Some, None, option_map, option_and_then, slice_index, if◌then◌else◌, codes}
+use Rattle.std.specs.Prelude.{ℕ, Bool, true, false, ◌==◌, ◌||◌, List, [], ◌∷◌, length}
+use Rattle.std.specs.Prelude.{filter_map, Option, Some, None, option_map, option_and_then, slice_index, if◌then◌else◌, codes}
 use Rattle.std.specs.Str.{bytes_eq}
 use Rattle.std.specs.Str.Lines.{lines}
 use Rattle.due_key.specs.Range.{nearest}
@@ -23,7 +24,9 @@ named word = if is_name word then Some word else None
 -- an arrival at a moment, with its class and its offset, each the nearer end where it is out of range, and its pin
 abbrev pub arrival_of : List ℕ → List ℕ → List ℕ → Option (List ℕ) → Option Step
 arrival_of moment class offset pin =
-    option_and_then (λ at. option_and_then (λ rank. option_map (λ shift. Arrive at (nearest LOWEST_CLASS HIGHEST_CLASS rank) (nearest LOWEST_OFFSET HIGHEST_OFFSET shift) pin) (signed_numeral 18 offset)) (signed_numeral 18 class)) (numeral 18 moment)
+    option_and_then (λ at. option_and_then (λ rank.
+    option_map (λ shift. Arrive at (nearest LOWEST_CLASS HIGHEST_CLASS rank) (nearest LOWEST_OFFSET HIGHEST_OFFSET shift) pin) (signed_numeral 18 offset))
+    (signed_numeral 18 class)) (numeral 18 moment)
 
 -- the same by the words behind `arrive`: a third one names the server of the pin
 abbrev pub arrival_line : List ℕ → List (List ℕ) → Option Step
@@ -33,7 +36,8 @@ arrival_line moment others = None
 
 -- a moment, and the ticket that the one word behind an event's name is
 abbrev pub ticketed : List ℕ → List (List ℕ) → Option (ℕ × ℕ)
-ticketed moment others = option_and_then (λ at. option_and_then (λ word. option_map (λ ticket. (at, ticket)) (numeral 18 word)) (only others)) (numeral 18 moment)
+ticketed moment others = option_and_then (λ at. option_and_then (λ word. option_map (λ ticket. (at, ticket)) (numeral 18 word)) (only others))
+    (numeral 18 moment)
 
 -- the return of a slot at a moment, by the word behind `done`: the ticket
 abbrev pub return_of : List ℕ → List (List ℕ) → Option Step
@@ -58,12 +62,14 @@ result_of word = if bytes_eq word (codes "up") then Some true else if bytes_eq w
 
 -- a check at a moment, by the words behind `check`: the server's name, and what the check came to
 abbrev pub check_of : List ℕ → List (List ℕ) → Option Step
-check_of moment (server ∷ result ∷ []) = option_and_then (λ at. option_and_then (λ name. option_map (λ answered. Check at name answered) (result_of result)) (named server)) (numeral 18 moment)
+check_of moment (server ∷ result ∷ []) = option_and_then
+    (λ at. option_and_then (λ name. option_map (λ answered. Check at name answered) (result_of result)) (named server)) (numeral 18 moment)
 check_of moment others = None
 
 -- a new limit at a moment, by the words behind `limit`: the server's name, and how many requests it may serve
 abbrev pub limit_of : List ℕ → List (List ℕ) → Option Step
-limit_of moment (server ∷ limit ∷ []) = option_and_then (λ at. option_and_then (λ name. option_map (λ most. Limit at name most) (numeral 9 limit)) (named server)) (numeral 18 moment)
+limit_of moment (server ∷ limit ∷ []) = option_and_then
+    (λ at. option_and_then (λ name. option_map (λ most. Limit at name most) (numeral 9 limit)) (named server)) (numeral 18 moment)
 limit_of moment others = None
 
 -- the next window, by the one word of the line

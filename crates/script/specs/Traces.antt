@@ -4,7 +4,8 @@ use Rattle.std.specs.List.{flat_map}
 use Rattle.std.specs.Fmt.{decimal, signed_decimal}
 use Rattle.dispatch_log.specs.declared.entry.Arrival.{Arrival}
 use Rattle.dispatch_log.specs.declared.entry.Entry.{Entry}
-use Rattle.dispatch_log.specs.declared.entry.Entry.TheVariants.{Arrive, Done, Fail, Abort, Tick, Check, Limit, Direct, Joined, Granted, Moved, Freed, Retried, Left, Health, Ended}
+use Rattle.dispatch_log.specs.declared.entry.Entry.TheVariants.{Arrive, Done, Fail, Abort, Tick, Check, Limit, Direct}
+use Rattle.dispatch_log.specs.declared.entry.Entry.TheVariants.{Joined, Granted, Moved, Freed, Retried, Left, Health, Ended}
 use Rattle.dispatch_log.specs.declared.queue.Queue.{Queue}
 use Rattle.dispatch_log.specs.declared.queue.Queue.TheVariants.{Backend, Server}
 use Rattle.dispatch_log.specs.declared.refusal.Refusal.{Refusal}
@@ -31,7 +32,8 @@ pin_text names (Some server) = codes " " ++ name_of names server
 
 -- an arrival at a moment, with its ticket, class and due date
 abbrev pub arrival_text : ℕ → Arrival → List ℕ
-arrival_text moment arrival = decimal moment ++ codes " arrive " ++ decimal arrival.ticket ++ codes " " ++ signed_decimal arrival.class ++ codes " " ++ signed_decimal arrival.due
+arrival_text moment arrival = decimal moment ++ codes " arrive " ++ decimal arrival.ticket ++ codes " " ++ signed_decimal arrival.class ++ codes " " ++
+    signed_decimal arrival.due
 
 -- the line of an entry, under these names of the servers
 abbrev pub entry_text : List (List ℕ) → Entry → List ℕ
@@ -44,10 +46,12 @@ entry_text names (Check moment server answered) = decimal moment ++ codes " chec
 entry_text names (Limit moment server limit) = decimal moment ++ codes " limit " ++ name_of names server ++ codes " " ++ decimal limit ++ codes "\n"
 entry_text names (Direct ticket server) = codes "  direct " ++ decimal ticket ++ codes " " ++ name_of names server ++ codes "\n"
 entry_text names (Joined ticket queue) = codes "  join " ++ decimal ticket ++ codes " " ++ queue_name names queue ++ codes "\n"
-entry_text names (Granted ticket queue server) = codes "  grant " ++ decimal ticket ++ codes " " ++ queue_name names queue ++ codes " " ++ name_of names server ++ codes "\n"
+entry_text names (Granted ticket queue server) =
+    codes "  grant " ++ decimal ticket ++ codes " " ++ queue_name names queue ++ codes " " ++ name_of names server ++ codes "\n"
 entry_text names (Moved ticket server) = codes "  move " ++ decimal ticket ++ codes " " ++ name_of names server ++ codes "\n"
 entry_text names (Freed ticket server) = codes "  free " ++ decimal ticket ++ codes " " ++ name_of names server ++ codes "\n"
-entry_text names (Retried ticket server failures) = codes "  retry " ++ decimal ticket ++ codes " " ++ name_of names server ++ codes " " ++ decimal failures ++ codes "\n"
+entry_text names (Retried ticket server failures) =
+    codes "  retry " ++ decimal ticket ++ codes " " ++ name_of names server ++ codes " " ++ decimal failures ++ codes "\n"
 entry_text names (Left ticket cause) = codes "  left " ++ decimal ticket ++ codes " " ++ word_of cause ++ codes "\n"
 entry_text names (Health server up) = codes "  health " ++ name_of names server ++ codes " " ++ health_word up ++ codes "\n"
 entry_text names (Ended ticket) = codes "  end " ++ decimal ticket ++ codes "\n"

@@ -1,5 +1,6 @@
 -- The heads of the queues where one request waits.
-use Rattle.std.proofs.Common.{◌≡◌, ◌≢◌, ℕ, zero, suc, List, Option, None, Some, IsTrue, replicate, option_map, slice_get, refl, ap, sym, ◌∙◌, subst, inl, inr, Less, Greater}
+use Rattle.std.proofs.Common.{◌≡◌, ◌≢◌, ℕ, zero, suc, List, Option, None, Some, IsTrue, replicate}
+use Rattle.std.proofs.Common.{option_map, slice_get, refl, ap, sym, ◌∙◌, subst, inl, inr, Less, Greater}
 use Rattle.std.proofs.Math.ListN.{set}
 use Rattle.std.proofs.lemmas.Option.{same_Some, slice_get-map}
 use Rattle.due_key.specs.declared.key.Key.{Key}
@@ -23,11 +24,14 @@ not_above : (k : Key) → key_cmp k k ≢ Greater
 not_above k greater = let less : key_cmp k k ≡ Less = less_from_greater key_cmp_total k k greater in cc
 
 -- the backend's head is the one request's key, and another queue has none
-pub heads_of_one : (heads : Heads) (server : ℕ) (rows : Rows) (p : ℕ) (row : Row) (since : ℕ) → StandsAt rows p row → ((other : Row) → IsRow rows other → row ≡ other) → row.phase ≡ Waiting Backend since
+pub heads_of_one : (heads : Heads) (server : ℕ) (rows : Rows) (p : ℕ) (row : Row) (since : ℕ) → StandsAt rows p row
+    → ((other : Row) → IsRow rows other → row ≡ other) → row.phase ≡ Waiting Backend since
     → heads.own ≡ None → heads.backend ≡ Some row.key → AreHeads heads server rows
 heads_of_one heads server rows p row since stands only phase none head = record {
   own = subst (λ (h : Option Key). IsHead h (Server server) rows) (sym none) (λ other live waits.
-      let own : IsTrue (phase_waits_in (Server server) (Waiting Backend since)) = subst (λ (it : Phase). IsTrue (phase_waits_in (Server server) it)) phase (subst (λ (r : Row). IsTrue (phase_waits_in (Server server) r.phase)) (sym (only other live)) waits) in
+      let own : IsTrue (phase_waits_in (Server server) (Waiting Backend since)) =
+      subst (λ (it : Phase). IsTrue (phase_waits_in (Server server) it)) phase
+      (subst (λ (r : Row). IsTrue (phase_waits_in (Server server) r.phase)) (sym (only other live)) waits) in
       cc);
   backend = subst (λ (h : Option Key). IsHead h Backend rows) (sym head) (record {
     row = row;
@@ -46,7 +50,8 @@ module _ {H : Type 0} where
   row_at : (slots : List (Option (Slot H))) (p : ℕ) (row : Row) → StandsAt (rows_in slots) p row → (s : Slot H) × StandsIn slots p s × (s.row ≡ row)
   row_at slots p row stands = by_cell (slice_get slots p) refl (sym (slice_get-map (option_map (λ (it : Slot H). it.row)) slots p) ∙ stands)
     where
-      by_cell : (cell : Option (Option (Slot H))) → slice_get slots p ≡ cell → option_map (option_map (λ (it : Slot H). it.row)) cell ≡ Some (Some row) → (s : Slot H) × StandsIn slots p s × (s.row ≡ row)
+      by_cell : (cell : Option (Option (Slot H))) → slice_get slots p ≡ cell → option_map (option_map (λ (it : Slot H). it.row)) cell ≡ Some (Some row)
+          → (s : Slot H) × StandsIn slots p s × (s.row ≡ row)
       by_cell None at e = let f : None ≡ Some (Some row) = e in cc
       by_cell (Some None) at e = let f : Some None ≡ Some (Some row) = e in cc
       by_cell (Some (Some s)) at e = (s, at, same_Some s.row row (same_Some (Some s.row) (Some row) e))
@@ -57,9 +62,11 @@ module _ {H : Type 0} where
   none_yet (suc n) (suc p) s e = none_yet n p s e
 
   -- the first request that is put at a place is the only one
-  pub one_stands : (empty now : List (Option (Slot H))) (n p : ℕ) (slot : Slot H) → empty ≡ replicate n None → slice_get empty p ≡ Some None → now ≡ set empty p (Some slot)
+  pub one_stands : (empty now : List (Option (Slot H))) (n p : ℕ) (slot : Slot H) → empty ≡ replicate n None → slice_get empty p ≡ Some None
+      → now ≡ set empty p (Some slot)
       → StandsAt (rows_in now) p slot.row × ((other : Row) → IsRow (rows_in now) other → slot.row ≡ other)
-  one_stands empty now n p slot none free put = (stands_as now p slot (put_stands empty now p slot free put), λ other live. alone other live.0 (row_at now live.0 other live.1))
+  one_stands empty now n p slot none free put =
+      (stands_as now p slot (put_stands empty now p slot free put), λ other live. alone other live.0 (row_at now live.0 other live.1))
     where
       alone : (other : Row) (q : ℕ) → (s : Slot H) × StandsIn now q s × (s.row ≡ other) → slot.row ≡ other
       alone other q it =

@@ -1,5 +1,6 @@
 -- Placements and picks.
-use Rattle.std.proofs.Common.{◌≡◌, ℕ, ◌+◌, ◌<◌, ◌==◌, nat_lt, ◌||◌, ◌&&◌, Bool, true, false, Option, None, Some, MatchOption, List, length, slice_get, ◌↔◌, refl, sym, ◌∙◌, subst, arith, inl, inr}
+use Rattle.std.proofs.Common.{◌≡◌, ℕ, ◌+◌, ◌<◌, ◌==◌, nat_lt, ◌||◌, ◌&&◌, Bool, true, false, Option, None}
+use Rattle.std.proofs.Common.{Some, MatchOption, List, length, slice_get, ◌↔◌, refl, sym, ◌∙◌, subst, arith, inl, inr}
 use Rattle.std.specs.Option.{option_map_or}
 use Rattle.std.proofs.lemmas.Bool.Decides.{nat_tests, Decides-eqb}
 use Rattle.std.proofs.lemmas.Option.{same_Some}
@@ -29,13 +30,17 @@ pub room_takes : (scene : Scene) (server : ℕ) → has_room scene server ≡ tr
 room_takes scene server room = by_up (is_up scene server) room
   where
     by_server : (it : Option ServerSet)
-        → option_map_or (λ (x : ServerSet). (limit_of scene server == 0) || nat_lt (served server scene.rows + queued (Server server) scene.rows) (limit_of scene server + x.maxqueue)) it false ≡ true
-        → option_map_or (λ (x : ServerSet). (limit_of scene server == 0) || nat_lt (served server scene.rows) (limit_of scene server)) it false || option_map_or (λ (x : ServerSet). (x.maxqueue == 0) || nat_lt (queued (Server server) scene.rows) x.maxqueue) it false ≡ true
+        → option_map_or (λ (x : ServerSet). (limit_of scene server == 0) || nat_lt (served server scene.rows + queued (Server server) scene.rows)
+        (limit_of scene server + x.maxqueue)) it false ≡ true
+        → option_map_or (λ (x : ServerSet). (limit_of scene server == 0) || nat_lt (served server scene.rows) (limit_of scene server)) it false || option_map_or
+        (λ (x : ServerSet). (x.maxqueue == 0) || nat_lt (queued (Server server) scene.rows) x.maxqueue) it false ≡ true
     by_server None e = cc
     by_server (Some x) e = grind (arith, nat_tests)
 
     by_up : (up : Bool)
-        → (up && of_server scene server (λ it. nat_lt 0 it.weight)) && of_server scene server (λ it. (limit_of scene server == 0) || nat_lt (served server scene.rows + queued (Server server) scene.rows) (limit_of scene server + it.maxqueue)) ≡ true
+        → (up && of_server scene server (λ it. nat_lt 0 it.weight)) && of_server scene server
+        (λ it. (limit_of scene server == 0) || nat_lt (served server scene.rows + queued (Server server) scene.rows) (limit_of scene server + it.maxqueue))
+        ≡ true
         → up && (is_free scene server || of_server scene server (λ it. (it.maxqueue == 0) || nat_lt (queued (Server server) scene.rows) it.maxqueue)) ≡ true
     by_up true e = by_server (slice_get scene.servers server) (and_second (of_server scene server (λ it. nat_lt 0 it.weight)) _ e)
     by_up false e = cc
@@ -51,7 +56,8 @@ none_has_room scene avoid none server room = none server (
 )
 
 -- the candidates are those with room but the avoided one, and where there are none of these the avoided one
-pub candidate_others : (scene : Scene) (avoid : Option ℕ) (server : ℕ) → ((other : ℕ) × HasRoomBut scene avoid other) → HasRoomBut scene avoid server ↔ IsCandidate scene avoid server
+pub candidate_others : (scene : Scene) (avoid : Option ℕ) (server : ℕ) → ((other : ℕ) × HasRoomBut scene avoid other)
+    → HasRoomBut scene avoid server ↔ IsCandidate scene avoid server
 candidate_others scene avoid server some = (
   (λ has. (has.0, λ avoids. absurd (has.1 avoids))),
   (λ candidate. (
@@ -62,7 +68,8 @@ candidate_others scene avoid server some = (
   )),
 )
 
-pub candidate_left : (scene : Scene) (avoid : Option ℕ) (own server : ℕ) → avoid ≡ Some own → has_room scene own ≡ true → ((other : ℕ) → HasRoomBut scene avoid other → ⊥) → (server ≡ own) ↔ IsCandidate scene avoid server
+pub candidate_left : (scene : Scene) (avoid : Option ℕ) (own server : ℕ) → avoid ≡ Some own → has_room scene own ≡ true
+    → ((other : ℕ) → HasRoomBut scene avoid other → ⊥) → (server ≡ own) ↔ IsCandidate scene avoid server
 candidate_left scene avoid own server avoids room none = (
   (λ e. (subst (λ k. has_room scene k ≡ true) (sym e) room, λ same other its. alone other its ∙ sym e)),
   (λ candidate. alone server candidate.0),
@@ -75,14 +82,16 @@ candidate_left scene avoid own server avoids room none = (
     ]
 
 -- where the avoided one has no room, or there is none, they are those with room but it
-pub candidate_none : (scene : Scene) (avoid : Option ℕ) (server : ℕ) → ((own : ℕ) → avoid ≡ Some own → has_room scene own ≡ true → ⊥) → HasRoomBut scene avoid server ↔ IsCandidate scene avoid server
+pub candidate_none : (scene : Scene) (avoid : Option ℕ) (server : ℕ) → ((own : ℕ) → avoid ≡ Some own → has_room scene own ≡ true → ⊥)
+    → HasRoomBut scene avoid server ↔ IsCandidate scene avoid server
 candidate_none scene avoid server none = (
   (λ has. (has.0, λ avoids. absurd (has.1 avoids))),
   (λ candidate. (candidate.0, λ avoids. none server avoids candidate.0)),
 )
 
 -- picks of equal sets
-pub pick_same : (scene : Scene) (cursor : ℕ) (among others : ℕ → Type 0) (server : ℕ) → ((k : ℕ) → among k ↔ others k) → IsPick scene cursor among server → IsPick scene cursor others server
+pub pick_same : (scene : Scene) (cursor : ℕ) (among others : ℕ → Type 0) (server : ℕ) → ((k : ℕ) → among k ↔ others k) → IsPick scene cursor among server
+    → IsPick scene cursor others server
 pick_same scene cursor among others server same is = record {
   member = (same server).0 is.member;
   least = λ other own. is.least other ((same other).1 own);
@@ -90,21 +99,24 @@ pick_same scene cursor among others server same is = record {
 }
 
 -- a server that was chosen is where the request is put
-pub chosen_placed : (scene : Scene) (cursor : ℕ) (pin avoid : Option ℕ) (server : ℕ) → IsChosen scene cursor pin avoid server → IsPlacement scene cursor pin avoid (placed_on scene server)
+pub chosen_placed : (scene : Scene) (cursor : ℕ) (pin avoid : Option ℕ) (server : ℕ) → IsChosen scene cursor pin avoid server
+    → IsPlacement scene cursor pin avoid (placed_on scene server)
 chosen_placed scene cursor pin avoid server chosen = by_test (is_free scene server) refl
   where
     by_test : (b : Bool) → is_free scene server ≡ b → IsPlacement scene cursor pin avoid (placed_on scene server)
     by_test true e = rw e (chosen, e)
     by_test false e = rw e (chosen, λ free. let no : false ≡ true = sym e ∙ free in cc)
 
-pub picked_placed : (scene : Scene) (cursor : ℕ) (pin avoid : Option ℕ) (set : ℕ) (server : ℕ) → working_pin scene pin ≡ None → ((k : ℕ) → IsIn set k ↔ IsCandidate scene avoid k) → IsPick scene cursor (IsIn set) server → IsPlacement scene cursor pin avoid (placed_on scene server)
+pub picked_placed : (scene : Scene) (cursor : ℕ) (pin avoid : Option ℕ) (set : ℕ) (server : ℕ) → working_pin scene pin ≡ None
+    → ((k : ℕ) → IsIn set k ↔ IsCandidate scene avoid k) → IsPick scene cursor (IsIn set) server → IsPlacement scene cursor pin avoid (placed_on scene server)
 picked_placed scene cursor pin avoid set server none same is =
     chosen_placed scene cursor pin avoid server
     (subst (λ (w : Option ℕ). MatchOption w (IsPick scene cursor (IsCandidate scene avoid) server) (λ own. own ≡ server)) (sym none)
     (pick_same scene cursor (IsIn set) (IsCandidate scene avoid) server same is))
 
 -- a pick is none of a pin
-pub cursor_picked : (scene : Scene) (cursor now : ℕ) (pin : Option ℕ) (server : ℕ) → working_pin scene pin ≡ None → has_room scene server ≡ true → now ≡ server → now ≡ cursor_placed pin (placed_on scene server) cursor
+pub cursor_picked : (scene : Scene) (cursor now : ℕ) (pin : Option ℕ) (server : ℕ) → working_pin scene pin ≡ None → has_room scene server ≡ true → now ≡ server
+    → now ≡ cursor_placed pin (placed_on scene server) cursor
 cursor_picked scene cursor now pin server none room moved = moved ∙ by_free (is_free scene server) refl
   where
     by_pin : (p : Option ℕ) → working_pin scene p ≡ None → server ≡ put_on server p cursor

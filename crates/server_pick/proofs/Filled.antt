@@ -1,5 +1,6 @@
 -- Sets of servers that a loop fills.
-use Rattle.std.proofs.Common.{◌≡◌, ℕ, zero, suc, ◌+◌, ◌<◌, ◌≤◌, ◌==◌, nat_lt, ◌||◌, Bool, true, false, List, Option, None, Some, IsTrue, replicate, slice_index_or, slice_get, ◌↔◌, length, refl, ap, sym, subst, arith, inl, inr}
+use Rattle.std.proofs.Common.{◌≡◌, ℕ, zero, suc, ◌+◌, ◌<◌, ◌≤◌, ◌==◌, nat_lt, ◌||◌, Bool, true, false, List, Option}
+use Rattle.std.proofs.Common.{None, Some, IsTrue, replicate, slice_index_or, slice_get, ◌↔◌, length, refl, ap, sym, subst, arith, inl, inr}
 use Rattle.std.specs.Option.{option_map_or}
 use Rattle.std.proofs.lemmas.Option.{slice_get_within}
 use Rattle.dispatch_log.specs.declared.setup.ServerSet.{ServerSet}
@@ -17,16 +18,22 @@ pub filled_none : (passes : ℕ → Type 0) (set : ℕ) → ((server : ℕ) → 
 filled_none passes set none = λ server. ((λ own. absurd (none server own)), (λ both. let h = both.0 in absurd (omega arith)))
 
 -- one server more, where it passes
-pub filled_step : (passes : ℕ → Type 0) (server : ℕ) (wanted : Bool) (set next : ℕ) → (IsTrue wanted ↔ passes server) → IsMore server wanted set next → IsFilled passes server set → IsFilled passes (server + 1) next
+pub filled_step : (passes : ℕ → Type 0) (server : ℕ) (wanted : Bool) (set next : ℕ) → (IsTrue wanted ↔ passes server) → IsMore server wanted set next
+    → IsFilled passes server set → IsFilled passes (server + 1) next
 filled_step passes server wanted set next test more is = λ other. (
   (λ inside. elim ((more other).0 inside) [
     | inl e ↦ let h = (is other).0 e in let l = h.0 in (omega arith, h.1)
     | inr e ↦ (omega (arith, e.1), subst passes (sym e.1) (test.0 e.0))
   ]),
-  (λ both. elim (below_cases other server both.0) [ inl e ↦ (more other).1 (inl ((is other).1 (e, both.1))) | inr e ↦ (more other).1 (inr (test.1 (subst passes e both.1), e)) ]),
+  (λ both. elim (below_cases other server both.0) [
+    | inl e ↦ (more other).1 (inl ((is other).1 (e, both.1)))
+    | inr e ↦ (more other).1
+        (inr (test.1 (subst passes e both.1), e))
+  ]),
 )
 
-pub filled_all : (passes : ℕ → Type 0) (servers : ℕ) (set : ℕ) → ((server : ℕ) → passes server → server < servers) → IsFilled passes servers set → (server : ℕ) → IsIn set server ↔ passes server
+pub filled_all : (passes : ℕ → Type 0) (servers : ℕ) (set : ℕ) → ((server : ℕ) → passes server → server < servers) → IsFilled passes servers set → (server : ℕ)
+    → IsIn set server ↔ passes server
 filled_all passes servers set within is server = ((λ own. ((is server).0 own).1), (λ passing. (is server).1 (within server passing, passing)))
 
 -- a server that passes a test is one of them
@@ -42,4 +49,5 @@ pub loop_end : (setup now : Setup) (len next : ℕ) → setup ≡ now → len �
 loop_end setup now len next same is low high = let e : length setup.servers ≡ length now.servers = ap (λ (s : Setup). length s.servers) same in omega arith
 
 pub free_within : (scene : Scene) (server : ℕ) → is_free scene server ≡ true → server < length scene.servers
-free_within scene server free = server_within scene server (λ it. (limit_of scene server == 0) || nat_lt (served server scene.rows) (limit_of scene server)) free
+free_within scene server free = server_within scene server
+    (λ it. (limit_of scene server == 0) || nat_lt (served server scene.rows) (limit_of scene server)) free

@@ -1,5 +1,6 @@
 -- Sets of servers as the bits of a number.
-use Rattle.std.proofs.Common.{◌≡◌, ◌≢◌, ◌==◌, ℕ, zero, suc, ◌+◌, ◌*◌, ◌^◌, ◌<◌, ◌≤◌, ◌/◌, ◌%◌, nat_lt, bit_or, Bool, true, false, w64, refl, sym, ap, ◌∙◌, subst, arith, ◌↔◌, ◌⊎◌, inl, inr}
+use Rattle.std.proofs.Common.{◌≡◌, ◌≢◌, ◌==◌, ℕ, zero, suc, ◌+◌, ◌*◌, ◌^◌, ◌<◌, ◌≤◌, ◌/◌, ◌%◌, nat_lt, bit_or}
+use Rattle.std.proofs.Common.{Bool, true, false, w64, refl, sym, ap, ◌∙◌, subst, arith, ◌↔◌, ◌⊎◌, inl, inr}
 use Rattle.std.specs.Int.{bit_at}
 use Rattle.std.proofs.lemmas.Bool.Decides.{Decides-eqb, nat_tests}
 use Rattle.std.proofs.lemmas.Nat.Bits.{bit_at_lowest, bit_at-suc, bit_at-lt, bit_at-zero, bit_at_above, bit_at_set_same, bit_at_set_other}
@@ -46,5 +47,6 @@ one_more marks server within other = by_number (other == server) refl
         ((λ own. inr same), (λ either. ap (λ n. n == 1) (ap (bit_at (bit_or marks (1 * 2 ^ server % 2 ^ 64))) same ∙ bit_at_set_same w64 marks server within)))
     by_number false e =
         let differs : other ≢ server = (λ same. let yes : (other == server) ≡ true = (Decides-eqb other server).1 same in cc) in
-        let kept : has (bit_or marks (1 * 2 ^ server % 2 ^ 64)) other ≡ has marks other = ap (λ n. n == 1) (bit_at_set_other w64 marks server within other differs) in
+        let kept : has (bit_or marks (1 * 2 ^ server % 2 ^ 64)) other ≡ has marks other =
+        ap (λ n. n == 1) (bit_at_set_other w64 marks server within other differs) in
         ((λ own. inl (sym kept ∙ own)), (λ either. elim either [ inl own ↦ kept ∙ own | inr same ↦ absurd (differs same) ]))

@@ -1,5 +1,6 @@
 -- The order in which balancing prefers servers, and the best of several.
-use Rattle.std.proofs.Common.{◌≡◌, ℕ, ◌+◌, ◌*◌, ◌<◌, ◌≤◌, ◌==◌, nat_lt, ◌||◌, ◌&&◌, Bool, true, false, Option, None, Some, MatchOption, IsTrue, slice_get, ◌↔◌, refl, ap, sym, subst, arith, ◌⊎◌, inl, inr}
+use Rattle.std.proofs.Common.{◌≡◌, ℕ, ◌+◌, ◌*◌, ◌<◌, ◌≤◌, ◌==◌, nat_lt, ◌||◌, ◌&&◌, Bool, true, false, Option}
+use Rattle.std.proofs.Common.{None, Some, MatchOption, IsTrue, slice_get, ◌↔◌, refl, ap, sym, subst, arith, ◌⊎◌, inl, inr}
 use Rattle.std.specs.Option.{option_map_or}
 use Rattle.std.proofs.Math.Nat.{mul_right_comm, mul-lt-mul_of_pos_right, lt_of_mul-lt-mul_right, le_of_mul-le-mul_right}
 use Rattle.std.proofs.lemmas.Bool.Decides.{nat_tests}
@@ -73,7 +74,8 @@ trans l w d m v e n u f pw pv pu one two = go (split (l * v) (m * w) d e one) (s
 pub usable_weight : (scene : Scene) (server : ℕ) → is_usable scene server ≡ true → 0 < weight_of scene server
 usable_weight scene server usable = by_server (slice_get scene.servers server) (and_second (is_up scene server) _ usable)
   where
-    by_server : (it : Option ServerSet) → option_map_or (λ (x : ServerSet). nat_lt 0 x.weight) it false ≡ true → 0 < option_map_or (λ (x : ServerSet). x.weight) it 0
+    by_server : (it : Option ServerSet) → option_map_or (λ (x : ServerSet). nat_lt 0 x.weight) it false ≡ true
+        → 0 < option_map_or (λ (x : ServerSet). x.weight) it 0
     by_server None e = cc
     by_server (Some x) e = grind (arith, nat_tests)
 
@@ -81,14 +83,17 @@ usable_weight scene server usable = by_server (slice_get scene.servers server) (
 pub weight_usable : (scene : Scene) (server : ℕ) → is_up scene server ≡ true → 0 < weight_of scene server → is_usable scene server ≡ true
 weight_usable scene server up some = rw up (by_server (slice_get scene.servers server) some)
   where
-    by_server : (it : Option ServerSet) → 0 < option_map_or (λ (x : ServerSet). x.weight) it 0 → option_map_or (λ (x : ServerSet). nat_lt 0 x.weight) it false ≡ true
+    by_server : (it : Option ServerSet) → 0 < option_map_or (λ (x : ServerSet). x.weight) it 0
+        → option_map_or (λ (x : ServerSet). nat_lt 0 x.weight) it false ≡ true
     by_server None e = absurd (omega arith)
     by_server (Some x) e = grind (arith, nat_tests)
 
 -- going before is transitive among servers with weights
-pub before_trans : (scene : Scene) (cursor a b c : ℕ) → 0 < weight_of scene a → 0 < weight_of scene b → 0 < weight_of scene c → goes_before scene cursor a b ≡ true → goes_before scene cursor b c ≡ true → goes_before scene cursor a c ≡ true
+pub before_trans : (scene : Scene) (cursor a b c : ℕ) → 0 < weight_of scene a → 0 < weight_of scene b → 0 < weight_of scene c
+    → goes_before scene cursor a b ≡ true → goes_before scene cursor b c ≡ true → goes_before scene cursor a c ≡ true
 unfolding test
-before_trans scene cursor a b c = trans (load scene a) (weight_of scene a) (steps_after scene cursor a) (load scene b) (weight_of scene b) (steps_after scene cursor b) (load scene c) (weight_of scene c) (steps_after scene cursor c)
+before_trans scene cursor a b c = trans (load scene a) (weight_of scene a) (steps_after scene cursor a) (load scene b) (weight_of scene b)
+    (steps_after scene cursor b) (load scene c) (weight_of scene c) (steps_after scene cursor c)
 
 -- no server goes before itself
 pub before_itself : (scene : Scene) (cursor a : ℕ) → goes_before scene cursor a a ≡ false
@@ -112,8 +117,10 @@ below_cases k n below = by_test (nat_lt k n) refl
     by_test false t = inr (grind (arith, nat_tests))
 
 -- the next server isn't of the set
-pub best_skips : (scene : Scene) (cursor : ℕ) (among : ℕ → Type 0) (server : ℕ) (best : Option ℕ) → (among server → ⊥) → IsBest scene cursor among server best → IsBest scene cursor among (server + 1) best
-best_skips scene cursor among server None not is = λ other below own. elim (below_cases other server below) [ inl e ↦ is other e own | inr e ↦ not (subst among e own) ]
+pub best_skips : (scene : Scene) (cursor : ℕ) (among : ℕ → Type 0) (server : ℕ) (best : Option ℕ) → (among server → ⊥) → IsBest scene cursor among server best
+    → IsBest scene cursor among (server + 1) best
+best_skips scene cursor among server None not is = λ other below own.
+    elim (below_cases other server below) [ inl e ↦ is other e own | inr e ↦ not (subst among e own) ]
 best_skips scene cursor among server (Some found) not is = (
   (let f = is.0 in omega arith),
   is.1,
@@ -121,12 +128,17 @@ best_skips scene cursor among server (Some found) not is = (
 )
 
 -- the next server doesn't go before the best
-pub best_stays : (scene : Scene) (cursor : ℕ) (among : ℕ → Type 0) (server : ℕ) (best : Option ℕ) → beats scene cursor server best ≡ false → IsBest scene cursor among server best → IsBest scene cursor among (server + 1) best
+pub best_stays : (scene : Scene) (cursor : ℕ) (among : ℕ → Type 0) (server : ℕ) (best : Option ℕ) → beats scene cursor server best ≡ false
+    → IsBest scene cursor among server best → IsBest scene cursor among (server + 1) best
 best_stays scene cursor among server None loses is = cc
 best_stays scene cursor among server (Some found) loses is = (
   (let f = is.0 in omega arith),
   is.1,
-  λ other below own. elim (below_cases other server below) [ inl e ↦ is.2 other e own | inr e ↦ subst (λ k. goes_before scene cursor k found ≡ false) (sym e) loses ],
+  λ other below own. elim (below_cases other server below) [
+    | inl e ↦ is.2 other e own
+    | inr e ↦ subst (λ k. goes_before scene cursor k found ≡ false)
+        (sym e) loses
+  ],
 )
 
 not_both : {P : Type 0} (b : Bool) → b ≡ true → b ≡ false → P
@@ -134,11 +146,16 @@ not_both true t f = cc
 not_both false t f = cc
 
 -- the next server is the best from now on
-pub best_moves : (scene : Scene) (cursor : ℕ) (among : ℕ → Type 0) (server : ℕ) (best : Option ℕ) → AreUsable scene among → among server → beats scene cursor server best ≡ true → IsBest scene cursor among server best → IsBest scene cursor among (server + 1) (Some server)
+pub best_moves : (scene : Scene) (cursor : ℕ) (among : ℕ → Type 0) (server : ℕ) (best : Option ℕ) → AreUsable scene among → among server
+    → beats scene cursor server best ≡ true → IsBest scene cursor among server best → IsBest scene cursor among (server + 1) (Some server)
 best_moves scene cursor among server None usable own wins is = (
   omega arith,
   own,
-  λ other below its. elim (below_cases other server below) [ inl e ↦ absurd (is other e its) | inr e ↦ subst (λ k. goes_before scene cursor k server ≡ false) (sym e) (before_itself scene cursor server) ],
+  λ other below its. elim (below_cases other server below) [
+    | inl e ↦ absurd (is other e its)
+    | inr e ↦ subst (λ k. goes_before scene cursor k server ≡ false)
+        (sym e) (before_itself scene cursor server)
+  ],
 )
 best_moves scene cursor among server (Some found) usable own wins is = (
   omega arith,
@@ -153,7 +170,8 @@ best_moves scene cursor among server (Some found) usable own wins is = (
     by_test other below its false t = refl
     by_test other below its true t =
         let w : (k : ℕ) → among k → 0 < weight_of scene k = λ k in_set. usable_weight scene k (usable k in_set) in
-        not_both (goes_before scene cursor other found) (before_trans scene cursor other server found (w other its) (w server own) (w found is.1) t wins) (is.2 other below its)
+        not_both (goes_before scene cursor other found) (before_trans scene cursor other server found (w other its) (w server own) (w found is.1) t wins)
+        (is.2 other below its)
 
 no_less : (a b d e : ℕ) → test a b d e ≡ false → b ≤ a
 unfolding test
@@ -164,7 +182,8 @@ unfolding test
 no_nearer a b d e is few = grind (arith, nat_tests)
 
 -- one server more
-pub best_step : (scene : Scene) (cursor : ℕ) (among : ℕ → Type 0) (server : ℕ) (best : Option ℕ) (own : Bool) → (IsTrue own ↔ among server) → AreUsable scene among → IsBest scene cursor among server best → IsBest scene cursor among (server + 1) (better_of scene cursor best own server)
+pub best_step : (scene : Scene) (cursor : ℕ) (among : ℕ → Type 0) (server : ℕ) (best : Option ℕ) (own : Bool) → (IsTrue own ↔ among server)
+    → AreUsable scene among → IsBest scene cursor among server best → IsBest scene cursor among (server + 1) (better_of scene cursor best own server)
 best_step scene cursor among server best false test usable is = best_skips scene cursor among server best (λ own. let e : false ≡ true = test.1 own in cc) is
 best_step scene cursor among server best true test usable is = by_test (beats scene cursor server best) refl
   where
@@ -173,12 +192,15 @@ best_step scene cursor among server best true test usable is = by_test (beats sc
     by_test false t = rw t (best_stays scene cursor among server best t is)
 
 -- the best of all servers is the pick
-pub best_is_pick : (scene : Scene) (cursor : ℕ) (among : ℕ → Type 0) (servers : ℕ) (best : Option ℕ) → ((server : ℕ) → among server → server < servers) → IsBest scene cursor among servers best → MatchOption best ((server : ℕ) → among server → ⊥) (λ server. IsPick scene cursor among server)
+pub best_is_pick : (scene : Scene) (cursor : ℕ) (among : ℕ → Type 0) (servers : ℕ) (best : Option ℕ) → ((server : ℕ) → among server → server < servers)
+    → IsBest scene cursor among servers best → MatchOption best ((server : ℕ) → among server → ⊥) (λ server. IsPick scene cursor among server)
 unfolding test
 best_is_pick scene cursor among servers None within is = λ server own. is server (within server own) own
 best_is_pick scene cursor among servers (Some found) within is = record {
   member = is.1;
-  least = λ other own. no_less (load scene other * weight_of scene found) (load scene found * weight_of scene other) (steps_after scene cursor other) (steps_after scene cursor found) (is.2 other (within other own) own);
+  least = λ other own. no_less (load scene other * weight_of scene found) (load scene found * weight_of scene other) (steps_after scene cursor other)
+      (steps_after scene cursor found) (is.2 other (within other own) own);
   nearest = λ other own least.
-      no_nearer (load scene other * weight_of scene found) (load scene found * weight_of scene other) (steps_after scene cursor other) (steps_after scene cursor found) (is.2 other (within other own) own) (least found is.1);
+      no_nearer (load scene other * weight_of scene found) (load scene found * weight_of scene other) (steps_after scene cursor other)
+      (steps_after scene cursor found) (is.2 other (within other own) own) (least found is.1);
 }

@@ -1,5 +1,6 @@
 -- Servers that take from queues.
-use Rattle.std.proofs.Common.{◌≡◌, ◌≢◌, ℕ, ◌<◌, ◌≤◌, nat_lt, ◌||◌, ◌&&◌, ◌==◌, Bool, true, false, IsTrue, Option, None, Some, MatchOption, slice_get, if◌then◌else◌, ◌↔◌, refl, ap, sym, ◌∙◌, subst, arith, ◌⊎◌, inl, inr, Ordering, Less, Equal, Greater}
+use Rattle.std.proofs.Common.{◌≡◌, ◌≢◌, ℕ, ◌<◌, ◌≤◌, nat_lt, ◌||◌, ◌&&◌, ◌==◌, Bool, true, false, IsTrue, Option, None, Some, MatchOption}
+use Rattle.std.proofs.Common.{slice_get, if◌then◌else◌, ◌↔◌, refl, ap, sym, ◌∙◌, subst, arith, ◌⊎◌, inl, inr, Ordering, Less, Equal, Greater}
 use Rattle.std.specs.Ordering.{is_lt}
 use Rattle.std.proofs.lemmas.Bool.Decides.{Decides-eqb, nat_tests}
 use Rattle.due_key.specs.declared.key.Key.{Key}
@@ -45,26 +46,34 @@ own_queue Backend = refl
 own_queue (Server s) = (Decides-eqb s s).1 refl
 
 -- a row that waits in a queue may go to a server that may take from it
-pub waits_may_go : (scene : Scene) (server : ℕ) (queue : Queue) (phase : Phase) → phase_waits_in queue phase ≡ true → may_take scene server queue ≡ true → may_go_to scene server phase ≡ true
+pub waits_may_go : (scene : Scene) (server : ℕ) (queue : Queue) (phase : Phase) → phase_waits_in queue phase ≡ true → may_take scene server queue ≡ true
+    → may_go_to scene server phase ≡ true
 waits_may_go scene server queue Loose w t = cc
 waits_may_go scene server queue (Serving s) w t = cc
 waits_may_go scene server queue (Told c) w t = cc
 waits_may_go scene server queue (Waiting other since) w t = subst (λ (q : Queue). may_take scene server q ≡ true) (same_queues queue other w) t
 
 -- and a row that may go to a server waits in a queue that it may take from
-pub may_go_waits : (scene : Scene) (server : ℕ) (phase : Phase) → may_go_to scene server phase ≡ true → (queue : Queue) × (phase_waits_in queue phase ≡ true) × (may_take scene server queue ≡ true)
+pub may_go_waits : (scene : Scene) (server : ℕ) (phase : Phase) → may_go_to scene server phase ≡ true
+    → (queue : Queue) × (phase_waits_in queue phase ≡ true) × (may_take scene server queue ≡ true)
 may_go_waits scene server Loose m = cc
 may_go_waits scene server (Serving s) m = cc
 may_go_waits scene server (Told c) m = cc
 may_go_waits scene server (Waiting queue since) m = (queue, own_queue queue, m)
 
 -- a row that may go to a server waits in its own queue where the server is up, or in the backend's where it is usable
-by_queues : (scene : Scene) (server : ℕ) (phase : Phase) → may_go_to scene server phase ≡ true → ((is_up scene server ≡ true) × (phase_waits_in (Server server) phase ≡ true)) ⊎ ((is_usable scene server ≡ true) × (phase_waits_in Backend phase ≡ true))
+by_queues : (scene : Scene) (server : ℕ) (phase : Phase) → may_go_to scene server phase ≡ true
+    → ((is_up scene server ≡ true) × (phase_waits_in (Server server) phase ≡ true)) ⊎ ((is_usable scene server ≡ true) × (phase_waits_in Backend phase ≡ true))
 by_queues scene server phase m = go (may_go_waits scene server phase m)
   where
-    go : (queue : Queue) × (phase_waits_in queue phase ≡ true) × (may_take scene server queue ≡ true) → ((is_up scene server ≡ true) × (phase_waits_in (Server server) phase ≡ true)) ⊎ ((is_usable scene server ≡ true) × (phase_waits_in Backend phase ≡ true))
+    go : (queue : Queue) × (phase_waits_in queue phase ≡ true) × (may_take scene server queue ≡ true)
+        → ((is_up scene server ≡ true) × (phase_waits_in (Server server) phase ≡ true))
+        ⊎ ((is_usable scene server ≡ true) × (phase_waits_in Backend phase ≡ true))
     go (Backend, w, t) = inr (t, w)
-    go (Server own, w, t) = inl (and_first (is_up scene server) (own == server) t, subst (λ s. phase_waits_in (Server s) phase ≡ true) ((Decides-eqb own server).0 (and_second (is_up scene server) (own == server) t)) w)
+    go (Server own, w, t) = inl (
+      and_first (is_up scene server) (own == server) t,
+      subst (λ s. phase_waits_in (Server s) phase ≡ true) ((Decides-eqb own server).0 (and_second (is_up scene server) (own == server) t)) w,
+    )
 
 own_taken : (scene : Scene) (server : ℕ) → is_up scene server ≡ true → may_take scene server (Server server) ≡ true
 own_taken scene server up = rw up ((Decides-eqb server server).1 refl)
@@ -74,13 +83,15 @@ pub taker_up : (scene : Scene) (server : ℕ) → CanTake scene server → is_up
 taker_up scene server can = elim (by_queues scene server can.1.0.phase can.1.2) [ inl w ↦ w.0 | inr w ↦ and_first (is_up scene server) _ w.0 ]
 
 -- somebody waits in a queue exactly where one of the rows does
-pub waits_counted : (queue : Queue) (rows : Rows) → nat_lt 0 (queued queue rows) ≡ true ↔ ((row : Row) × IsRow rows row × (phase_waits_in queue row.phase ≡ true))
+pub waits_counted : (queue : Queue) (rows : Rows)
+    → nat_lt 0 (queued queue rows) ≡ true ↔ ((row : Row) × IsRow rows row × (phase_waits_in queue row.phase ≡ true))
 waits_counted queue rows = (
   (λ some. by_cell (at_some (waits_in queue) rows (let n = some in grind (arith, nat_tests)))),
   (λ it. let some : 1 ≤ queued queue rows = some_at (waits_in queue) rows it.1.0 (Some it.0) it.1.1 it.2 in grind (arith, nat_tests)),
 )
   where
-    by_cell : (i : ℕ) × (x : Option Row) × (slice_get rows i ≡ Some x) × (waits_in queue x ≡ true) → (row : Row) × IsRow rows row × (phase_waits_in queue row.phase ≡ true)
+    by_cell : (i : ℕ) × (x : Option Row) × (slice_get rows i ≡ Some x) × (waits_in queue x ≡ true)
+        → (row : Row) × IsRow rows row × (phase_waits_in queue row.phase ≡ true)
     by_cell (i, Some row, at, waits) = (row, (i, at), waits)
     by_cell (i, None, at, waits) = cc
 
@@ -123,7 +134,8 @@ stay_may_go scene server = (
     two false false c e f = cc
 
 -- the first of weight 0 takes next
-pub weightless_next : (scene : Scene) (cursor : ℕ) (among : ℕ → Type 0) (server : ℕ) → ((k : ℕ) → among k ↔ CanTake scene k) → IsFirstWeightless scene among (Some server) → IsNextTaker scene cursor server
+pub weightless_next : (scene : Scene) (cursor : ℕ) (among : ℕ → Type 0) (server : ℕ) → ((k : ℕ) → among k ↔ CanTake scene k)
+    → IsFirstWeightless scene among (Some server) → IsNextTaker scene cursor server
 weightless_next scene cursor among server same is = record {
   takes = (same server).0 is.0;
   weightless_first = λ other none can. (is.1, is.2 other ((same other).1 can) none);
@@ -131,7 +143,9 @@ weightless_next scene cursor among server same is = record {
 }
 
 -- and where there is none, the pick
-pub picked_next : (scene : Scene) (cursor : ℕ) (among : ℕ → Type 0) (picked : Option ℕ) → ((k : ℕ) → among k ↔ CanTake scene k) → IsFirstWeightless scene among None → MatchOption picked ((k : ℕ) → among k → ⊥) (λ server. IsPick scene cursor among server) → MatchOption picked (IsSettled scene) (IsNextTaker scene cursor)
+pub picked_next : (scene : Scene) (cursor : ℕ) (among : ℕ → Type 0) (picked : Option ℕ) → ((k : ℕ) → among k ↔ CanTake scene k)
+    → IsFirstWeightless scene among None → MatchOption picked ((k : ℕ) → among k → ⊥) (λ server. IsPick scene cursor among server)
+    → MatchOption picked (IsSettled scene) (IsNextTaker scene cursor)
 picked_next scene cursor among None same weighty none = λ server can. none server ((same server).1 can)
 picked_next scene cursor among (Some server) same weighty is = record {
   takes = (same server).0 is.member;
@@ -140,13 +154,15 @@ picked_next scene cursor among (Some server) same weighty is = record {
 }
 
 not_first : (key its : Key) → is_lt (key_cmp its key) ≡ false → key_cmp key its ≢ Greater
-not_first key its f greater = let less : key_cmp its key ≡ Less = less_from_greater key_cmp_total key its greater in let no : true ≡ false = sym (ap is_lt less) ∙ f in cc
+not_first key its f greater = let less : key_cmp its key ≡ Less = less_from_greater key_cmp_total key its greater in let no : true ≡ false = sym (ap is_lt less)
+    ∙ f in cc
 
 first_less : (key mine : Key) → is_lt (key_cmp key mine) ≡ true → key_cmp key mine ≢ Greater
 first_less key mine t greater = let no : false ≡ true = sym (ap is_lt greater) ∙ t in cc
 
 -- the next taker takes the smaller head
-pub lawful_take : (scene : Scene) (cursor : ℕ) (heads : Heads) (server : ℕ) → IsHead heads.own (Server server) scene.rows → IsHead heads.backend Backend scene.rows → IsNextTaker scene cursor server → IsLawfulTake scene cursor heads server (queue_of scene heads server)
+pub lawful_take : (scene : Scene) (cursor : ℕ) (heads : Heads) (server : ℕ) → IsHead heads.own (Server server) scene.rows
+    → IsHead heads.backend Backend scene.rows → IsNextTaker scene cursor server → IsLawfulTake scene cursor heads server (queue_of scene heads server)
 lawful_take scene cursor heads server own other next = go (is_usable scene server) refl heads.own refl own heads.backend refl other
   where
     -- a head that is no greater than any that the server may take
@@ -164,23 +180,34 @@ lawful_take scene cursor heads server own other next = go (is_usable scene serve
         waits = is.waits;
         taken = taken;
         next = next;
-        least = λ r live may. subst (λ (k : Key). key_cmp k r.key ≢ Greater) (sym is.own) (elim (by_queues scene server r.phase may) [ inl w ↦ first r live w.1 | inr w ↦ second r live w.0 w.1 ]);
+        least = λ r live may. subst (λ (k : Key). key_cmp k r.key ≢ Greater) (sym is.own)
+            (elim (by_queues scene server r.phase may) [ inl w ↦ first r live w.1 | inr w ↦ second r live w.0 w.1 ]);
       },
     )
 
     -- some request waits that the server may take
-    idle : {P : Type 0} → ((r : Row) → IsRow scene.rows r → phase_waits_in (Server server) r.phase ≡ true → ⊥) → ((r : Row) → IsRow scene.rows r → is_usable scene server ≡ true → phase_waits_in Backend r.phase ≡ true → ⊥) → P
-    idle first second = absurd (elim (by_queues scene server next.takes.1.0.phase next.takes.1.2) [ inl w ↦ first next.takes.1.0 next.takes.1.1 w.1 | inr w ↦ second next.takes.1.0 next.takes.1.1 w.0 w.1 ])
+    idle : {P : Type 0} → ((r : Row) → IsRow scene.rows r → phase_waits_in (Server server) r.phase ≡ true → ⊥)
+        → ((r : Row) → IsRow scene.rows r → is_usable scene server ≡ true → phase_waits_in Backend r.phase ≡ true → ⊥) → P
+    idle first second = absurd (elim (by_queues scene server next.takes.1.0.phase next.takes.1.2)
+        [ inl w ↦ first next.takes.1.0 next.takes.1.1 w.1 | inr w ↦ second next.takes.1.0 next.takes.1.1 w.0 w.1 ])
 
-    both : (key its : Key) → heads.own ≡ Some key → IsLeastIn (Server server) scene.rows key → heads.backend ≡ Some its → IsLeastIn Backend scene.rows its → is_usable scene server ≡ true → (b : Bool) → is_lt (key_cmp its key) ≡ b → IsLawfulTake scene cursor heads server (if is_lt (key_cmp its key) then Backend else Server server)
-    both key its k own l other e true t = rw t (take Backend its l other e (λ r live w. no_greater its key r.key (first_less its key t) (own.least r live w)) (λ r live u w. other.least r live w))
-    both key its k own l other e false t = rw t (take (Server server) key k own (own_taken scene server (taker_up scene server next.takes)) own.least (λ r live u w. no_greater key its r.key (not_first key its t) (other.least r live w)))
+    both : (key its : Key) → heads.own ≡ Some key → IsLeastIn (Server server) scene.rows key → heads.backend ≡ Some its → IsLeastIn Backend scene.rows its
+        → is_usable scene server ≡ true → (b : Bool) → is_lt (key_cmp its key) ≡ b
+        → IsLawfulTake scene cursor heads server (if is_lt (key_cmp its key) then Backend else Server server)
+    both key its k own l other e true t = rw t
+        (take Backend its l other e (λ r live w. no_greater its key r.key (first_less its key t) (own.least r live w)) (λ r live u w. other.least r live w))
+    both key its k own l other e false t = rw t
+        (take (Server server) key k own (own_taken scene server (taker_up scene server next.takes)) own.least
+        (λ r live u w. no_greater key its r.key (not_first key its t) (other.least r live w)))
 
-    go : (u : Bool) → is_usable scene server ≡ u → (h : Option Key) → heads.own ≡ h → IsHead h (Server server) scene.rows → (b : Option Key) → heads.backend ≡ b → IsHead b Backend scene.rows
+    go : (u : Bool) → is_usable scene server ≡ u → (h : Option Key) → heads.own ≡ h → IsHead h (Server server) scene.rows → (b : Option Key) → heads.backend ≡ b
+        → IsHead b Backend scene.rows
         → IsLawfulTake scene cursor heads server (if u && goes_first b h then Backend else Server server)
     go false e None k own b l other = idle own (λ r live t w. let no : false ≡ true = sym e ∙ t in cc)
-    go false e (Some key) k own b l other = take (Server server) key k own (own_taken scene server (taker_up scene server next.takes)) own.least (λ r live t w. let no : false ≡ true = sym e ∙ t in cc)
+    go false e (Some key) k own b l other = take (Server server) key k own (own_taken scene server (taker_up scene server next.takes)) own.least
+        (λ r live t w. let no : false ≡ true = sym e ∙ t in cc)
     go true e None k own None l other = idle own (λ r live t w. other r live w)
     go true e None k own (Some its) l other = take Backend its l other e (λ r live w. absurd (own r live w)) (λ r live t w. other.least r live w)
-    go true e (Some key) k own None l other = take (Server server) key k own (own_taken scene server (taker_up scene server next.takes)) own.least (λ r live t w. absurd (other r live w))
+    go true e (Some key) k own None l other =
+        take (Server server) key k own (own_taken scene server (taker_up scene server next.takes)) own.least (λ r live t w. absurd (other r live w))
     go true e (Some key) k own (Some its) l other = both key its k own l other e (is_lt (key_cmp its key)) refl

@@ -1,5 +1,6 @@
 -- Counts of rows, while one row changes.
-use Rattle.std.proofs.Common.{◌≡◌, ℕ, ◌+◌, ◌≤◌, ◌==◌, Bool, true, List, Option, None, Some, slice_get, slice_index_or, replicate, length, option_map, count_by, refl, ap, sym, ◌∙◌, subst, arith, zero, suc}
+use Rattle.std.proofs.Common.{◌≡◌, ℕ, ◌+◌, ◌≤◌, ◌==◌, Bool, true, List, Option, None, Some, slice_get, slice_index_or}
+use Rattle.std.proofs.Common.{replicate, length, option_map, count_by, refl, ap, sym, ◌∙◌, subst, arith, zero, suc}
 use Rattle.std.proofs.Math.ListN.{set, length-set, length-replicate}
 use Rattle.std.proofs.lemmas.List.{map-set, length-map}
 use Rattle.std.proofs.lemmas.List.Sums.{count_by-le-length, sum_by-cons}
@@ -34,17 +35,20 @@ waits_cell None queue = refl
 waits_cell (Some row) queue = refl
 
 -- counts after one row changed
-pub counts_passed : (counts now : Counted) (rows : Rows) (p : ℕ) (old new : Option Row) → AreCounts counts rows → slice_get rows p ≡ Some old → IsPassed (phase_in old) (phase_in new) counts now → AreCounts now (set rows p new)
+pub counts_passed : (counts now : Counted) (rows : Rows) (p : ℕ) (old new : Option Row) → AreCounts counts rows → slice_get rows p ≡ Some old
+    → IsPassed (phase_in old) (phase_in new) counts now → AreCounts now (set rows p new)
 counts_passed counts now rows p old new are stood passed = record {
   serving = λ server.
-      let count : served server (set rows p new) + tally (is_served_by server old) ≡ served server rows + tally (is_served_by server new) = count-set (is_served_by server) rows p old new stood in
+      let count : served server (set rows p new) + tally (is_served_by server old) ≡ served server rows + tally (is_served_by server new) =
+      count-set (is_served_by server) rows p old new stood in
       let a = served_cell old server in
       let b = served_cell new server in
       let c = are.serving server in
       let d = passed.serving server in
       omega arith;
   waiting = λ queue.
-      let count : queued queue (set rows p new) + tally (waits_in queue old) ≡ queued queue rows + tally (waits_in queue new) = count-set (waits_in queue) rows p old new stood in
+      let count : queued queue (set rows p new) + tally (waits_in queue old) ≡ queued queue rows + tally (waits_in queue new) =
+      count-set (waits_in queue) rows p old new stood in
       let a = waits_cell old queue in
       let b = waits_cell new queue in
       let c = are.waiting queue in
@@ -53,15 +57,18 @@ counts_passed counts now rows p old new are stood passed = record {
 }
 
 -- a row that stands somewhere is counted
-pub counts_include : (counts : Counted) (rows : Rows) (p : ℕ) (row : Row) → AreCounts counts rows → slice_get rows p ≡ Some (Some row) → Includes row.phase counts
+pub counts_include : (counts : Counted) (rows : Rows) (p : ℕ) (row : Row) → AreCounts counts rows → slice_get rows p ≡ Some (Some row)
+    → Includes row.phase counts
 counts_include counts rows p row are stood = record {
   serving = λ server.
-      let count : served server (set rows p None) + tally (is_served_by server (Some row)) ≡ served server rows + 0 = count-set (is_served_by server) rows p (Some row) None stood in
+      let count : served server (set rows p None) + tally (is_served_by server (Some row)) ≡ served server rows + 0 =
+      count-set (is_served_by server) rows p (Some row) None stood in
       let a = served_cell (Some row) server in
       let c = are.serving server in
       omega arith;
   waiting = λ queue.
-      let count : queued queue (set rows p None) + tally (waits_in queue (Some row)) ≡ queued queue rows + 0 = count-set (waits_in queue) rows p (Some row) None stood in
+      let count : queued queue (set rows p None) + tally (waits_in queue (Some row)) ≡ queued queue rows + 0 =
+      count-set (waits_in queue) rows p (Some row) None stood in
       let a = waits_cell (Some row) queue in
       let c = are.waiting queue in
       omega arith;
@@ -74,18 +81,23 @@ counts_few counts rows most are few = record {
 }
 
 -- a request that waits is counted in its queue
-pub queue_included : (inside counts : Counted) (phase : Phase) (queue : Queue) (since : ℕ) → inside ≡ counts → Includes phase counts → phase ≡ Waiting queue since → one_if (phase_waits_in queue (Waiting queue since)) ≤ queued_at inside queue
+pub queue_included : (inside counts : Counted) (phase : Phase) (queue : Queue) (since : ℕ) → inside ≡ counts → Includes phase counts
+    → phase ≡ Waiting queue since → one_if (phase_waits_in queue (Waiting queue since)) ≤ queued_at inside queue
 queue_included inside counts phase queue since same is waits =
     subst (λ (c : Counted). one_if (phase_waits_in queue (Waiting queue since)) ≤ queued_at c queue) (sym same)
     (subst (λ (p : Phase). one_if (phase_waits_in queue p) ≤ queued_at counts queue) waits (is.waiting queue))
 
-pub backend_included : (inside counts : Counted) (phase : Phase) (queue : Queue) (since : ℕ) → inside ≡ counts → Includes phase counts → phase ≡ Waiting queue since → queue ≡ Backend → 1 ≤ inside.backend
-backend_included inside counts phase queue since same is waits one = queue_included inside counts phase Backend since same is (waits ∙ ap (λ (q : Queue). Waiting q since) one)
+pub backend_included : (inside counts : Counted) (phase : Phase) (queue : Queue) (since : ℕ) → inside ≡ counts → Includes phase counts
+    → phase ≡ Waiting queue since → queue ≡ Backend → 1 ≤ inside.backend
+backend_included inside counts phase queue since same is waits one = queue_included inside counts phase Backend since same is (waits
+    ∙ ap (λ (q : Queue). Waiting q since) one)
 
-pub own_included : (inside counts : Counted) (phase : Phase) (queue : Queue) (since server : ℕ) → inside ≡ counts → Includes phase counts → phase ≡ Waiting queue since → queue ≡ Server server → 1 ≤ slice_index_or inside.own server 0
+pub own_included : (inside counts : Counted) (phase : Phase) (queue : Queue) (since server : ℕ) → inside ≡ counts → Includes phase counts
+    → phase ≡ Waiting queue since → queue ≡ Server server → 1 ≤ slice_index_or inside.own server 0
 own_included inside counts phase queue since server same is waits one =
     let own : (server == server) ≡ true = (Decides-eqb server server).1 refl in
-    subst (λ b. one_if b ≤ slice_index_or inside.own server 0) own (queue_included inside counts phase (Server server) since same is (waits ∙ ap (λ (q : Queue). Waiting q since) one))
+    subst (λ b. one_if b ≤ slice_index_or inside.own server 0) own
+    (queue_included inside counts phase (Server server) since same is (waits ∙ ap (λ (q : Queue). Waiting q since) one))
 
 zero_at : (n k : ℕ) → ◌≡◌ {A = ℕ} (slice_index_or (replicate n 0) k 0) 0
 zero_at zero k = refl
@@ -104,7 +116,8 @@ module _ {H : Type 0} where
       → counts ≡ record { served = replicate n 0; own = replicate n 0; backend = 0 } → n ≡ length setup.servers → IsLedger setup slots counts
   ledger_new setup n counts slots sound empty none many =
       subst (λ (l : List (Option (Slot H))). IsLedger {H = H} setup l counts) (sym empty)
-      (subst (λ (c : Counted). IsLedger {H = H} setup (replicate setup.places None) c) (sym (none ∙ ap (λ k. record { served = replicate k 0; own = replicate k 0; backend = 0 }) many)) (record {
+      (subst (λ (c : Counted). IsLedger {H = H} setup (replicate setup.places None) c)
+      (sym (none ∙ ap (λ k. record { served = replicate k 0; own = replicate k 0; backend = 0 }) many)) (record {
         sound = sound;
         places = length-replicate setup.places None;
         counted = record {
@@ -115,7 +128,11 @@ module _ {H : Type 0} where
         own = length-replicate (length setup.servers) 0;
       }))
     where
-      by_queue : (queue : Queue) → queued_at (record { served = replicate (length setup.servers) 0; own = replicate (length setup.servers) 0; backend = 0 }) queue ≡ queued queue (rows_in {H = H} (replicate setup.places None))
+      by_queue : (queue : Queue) → queued_at (record {
+        served = replicate (length setup.servers) 0;
+        own = replicate (length setup.servers) 0;
+        backend = 0;
+      }) queue ≡ queued queue (rows_in {H = H} (replicate setup.places None))
       by_queue Backend = sym (none_counted H (waits_in Backend) setup.places refl)
       by_queue (Server server) = zero_at (length setup.servers) server ∙ sym (none_counted H (waits_in (Server server)) setup.places refl)
 
@@ -124,9 +141,11 @@ module _ {H : Type 0} where
   row_in cell = option_map (λ slot. slot.row) cell
 
   -- a ledger after one slot changed
-  pub ledger_passed : (setup : Setup) (slots next : List (Option (Slot H))) (counts now : Counted) (p : ℕ) (old new : Option (Slot H)) (before after : Phase) → IsLedger setup slots counts → slice_get slots p ≡ Some old
+  pub ledger_passed : (setup : Setup) (slots next : List (Option (Slot H))) (counts now : Counted) (p : ℕ) (old new : Option (Slot H)) (before after : Phase)
+      → IsLedger setup slots counts → slice_get slots p ≡ Some old
       → phase_in (row_in old) ≡ before → phase_in (row_in new) ≡ after
-      → next ≡ set slots p new → IsPassed before after counts now → length now.served ≡ length counts.served → length now.own ≡ length counts.own → IsLedger setup next now
+      → next ≡ set slots p new → IsPassed before after counts now → length now.served ≡ length counts.served → length now.own ≡ length counts.own
+      → IsLedger setup next now
   ledger_passed setup slots next counts now p old new before after is stood was becomes written passed served_kept own_kept =
       subst (λ (l : List (Option (Slot H))). IsLedger setup l now) (sym written) (record {
         sound = is.sound;
@@ -134,27 +153,36 @@ module _ {H : Type 0} where
         counted =
             subst (AreCounts now) (sym (map-set row_in slots p new))
             (counts_passed counts now (rows_in slots) p (row_in old) (row_in new) is.counted (slice_get-map row_in slots p ∙ ap (option_map row_in) stood)
-            (subst (λ (x : Phase). IsPassed x (phase_in (row_in new)) counts now) (sym was) (subst (λ (x : Phase). IsPassed before x counts now) (sym becomes) passed)));
+            (subst (λ (x : Phase). IsPassed x (phase_in (row_in new)) counts now) (sym was)
+            (subst (λ (x : Phase). IsPassed before x counts now) (sym becomes) passed)));
         served = served_kept ∙ is.served;
         own = own_kept ∙ is.own;
       })
 
   pub ledger_few : (setup : Setup) (slots : List (Option (Slot H))) (counts : Counted) → IsLedger setup slots counts → AreAtMost 4096 counts
-  ledger_few setup slots counts is = counts_few counts (rows_in slots) 4096 is.counted (let l = length-map slots row_in in let p = is.places in let m = is.sound.places in omega arith)
+  ledger_few setup slots counts is = counts_few counts (rows_in slots) 4096 is.counted (let l = length-map slots row_in in let p = is.places in
+      let m = is.sound.places in omega arith)
 
-  pub ledger_includes : (setup : Setup) (slots : List (Option (Slot H))) (counts : Counted) (p : ℕ) (row : Row) → IsLedger setup slots counts → (s : Slot H) × StandsIn slots p s × (s.row ≡ row) → Includes row.phase counts
+  pub ledger_includes : (setup : Setup) (slots : List (Option (Slot H))) (counts : Counted) (p : ℕ) (row : Row) → IsLedger setup slots counts
+      → (s : Slot H) × StandsIn slots p s × (s.row ≡ row) → Includes row.phase counts
   ledger_includes setup slots counts p row is there =
-      counts_include counts (rows_in slots) p row is.counted (slice_get-map row_in slots p ∙ ap (option_map row_in) there.1 ∙ ap (λ (r : Row). Some (Some r)) there.2)
+      counts_include counts (rows_in slots) p row is.counted (slice_get-map row_in slots p ∙ ap (option_map row_in) there.1
+      ∙ ap (λ (r : Row). Some (Some r)) there.2)
 
   -- a ledger after a request changed and stayed in its phase
-  pub ledger_same : (change : Slot H → Slot H) (setup : Setup) (slots next : List (Option (Slot H))) (counts : Counted) (p : ℕ) → IsLedger setup slots counts → (s : Slot H) × StandsIn slots p s
+  pub ledger_same : (change : Slot H → Slot H) (setup : Setup) (slots next : List (Option (Slot H))) (counts : Counted) (p : ℕ) → IsLedger setup slots counts
+      → (s : Slot H) × StandsIn slots p s
       → ((s : Slot H) → (change s).row.phase ≡ s.row.phase) → next ≡ with_slot change slots p → IsLedger setup next counts
   ledger_same change setup slots next counts p is there stays written =
-      ledger_passed setup slots next counts counts p (Some there.0) (Some (change there.0)) there.0.row.phase there.0.row.phase is there.1 refl (stays there.0) (written ∙ with_slot_at change slots p there.0 there.1)
+      ledger_passed setup slots next counts counts p (Some there.0) (Some (change there.0)) there.0.row.phase there.0.row.phase is there.1 refl (stays there.0)
+      (written ∙ with_slot_at change slots p there.0 there.1)
       (record { serving = λ server. refl; waiting = λ queue. refl }) refl refl
 
   -- a ledger after a request went into another phase
-  pub ledger_changed : (change : Slot H → Slot H) (after : Phase) (setup : Setup) (slots next : List (Option (Slot H))) (counts now : Counted) (p : ℕ) (row : Row) → IsLedger setup slots counts → (s : Slot H) × StandsIn slots p s × (s.row ≡ row)
-      → ((s : Slot H) → (change s).row.phase ≡ after) → next ≡ with_slot change slots p → IsPassed row.phase after counts now → length now.served ≡ length counts.served → length now.own ≡ length counts.own → IsLedger setup next now
+  pub ledger_changed : (change : Slot H → Slot H) (after : Phase) (setup : Setup) (slots next : List (Option (Slot H))) (counts now : Counted) (p : ℕ)
+      (row : Row) → IsLedger setup slots counts → (s : Slot H) × StandsIn slots p s × (s.row ≡ row)
+      → ((s : Slot H) → (change s).row.phase ≡ after) → next ≡ with_slot change slots p → IsPassed row.phase after counts now
+      → length now.served ≡ length counts.served → length now.own ≡ length counts.own → IsLedger setup next now
   ledger_changed change after setup slots next counts now p row is there goes written passed served_kept own_kept =
-      ledger_passed setup slots next counts now p (Some there.0) (Some (change there.0)) row.phase after is there.1 (ap (λ (r : Row). r.phase) there.2) (goes there.0) (written ∙ with_slot_at change slots p there.0 there.1) passed served_kept own_kept
+      ledger_passed setup slots next counts now p (Some there.0) (Some (change there.0)) row.phase after is there.1 (ap (λ (r : Row). r.phase) there.2)
+      (goes there.0) (written ∙ with_slot_at change slots p there.0 there.1) passed served_kept own_kept

@@ -1,5 +1,6 @@
 -- A ledger's places are kept when they are new, and stay kept when the index takes a ticket in or out.
-use Rattle.std.proofs.Common.{◌≡◌, ℕ, zero, suc, ◌+◌, ◌-◌, ◌<◌, ◌≤◌, cond, List, [], ◌∷◌, ◌++◌, Option, None, Some, is_some, length, count_by, replicate, slice_get, Contains, refl, ap, sym, ◌∙◌, subst, arith, inl, inr}
+use Rattle.std.proofs.Common.{◌≡◌, ℕ, zero, suc, ◌+◌, ◌-◌, ◌<◌, ◌≤◌, cond, List, [], ◌∷◌, ◌++◌, Option, None}
+use Rattle.std.proofs.Common.{Some, is_some, length, count_by, replicate, slice_get, Contains, refl, ap, sym, ◌∙◌, subst, arith, inl, inr}
 use Rattle.std.proofs.Math.ListN.{set, length-replicate}
 use Rattle.std.proofs.lemmas.List.Sums.{sum_by-cons}
 use Rattle.std.proofs.lemmas.Option.{same_Some, slice_get_within}
@@ -11,10 +12,12 @@ use Rattle.slot_ledger.specs.Tickets.{Indexed, Removes}
 use Rattle.slot_ledger.proofs.Keeping.{kept_admit, kept_end, get-push_new, get-push_old}
 
 -- one more in a list whose elements are known by their places
-pub each_push : {X : Type 0} (f : ℕ → X) (xs : List X) (n : ℕ) → length xs ≡ n → ((at : ℕ) → at < n → slice_get xs at ≡ Some (f at)) → (at : ℕ) → at < n + 1 → slice_get (xs ++ f n ∷ []) at ≡ Some (f at)
+pub each_push : {X : Type 0} (f : ℕ → X) (xs : List X) (n : ℕ) → length xs ≡ n → ((at : ℕ) → at < n → slice_get xs at ≡ Some (f at)) → (at : ℕ) → at < n + 1
+    → slice_get (xs ++ f n ∷ []) at ≡ Some (f at)
 each_push f xs n long each at within =
     elim (same_or_other at n) [
-      | inl e ↦ subst (λ k. slice_get (xs ++ f n ∷ []) k ≡ Some (f k)) (sym e) (subst (λ k. slice_get (xs ++ f n ∷ []) k ≡ Some (f n)) long (get-push_new xs (f n)))
+      | inl e ↦ subst (λ k. slice_get (xs ++ f n ∷ []) k ≡ Some (f k)) (sym e)
+          (subst (λ k. slice_get (xs ++ f n ∷ []) k ≡ Some (f n)) long (get-push_new xs (f n)))
       | inr e ↦ let h : at < n = omega arith in get-push_old xs (f n) at (f at) (each at h)
     ]
 
@@ -24,7 +27,8 @@ none H = None
 
 none_counted : (H : Type 0) (n : ℕ) → count_by is_some (replicate n (none H)) ≡ 0
 none_counted H zero = refl
-none_counted H (suc n) = let rest : count_by is_some (replicate n (none H)) ≡ 0 = none_counted H n in sum_by-cons (λ (x : Option (Slot H)). cond (is_some x) 1 0) None (replicate n (none H)) ∙ omega arith
+none_counted H (suc n) = let rest : count_by is_some (replicate n (none H)) ≡ 0 = none_counted H n in
+    sum_by-cons (λ (x : Option (Slot H)). cond (is_some x) 1 0) None (replicate n (none H)) ∙ omega arith
 
 free_there : (H : Type 0) (n p : ℕ) → p < n → slice_get (replicate n (none H)) p ≡ Some None
 free_there H zero p h = absurd (omega arith)
@@ -33,7 +37,8 @@ free_there H (suc n) (suc p) h = free_there H n p (omega arith)
 
 module _ {H : Type 0} where
   -- the last place of the list is free
-  pub last_free : (slots : List (Option (Slot H))) (vacant rest : List ℕ) (capacity : ℕ) (index : Indexed) (p : ℕ) → IsKept slots vacant capacity index → vacant ≡ rest ++ p ∷ [] → slice_get slots p ≡ Some None
+  pub last_free : (slots : List (Option (Slot H))) (vacant rest : List ℕ) (capacity : ℕ) (index : Indexed) (p : ℕ) → IsKept slots vacant capacity index
+      → vacant ≡ rest ++ p ∷ [] → slice_get slots p ≡ Some None
   last_free slots vacant rest capacity index p is parts = is.free (length rest) p (ap (λ (l : List ℕ). slice_get l (length rest)) parts ∙ get-push_new rest p)
 
   pub kept_push : (slots now : List (Option (Slot H))) (vacant rest : List ℕ) (capacity left : ℕ) (index new : Indexed) (p : ℕ) (t : Slot H)
@@ -41,14 +46,17 @@ module _ {H : Type 0} where
       → new.pairs ≡ index.pairs ++ (t.row.key.ticket, p) ∷ [] → new.room ≡ index.room
       → IsKept (set slots p (Some t)) rest left new
   kept_push slots now vacant rest capacity left index new p t same is parts kept below pushed room =
-      kept_admit slots vacant rest capacity left index new p t is parts kept (subst (λ (l : List (Option (Slot H))). AreBelow t.row.key.ticket l) (sym same) below) pushed room
+      kept_admit slots vacant rest capacity left index new p t is parts kept
+      (subst (λ (l : List (Option (Slot H))). AreBelow t.row.key.ticket l) (sym same) below) pushed room
 
-  pub kept_remove : (slots : List (Option (Slot H))) (vacant more : List ℕ) (capacity left : ℕ) (index new : Indexed) (p : ℕ) (s : Slot H) (cell : Option (Slot H))
+  pub kept_remove : (slots : List (Option (Slot H))) (vacant more : List ℕ) (capacity left : ℕ) (index new : Indexed) (p : ℕ) (s : Slot H)
+      (cell : Option (Slot H))
       → IsKept slots vacant capacity index → cell ≡ None → StandsIn slots p s → more ≡ vacant ++ p ∷ [] → left ≡ capacity
       → Removes s.row.key.ticket index.pairs new.pairs → new.room ≡ index.room
       → IsKept (set slots p cell) more left new
   kept_remove slots vacant more capacity left index new p s cell is empty stands parts kept removed room =
-      subst (λ (c : Option (Slot H)). IsKept (set slots p c) more left new) (sym empty) (kept_end slots vacant more capacity left index new p s is stands parts kept removed room)
+      subst (λ (c : Option (Slot H)). IsKept (set slots p c) more left new) (sym empty)
+      (kept_end slots vacant more capacity left index new p s is stands parts kept removed room)
 
   -- no row stands in a list of free places
   none_there : (n p : ℕ) (s : Slot H) → StandsIn (replicate n None) p s → ⊥
@@ -57,7 +65,9 @@ module _ {H : Type 0} where
   none_there (suc n) (suc p) s e = none_there n p s e
 
   -- a new ledger: all places are free, the lowest last
-  pub kept_new : (slots : List (Option (Slot H))) (vacant : List ℕ) (capacity places n : ℕ) (index : Indexed) → n ≡ places → slots ≡ replicate n None → length vacant ≡ n → ((at : ℕ) → at < n → slice_get vacant at ≡ Some (places - 1 - at)) → capacity ≡ places → index.pairs ≡ [] → places ≤ index.room → IsKept slots vacant capacity index
+  pub kept_new : (slots : List (Option (Slot H))) (vacant : List ℕ) (capacity places n : ℕ) (index : Indexed) → n ≡ places → slots ≡ replicate n None
+      → length vacant ≡ n → ((at : ℕ) → at < n → slice_get vacant at ≡ Some (places - 1 - at)) → capacity ≡ places → index.pairs ≡ [] → places ≤ index.room
+      → IsKept slots vacant capacity index
   kept_new slots vacant capacity places n index all are long each kept empty room = record {
     free = λ at p e.
         let within : at < length vacant = slice_get_within vacant at p e in
@@ -74,7 +84,8 @@ module _ {H : Type 0} where
         let len : length slots ≡ n = ap length are ∙ length-replicate n None in
         omega arith;
     room = let len : length slots ≡ n = ap length are ∙ length-replicate n None in omega arith;
-    indexed = λ ticket p among. let none : Contains [] (ticket, p) = subst (λ (l : List (ℕ × ℕ)). Contains l (ticket, p)) empty among in absurd (omega (arith, none.1));
+    indexed = λ ticket p among. let none : Contains [] (ticket, p) = subst (λ (l : List (ℕ × ℕ)). Contains l (ticket, p)) empty among in
+        absurd (omega (arith, none.1));
     complete = λ p s there. absurd (none_there n p s (subst (λ (l : List (Option (Slot H))). StandsIn l p s) are there));
     own = λ p q s u a b e. absurd (none_there n p s (subst (λ (l : List (Option (Slot H))). StandsIn l p s) are a));
     counted =

@@ -1,8 +1,10 @@
 -- A ledger's places stay kept when one of them is written.
-use Rattle.std.proofs.Common.{◌≡◌, ◌≢◌, ℕ, zero, suc, ◌+◌, ◌<◌, List, [], ◌∷◌, ◌++◌, Option, None, Some, is_some, length, count_by, slice_get, Contains, refl, ap, sym, ◌∙◌, subst, arith, ◌⊎◌, inl, inr, length-append}
+use Rattle.std.proofs.Common.{◌≡◌, ◌≢◌, ℕ, zero, suc, ◌+◌, ◌<◌, List, [], ◌∷◌, ◌++◌, Option, None, Some, is_some}
+use Rattle.std.proofs.Common.{length, count_by, slice_get, Contains, refl, ap, sym, ◌∙◌, subst, arith, ◌⊎◌, inl, inr, length-append}
 use Rattle.std.proofs.Math.ListN.{set, length-set}
 use Rattle.std.proofs.lemmas.Option.{same_Some, slice_get_within}
-use Rattle.std.proofs.lemmas.List.Elements.{All-contains, Contains-append_left, Contains-append_right, Contains-append_cases, Contains-push, Contains-push_cases}
+use Rattle.std.proofs.lemmas.List.Elements.{All-contains, Contains-append_left, Contains-append_right}
+use Rattle.std.proofs.lemmas.List.Elements.{Contains-append_cases, Contains-push, Contains-push_cases}
 use Rattle.list_facts.proofs.Places.{get-set_same, get-set_other, get-set_cases, count-set, same_or_other}
 use Rattle.list_facts.proofs.Never.{none_some}
 use Rattle.slot_ledger.specs.declared.places.Slot.{Slot}
@@ -25,7 +27,8 @@ module _ {X : Type 0} where
 
   pub get-push_new : (xs : List X) (x : X) → slice_get (xs ++ x ∷ []) (length xs) ≡ Some x
   get-push_new [] x = refl
-  get-push_new (w ∷ ws) x = let e : length (w ∷ ws) ≡ suc (length ws) = omega arith in subst (λ k. slice_get (w ∷ (ws ++ x ∷ [])) k ≡ Some x) (sym e) (get-push_new ws x)
+  get-push_new (w ∷ ws) x = let e : length (w ∷ ws) ≡ suc (length ws) = omega arith in
+      subst (λ k. slice_get (w ∷ (ws ++ x ∷ [])) k ≡ Some x) (sym e) (get-push_new ws x)
 
 -- what is in a list from which a ticket's pair was taken
 module _ (ticket : ℕ) (old new : List (ℕ × ℕ)) where
@@ -53,7 +56,8 @@ module _ (ticket : ℕ) (old new : List (ℕ × ℕ)) where
 
   pub removed_length : Removes ticket old new → length new + 1 ≡ length old
   removed_length is =
-      let before : length old ≡ length is.front + length ((ticket, is.place) ∷ is.back) = ap length is.before ∙ length-append is.front ((ticket, is.place) ∷ is.back) in
+      let before : length old ≡ length is.front + length ((ticket, is.place) ∷ is.back) = ap length is.before
+      ∙ length-append is.front ((ticket, is.place) ∷ is.back) in
       let after : length new ≡ length is.front + length is.back = ap length is.after ∙ length-append is.front is.back in
       omega arith
 
@@ -77,7 +81,8 @@ module _ {H : Type 0} where
     complete = λ q u there.
         elim (get-set_cases slots p q (Some s) (Some t) (Some u) stands there) [
           | inl e ↦ let tu : t ≡ u = same_Some t u e.1 in
-              subst (λ n. Contains index.pairs (n, q)) (sym same ∙ ap (λ (x : Slot H). x.row.key.ticket) tu) (subst (λ n. Contains index.pairs (s.row.key.ticket, n)) (sym e.0) (is.complete p s stands))
+              subst (λ n. Contains index.pairs (n, q)) (sym same
+              ∙ ap (λ (x : Slot H). x.row.key.ticket) tu) (subst (λ n. Contains index.pairs (s.row.key.ticket, n)) (sym e.0) (is.complete p s stands))
           | inr e ↦ is.complete q u e.1
         ];
     own = λ q r u v a b e.
@@ -105,8 +110,12 @@ module _ {H : Type 0} where
       moved ticket q has =
           elim (same_or_other q p) [
             | inl e ↦
-                let own : has.0 ≡ s = same_Some has.0 s (same_Some (Some has.0) (Some s) (sym (subst (λ n. StandsIn slots n has.0) e has.1) ∙ stands)) in
-                (t, subst (λ n. StandsIn (set slots p (Some t)) n t) (sym e) (get-set_same slots p (Some s) (Some t) stands), same ∙ ap (λ (x : Slot H). x.row.key.ticket) (sym own) ∙ has.2)
+                let own : has.0 ≡ s = same_Some has.0 s (same_Some (Some has.0) (Some s) (sym (subst (λ n. StandsIn slots n has.0) e has.1) ∙ stands)) in (
+                  t,
+                  subst (λ n. StandsIn (set slots p (Some t)) n t) (sym e) (get-set_same slots p (Some s) (Some t) stands),
+                  same
+                      ∙ ap (λ (x : Slot H). x.row.key.ticket) (sym own) ∙ has.2,
+                )
             | inr e ↦ (has.0, get-set_other slots p q (Some t) e ∙ has.1, has.2)
           ]
 
@@ -128,8 +137,12 @@ module _ {H : Type 0} where
     indexed = λ ticket q among.
         elim (Contains-push_cases index.pairs (t.row.key.ticket, p) (ticket, q) (subst (λ (l : List (ℕ × ℕ)). Contains l (ticket, q)) pushed among)) [
           | inl e ↦
-              let has = is.indexed ticket q e in
-              (has.0, get-set_other slots p q (Some t) (λ same. free_not_taken slots q has.0 (subst (λ n. slice_get slots n ≡ Some None) (sym same) free) has.1) ∙ has.1, has.2)
+              let has = is.indexed ticket q e in (
+                has.0,
+                get-set_other slots p q (Some t) (λ same. free_not_taken slots q has.0 (subst (λ n. slice_get slots n ≡ Some None) (sym same) free) has.1)
+                    ∙ has.1,
+                has.2,
+              )
           | inr e ↦
               let at : p ≡ q = ap (λ (x : ℕ × ℕ). x.1) e in
               let own : t.row.key.ticket ≡ ticket = ap (λ (x : ℕ × ℕ). x.0) e in
@@ -137,8 +150,10 @@ module _ {H : Type 0} where
         ];
     complete = λ q u there.
         elim (get-set_cases slots p q None (Some t) (Some u) free there) [
-          | inl e ↦ subst (λ (x : Slot H). Contains new.pairs (x.row.key.ticket, q)) (same_Some t u e.1) (subst (λ n. Contains new.pairs (t.row.key.ticket, n)) (sym e.0) mine)
-          | inr e ↦ subst (λ (l : List (ℕ × ℕ)). Contains l (u.row.key.ticket, q)) (sym pushed) (Contains-append_left index.pairs ((t.row.key.ticket, p) ∷ []) (u.row.key.ticket, q) (is.complete q u e.1))
+          | inl e ↦ subst (λ (x : Slot H). Contains new.pairs (x.row.key.ticket, q)) (same_Some t u e.1)
+              (subst (λ n. Contains new.pairs (t.row.key.ticket, n)) (sym e.0) mine)
+          | inr e ↦ subst (λ (l : List (ℕ × ℕ)). Contains l (u.row.key.ticket, q)) (sym pushed)
+              (Contains-append_left index.pairs ((t.row.key.ticket, p) ∷ []) (u.row.key.ticket, q) (is.complete q u e.1))
         ];
     own = λ q r u v a b e.
         elim (get-set_cases slots p q None (Some t) (Some u) free a) [
@@ -188,7 +203,8 @@ module _ {H : Type 0} where
   kept_end slots vacant more capacity now index new p s is stands parts kept removed room = record {
     free = λ at q e.
         elim (cases at q e) [
-          | inl a ↦ get-set_other slots p q None (λ same. free_not_taken slots p s (subst (λ n. slice_get slots n ≡ Some None) same (is.free at q a)) stands) ∙ is.free at q a
+          | inl a ↦ get-set_other slots p q None (λ same. free_not_taken slots p s (subst (λ n. slice_get slots n ≡ Some None) same (is.free at q a)) stands)
+              ∙ is.free at q a
           | inr a ↦ subst (λ n. slice_get (set slots p None) n ≡ Some None) a.1 (get-set_same slots p (Some s) None stands)
         ];
     once = λ at other q a b.
@@ -211,12 +227,18 @@ module _ {H : Type 0} where
     room = let len = length-set slots p None in let r = is.room in omega arith;
     indexed = λ ticket q among.
         let has = is.indexed ticket q (removed_old s.row.key.ticket index.pairs new.pairs (ticket, q) removed among) in
-        let other : ticket ≢ s.row.key.ticket = All-contains (λ pair. pair.0 ≢ s.row.key.ticket) new.pairs (ticket, q) removed.gone among in
-        (has.0, get-set_other slots p q None (λ same. other (sym has.2 ∙ ap (λ (x : Slot H). x.row.key.ticket) (same_Some has.0 s (same_Some (Some has.0) (Some s) (sym (subst (λ n. StandsIn slots n has.0) same has.1) ∙ stands))))) ∙ has.1, has.2);
+        let other : ticket ≢ s.row.key.ticket = All-contains (λ pair. pair.0 ≢ s.row.key.ticket) new.pairs (ticket, q) removed.gone among in (
+          has.0,
+          get-set_other slots p q None (λ same. other (sym has.2
+              ∙ ap (λ (x : Slot H). x.row.key.ticket) (same_Some has.0 s
+              (same_Some (Some has.0) (Some s) (sym (subst (λ n. StandsIn slots n has.0) same has.1) ∙ stands))))) ∙ has.1,
+          has.2,
+        );
     complete = λ q u there.
         elim (get-set_cases slots p q (Some s) None (Some u) stands there) [
           | inl e ↦ none_some e.1
-          | inr e ↦ removed_other s.row.key.ticket index.pairs new.pairs (u.row.key.ticket, q) removed (is.complete q u e.1) (λ same. e.0 (is.own q p u s e.1 stands same))
+          | inr e ↦ removed_other s.row.key.ticket index.pairs new.pairs (u.row.key.ticket, q) removed (is.complete q u e.1)
+              (λ same. e.0 (is.own q p u s e.1 stands same))
         ];
     own = λ q r u v a b e. is.own q r u v (there q u a) (there r v b) e;
     counted =

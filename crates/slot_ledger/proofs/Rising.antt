@@ -1,8 +1,10 @@
 -- Entries by rising ticket, and their pairs.
-use Rattle.std.proofs.Common.{◌≡◌, ◌≢◌, ℕ, ◌+◌, ◌<◌, Bool, true, false, cond, List, [], ◌∷◌, ◌++◌, Option, None, Some, option_map, is_some, length, filter, All, Contains, MatchOption, refl, sym, ap, subst, ◌∙◌, arith, length-append}
+use Rattle.std.proofs.Common.{◌≡◌, ◌≢◌, ℕ, ◌+◌, ◌<◌, Bool, true, false, cond, List, [], ◌∷◌, ◌++◌, Option, None}
+use Rattle.std.proofs.Common.{Some, option_map, is_some, length, filter, All, Contains, MatchOption, refl, sym, ap, subst, ◌∙◌, arith, length-append}
 use Rattle.std.specs.List.{cons_option}
 use Rattle.std.proofs.lemmas.List.{get_or_append_left, get_or-append-add}
-use Rattle.std.proofs.lemmas.List.Elements.{All-append, All-cons, All-contains, All-filter, All-head, All-nil, All-tail, All-weaker, filter_map-append, Contains-append_right}
+use Rattle.std.proofs.lemmas.List.Elements.{All-append, All-cons, All-contains, All-filter, All-head}
+use Rattle.std.proofs.lemmas.List.Elements.{All-nil, All-tail, All-weaker, filter_map-append, Contains-append_right}
 use Rattle.slot_ledger.specs.declared.tickets.Entry.{Entry}
 use Rattle.slot_ledger.specs.Tickets.{IsAbsent, IsBelowAll, IsRising, Removes, has_place, pair_of, pairs_in}
 
@@ -45,7 +47,8 @@ module _ (front back : List Entry) (e : Entry) (up : IsRising (front ++ e ∷ ba
       rising_joined front back (record {
         first = parts.first;
         second = parts.second.1;
-        across = All-weaker (λ x. IsBelowAll x (e ∷ back)) (λ x. IsBelowAll x back) (λ x below. All-tail (λ other. x.ticket < other.ticket) e back below) front parts.across;
+        across = All-weaker (λ x. IsBelowAll x (e ∷ back)) (λ x. IsBelowAll x back)
+            (λ x below. All-tail (λ other. x.ticket < other.ticket) e back below) front parts.across;
       })
 
   pub rising_changed : (d : Entry) → d.ticket ≡ e.ticket → IsRising (front ++ d ∷ back)
@@ -56,7 +59,9 @@ module _ (front back : List Entry) (e : Entry) (up : IsRising (front ++ e ∷ ba
         second = (subst (λ n. All (λ other. n < other.ticket) back) (sym same) parts.second.0, parts.second.1);
         across =
             All-weaker (λ x. IsBelowAll x (e ∷ back)) (λ x. IsBelowAll x (d ∷ back))
-            (λ x below. All-cons (λ other. x.ticket < other.ticket) d back (subst (λ n. x.ticket < n) (sym same) (All-head (λ other. x.ticket < other.ticket) e back below)) (All-tail (λ other. x.ticket < other.ticket) e back below))
+            (λ x below. All-cons (λ other. x.ticket < other.ticket) d back
+            (subst (λ n. x.ticket < n) (sym same) (All-head (λ other. x.ticket < other.ticket) e back below))
+            (All-tail (λ other. x.ticket < other.ticket) e back below))
             front parts.across;
       })
 
@@ -64,7 +69,8 @@ pub rising_more : (entries : List Entry) (e : Entry) → IsRising entries → Al
 rising_more entries e up below = rising_joined entries (e ∷ []) (record {
   first = up;
   second = (All-nil (λ other. e.ticket < other.ticket), tt);
-  across = All-weaker (λ x. x.ticket < e.ticket) (λ x. IsBelowAll x (e ∷ [])) (λ x lower. All-cons (λ other. x.ticket < other.ticket) e [] lower (All-nil (λ other. x.ticket < other.ticket))) entries below;
+  across = All-weaker (λ x. x.ticket < e.ticket) (λ x. IsBelowAll x (e ∷ []))
+      (λ x lower. All-cons (λ other. x.ticket < other.ticket) e [] lower (All-nil (λ other. x.ticket < other.ticket))) entries below;
 })
 
 rising_step : (b : Bool) (e : Entry) (entries : List Entry) → IsBelowAll e entries → IsRising entries → IsRising (cond b (e ∷ entries) entries)
@@ -73,28 +79,37 @@ rising_step false e entries below up = up
 
 pub rising_filter : (test : Entry → Bool) (entries : List Entry) → IsRising entries → IsRising (filter test entries)
 rising_filter test [] up = tt
-rising_filter test (e ∷ entries) up = rising_step (test e) e (filter test entries) (All-filter test (λ other. e.ticket < other.ticket) entries up.0) (rising_filter test entries up.1)
+rising_filter test (e ∷ entries) up = rising_step (test e) e (filter test entries) (All-filter test (λ other. e.ticket < other.ticket) entries up.0)
+    (rising_filter test entries up.1)
 
 -- the pairs with an entry in the middle that has a place or has none
-pub pairs_around : (front back : List Entry) (e : Entry) (o : Option ℕ) → e.place ≡ o → pairs_in (front ++ e ∷ back) ≡ pairs_in front ++ cons_option (option_map (λ place. (e.ticket, place)) o) (pairs_in back)
-pairs_around front back e o is = filter_map-append pair_of front (e ∷ back) ∙ ap (λ (p : Option ℕ). pairs_in front ++ cons_option (option_map (λ place. (e.ticket, place)) p) (pairs_in back)) is
+pub pairs_around : (front back : List Entry) (e : Entry) (o : Option ℕ) → e.place ≡ o
+    → pairs_in (front ++ e ∷ back) ≡ pairs_in front ++ cons_option (option_map (λ place. (e.ticket, place)) o) (pairs_in back)
+pairs_around front back e o is = filter_map-append pair_of front (e ∷ back)
+    ∙ ap (λ (p : Option ℕ). pairs_in front ++ cons_option (option_map (λ place. (e.ticket, place)) p) (pairs_in back)) is
 
 pub pairs_without : (front back : List Entry) (e : Entry) → e.place ≡ None → pairs_in (front ++ e ∷ back) ≡ pairs_in (front ++ back)
 pairs_without front back e is = pairs_around front back e None is ∙ sym (filter_map-append pair_of front back)
 
 -- what holds of the tickets of entries holds of those of their pairs, and back where the entries have places
 module _ (P : ℕ → Type 0) where
-  pair_step : (e : Entry) (o : Option ℕ) (pairs : List (ℕ × ℕ)) → P e.ticket → All (λ pair. P pair.0) pairs → All (λ pair. P pair.0) (cons_option (option_map (λ place. (e.ticket, place)) o) pairs)
+  pair_step : (e : Entry) (o : Option ℕ) (pairs : List (ℕ × ℕ)) → P e.ticket → All (λ pair. P pair.0) pairs
+      → All (λ pair. P pair.0) (cons_option (option_map (λ place. (e.ticket, place)) o) pairs)
   pair_step e None pairs this rest = rest
   pair_step e (Some place) pairs this rest = All-cons (λ pair. P pair.0) (e.ticket, place) pairs this rest
 
   pub each_pair : (entries : List Entry) → All (λ entry. P entry.ticket) entries → All (λ pair. P pair.0) (pairs_in entries)
   each_pair [] all = All-nil (λ pair. P pair.0)
-  each_pair (e ∷ entries) all = pair_step e e.place (pairs_in entries) (All-head (λ entry. P entry.ticket) e entries all) (each_pair entries (All-tail (λ entry. P entry.ticket) e entries all))
+  each_pair (e ∷ entries) all = pair_step e e.place (pairs_in entries) (All-head (λ entry. P entry.ticket) e entries all)
+      (each_pair entries (All-tail (λ entry. P entry.ticket) e entries all))
 
-  kept_step : (e : Entry) (o : Option ℕ) (pairs : List (ℕ × ℕ)) (kept : List Entry) → (All (λ pair. P pair.0) pairs → All (λ entry. P entry.ticket) kept) → All (λ pair. P pair.0) (cons_option (option_map (λ place. (e.ticket, place)) o) pairs) → All (λ entry. P entry.ticket) (cond (is_some o) (e ∷ kept) kept)
+  kept_step : (e : Entry) (o : Option ℕ) (pairs : List (ℕ × ℕ)) (kept : List Entry) → (All (λ pair. P pair.0) pairs → All (λ entry. P entry.ticket) kept)
+      → All (λ pair. P pair.0) (cons_option (option_map (λ place. (e.ticket, place)) o) pairs)
+      → All (λ entry. P entry.ticket) (cond (is_some o) (e ∷ kept) kept)
   kept_step e None pairs kept rest all = rest all
-  kept_step e (Some place) pairs kept rest all = All-cons (λ entry. P entry.ticket) e kept (All-head (λ pair. P pair.0) (e.ticket, place) pairs all) (rest (All-tail (λ pair. P pair.0) (e.ticket, place) pairs all))
+  kept_step e (Some place) pairs kept rest all =
+      All-cons (λ entry. P entry.ticket) e kept (All-head (λ pair. P pair.0) (e.ticket, place) pairs all)
+      (rest (All-tail (λ pair. P pair.0) (e.ticket, place) pairs all))
 
   pub each_kept : (entries : List Entry) → All (λ pair. P pair.0) (pairs_in entries) → All (λ entry. P entry.ticket) (filter has_place entries)
   each_kept [] all = All-nil (λ entry. P entry.ticket)
@@ -102,11 +117,13 @@ module _ (P : ℕ → Type 0) where
 
 -- the entries that have a place have all the pairs, and are as many
 module _ (e : Entry) (kept : List Entry) (pairs : List (ℕ × ℕ)) where
-  same_step : (o : Option ℕ) → e.place ≡ o → pairs_in kept ≡ pairs → pairs_in (cond (is_some o) (e ∷ kept) kept) ≡ cons_option (option_map (λ place. (e.ticket, place)) o) pairs
+  same_step : (o : Option ℕ) → e.place ≡ o → pairs_in kept ≡ pairs
+      → pairs_in (cond (is_some o) (e ∷ kept) kept) ≡ cons_option (option_map (λ place. (e.ticket, place)) o) pairs
   same_step None is same = same
   same_step (Some place) is same = pairs_around [] kept e (Some place) is ∙ ap (λ (l : List (ℕ × ℕ)). (e.ticket, place) ∷ l) same
 
-  length_step : (o : Option ℕ) → length kept ≡ length pairs → length (cond (is_some o) (e ∷ kept) kept) ≡ length (cons_option (option_map (λ place. (e.ticket, place)) o) pairs)
+  length_step : (o : Option ℕ) → length kept ≡ length pairs
+      → length (cond (is_some o) (e ∷ kept) kept) ≡ length (cons_option (option_map (λ place. (e.ticket, place)) o) pairs)
   length_step None same = same
   length_step (Some place) same = omega arith
 
@@ -125,25 +142,30 @@ module _ (front back : List Entry) (e : Entry) (up : IsRising (front ++ e ∷ ba
   others_absent =
       let parts = rising_parts front (e ∷ back) up in
       All-append (λ pair. pair.0 ≢ e.ticket) (pairs_in front) (pairs_in back)
-      (each_pair (λ n. n ≢ e.ticket) front (All-weaker (λ x. IsBelowAll x (e ∷ back)) (λ x. x.ticket ≢ e.ticket) (λ x all same. let below : x.ticket < e.ticket = All-head (λ other. x.ticket < other.ticket) e back all in absurd (omega arith)) front parts.across))
-      (each_pair (λ n. n ≢ e.ticket) back (All-weaker (λ x. e.ticket < x.ticket) (λ x. x.ticket ≢ e.ticket) (λ x above same. absurd (omega arith)) back parts.second.0))
+      (each_pair (λ n. n ≢ e.ticket) front (All-weaker (λ x. IsBelowAll x (e ∷ back)) (λ x. x.ticket ≢ e.ticket)
+      (λ x all same. let below : x.ticket < e.ticket = All-head (λ other. x.ticket < other.ticket) e back all in absurd (omega arith)) front parts.across))
+      (each_pair (λ n. n ≢ e.ticket) back (All-weaker (λ x. e.ticket < x.ticket) (λ x. x.ticket ≢ e.ticket)
+      (λ x above same. absurd (omega arith)) back parts.second.0))
 
   -- its place is that of its ticket's pair
-  pub place_there : (o : Option ℕ) → e.place ≡ o → MatchOption o (IsAbsent e.ticket (pairs_in (front ++ e ∷ back))) (λ place. Contains (pairs_in (front ++ e ∷ back)) (e.ticket, place))
+  pub place_there : (o : Option ℕ) → e.place ≡ o
+      → MatchOption o (IsAbsent e.ticket (pairs_in (front ++ e ∷ back))) (λ place. Contains (pairs_in (front ++ e ∷ back)) (e.ticket, place))
   place_there None is = subst (IsAbsent e.ticket) (sym (pairs_around front back e None is)) others_absent
   place_there (Some place) is =
       subst (λ (l : List (ℕ × ℕ)). Contains l (e.ticket, place)) (sym (pairs_around front back e (Some place) is))
       (Contains-append_right (pairs_in front) ((e.ticket, place) ∷ pairs_in back) (e.ticket, place) (0, omega arith, refl))
 
   -- where it loses its place, its pair is gone
-  pub place_removed : (d : Entry) (place : ℕ) → d.place ≡ None → Contains (pairs_in (front ++ e ∷ back)) (e.ticket, place) → Removes e.ticket (pairs_in (front ++ e ∷ back)) (pairs_in (front ++ d ∷ back))
+  pub place_removed : (d : Entry) (place : ℕ) → d.place ≡ None → Contains (pairs_in (front ++ e ∷ back)) (e.ticket, place)
+      → Removes e.ticket (pairs_in (front ++ e ∷ back)) (pairs_in (front ++ d ∷ back))
   place_removed d place none among = by_place e.place refl
     where
       after : pairs_in (front ++ d ∷ back) ≡ pairs_in front ++ pairs_in back
       after = pairs_around front back d None none
 
       by_place : (o : Option ℕ) → e.place ≡ o → Removes e.ticket (pairs_in (front ++ e ∷ back)) (pairs_in (front ++ d ∷ back))
-      by_place None is = absurd (All-contains (λ pair. pair.0 ≢ e.ticket) (pairs_in front ++ pairs_in back) (e.ticket, place) others_absent (subst (λ (l : List (ℕ × ℕ)). Contains l (e.ticket, place)) (pairs_around front back e None is) among) refl)
+      by_place None is = absurd (All-contains (λ pair. pair.0 ≢ e.ticket) (pairs_in front ++ pairs_in back) (e.ticket, place) others_absent
+          (subst (λ (l : List (ℕ × ℕ)). Contains l (e.ticket, place)) (pairs_around front back e None is) among) refl)
       by_place (Some own) is = record {
         front = pairs_in front;
         back = pairs_in back;

@@ -1,5 +1,6 @@
 -- What a search by ticket finds among entries by rising ticket.
-use Rattle.std.proofs.Common.{◌≡◌, ◌≢◌, ℕ, zero, suc, ◌+◌, ◌<◌, ◌≤◌, List, [], ◌∷◌, ◌++◌, None, Some, Result, Ok, Err, Contains, MatchOption, length, get_or, set, take, drop, slice_get, inl, inr, refl, sym, ap, subst, ◌∙◌, arith, length-set, Equal, nat_cmp}
+use Rattle.std.proofs.Common.{◌≡◌, ◌≢◌, ℕ, zero, suc, ◌+◌, ◌<◌, ◌≤◌, List, [], ◌∷◌, ◌++◌, None, Some, Result, Ok, Err, Contains}
+use Rattle.std.proofs.Common.{MatchOption, length, get_or, set, take, drop, slice_get, inl, inr, refl, sym, ap, subst, ◌∙◌, arith, length-set, Equal, nat_cmp}
 use Rattle.std.specs.List.Sorted.{IsSearchInRange, IsBinarySearchResult, IsNonDecreasingBy}
 use Rattle.std.specs.Ordering.{ordering_index}
 use Rattle.std.specs.Result.{result_ok}
@@ -13,7 +14,8 @@ use Rattle.slot_ledger.proofs.Rising.{each_pair, rising_parts, rising_changed, p
 use Rattle.slot_ledger.proofs.Stretches.{IsAround, around, read_around}
 
 -- a later ticket is higher
-rises : (entries : List Entry) → IsRising entries → (i j : ℕ) (d : Entry) → i < j → j < length entries → (get_or entries i d).ticket < (get_or entries j d).ticket
+rises : (entries : List Entry) → IsRising entries → (i j : ℕ) (d : Entry) → i < j → j < length entries
+    → (get_or entries i d).ticket < (get_or entries j d).ticket
 rises [] up i j d before within = absurd (omega arith)
 rises (e ∷ entries) up i zero d before within = absurd (omega arith)
 rises (e ∷ entries) up zero (suc j) d before within = up.0 j d (omega arith)
@@ -22,17 +24,21 @@ rises (e ∷ entries) up (suc i) (suc j) d before within = rises entries up.1 i 
 module _ (ticket : ℕ) (entries : List Entry) (up : IsRising entries) where
   comparisons_rise : IsNonDecreasingBy (λ e. ordering_index (nat_cmp e.ticket ticket)) entries
   comparisons_rise i j d le within = elim (cases_eq i j) [
-    | inl same ↦ subst (λ (n : ℕ). ordering_index (nat_cmp (get_or entries i d).ticket ticket) ≤ ordering_index (nat_cmp (get_or entries n d).ticket ticket)) same (omega arith)
-    | inr differs ↦ let below : (get_or entries i d).ticket < (get_or entries j d).ticket = rises entries up i j d (omega arith) within in grind (arith, nat_tests)
+    | inl same ↦ subst (λ (n : ℕ). ordering_index (nat_cmp (get_or entries i d).ticket ticket) ≤ ordering_index
+        (nat_cmp (get_or entries n d).ticket ticket)) same (omega arith)
+    | inr differs ↦ let below : (get_or entries i d).ticket < (get_or entries j d).ticket = rises entries up i j d (omega arith) within in
+        grind (arith, nat_tests)
   ]
 
   -- a binary search ends at the ticket's entry, or there is none
-  pub searched : (r : Result ℕ ℕ) → IsSearchInRange r (length entries) → IsBinarySearchResult (λ e. nat_cmp e.ticket ticket) entries r → MatchOption (result_ok r) (IsAbsent ticket (pairs_in entries)) (λ at. HasTicketAmong ticket entries at)
+  pub searched : (r : Result ℕ ℕ) → IsSearchInRange r (length entries) → IsBinarySearchResult (λ e. nat_cmp e.ticket ticket) entries r
+      → MatchOption (result_ok r) (IsAbsent ticket (pairs_in entries)) (λ at. HasTicketAmong ticket entries at)
   searched (Ok at) in_range equal = found entries refl
     where
       found : (all : List Entry) → entries ≡ all → HasTicketAmong ticket entries at
       found [] are = let none : length entries ≡ 0 = ap length are in absurd (omega arith)
-      found (e ∷ rest) are = let tied : nat_cmp (get_or entries at e).ticket ticket ≡ Equal = equal e in (get_or entries at e, slice_get-get_or entries at e in_range, grind (arith, nat_tests))
+      found (e ∷ rest) are = let tied : nat_cmp (get_or entries at e).ticket ticket ≡ Equal = equal e in
+          (get_or entries at e, slice_get-get_or entries at e in_range, grind (arith, nat_tests))
   searched (Err at) in_range parted =
       each_pair (λ n. n ≢ ticket) entries (λ k d within same.
       let apart = parted comparisons_rise in
@@ -50,8 +56,10 @@ module _ (ticket kept next : ℕ) (entries : List Entry) (are : AreStretches kep
   pub second_rises : IsRising (drop next entries)
   second_rises = (rising_parts (take kept entries) (drop next entries) are.rising).second
 
-  pub in_neither : IsAbsent ticket (pairs_in (take kept entries)) → IsAbsent ticket (pairs_in (drop next entries)) → IsAbsent ticket (pairs_in (stretches kept next entries))
-  in_neither first second = subst (IsAbsent ticket) (sym (filter_map-append pair_of (take kept entries) (drop next entries))) (All-append (λ pair. pair.0 ≢ ticket) (pairs_in (take kept entries)) (pairs_in (drop next entries)) first second)
+  pub in_neither : IsAbsent ticket (pairs_in (take kept entries)) → IsAbsent ticket (pairs_in (drop next entries))
+      → IsAbsent ticket (pairs_in (stretches kept next entries))
+  in_neither first second = subst (IsAbsent ticket) (sym (filter_map-append pair_of (take kept entries) (drop next entries)))
+      (All-append (λ pair. pair.0 ≢ ticket) (pairs_in (take kept entries)) (pairs_in (drop next entries)) first second)
 
 get_in_take : (kept : ℕ) (entries : List Entry) (at : ℕ) (e : Entry) → slice_get (take kept entries) at ≡ Some e → (slice_get entries at ≡ Some e) × (at < kept)
 get_in_take zero entries at e is = cc
@@ -62,16 +70,19 @@ get_in_take (suc kept) (x ∷ entries) (suc at) e is = let rest = get_in_take ke
 get_in_drop : (next : ℕ) (entries : List Entry) (at : ℕ) → slice_get (drop next entries) at ≡ slice_get entries (next + at)
 get_in_drop zero entries at = let e : at ≡ 0 + at = omega arith in ap (slice_get entries) e
 get_in_drop (suc next) [] at = refl
-get_in_drop (suc next) (x ∷ entries) at = let e : suc next + at ≡ suc (next + at) = omega arith in subst (λ n. slice_get (drop next entries) at ≡ slice_get (x ∷ entries) n) (sym e) (get_in_drop next entries at)
+get_in_drop (suc next) (x ∷ entries) at = let e : suc next + at ≡ suc (next + at) = omega arith in
+    subst (λ n. slice_get (drop next entries) at ≡ slice_get (x ∷ entries) n) (sym e) (get_in_drop next entries at)
 
 pub in_first : (ticket kept next : ℕ) (entries : List Entry) (at : ℕ) → HasTicketAmong ticket (take kept entries) at → IsInStretches ticket kept next entries at
 in_first ticket kept next entries at has = let there = get_in_take kept entries at has.0 has.1 in ((has.0, there.0, has.2), inl there.1)
 
-pub in_second : (ticket kept next : ℕ) (entries : List Entry) (at : ℕ) → HasTicketAmong ticket (drop next entries) at → IsInStretches ticket kept next entries (next + at)
+pub in_second : (ticket kept next : ℕ) (entries : List Entry) (at : ℕ) → HasTicketAmong ticket (drop next entries) at
+    → IsInStretches ticket kept next entries (next + at)
 in_second ticket kept next entries at has = ((has.0, sym (get_in_drop next entries at) ∙ has.1, has.2), inr (omega arith))
 
 -- what is read at the place of a ticket's entry, and what is left when its place is taken
-module _ (ticket kept next at : ℕ) (entries : List Entry) (x : Entry) (are : AreStretches kept next entries) (there : IsInStretches ticket kept next entries at) (read : x ≡ get_or entries at x) where
+module _ (ticket kept next at : ℕ) (entries : List Entry) (x : Entry) (are : AreStretches kept next entries) (there : IsInStretches ticket kept next entries at)
+    (read : x ≡ get_or entries at x) where
   same_entry : x ≡ there.0.0
   same_entry = read ∙ get_or_from_slice_get entries at there.0.0 x there.0.1
 
@@ -90,10 +101,12 @@ module _ (ticket kept next at : ℕ) (entries : List Entry) (x : Entry) (are : A
   rising_there : IsRising (parts.0 ++ x ∷ parts.1)
   rising_there = subst IsRising read_parts are.rising
 
-  pub place_tells : MatchOption x.place (IsAbsent ticket (pairs_in (stretches kept next entries))) (λ place. Contains (pairs_in (stretches kept next entries)) (ticket, place))
+  pub place_tells : MatchOption x.place (IsAbsent ticket (pairs_in (stretches kept next entries)))
+      (λ place. Contains (pairs_in (stretches kept next entries)) (ticket, place))
   place_tells =
       subst (λ (l : List Entry). MatchOption x.place (IsAbsent ticket (pairs_in l)) (λ place. Contains (pairs_in l) (ticket, place))) (sym read_parts)
-      (subst (λ (n : ℕ). MatchOption x.place (IsAbsent n (pairs_in (parts.0 ++ x ∷ parts.1))) (λ place. Contains (pairs_in (parts.0 ++ x ∷ parts.1)) (n, place))) own_ticket
+      (subst (λ (n : ℕ). MatchOption x.place (IsAbsent n (pairs_in (parts.0 ++ x ∷ parts.1)))
+      (λ place. Contains (pairs_in (parts.0 ++ x ∷ parts.1)) (n, place))) own_ticket
       (place_there parts.0 parts.1 x rising_there x.place refl))
 
   pub still_stretches : (d : Entry) → d.ticket ≡ ticket → AreStretches kept next (set entries at d)
@@ -106,10 +119,12 @@ module _ (ticket kept next at : ℕ) (entries : List Entry) (x : Entry) (are : A
         last = λ some. let last = are.last (omega arith) in omega arith;
       }
 
-  pub place_taken : (d : Entry) (place : ℕ) → d.place ≡ None → Contains (pairs_in (stretches kept next entries)) (ticket, place) → Removes ticket (pairs_in (stretches kept next entries)) (pairs_in (stretches kept next (set entries at d)))
+  pub place_taken : (d : Entry) (place : ℕ) → d.place ≡ None → Contains (pairs_in (stretches kept next entries)) (ticket, place)
+      → Removes ticket (pairs_in (stretches kept next entries)) (pairs_in (stretches kept next (set entries at d)))
   place_taken d place none among =
       subst (λ (l : List Entry). Removes ticket (pairs_in (stretches kept next entries)) (pairs_in l)) (sym (parts.2.written d))
       (subst (λ (l : List Entry). Removes ticket (pairs_in l) (pairs_in (parts.0 ++ d ∷ parts.1))) (sym read_parts)
       (subst (λ (n : ℕ). Removes n (pairs_in (parts.0 ++ x ∷ parts.1)) (pairs_in (parts.0 ++ d ∷ parts.1))) own_ticket
       (place_removed parts.0 parts.1 x rising_there d place none
-      (subst (λ (n : ℕ). Contains (pairs_in (parts.0 ++ x ∷ parts.1)) (n, place)) (sym own_ticket) (subst (λ (l : List Entry). Contains (pairs_in l) (ticket, place)) read_parts among)))))
+      (subst (λ (n : ℕ). Contains (pairs_in (parts.0 ++ x ∷ parts.1)) (n, place)) (sym own_ticket)
+      (subst (λ (l : List Entry). Contains (pairs_in l) (ticket, place)) read_parts among)))))

@@ -1,5 +1,7 @@
 -- The entries of an index that count: those below one place and those from another on.
-use Rattle.std.proofs.Common.{◌≡◌, ◌⊎◌, ℕ, suc, ◌+◌, ◌-◌, ◌<◌, ◌≤◌, List, [], ◌∷◌, ◌++◌, None, Some, length, get_or, set, take, drop, slice_get, filter, All, inl, inr, refl, sym, ap, subst, ◌∙◌, arith, length-append, length-take, length-drop, append_assoc}
+use Rattle.std.proofs.Common.{◌≡◌, ◌⊎◌, ℕ, suc, ◌+◌, ◌-◌, ◌<◌, ◌≤◌, List, [], ◌∷◌, ◌++◌}
+use Rattle.std.proofs.Common.{None, Some, length, get_or, set, take, drop, slice_get, filter, All, inl, inr}
+use Rattle.std.proofs.Common.{refl, sym, ap, subst, ◌∙◌, arith, length-append, length-take, length-drop, append_assoc}
 use Rattle.std.proofs.Math.Seq.{take-set-lt}
 use Rattle.std.proofs.lemmas.List.{set_split, take-set-le, drop-set-lt, drop-set-add, take-append-le, drop-append-le, take_more, take_all, drop_more}
 use Rattle.std.proofs.lemmas.List.Elements.{All-append, All-cons, All-head, All-nil, All-weaker}
@@ -50,7 +52,8 @@ module _ (kept next at : ℕ) (entries : List Entry) (within : IsWithin kept nex
     | inr high ↦ around_high (at - next) (omega arith)
   ]
 
-pub read_around : (kept next at : ℕ) (entries front back : List Entry) (e : Entry) → IsAround kept next at entries front back → slice_get entries at ≡ Some e → stretches kept next entries ≡ front ++ e ∷ back
+pub read_around : (kept next at : ℕ) (entries front back : List Entry) (e : Entry) → IsAround kept next at entries front back → slice_get entries at ≡ Some e
+    → stretches kept next entries ≡ front ++ e ∷ back
 read_around kept next at entries front back e is there = ap (stretches kept next) (sym (set_read entries at e there)) ∙ is.written e
 
 -- an entry without a place that is passed
@@ -65,7 +68,8 @@ module _ (kept next : ℕ) (entries : List Entry) (e : Entry) (are : AreStretche
   pass_dropped none =
       let ordered = are.within.ordered in
       let in_range = here in
-      let parts : stretches kept next entries ≡ take kept entries ++ e ∷ drop (next + 1) entries = ap (λ (l : List Entry). take kept entries ++ l) first_of_rest in
+      let parts : stretches kept next entries ≡ take kept entries ++ e ∷ drop (next + 1) entries =
+      ap (λ (l : List Entry). take kept entries ++ l) first_of_rest in
       record {
         within = record { ordered = omega arith; within = omega arith };
         rising = rising_without (take kept entries) (drop (next + 1) entries) e (subst IsRising parts are.rising);
@@ -97,7 +101,9 @@ module _ (kept next ticket : ℕ) (entries : List Entry) (are : AreStretches kep
       let top : last.ticket < ticket = above last (slice_get-get_or entries n d (omega arith)) in
       subst (All (λ entry. entry.ticket < ticket)) (sym parts)
       (All-append (λ entry. entry.ticket < ticket) (take kept entries ++ drop next init) (last ∷ [])
-      (All-weaker (λ x. IsBelowAll x (last ∷ [])) (λ x. x.ticket < ticket) (λ x below. let lower : x.ticket < last.ticket = All-head (λ other. x.ticket < other.ticket) last [] below in omega arith) (take kept entries ++ drop next init) rising.across)
+      (All-weaker (λ x. IsBelowAll x (last ∷ [])) (λ x. x.ticket < ticket)
+      (λ x below. let lower : x.ticket < last.ticket = All-head (λ other. x.ticket < other.ticket) last [] below in
+      omega arith) (take kept entries ++ drop next init) rising.across)
       (All-cons (λ entry. entry.ticket < ticket) last [] top (All-nil (λ entry. entry.ticket < ticket))))
 
   pub above_all : All (λ entry. entry.ticket < ticket) (stretches kept next entries)
@@ -120,7 +126,8 @@ module _ (kept next : ℕ) (entries : List Entry) (e : Entry) (within : IsWithin
       ∙ ap (λ (l : List Entry). take kept entries ++ l) (drop-append-le next entries (e ∷ []) bound)
       ∙ sym (append_assoc (take kept entries) (drop next entries) (e ∷ []))
 
-  pub are-push : IsRising (stretches kept next entries) → All (λ other. other.ticket < e.ticket) (stretches kept next entries) → AreStretches kept next (entries ++ e ∷ [])
+  pub are-push : IsRising (stretches kept next entries) → All (λ other. other.ticket < e.ticket) (stretches kept next entries)
+      → AreStretches kept next (entries ++ e ∷ [])
   are-push up below =
       let long = length-append entries (e ∷ []) in
       let bound = within.within in
@@ -140,14 +147,16 @@ module _ (ticket kept next : ℕ) (entries : List Entry) (are : AreStretches kep
   pub ready_as_they_are : IsAboveLast ticket entries → AreReady ticket kept next entries (pairs_in (stretches kept next entries))
   ready_as_they_are above = record { are = are; below = above_all kept next ticket entries are above; same = refl }
 
-  pub ready_compacted : All (λ pair. pair.0 < ticket) (pairs_in (stretches kept next entries)) → AreReady ticket 0 0 (filter has_place (stretches kept next entries)) (pairs_in (stretches kept next entries))
+  pub ready_compacted : All (λ pair. pair.0 < ticket) (pairs_in (stretches kept next entries))
+      → AreReady ticket 0 0 (filter has_place (stretches kept next entries)) (pairs_in (stretches kept next entries))
   ready_compacted highest = record {
     are = whole (filter has_place (stretches kept next entries)) (rising_filter has_place (stretches kept next entries) are.rising);
     below = each_kept (λ n. n < ticket) (stretches kept next entries) highest;
     same = pairs_kept (stretches kept next entries);
   }
 
-module _ (kept next : ℕ) (entries : List Entry) (e : Entry) (place : ℕ) (pairs : List (ℕ × ℕ)) (is : e.place ≡ Some place) (ready : AreReady e.ticket kept next entries pairs) where
+module _ (kept next : ℕ) (entries : List Entry) (e : Entry) (place : ℕ) (pairs : List (ℕ × ℕ)) (is : e.place ≡ Some place)
+    (ready : AreReady e.ticket kept next entries pairs) where
   pub pushed_are : AreStretches kept next (entries ++ e ∷ [])
   pushed_are = are-push kept next entries e ready.are.within ready.are.rising ready.below
 

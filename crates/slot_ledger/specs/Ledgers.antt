@@ -41,7 +41,8 @@ pub record IsLedger {H : Type 0} (setup : Setup) (slots : List (Option (Slot H))
   pub own : length counts.own ≡ length setup.servers
 
 -- and tells of each server whether it is up, and what it may serve
-pub record IsLedgerWith {H : Type 0} (setup : Setup) (ups : List Bool) (limits : List Allowance) (slots : List (Option (Slot H))) (counts : Counted) : Type 0 where
+pub record IsLedgerWith {H : Type 0} (setup : Setup) (ups : List Bool) (limits : List Allowance) (slots : List (Option (Slot H)))
+    (counts : Counted) : Type 0 where
   pub ledger : IsLedger setup slots counts
   pub each : length ups ≡ length setup.servers
   pub limited : length limits ≡ length setup.servers

@@ -13,6 +13,7 @@ pub record IsKept {H : Type 0} (slots : List (Option (Slot H))) (vacant : List �
   pub room : length slots ≤ capacity
   pub indexed : (ticket place : ℕ) → Contains index.pairs (ticket, place) → HasTicketAt ticket slots place
   pub complete : (place : ℕ) (slot : Slot H) → StandsIn slots place slot → Contains index.pairs (slot.row.key.ticket, place)
-  pub own : (place other : ℕ) (slot its : Slot H) → StandsIn slots place slot → StandsIn slots other its → slot.row.key.ticket ≡ its.row.key.ticket → place ≡ other
+  pub own : (place other : ℕ) (slot its : Slot H) → StandsIn slots place slot → StandsIn slots other its → slot.row.key.ticket ≡ its.row.key.ticket
+      → place ≡ other
   pub counted : length index.pairs ≡ count_by is_some slots
   pub index_room : length slots ≤ index.room

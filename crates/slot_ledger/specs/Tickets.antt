@@ -1,5 +1,6 @@
 -- The index of tickets, as a list of entries of which some have lost their place.
-use Rattle.std.specs.Prelude.{◌≡◌, ◌≢◌, ◌⊎◌, ℕ, ◌+◌, ◌-◌, ◌<◌, ◌≤◌, ◌++◌, ◌∷◌, [], Bool, List, Option, Some, All, option_map, is_some, length, take, drop, slice_get}
+use Rattle.std.specs.Prelude.{◌≡◌, ◌≢◌, ◌⊎◌, ℕ, ◌+◌, ◌-◌, ◌<◌, ◌≤◌, ◌++◌, ◌∷◌, []}
+use Rattle.std.specs.Prelude.{Bool, List, Option, Some, All, option_map, is_some, length, take, drop, slice_get}
 use Rattle.std.specs.List.{filter_map}
 use Rattle.slot_ledger.specs.declared.tickets.Entry.{Entry}
 

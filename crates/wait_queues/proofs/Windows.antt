@@ -47,7 +47,8 @@ lined_before lined ws is = record {
       is.own_keys place other one.0 two.0 one.1 two.1 (ap (λ (x : Waiter). x.key) (sym one.2) ∙ same ∙ ap (λ (x : Waiter). x.key) two.2);
 }
 
-pub waiting_before : (lined : Lined) (ws after : Waiters) (order : Order) → AreWaiting lined ws order → after ≡ map since_before ws → AreWaiting lined after order
+pub waiting_before : (lined : Lined) (ws after : Waiters) (order : Order) → AreWaiting lined ws order → after ≡ map since_before ws
+    → AreWaiting lined after order
 waiting_before lined ws after order is are = subst (λ l. AreWaiting lined l order) (sym are) record {
   lined_up = lined_before lined ws is.lined_up;
   order_room = is.order_room ∙ sym (length-map ws since_before);

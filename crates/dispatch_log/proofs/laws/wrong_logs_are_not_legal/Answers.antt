@@ -1,6 +1,11 @@
 use Rattle.dispatch_log.proofs.WrongWindows.{not_at_the_lowered_limit, not_idle_after_a_raise, not_of_no_server, not_forgotten, not_reset, not_anew}
-use Rattle.dispatch_log.proofs.WrongLogs.{not_first_come, not_idle, not_above_limit, not_without_offset, not_without_end, not_left_out, not_backend_first, not_more_loaded, not_against_cursor, not_by_loads_alone, not_without_queues, not_beside_room}
-use Rattle.dispatch_log.proofs.WrongChanges.{not_past_the_retries, not_counted_twice, not_with_the_pin, not_to_the_failed, not_before_the_grant, not_beside_a_usable_one, not_early, not_by_falling_ticket, not_untold, not_while_served, not_while_waiting, not_left_behind, not_by_ticket, not_before_the_moves, not_idle_after_a_rise, not_without_a_word, not_down_after, not_down_though, not_idle_after_a_fall, not_moved_alone, not_due_anew, not_by_a_fallen_server}
+use Rattle.dispatch_log.proofs.WrongLogs.{not_first_come, not_idle, not_above_limit, not_without_offset, not_without_end, not_left_out}
+use Rattle.dispatch_log.proofs.WrongLogs.{not_backend_first, not_more_loaded, not_against_cursor, not_by_loads_alone, not_without_queues, not_beside_room}
+use Rattle.dispatch_log.proofs.WrongChanges.{not_past_the_retries, not_counted_twice, not_with_the_pin, not_to_the_failed, not_before_the_grant}
+use Rattle.dispatch_log.proofs.WrongChanges.{not_beside_a_usable_one, not_early, not_by_falling_ticket, not_untold, not_while_served}
+use Rattle.dispatch_log.proofs.WrongChanges.{not_while_waiting, not_left_behind, not_by_ticket, not_before_the_moves, not_idle_after_a_rise}
+use Rattle.dispatch_log.proofs.WrongChanges.{not_without_a_word, not_down_after, not_down_though, not_idle_after_a_fall, not_moved_alone}
+use Rattle.dispatch_log.proofs.WrongChanges.{not_due_anew, not_by_a_fallen_server}
 use Rattle.dispatch_log.proofs.laws.wrong_logs_are_not_legal.Goals as goal
 
 pub returns-clause-first_come_first_served : goal.returns-clause-first_come_first_served

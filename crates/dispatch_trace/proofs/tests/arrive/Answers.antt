@@ -25,7 +25,8 @@ grant-requires-clause-may_grant c = may_granting c.put.new.trace c.in_ok-put.ens
 pub grant-requires-clause-room : goal.grant-requires-clause-room
 grant-requires-clause-room c =
     let accepted = sym c.refuses_arrival.ensures ∙ none_of c.refuses_arrival.result (sym c.is_some.ensures ∙ c.if-is_some.false) in
-    arrival_room c.args.trace.now c.arrive.new.self c.put.new.trace _ _ None _ (legal_places c.args.trace.now c.requires) accepted c.in_ok-it.ensures.ok c.in_ok-put.ensures.1
+    arrival_room c.args.trace.now c.arrive.new.self c.put.new.trace _ _ None _
+    (legal_places c.args.trace.now c.requires) accepted c.in_ok-it.ensures.ok c.in_ok-put.ensures.1
 
 pub returns : goal.returns
 returns c = record {

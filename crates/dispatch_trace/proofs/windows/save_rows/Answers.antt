@@ -28,7 +28,8 @@ loop-place-preserved g c =
           ∙ ap (λ (r : Rows). record c.args.base.now { rows = r }) (sym rows);
       long = ap length rows ∙ length-set c.loop-place.base.rows c.loop-place.place c.cell.result ∙ inv.long;
       saved = λ k few. ap (λ (r : Rows). slice_get r k) rows
-          ∙ copied_next c.loop-place.base.rows (rows_in c.args.ledger.now.slots) c.loop-place.place c.cell.result inv.long within c.cell.ensures inv.saved k few;
+          ∙ copied_next c.loop-place.base.rows (rows_in c.args.ledger.now.slots) c.loop-place.place c.cell.result inv.long within c.cell.ensures inv.saved k
+          few;
     }
 
 pub returns : goal.returns

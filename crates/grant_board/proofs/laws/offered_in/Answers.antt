@@ -5,4 +5,5 @@ use Rattle.grant_board.proofs.Codes.{if_none}
 use Rattle.grant_board.proofs.laws.offered_in.Goals as goal
 
 pub returns-in_err-ticket-clause-none : goal.returns-in_err-ticket-clause-none
-returns-in_err-ticket-clause-none c = if_none _ (OffersNot c.args.wanted c.args.number) (λ verdict word is. c.in_err-ticket.ensures.none (Offered c.args.wanted verdict) word (sym is))
+returns-in_err-ticket-clause-none c = if_none _ (OffersNot c.args.wanted c.args.number)
+    (λ verdict word is. c.in_err-ticket.ensures.none (Offered c.args.wanted verdict) word (sym is))

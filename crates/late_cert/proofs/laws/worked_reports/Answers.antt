@@ -95,4 +95,5 @@ six_none : ◌≡◌ {A = ℕ} 6 0 → ⊥
 six_none e = omega (arith, e)
 
 pub returns-clause-joined_in_the_window_before : goal.returns-clause-joined_in_the_window_before
-returns-clause-joined_in_the_window_before c = λ sound. six_none (ap (λ (l : List Stay). option_map_or (λ (stay : Stay). stay.joined) (slice_get l 0) 0) sound.listed)
+returns-clause-joined_in_the_window_before c = λ sound.
+    six_none (ap (λ (l : List Stay). option_map_or (λ (stay : Stay). stay.joined) (slice_get l 0) 0) sound.listed)

@@ -17,11 +17,15 @@ pub groups-preserved : goal.groups-preserved
 groups-preserved c = λ more rest.
     let g = c.in-Some.first.now in
     let r = c.in_ok-report_of.field-0 in
-    let some : 0 < c.group_len.result = subst (λ n. 0 < n) (sym {A = ℕ} c.group_len.ensures) (some_group c.groups.rest.now g (sym {A = Option Grant} c.in-Some.ensures.value)) in
+    let some : 0 < c.group_len.result = subst (λ n. 0 < n) (sym {A = ℕ} c.group_len.ensures)
+    (some_group c.groups.rest.now g (sym {A = Option Grant} c.in-Some.ensures.value)) in
     let all : AreGroups c.args.grants.now (c.groups.reports.items ++ r ∷ more) = c.groups.invariant (r ∷ more)
-    (one_more c.groups.rest.now c.split_at.result.0.now c.split_at.result.1.now g.queue g.class c.group_len.result r more c.group_len.ensures some c.split_at.ensures.front c.split_at.ensures.back c.in_ok-report_of.ensures.report c.in_ok-report_of.ensures.queue c.in_ok-report_of.ensures.class rest) in
+    (one_more c.groups.rest.now c.split_at.result.0.now c.split_at.result.1.now g.queue g.class c.group_len.result r more c.group_len.ensures some
+    c.split_at.ensures.front c.split_at.ensures.back c.in_ok-report_of.ensures.report c.in_ok-report_of.ensures.queue c.in_ok-report_of.ensures.class rest)
+    in
     subst (λ (l : List Report). AreGroups c.args.grants.now (l ++ more)) (sym c.in_ok-push.ensures.items)
     (subst (AreGroups c.args.grants.now) (sym (append_assoc c.groups.reports.items (r ∷ []) more)) all)
 
 pub returns : goal.returns
-returns c = subst (AreGroups c.args.grants.now) (append-nil c.groups.reports.items) (c.groups.invariant [] (no_group c.groups.rest.now (sym c.in_default.ensures.value)))
+returns c = subst (AreGroups c.args.grants.now) (append-nil c.groups.reports.items)
+    (c.groups.invariant [] (no_group c.groups.rest.now (sym c.in_default.ensures.value)))

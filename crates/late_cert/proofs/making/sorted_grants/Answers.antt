@@ -20,7 +20,8 @@ ties_by_key x y = rw (before_by_key x y, before_by_key y x) refl
 
 pub returns-clause-sorted : goal.returns-clause-sorted
 returns-clause-sorted c =
-    let h : IsSortedByKey {X = Grant} {K = Option ℕ × ℤ} key order c.sort_by_key.new.self.items = c.in_ok-sort_by_key.ensures.sorted key (answers_always _ _ _ (λ f a r h k. search rules)) in
+    let h : IsSortedByKey {X = Grant} {K = Option ℕ × ℤ} key order c.sort_by_key.new.self.items =
+    c.in_ok-sort_by_key.ensures.sorted key (answers_always _ _ _ (λ f a r h k. search rules)) in
     λ k d low high. before_by_key (get_or c.sort_by_key.new.self.items (k + 1) d) (get_or c.sort_by_key.new.self.items k d) ∙ h k d low high
 
 pub returns-clause-stable : goal.returns-clause-stable

@@ -10,7 +10,8 @@ moving-preserved g c =
     let order = g.met.K.Ord.total in
     let pairs = reverse c.moving.items.items in
     let rest = reverse c.pop.new.self.items in
-    let least_first : reverse c.moving.more.items ≡ c.in-Some.pair ∷ rest = ap reverse c.in-Some.ensures.items ∙ reverse-push c.pop.new.self.items c.in-Some.pair in
+    let least_first : reverse c.moving.more.items ≡ c.in-Some.pair ∷ rest = ap reverse c.in-Some.ensures.items
+    ∙ reverse-push c.pop.new.self.items c.in-Some.pair in
     let more_ascending = rw least_first at c.moving.invariant.more_ascending in
     let apart = rw least_first at c.moving.invariant.apart in
     let same = rw least_first at c.moving.invariant.same in

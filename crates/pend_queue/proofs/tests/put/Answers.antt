@@ -13,4 +13,5 @@ pub returns-clause-tickets : goal.returns-clause-tickets
 returns-clause-tickets g c =
     let in_range = λ (p : Key × ℕ). (c.args.low ≤ p.0.ticket) × (p.0.ticket < c.args.high) in
     rw (c.push.ensures.pairs, c.remove.ensures.pairs, c.in_ok-node.ensures.ok)
-    (AllByRecursion-inserted key_cmp in_range (c.args.key, c.args.value) _ c.requires.range (AllByRecursion-without key_cmp in_range c.args.key _ c.requires.tickets))
+    (AllByRecursion-inserted key_cmp in_range (c.args.key, c.args.value) _ c.requires.range
+    (AllByRecursion-without key_cmp in_range c.args.key _ c.requires.tickets))

@@ -23,7 +23,8 @@ servers_kept long p next n too_long left rest line all so_far is length_is read 
     ap (λ (x : Progress). (survey long x.draft (n + 1) rest).servers) (read ∙ ap (λ (b : Bool). take_line b p n line) length_is)
     ∙ sym (survey-take long p n line rest) ∙ ap (λ (ls : List (List ℕ)). (survey long p.draft n ls).servers) (sym is) ∙ so_far
 
-coming_kept : (servers : List Server) (long : Option ℕ) (p next : Progress) (n : ℕ) (too_long : Bool) (left rest : List (List ℕ)) (line : List ℕ) (all : Result Draft ConfigFault)
+coming_kept : (servers : List Server) (long : Option ℕ) (p next : Progress) (n : ℕ) (too_long : Bool) (left rest : List (List ℕ)) (line : List ℕ)
+    (all : Result Draft ConfigFault)
     → coming servers long p n left ≡ all → left ≡ line ∷ rest → too_long ≡ is_line long n → next ≡ take_line too_long p n line
     → coming servers long next (n + 1) rest ≡ all
 coming_kept servers long p next n too_long left rest line all so_far is length_is read =
@@ -52,7 +53,8 @@ pub returns-in-Some-decided : goal.returns-in-Some-decided
 returns-in-Some-decided c =
     let all = declared_servers c.args.bytes.now in
     ap (λ (long : Option ℕ). finished (run all long start 1 (lines c.args.bytes.now))) (sym c.long_line-long.ensures)
-    ∙ ap finished (sym (coming_kept all _ _ c.take.new.self _ _ _ _ _ _ c.lines.invariant.coming c.in-Some.ensures.steps c.is_line.ensures c.in_ok-take.ensures.ok)
+    ∙ ap finished (sym (coming_kept all _ _ c.take.new.self _ _ _ _ _ _ c.lines.invariant.coming c.in-Some.ensures.steps c.is_line.ensures
+    c.in_ok-take.ensures.ok)
     ∙ coming_decided all _ c.take.new.self _ _ _ c.in-Some-decided.ensures)
 
 pub returns : goal.returns
@@ -60,8 +62,10 @@ returns c =
     let all = declared_servers c.args.bytes.now in
     let long = c.long_line-long.result in
     let none = c.in_default.ensures.steps.0 in
-    let known : c.lines.progress.draft.servers ≡ all = ap (λ (ls : List (List ℕ)). (survey long c.lines.progress.draft (c.lines.number + 1) ls).servers) (sym none) ∙ c.lines.invariant.servers in
+    let known : c.lines.progress.draft.servers ≡ all =
+    ap (λ (ls : List (List ℕ)). (survey long c.lines.progress.draft (c.lines.number + 1) ls).servers) (sym none) ∙ c.lines.invariant.servers in
     let same : settled c.lines.progress.draft.servers c.lines.progress ≡ run all long start 1 (lines c.args.bytes.now) =
-    ap (λ (servers : List Server). settled servers c.lines.progress) known ∙ ap (λ (ls : List (List ℕ)). coming all long c.lines.progress (c.lines.number + 1) ls) (sym none) ∙ c.lines.invariant.coming in
+    ap (λ (servers : List Server). settled servers c.lines.progress) known
+    ∙ ap (λ (ls : List (List ℕ)). coming all long c.lines.progress (c.lines.number + 1) ls) (sym none) ∙ c.lines.invariant.coming in
     subst (λ (read : Result Config ConfigFault). Answers c.finish.result read)
     (ap finished same ∙ ap (λ (l : Option ℕ). finished (run all l start 1 (lines c.args.bytes.now))) c.long_line-long.ensures) c.finish.ensures

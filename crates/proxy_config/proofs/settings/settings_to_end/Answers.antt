@@ -4,7 +4,8 @@ use Rattle.proxy_config.proofs.settings.settings_to_end.Goals as goal
 
 pub settings-preserved-then-is : goal.settings-preserved-then-is
 settings-preserved-then-is c =
-    sym (settings-check c.settings.so_far c.in-Some.first.now c.next.new.self (sym c.is.ensures ∙ c.if-is.true)) ∙ (rw c.in-Some.ensures.steps at c.settings.invariant)
+    sym (settings-check c.settings.so_far c.in-Some.first.now c.next.new.self (sym c.is.ensures ∙ c.if-is.true))
+    ∙ (rw c.in-Some.ensures.steps at c.settings.invariant)
 
 pub settings-preserved : goal.settings-preserved
 settings-preserved c =

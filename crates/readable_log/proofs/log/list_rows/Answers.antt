@@ -10,7 +10,8 @@ pub push_reserved-requires : goal.push_reserved-requires
 push_reserved-requires c =
     let before = c.loop-row.invariant in
     let same : length c.loop-row.list.items ≡ length (base_rows (take c.loop-row.row-index c.args.rows.now)) = ap length before.so_far in
-    let few : length (base_rows (take c.loop-row.row-index c.args.rows.now)) < length c.args.rows.now = base_rows-fit c.args.rows.now c.loop-row.row-index c.loop-row-test.true in
+    let few : length (base_rows (take c.loop-row.row-index c.args.rows.now)) < length c.args.rows.now =
+    base_rows-fit c.args.rows.now c.loop-row.row-index c.loop-row-test.true in
     let room = before.room in
     let fits = before.fits in
     omega (arith, c.loop-row.list.ok.0)
@@ -28,7 +29,12 @@ loop-row-preserved c =
             so_far =
                 ap (λ (v : Vec BaseRow Global). v.items) w.list-is ∙ w.push_reserved.ensures.items
                 ∙ ap (λ l. l ++ record { ticket = row.key.ticket; class = row.key.class; due = row.key.due; queue = w.queue.result } ∷ []) before.so_far
-                ∙ ap (λ q. base_rows (take i rows) ++ record { ticket = row.key.ticket; class = row.key.class; due = row.key.due; queue = q } ∷ []) w.queue.ensures
+                ∙ ap (λ q. base_rows (take i rows) ++ record {
+                  ticket = row.key.ticket;
+                  class = row.key.class;
+                  due = row.key.due;
+                  queue = q;
+                } ∷ []) w.queue.ensures
                 ∙ sym (more ∙ ap (λ x. base_rows (take i rows) ++ listed_row x) w.in-Some.is);
             room = ap (λ (v : Vec BaseRow Global). vec_capacity v) w.list-is ∙ w.push_reserved.ensures.capacity ∙ before.room;
             fits = before.fits;

@@ -15,7 +15,8 @@ use Rattle.readable_log.proofs.read.follow_grant.Goals as goal
 use Rattle.list_facts.proofs.Never.{false_true}
 
 -- a joining that was found
-module _ (base : List BaseRow) (log : List Entry) (index : Index) (is : IsIndexOf base log index) (ticket joined : ℕ) (queue : Queue) (server : Option ℕ) (own : server ≡ server_of queue) (found : get wait_cmp index.joinings (ticket, server) ≡ Some joined) where
+module _ (base : List BaseRow) (log : List Entry) (index : Index) (is : IsIndexOf base log index) (ticket joined : ℕ) (queue : Queue) (server : Option ℕ)
+    (own : server ≡ server_of queue) (found : get wait_cmp index.joinings (ticket, server) ≡ Some joined) where
   at_queue : get wait_cmp index.joinings (ticket, server_of queue) ≡ Some joined
   at_queue = subst (λ (s : Option ℕ). get wait_cmp index.joinings (ticket, s) ≡ Some joined) own found
 
@@ -32,12 +33,14 @@ not_zero (suc n) some = omega arith
 pub note_grant-requires-clause-joined : goal.note_grant-requires-clause-joined
 note_grant-requires-clause-joined c =
     let a = c.args in
-    found_at (base_rows a.log.now.base.rows) a.log.now.entries a.index.now c.requires.indexed a.ticket c.in-Some-copied.joined a.queue c.server_of.result c.server_of.ensures (sym c.get-2.ensures.value ∙ sym c.copied.ensures ∙ c.in-Some-copied.is)
+    found_at (base_rows a.log.now.base.rows) a.log.now.entries a.index.now c.requires.indexed a.ticket c.in-Some-copied.joined a.queue c.server_of.result
+    c.server_of.ensures (sym c.get-2.ensures.value ∙ sym c.copied.ensures ∙ c.in-Some-copied.is)
 
 pub note_grant-requires-clause-waits : goal.note_grant-requires-clause-waits
 note_grant-requires-clause-waits c =
     let a = c.args in
-    found_there (base_rows a.log.now.base.rows) a.log.now.entries a.index.now c.requires.indexed a.ticket c.in-Some-copied.joined a.queue c.server_of.result c.server_of.ensures (sym c.get-2.ensures.value ∙ sym c.copied.ensures ∙ c.in-Some-copied.is)
+    found_there (base_rows a.log.now.base.rows) a.log.now.entries a.index.now c.requires.indexed a.ticket c.in-Some-copied.joined a.queue c.server_of.result
+    c.server_of.ensures (sym c.get-2.ensures.value ∙ sym c.copied.ensures ∙ c.in-Some-copied.is)
 
 pub returns-clause-follows : goal.returns-clause-follows
 returns-clause-follows c =
@@ -46,7 +49,9 @@ returns-clause-follows c =
     let base = base_rows a.log.now.base.rows in
     let log = a.log.now.entries in
     let known : Some key ≡ key_known base a.ticket log = c.in-Some.ensures.value ∙ c.requires.indexed.keys a.ticket in
-    let has : HasArrived base log a.ticket key.class key.due = subst (λ (o : Option Key). IsSomeAnd o (λ it. (it.class ≡ key.class) × (it.due ≡ key.due))) known (refl, refl) in
-    let waits = found_there base log a.index.now c.requires.indexed a.ticket c.in-Some-copied.joined a.queue c.server_of.result c.server_of.ensures (sym c.get-2.ensures.value ∙ sym c.copied.ensures ∙ c.in-Some-copied.is) in
+    let has : HasArrived base log a.ticket key.class key.due =
+    subst (λ (o : Option Key). IsSomeAnd o (λ it. (it.class ≡ key.class) × (it.due ≡ key.due))) known (refl, refl) in
+    let waits = found_there base log a.index.now c.requires.indexed a.ticket c.in-Some-copied.joined a.queue c.server_of.result c.server_of.ensures
+    (sym c.get-2.ensures.value ∙ sym c.copied.ensures ∙ c.in-Some-copied.is) in
     let begun : 0 < length log = not_zero (length log) (λ none. false_true (c.if-is_empty.ensures.1 none)) in
     grant_may_follow base log a.ticket a.server a.queue key.class key.due begun has waits

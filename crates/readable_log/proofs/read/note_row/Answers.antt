@@ -16,8 +16,10 @@ returns-in_ok-insert-2 c = λ base is.
     let new : Index = record { keys = c.insert.new.self; joinings = c.insert-in-Some.new.self } in
     index_row base row old new is (λ t. c.in_ok-insert.ensures.updates.0 t) (λ none. none_some (sym none ∙ c.in-Some.is))
     (λ p at w.
-    let same : c.server_of.result ≡ server_of p = subst (λ (q : Queue). c.server_of.result ≡ server_of q) (same_Some c.in-Some.queue p (sym c.in-Some.is ∙ at)) c.server_of.ensures in
-    subst (λ (s : Option ℕ). get wait_cmp new.joinings w ≡ cond (is_eq (wait_cmp (row.ticket, s) w)) (Some 0) (get wait_cmp old.joinings w)) same (c.in_ok-insert-2.ensures.updates.0 w))
+    let same : c.server_of.result ≡ server_of p =
+    subst (λ (q : Queue). c.server_of.result ≡ server_of q) (same_Some c.in-Some.queue p (sym c.in-Some.is ∙ at)) c.server_of.ensures in
+    subst (λ (s : Option ℕ). get wait_cmp new.joinings w ≡ cond (is_eq (wait_cmp (row.ticket, s) w)) (Some 0) (get wait_cmp old.joinings w)) same
+    (c.in_ok-insert-2.ensures.updates.0 w))
 
 pub returns-in_default : goal.returns-in_default
 returns-in_default c = λ base is.

@@ -24,10 +24,12 @@ pub returns-then-rest_are : goal.returns-then-rest_are
 returns-then-rest_are c =
     let whole = ap (λ (values : List (List ℕ)). stated_of (flat_map parts values)) (sym c.in-Some.ensures.steps) in
     let part = c.in-Some-first_number.ensures.some in
-    by_rest c.in-Some.first.now c.next.new.self part.0 part.1 c.in-Some-first_number.count true part.2 part.3 (sym c.if-not-all_are.ensures) (sym c.if-rest_are.ensures) ∙ whole
+    by_rest c.in-Some.first.now c.next.new.self part.0 part.1 c.in-Some-first_number.count true part.2 part.3 (sym c.if-not-all_are.ensures)
+    (sym c.if-rest_are.ensures) ∙ whole
 
 pub returns-else-rest_are : goal.returns-else-rest_are
 returns-else-rest_are c =
     let whole = ap (λ (values : List (List ℕ)). stated_of (flat_map parts values)) (sym c.in-Some.ensures.steps) in
     let part = c.in-Some-first_number.ensures.some in
-    by_rest c.in-Some.first.now c.next.new.self part.0 part.1 c.in-Some-first_number.count false part.2 part.3 (sym c.if-not-all_are.ensures) (sym c.if-rest_are.ensures) ∙ whole
+    by_rest c.in-Some.first.now c.next.new.self part.0 part.1 c.in-Some-first_number.count false part.2 part.3 (sym c.if-not-all_are.ensures)
+    (sym c.if-rest_are.ensures) ∙ whole

@@ -8,4 +8,6 @@ use Rattle.replay.proofs.reports.reports_of.Goals as goal
 pub returns : goal.returns
 returns g c =
     IfOk-weaker c.certify.result (AreReports (window_of c.log.result.now)) (IsCertified c.args.core.now)
-    (λ reports are. certified c.args.core.now (window_of c.log.result.now) reports (same_window c.args.core.now c.log.result.now c.log.ensures.base c.log.ensures.entries) c.log.ensures.legal c.log.ensures.dispatched are) c.certify.ensures
+    (λ reports are. certified c.args.core.now (window_of c.log.result.now) reports
+    (same_window c.args.core.now c.log.result.now c.log.ensures.base c.log.ensures.entries) c.log.ensures.legal c.log.ensures.dispatched are)
+    c.certify.ensures

@@ -56,4 +56,5 @@ pub returns-clause-ok : goal.returns-clause-ok
 returns-clause-ok g c =
     let all = λ (text : List ℕ). IsScriptText c.args.names.now c.args.core.now (steps_of c.args.script.now) c.lines.core text in
     subst all (append-nil (string_bytes c.lines.text))
-    (c.lines.invariant.2 c.lines.core [] (subst (λ (left : List (List ℕ)). IsScriptText c.args.names.now c.lines.core (filter_map step_of left) c.lines.core []) (sym c.in_default.ensures.steps.0) (refl, refl)))
+    (c.lines.invariant.2 c.lines.core [] (subst (λ (left : List (List ℕ)). IsScriptText c.args.names.now c.lines.core (filter_map step_of left) c.lines.core [])
+    (sym c.in_default.ensures.steps.0) (refl, refl)))

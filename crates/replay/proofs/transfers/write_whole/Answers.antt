@@ -5,7 +5,10 @@ use Rattle.replay.proofs.transfers.write_whole.Goals as goal
 
 -- a write that failed took nothing
 pub returns-in_default-clause-err : goal.returns-in_default-clause-err
-returns-in_default-clause-err g c = (refl, front_written _ _ c.args.text.now c.writing.at (Appends-kept _ _ _ _ c.writing.invariant.written c.in_default.ensures.bytes))
+returns-in_default-clause-err g c = (
+  refl,
+  front_written _ _ c.args.text.now c.writing.at (Appends-kept _ _ _ _ c.writing.invariant.written c.in_default.ensures.bytes),
+)
 
 pub writing-preserved : goal.writing-preserved
 writing-preserved g c =

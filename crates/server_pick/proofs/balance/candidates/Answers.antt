@@ -5,6 +5,7 @@ use Rattle.server_pick.proofs.balance.candidates.Goals as goal
 
 pub of-requires : goal.of-requires
 of-requires g c =
-    let within : c.in-Some.server < length c.args.ledger.now.setup.servers = room_within (scene_of c.args.ledger.now) c.in-Some.server (sym c.has_room.ensures.room ∙ c.if-has_room.true) in
+    let within : c.in-Some.server < length c.args.ledger.now.setup.servers =
+    room_within (scene_of c.args.ledger.now) c.in-Some.server (sym c.has_room.ensures.room ∙ c.if-has_room.true) in
     let few = c.has_room.ensures.few in
     omega arith

@@ -11,5 +11,7 @@ filling-preserved g c = filled_step _ c.filling.server c.has_room_but.result _ _
 pub returns : goal.returns
 returns g c =
     let scene = scene_of c.args.ledger.now in
-    let all = loop_end c.setup.result.now c.args.ledger.now.setup _ _ c.setup.ensures.setup c.len-server-end.ensures c.filling-test.false c.filling.auto.server-end in
-    filled_all (HasRoomBut scene c.args.avoid) (length scene.servers) _ (λ server has. room_within scene server has.0) (subst (λ n. IsFilled (HasRoomBut scene c.args.avoid) n c.filling.set) all c.filling.invariant)
+    let all = loop_end c.setup.result.now c.args.ledger.now.setup _ _ c.setup.ensures.setup c.len-server-end.ensures c.filling-test.false
+    c.filling.auto.server-end in
+    filled_all (HasRoomBut scene c.args.avoid) (length scene.servers) _ (λ server has. room_within scene server has.0)
+    (subst (λ n. IsFilled (HasRoomBut scene c.args.avoid) n c.filling.set) all c.filling.invariant)

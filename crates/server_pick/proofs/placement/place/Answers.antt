@@ -10,7 +10,8 @@ returns-in-Some-pick-clause-placed g c =
     let scene = scene_of c.args.ledger.now in
     let none = sym c.working_pin.ensures ∙ c.in_default.is in
     subst (λ (p : Placement). IsPlacement scene c.args.cursor.now c.args.pin c.args.avoid p) (sym c.put_on-in-Some-pick.ensures)
-    (picked_placed scene c.args.cursor.now c.args.pin c.args.avoid c.candidates.result c.in-Some-pick.server none c.candidates.ensures c.in-Some-pick.ensures.picked)
+    (picked_placed scene c.args.cursor.now c.args.pin c.args.avoid c.candidates.result c.in-Some-pick.server none c.candidates.ensures
+    c.in-Some-pick.ensures.picked)
 
 pub returns-in-Some-pick-clause-cursor : goal.returns-in-Some-pick-clause-cursor
 returns-in-Some-pick-clause-cursor g c =

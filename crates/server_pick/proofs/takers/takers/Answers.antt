@@ -5,10 +5,13 @@ use Rattle.server_pick.proofs.Filled.{IsFilled, filled_step, filled_all, loop_en
 use Rattle.server_pick.proofs.takers.takers.Goals as goal
 
 pub filling-preserved : goal.filling-preserved
-filling-preserved g c = filled_step (CanTake (scene_of c.args.ledger.now)) c.filling.server c.can_take.result _ _ c.can_take.ensures c.insert_if.ensures c.filling.invariant
+filling-preserved g c = filled_step (CanTake
+    (scene_of c.args.ledger.now)) c.filling.server c.can_take.result _ _ c.can_take.ensures c.insert_if.ensures c.filling.invariant
 
 pub returns : goal.returns
 returns g c =
     let scene = scene_of c.args.ledger.now in
-    let all = loop_end c.setup.result.now c.args.ledger.now.setup _ _ c.setup.ensures.setup c.len-server-end.ensures c.filling-test.false c.filling.auto.server-end in
-    filled_all (CanTake scene) (length scene.servers) _ (λ server can. free_within scene server can.0) (subst (λ n. IsFilled (CanTake scene) n c.filling.set) all c.filling.invariant)
+    let all = loop_end c.setup.result.now c.args.ledger.now.setup _ _ c.setup.ensures.setup c.len-server-end.ensures c.filling-test.false
+    c.filling.auto.server-end in
+    filled_all (CanTake scene) (length scene.servers) _ (λ server can. free_within scene server can.0)
+    (subst (λ n. IsFilled (CanTake scene) n c.filling.set) all c.filling.invariant)

@@ -11,4 +11,5 @@ none_from_test (Some place) is = cc
 pub returns-then-is_none : goal.returns-then-is_none
 returns-then-is_none c =
     let entry = get_or c.args.entries.now c.args.next (record { ticket = 0; place = None }) in
-    pass_dropped c.args.kept c.args.next c.args.entries.now entry c.requires.stretches (slice_get-get_or c.args.entries.now c.args.next _ c.requires.within) (none_from_test entry.place (c.is_none.ensures ∙ ap not c.if-is_none.true))
+    pass_dropped c.args.kept c.args.next c.args.entries.now entry c.requires.stretches (slice_get-get_or c.args.entries.now c.args.next _ c.requires.within)
+    (none_from_test entry.place (c.is_none.ensures ∙ ap not c.if-is_none.true))

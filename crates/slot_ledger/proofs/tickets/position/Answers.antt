@@ -17,7 +17,8 @@ search-requires-2 c = rw (take_rest c.args.entries.now c.args.next) (second_rise
 pub returns-in_err-at : goal.returns-in_err-at
 returns-in_err-at c =
     rw c.from_residual.ensures
-    (in_neither c.args.ticket c.args.kept c.args.next c.args.entries.now c.requires c.in_default.ensures (rw (take_rest c.args.entries.now c.args.next) at c.in_err-at.ensures))
+    (in_neither c.args.ticket c.args.kept c.args.next c.args.entries.now c.requires c.in_default.ensures
+    (rw (take_rest c.args.entries.now c.args.next) at c.in_err-at.ensures))
 
 pub overflow_add-result : goal.overflow_add-result
 overflow_add-result c =
@@ -27,4 +28,5 @@ overflow_add-result c =
     omega arith
 
 pub returns : goal.returns
-returns c = in_second c.args.ticket c.args.kept c.args.next c.args.entries.now c.in_ok-at.at (rw (take_rest c.args.entries.now c.args.next) at c.in_ok-at.ensures)
+returns c = in_second c.args.ticket c.args.kept c.args.next c.args.entries.now c.in_ok-at.at
+    (rw (take_rest c.args.entries.now c.args.next) at c.in_ok-at.ensures)

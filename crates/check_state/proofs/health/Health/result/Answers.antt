@@ -15,15 +15,18 @@ returns-then-ok-self-clause-change c rise fall results is =
 
 pub returns-then-self-limit-clause-health : goal.returns-then-self-limit-clause-health
 returns-then-self-limit-clause-health c rise fall results is =
-    (further_result rise fall results _ c.args.ok (subst (IsHealthOf rise fall results) (sym c.self.view_is) is) c.self.invariant c.if-ok-self.false (subst (λ n. c.self.inside.against + 1 < n) (c.limit-limit.ensures ∙ ap limit_of (sym c.self.view_is)) c.if-self-limit.true)).health
+    (further_result rise fall results _ c.args.ok (subst (IsHealthOf rise fall results) (sym c.self.view_is) is) c.self.invariant c.if-ok-self.false
+    (subst (λ n. c.self.inside.against + 1 < n) (c.limit-limit.ensures ∙ ap limit_of (sym c.self.view_is)) c.if-self-limit.true)).health
 
 pub returns-then-self-limit-clause-change : goal.returns-then-self-limit-clause-change
 returns-then-self-limit-clause-change c rise fall results is =
-    (further_result rise fall results _ c.args.ok (subst (IsHealthOf rise fall results) (sym c.self.view_is) is) c.self.invariant c.if-ok-self.false (subst (λ n. c.self.inside.against + 1 < n) (c.limit-limit.ensures ∙ ap limit_of (sym c.self.view_is)) c.if-self-limit.true)).change_is
+    (further_result rise fall results _ c.args.ok (subst (IsHealthOf rise fall results) (sym c.self.view_is) is) c.self.invariant c.if-ok-self.false
+    (subst (λ n. c.self.inside.against + 1 < n) (c.limit-limit.ensures ∙ ap limit_of (sym c.self.view_is)) c.if-self-limit.true)).change_is
 
 pub returns-after-ok-clause-health : goal.returns-after-ok-clause-health
 returns-after-ok-clause-health c rise fall results is =
-    (turning_result rise fall results _ c.args.ok (subst (IsHealthOf rise fall results) (sym c.self.view_is) is) c.self.invariant c.if-ok-self.false (subst (λ n. n ≤ c.self.inside.against + 1) (c.limit-limit.ensures ∙ ap limit_of (sym c.self.view_is)) c.if-self-limit.false)).health
+    (turning_result rise fall results _ c.args.ok (subst (IsHealthOf rise fall results) (sym c.self.view_is) is) c.self.invariant c.if-ok-self.false
+    (subst (λ n. n ≤ c.self.inside.against + 1) (c.limit-limit.ensures ∙ ap limit_of (sym c.self.view_is)) c.if-self-limit.false)).health
 
 pub returns-after-ok-clause-change : goal.returns-after-ok-clause-change
 returns-after-ok-clause-change c rise fall results is =
@@ -33,4 +36,5 @@ returns-after-ok-clause-change c rise fall results is =
       | else-ok w ↦ w.result-is ∙ ap (λ b. cond b WentUp WentDown) (sym w.if-ok.false)
     ]
     in
-    told ∙ (turning_result rise fall results _ c.args.ok (subst (IsHealthOf rise fall results) (sym c.self.view_is) is) c.self.invariant c.if-ok-self.false (subst (λ n. n ≤ c.self.inside.against + 1) (c.limit-limit.ensures ∙ ap limit_of (sym c.self.view_is)) c.if-self-limit.false)).change_is
+    told ∙ (turning_result rise fall results _ c.args.ok (subst (IsHealthOf rise fall results) (sym c.self.view_is) is) c.self.invariant c.if-ok-self.false
+    (subst (λ n. n ≤ c.self.inside.against + 1) (c.limit-limit.ensures ∙ ap limit_of (sym c.self.view_is)) c.if-self-limit.false)).change_is

@@ -49,4 +49,5 @@ returns-clause-ok g c =
 pub returns-clause-dispatched : goal.returns-clause-dispatched
 returns-clause-dispatched g c =
     let h = c.self.inside.events.trace in
-    added_dispatched _ _ _ c.self.invariant.legal (abort_adds h _ _ _ _ c.in-Ok.ensures.found c.in-Ok.ensures.accepted c.abort.ensures _ c.dismiss.ensures.left _ c.settle.ensures)
+    added_dispatched _ _ _ c.self.invariant.legal
+    (abort_adds h _ _ _ _ c.in-Ok.ensures.found c.in-Ok.ensures.accepted c.abort.ensures _ c.dismiss.ensures.left _ c.settle.ensures)

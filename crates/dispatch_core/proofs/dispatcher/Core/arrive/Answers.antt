@@ -26,7 +26,8 @@ settle-requires-clause-may_grant g c = may_granting c.place.new.self.trace c.pla
 
 pub settle-requires-clause-room : goal.settle-requires-clause-room
 settle-requires-clause-room g c =
-    arrival_room c.self.inside.events.trace c.arrive.new.self c.place.new.self.trace _ _ c.args.pin _ (legal_places _ c.self.invariant.legal) (sym c.refuses_arrival.ensures ∙ c.in_default.is)
+    arrival_room c.self.inside.events.trace c.arrive.new.self c.place.new.self.trace _ _ c.args.pin _ (legal_places _ c.self.invariant.legal)
+    (sym c.refuses_arrival.ensures ∙ c.in_default.is)
     c.in-Ok.ensures.ok c.place.ensures.placed
 
 pub returns-clause-ok : goal.returns-clause-ok

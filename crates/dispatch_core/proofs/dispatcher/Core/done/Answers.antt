@@ -31,7 +31,8 @@ leave-requires-clause-at g c = at_done c.self.inside.events.trace c.done.new.sel
 
 pub settle-requires-clause-room : goal.settle-requires-clause-room
 settle-requires-clause-room g c =
-    done_settles c.self.inside.events.trace c.done.new.self c.leave.new.self.trace _ _ _ c.in-Ok.ensures.found c.self.invariant.legal c.in-Ok.ensures.accepted c.done.ensures
+    done_settles c.self.inside.events.trace c.done.new.self c.leave.new.self.trace _ _ _ c.in-Ok.ensures.found c.self.invariant.legal c.in-Ok.ensures.accepted
+    c.done.ensures
     c.leave.ensures
 
 pub returns-clause-ok : goal.returns-clause-ok
@@ -41,7 +42,8 @@ returns-clause-ok g c =
 
 pub returns-clause-dispatched : goal.returns-clause-dispatched
 returns-clause-dispatched g c =
-    added_dispatched _ _ _ c.self.invariant.legal (done_adds c.self.inside.events.trace _ _ _ _ _ c.in-Ok.ensures.found _ c.done.ensures c.leave.ensures c.settle.ensures)
+    added_dispatched _ _ _ c.self.invariant.legal
+    (done_adds c.self.inside.events.trace _ _ _ _ _ c.in-Ok.ensures.found _ c.done.ensures c.leave.ensures c.settle.ensures)
 
 pub invariant_of-self : goal.invariant_of-self
 invariant_of-self g c =

@@ -51,7 +51,8 @@ returns-clause-ok g c =
 
 pub returns-clause-dispatched : goal.returns-clause-dispatched
 returns-clause-dispatched g c =
-    added_dispatched _ _ _ c.self.invariant.legal (carried_adds c.self.inside.events.trace _ _ _ _ refl c.fail-failures.ensures.fails c.carry_on.ensures c.settle.ensures)
+    added_dispatched _ _ _ c.self.invariant.legal
+    (carried_adds c.self.inside.events.trace _ _ _ _ refl c.fail-failures.ensures.fails c.carry_on.ensures c.settle.ensures)
 
 pub invariant_of-self : goal.invariant_of-self
 invariant_of-self g c =

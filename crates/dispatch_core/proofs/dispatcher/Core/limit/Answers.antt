@@ -30,15 +30,18 @@ settle-requires-clause-room g c =
 pub invariant_of-self : goal.invariant_of-self
 invariant_of-self g c =
     core_kept _ _ _ _ _ _ c.self.invariant
-    (limit_adds c.self.inside.events.trace c.args.server (sym c.refuses_limit.ensures ∙ c.in_default.is) c.limit.new.self _ _ c.limit.ensures _ c.settle.ensures)
+    (limit_adds c.self.inside.events.trace c.args.server (sym c.refuses_limit.ensures
+    ∙ c.in_default.is) c.limit.new.self _ _ c.limit.ensures _ c.settle.ensures)
     refl c.self.invariant.none refl
 
 pub returns-clause-ok : goal.returns-clause-ok
 returns-clause-ok g c =
     subst (λ (h : History). AddsEvent h c.settle.new.self.trace (Limit (effective h c.args.moment) c.args.server c.args.limit)) c.self.view_is
-    (limit_adds c.self.inside.events.trace c.args.server (sym c.refuses_limit.ensures ∙ c.in_default.is) c.limit.new.self _ _ c.limit.ensures _ c.settle.ensures)
+    (limit_adds c.self.inside.events.trace c.args.server (sym c.refuses_limit.ensures
+    ∙ c.in_default.is) c.limit.new.self _ _ c.limit.ensures _ c.settle.ensures)
 
 pub returns-clause-dispatched : goal.returns-clause-dispatched
 returns-clause-dispatched g c =
     added_dispatched _ _ _ c.self.invariant.legal
-    (limit_adds c.self.inside.events.trace c.args.server (sym c.refuses_limit.ensures ∙ c.in_default.is) c.limit.new.self _ _ c.limit.ensures _ c.settle.ensures)
+    (limit_adds c.self.inside.events.trace c.args.server (sym c.refuses_limit.ensures
+    ∙ c.in_default.is) c.limit.new.self _ _ c.limit.ensures _ c.settle.ensures)

@@ -17,7 +17,8 @@ pub time_out-requires-clause-telling : goal.time_out-requires-clause-telling
 time_out-requires-clause-telling g c = tick_tells c.self.inside.events.trace c.tick.new.self _ c.tick.ensures.goes
 
 pub time_out-requires-clause-room : goal.time_out-requires-clause-room
-time_out-requires-clause-room g c = tick_room c.self.inside.events.trace c.tick.new.self _ c.tick.ensures.goes c.self.invariant.legal (c.has_room.ensures.0 c.if-not-has_room.false)
+time_out-requires-clause-room g c = tick_room c.self.inside.events.trace c.tick.new.self _ c.tick.ensures.goes c.self.invariant.legal
+    (c.has_room.ensures.0 c.if-not-has_room.false)
 
 pub invariant_of-self-2 : goal.invariant_of-self-2
 invariant_of-self-2 g c =
@@ -38,18 +39,21 @@ returns-clause-dispatched g c =
 pub invariant_of-self : goal.invariant_of-self
 invariant_of-self g c =
     core_kept c.self.inside.events.trace c.tick.new.self _ _ _ _ c.self.invariant
-    (quiet_adds c.self.inside.events.trace c.tick.new.self _ c.tick.ensures.goes c.args.moment refl c.self.invariant.legal c.tick.ensures.judged _ c.if-not-expired.true
+    (quiet_adds c.self.inside.events.trace c.tick.new.self _ c.tick.ensures.goes c.args.moment refl c.self.invariant.legal c.tick.ensures.judged _
+    c.if-not-expired.true
     c.expired.ensures.1)
     refl c.self.invariant.none refl
 
 pub returns-then-not-expired-clause-ok : goal.returns-then-not-expired-clause-ok
 returns-then-not-expired-clause-ok g c =
     subst (λ (h : History). AddsEvent h c.tick.new.self (Tick (effective h c.args.moment))) c.self.view_is
-    (quiet_adds c.self.inside.events.trace c.tick.new.self _ c.tick.ensures.goes c.args.moment refl c.self.invariant.legal c.tick.ensures.judged _ c.if-not-expired.true
+    (quiet_adds c.self.inside.events.trace c.tick.new.self _ c.tick.ensures.goes c.args.moment refl c.self.invariant.legal c.tick.ensures.judged _
+    c.if-not-expired.true
     c.expired.ensures.1)
 
 pub returns-then-not-expired-clause-dispatched : goal.returns-then-not-expired-clause-dispatched
 returns-then-not-expired-clause-dispatched g c =
     added_dispatched c.self.inside.events.trace c.tick.new.self _ c.self.invariant.legal
-    (quiet_adds c.self.inside.events.trace c.tick.new.self _ c.tick.ensures.goes c.args.moment refl c.self.invariant.legal c.tick.ensures.judged _ c.if-not-expired.true
+    (quiet_adds c.self.inside.events.trace c.tick.new.self _ c.tick.ensures.goes c.args.moment refl c.self.invariant.legal c.tick.ensures.judged _
+    c.if-not-expired.true
     c.expired.ensures.1)

@@ -9,7 +9,8 @@ loop-server-preserved c =
     record {
       many = search rules;
       room = search rules;
-      made = one_limit_more c.as_slice-servers.result.now c.loop-server.limits.items c.push_reserved.new.self.items c.loop-server.server-index _ c.loop-server-test.true before.made c.push_reserved.ensures.items;
+      made = one_limit_more c.as_slice-servers.result.now c.loop-server.limits.items c.push_reserved.new.self.items c.loop-server.server-index _
+          c.loop-server-test.true before.made c.push_reserved.ensures.items;
     }
 
 pub returns : goal.returns

@@ -14,7 +14,8 @@ use Rattle.dispatch_trace.proofs.trace.Trace.arrive.Goals as goal
 
 pub admit-requires-clause-room : goal.admit-requires-clause-room
 admit-requires-clause-room g c =
-    let begins = here_begins _ _ _ c.args.moment c.later-now.result (λ h. refuses_arrival h c.args.pin) c.self.invariant c.self.view_is c.requires.begins c.later-now.ensures.later
+    let begins = here_begins _ _ _ c.args.moment c.later-now.result
+    (λ h. refuses_arrival h c.args.pin) c.self.invariant c.self.view_is c.requires.begins c.later-now.ensures.later
     c.later-now.ensures.range in
     arrival_fits _ _ c.args.pin c.self.invariant begins.accepted
 
@@ -23,7 +24,8 @@ admit-requires-clause-highest g c = rw c.key-key.ensures.key (next_is_highest _ 
 
 pub note-requires-clause-follows : goal.note-requires-clause-follows
 note-requires-clause-follows g c =
-    let begins = here_begins _ _ _ c.args.moment c.later-now.result (λ h. refuses_arrival h c.args.pin) c.self.invariant c.self.view_is c.requires.begins c.later-now.ensures.later
+    let begins = here_begins _ _ _ c.args.moment c.later-now.result
+    (λ h. refuses_arrival h c.args.pin) c.self.invariant c.self.view_is c.requires.begins c.later-now.ensures.later
     c.later-now.ensures.range in
     let arrival : Arrival = record {
       ticket = c.self.inside.position.ticket + 1;
@@ -40,12 +42,14 @@ note-requires-clause-follows g c =
     c.key-key.ensures.key c.in_ok-place.ensures.admitted in
     let class = subst (λ (k : Key). IsBetween LOWEST_CLASS HIGHEST_CLASS k.class) c.key-key.ensures.key c.key-key.ensures.range in
     follows_on _ _ _ _
-    (arrive_kept _ _ c.args.moment c.later-now.result c.in_ok-place.place c.args.offset arrival admitted.0 c.self.invariant begins c.later-now.ensures.later refl
+    (arrive_kept _ _ c.args.moment c.later-now.result c.in_ok-place.place c.args.offset arrival admitted.0 c.self.invariant begins c.later-now.ensures.later
+    refl
     refl c.of-due.ensures.sum c.of-due.ensures.range class c.in_ok-place.ensures.vacant admitted.1).judged
 
 pub invariant_of-self-2 : goal.invariant_of-self-2
 invariant_of-self-2 g c =
-    let begins = here_begins _ _ _ c.args.moment c.later-now.result (λ h. refuses_arrival h c.args.pin) c.self.invariant c.self.view_is c.requires.begins c.later-now.ensures.later
+    let begins = here_begins _ _ _ c.args.moment c.later-now.result
+    (λ h. refuses_arrival h c.args.pin) c.self.invariant c.self.view_is c.requires.begins c.later-now.ensures.later
     c.later-now.ensures.range in
     let arrival : Arrival = record {
       ticket = c.self.inside.position.ticket + 1;
@@ -62,12 +66,14 @@ invariant_of-self-2 g c =
     c.key-key.ensures.key c.in_ok-place.ensures.admitted in
     let class = subst (λ (k : Key). IsBetween LOWEST_CLASS HIGHEST_CLASS k.class) c.key-key.ensures.key c.key-key.ensures.range in
     closed _ _ _ _ _ _ _ _ admitted.2 c.note.ensures refl
-    (arrive_kept _ _ c.args.moment c.later-now.result c.in_ok-place.place c.args.offset arrival admitted.0 c.self.invariant begins c.later-now.ensures.later refl refl
+    (arrive_kept _ _ c.args.moment c.later-now.result c.in_ok-place.place c.args.offset arrival admitted.0 c.self.invariant begins c.later-now.ensures.later
+    refl refl
     c.of-due.ensures.sum c.of-due.ensures.range class c.in_ok-place.ensures.vacant admitted.1)
 
 pub returns-clause-pin : goal.returns-clause-pin
 returns-clause-pin g c =
-    let begins = here_begins _ _ _ c.args.moment c.later-now.result (λ h. refuses_arrival h c.args.pin) c.self.invariant c.self.view_is c.requires.begins c.later-now.ensures.later
+    let begins = here_begins _ _ _ c.args.moment c.later-now.result
+    (λ h. refuses_arrival h c.args.pin) c.self.invariant c.self.view_is c.requires.begins c.later-now.ensures.later
     c.later-now.ensures.range in
     let arrival : Arrival = record {
       ticket = c.self.inside.position.ticket + 1;
@@ -85,13 +91,15 @@ returns-clause-pin g c =
     let class = subst (λ (k : Key). IsBetween LOWEST_CLASS HIGHEST_CLASS k.class) c.key-key.ensures.key c.key-key.ensures.range in
     (newcomer_at _ _ _ c.in_ok-place.place _
     (closed _ _ _ _ _ _ _ _ admitted.2 c.note.ensures refl
-    (arrive_kept _ _ c.args.moment c.later-now.result c.in_ok-place.place c.args.offset arrival admitted.0 c.self.invariant begins c.later-now.ensures.later refl refl
+    (arrive_kept _ _ c.args.moment c.later-now.result c.in_ok-place.place c.args.offset arrival admitted.0 c.self.invariant begins c.later-now.ensures.later
+    refl refl
     c.of-due.ensures.sum c.of-due.ensures.range class c.in_ok-place.ensures.vacant admitted.1))
     admitted.2 c.in_ok-place.ensures.vacant).1
 
 pub returns-clause-at : goal.returns-clause-at
 returns-clause-at g c =
-    let begins = here_begins _ _ _ c.args.moment c.later-now.result (λ h. refuses_arrival h c.args.pin) c.self.invariant c.self.view_is c.requires.begins c.later-now.ensures.later
+    let begins = here_begins _ _ _ c.args.moment c.later-now.result
+    (λ h. refuses_arrival h c.args.pin) c.self.invariant c.self.view_is c.requires.begins c.later-now.ensures.later
     c.later-now.ensures.range in
     let arrival : Arrival = record {
       ticket = c.self.inside.position.ticket + 1;
@@ -109,6 +117,7 @@ returns-clause-at g c =
     let class = subst (λ (k : Key). IsBetween LOWEST_CLASS HIGHEST_CLASS k.class) c.key-key.ensures.key c.key-key.ensures.range in
     (newcomer_at _ _ _ c.in_ok-place.place _
     (closed _ _ _ _ _ _ _ _ admitted.2 c.note.ensures refl
-    (arrive_kept _ _ c.args.moment c.later-now.result c.in_ok-place.place c.args.offset arrival admitted.0 c.self.invariant begins c.later-now.ensures.later refl refl
+    (arrive_kept _ _ c.args.moment c.later-now.result c.in_ok-place.place c.args.offset arrival admitted.0 c.self.invariant begins c.later-now.ensures.later
+    refl refl
     c.of-due.ensures.sum c.of-due.ensures.range class c.in_ok-place.ensures.vacant admitted.1))
     admitted.2 c.in_ok-place.ensures.vacant).0

@@ -10,7 +10,8 @@ use Rattle.dispatch_trace.proofs.trace.Trace.check.Goals as goal
 
 pub note-requires-clause-follows : goal.note-requires-clause-follows
 note-requires-clause-follows g c =
-    let begins = here_begins _ _ _ c.args.moment c.later-now.result (λ h. refuses_check h c.args.server) c.self.invariant c.self.view_is c.requires.begins c.later-now.ensures.later
+    let begins = here_begins _ _ _ c.args.moment c.later-now.result
+    (λ h. refuses_check h c.args.server) c.self.invariant c.self.view_is c.requires.begins c.later-now.ensures.later
     c.later-now.ensures.range in
     let up = subst (λ (h : History). c.args.up ≡ is_up_at h.setup.servers (with_result c.args.server c.args.ok (state_of h).results) c.args.server)
     (sym c.self.view_is) c.requires.up in
@@ -19,7 +20,8 @@ note-requires-clause-follows g c =
 
 pub invariant_of-self : goal.invariant_of-self
 invariant_of-self g c =
-    let begins = here_begins _ _ _ c.args.moment c.later-now.result (λ h. refuses_check h c.args.server) c.self.invariant c.self.view_is c.requires.begins c.later-now.ensures.later
+    let begins = here_begins _ _ _ c.args.moment c.later-now.result
+    (λ h. refuses_check h c.args.server) c.self.invariant c.self.view_is c.requires.begins c.later-now.ensures.later
     c.later-now.ensures.range in
     let up = subst (λ (h : History). c.args.up ≡ is_up_at h.setup.servers (with_result c.args.server c.args.ok (state_of h).results) c.args.server)
     (sym c.self.view_is) c.requires.up in

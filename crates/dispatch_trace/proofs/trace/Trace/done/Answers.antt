@@ -9,14 +9,16 @@ use Rattle.dispatch_trace.proofs.trace.Trace.done.Goals as goal
 
 pub note-requires-clause-follows : goal.note-requires-clause-follows
 note-requires-clause-follows g c =
-    let begins = here_begins _ _ _ c.args.moment c.later-now.result (λ h. refuses_done h c.args.it.ticket) c.self.invariant c.self.view_is c.requires.begins c.later-now.ensures.later
+    let begins = here_begins _ _ _ c.args.moment c.later-now.result
+    (λ h. refuses_done h c.args.it.ticket) c.self.invariant c.self.view_is c.requires.begins c.later-now.ensures.later
     c.later-now.ensures.range in
     follows_on _ _ _ _
     (begun_kept _ _ (λ n. Done n c.args.it.ticket) c.args.moment c.later-now.result c.self.invariant refl c.later-now.ensures.later begins refl).judged
 
 pub invariant_of-self : goal.invariant_of-self
 invariant_of-self g c =
-    let begins = here_begins _ _ _ c.args.moment c.later-now.result (λ h. refuses_done h c.args.it.ticket) c.self.invariant c.self.view_is c.requires.begins c.later-now.ensures.later
+    let begins = here_begins _ _ _ c.args.moment c.later-now.result
+    (λ h. refuses_done h c.args.it.ticket) c.self.invariant c.self.view_is c.requires.begins c.later-now.ensures.later
     c.later-now.ensures.range in
     closed _ _ _ _ _ _ _ _ refl c.note.ensures refl
     (begun_kept _ _ (λ n. Done n c.args.it.ticket) c.args.moment c.later-now.result c.self.invariant refl c.later-now.ensures.later begins refl)

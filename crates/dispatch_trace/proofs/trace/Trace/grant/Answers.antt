@@ -120,7 +120,11 @@ returns-clause-granted g c =
     let setup =
     ap (λ (k : Kept _). k.setup)
     (c.serve.ensures ∙ ap (λ (k : Kept _). with_slots k (with_phase (Serving c.in-Some.server) k.slots c.in-Some-take.taken.place)) c.loosen.ensures) in
-    subst (λ (h : History). IsGrant h (record { setup = c.serve.new.self.setup; base = c.note_grant.new.self.base; log = c.note_grant.new.self.entries })) c.self.view_is
+    subst (λ (h : History). IsGrant h (record {
+      setup = c.serve.new.self.setup;
+      base = c.note_grant.new.self.base;
+      log = c.note_grant.new.self.entries;
+    })) c.self.view_is
     (is_grant _ _ _ _ _ _ _ calls (record { setup = c.serve.new.self.setup; base = c.note_grant.new.self.base; log = c.note_grant.new.self.entries })
     (ap (λ (s : Setup). record { setup = s; base = c.note_grant.new.self.base; log = c.note_grant.new.self.entries }) setup
     ∙ ap (λ (r : Recorded). record { setup = c.self.inside.ledger.setup; base = r.base; log = r.entries }) c.note_grant.ensures))

@@ -61,7 +61,8 @@ returns-clause-moved g c =
     let calls = move_calls _ _ _ c.args.server c.in-Some.place _ c.self.invariant c.self.view_is c.requires.falling c.requires.redispatch c.in-Some.ensures.1 in
     let ticket = move_ticket _ _ _ _ _ calls c.row-ticket.result c.row-ticket.ensures in
     let setup = ap (λ (k : Kept _). k.setup) (c.unpin.ensures ∙ ap (λ (k : Kept _). with_slots k (unpinned k.slots c.in-Some.place)) c.shift-2.ensures) in
-    subst (λ (h : History). IsMove c.args.server h (record { setup = c.unpin.new.self.setup; base = c.note.new.self.base; log = c.note.new.self.entries })) c.self.view_is
+    subst (λ (h : History). IsMove c.args.server h
+    (record { setup = c.unpin.new.self.setup; base = c.note.new.self.base; log = c.note.new.self.entries })) c.self.view_is
     (is_move _ _ _ _ _ calls (record { setup = c.unpin.new.self.setup; base = c.note.new.self.base; log = c.note.new.self.entries })
     (ap (λ (s : Setup). record { setup = s; base = c.note.new.self.base; log = c.note.new.self.entries }) setup
     ∙ ap (λ (r : Recorded). record { setup = c.self.inside.ledger.setup; base = r.base; log = r.entries })

@@ -44,7 +44,8 @@ invariant_of-self g c =
     ∙ ap (λ (s : State). record s { moment = c.self.inside.position.last; ticket = c.self.inside.position.ticket; cursor = c.server.result })
     (c.set_limits.ensures ∙ ap (λ (s : State). record s { limits = c.limits.result.now })
     (c.set_healths.ensures ∙ ap (λ (s : State). record s { results = map results_by c.args.healths.now }) c.save_rows.ensures)) in
-    let based = window_base _ _ c.self.invariant legal c.set_position.new.self (map results_by c.args.healths.now) c.limits.result.now c.server.result saved results
+    let based = window_base _ _ c.self.invariant legal c.set_position.new.self
+    (map results_by c.args.healths.now) c.limits.result.now c.server.result saved results
     c.limits.ensures c.server.ensures in
     window_is _ _ c.self.invariant legal c.begin.new.self c.begin_window.new.self
     (c.begin.ensures.window ∙ ap (λ (s : State). record { base = s; entries = []; room = c.self.inside.log.room }) based) c.begin_window.ensures
@@ -58,7 +59,8 @@ returns-clause-window g c =
     ∙ ap (λ (s : State). record s { moment = c.self.inside.position.last; ticket = c.self.inside.position.ticket; cursor = c.server.result })
     (c.set_limits.ensures ∙ ap (λ (s : State). record s { limits = c.limits.result.now })
     (c.set_healths.ensures ∙ ap (λ (s : State). record s { results = map results_by c.args.healths.now }) c.save_rows.ensures)) in
-    let based = window_base _ _ c.self.invariant legal c.set_position.new.self (map results_by c.args.healths.now) c.limits.result.now c.server.result saved results
+    let based = window_base _ _ c.self.invariant legal c.set_position.new.self
+    (map results_by c.args.healths.now) c.limits.result.now c.server.result saved results
     c.limits.ensures c.server.ensures in
     ap (λ (l : Recorded). record { setup = c.self.inside.ledger.setup; base = l.base; log = l.entries })
     (c.begin.ensures.window ∙ ap (λ (s : State). record { base = s; entries = []; room = c.self.inside.log.room }) based)

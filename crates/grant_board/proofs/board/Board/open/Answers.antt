@@ -15,8 +15,11 @@ pub split_seat-first-requires : goal.split_seat-first-requires
 split_seat-first-requires c =
     let made = c.in_ok-table.ensures in
     let seat = c.in_ok-table.seat in
-    let long = ap length c.deref.ensures.value ∙ (ap length c.in_ok-words.ensures ∙ length-append (replicate c.args.places 0) c.args.limits.now) in
-    (made.2, omega (arith, made.0, long, length-replicate {A = ℕ} c.args.places 0, c.requires.some_places.0), cut_kept (terms_of c.in_ok-table.table.shared.key) seat.id seat.me.0)
+    let long = ap length c.deref.ensures.value ∙ (ap length c.in_ok-words.ensures ∙ length-append (replicate c.args.places 0) c.args.limits.now) in (
+      made.2,
+      omega (arith, made.0, long, length-replicate {A = ℕ} c.args.places 0, c.requires.some_places.0),
+      cut_kept (terms_of c.in_ok-table.table.shared.key) seat.id seat.me.0,
+    )
 
 pub invariant_of-relay-2 : goal.invariant_of-relay-2
 invariant_of-relay-2 c =
@@ -25,4 +28,5 @@ invariant_of-relay-2 c =
     let first = c.split_seat-first.result in
     let me = c.split_seat-first.ensures.4 ∙ ap (λ m. (cut_off m.0, [])) made.4 in
     counted_new (record { board = first.table_id; view = relay_of first.me.0.relays }) t true c.none.result (ap (λ m. relay_of m.0.relays) me) c.none.ensures
-    (omega (arith, c.requires.some_places.1, ap (λ x. x.places) c.plan-plan.ensures)) (omega (arith, c.requires.some_servers.1, ap (λ x. length x.limits) c.plan-plan.ensures))
+    (omega (arith, c.requires.some_places.1, ap (λ x. x.places) c.plan-plan.ensures))
+    (omega (arith, c.requires.some_servers.1, ap (λ x. length x.limits) c.plan-plan.ensures))

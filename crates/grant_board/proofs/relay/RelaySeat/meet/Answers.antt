@@ -21,4 +21,5 @@ returns-clause-within_places c =
     )
 
 pub returns-clause-ruled : goal.returns-clause-ruled
-returns-clause-ruled c = subst (λ x. MeetRuled c.meet-relaying.new.self.view x.view c.args.server c.meet-relaying.result.1) c.other.view_is c.meet-relaying.ensures.ruled
+returns-clause-ruled c = subst (λ x. MeetRuled c.meet-relaying.new.self.view x.view c.args.server c.meet-relaying.result.1) c.other.view_is
+    c.meet-relaying.ensures.ruled

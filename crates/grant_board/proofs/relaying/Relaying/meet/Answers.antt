@@ -3,7 +3,8 @@ use Rattle.grant_board.specs.Views.{RelayView}
 use Rattle.grant_board.specs.RelayCalls.{relay_looked}
 use Rattle.grant_board.specs.Plays.{relay_seat, relay_of, AreApart}
 use Rattle.grant_board.specs.Rule.{terms_of}
-use Rattle.grant_board.proofs.Seating.{relay_table, has_word, server_near, some_word, relays_beside, meets_at, HasMet, met, left_alone, right_alone, relay_kept, relay_value, meet_ruled}
+use Rattle.grant_board.proofs.Seating.{relay_table, has_word, server_near, some_word, relays_beside, meets_at, HasMet}
+use Rattle.grant_board.proofs.Seating.{met, left_alone, right_alone, relay_kept, relay_value, meet_ruled}
 use Rattle.grant_board.proofs.Joining.{beside_kept, cut_kept}
 use Rattle.grant_board.proofs.relaying.Relaying.meet.Goals as goal
 
@@ -12,29 +13,43 @@ join_seat-requires c =
     let seat = c.self.inside.seat in
     let other = c.other.inside.seat in
     let shared = c.board.inside.table.shared in
-    let table = relay_table seat.table_id (relay_of seat.me.0.relays) c.args.self.now shared.table_id c.args.board.now c.self.view_is c.requires.same_board c.board.view_is in
-    let same = relay_table other.table_id (relay_of other.me.0.relays) c.args.other shared.table_id c.args.board.now c.other.view_is c.requires.other_board c.board.view_is in
-    (table, same, ap (λ m. m.1) c.other.invariant.me, some_word _ _ _ _ c.self.invariant.table table, beside_kept (terms_of shared.key) seat.id seat.me.0 other.id other.me.0)
+    let table = relay_table seat.table_id (relay_of seat.me.0.relays) c.args.self.now shared.table_id c.args.board.now c.self.view_is c.requires.same_board
+    c.board.view_is in
+    let same = relay_table other.table_id (relay_of other.me.0.relays) c.args.other shared.table_id c.args.board.now c.other.view_is c.requires.other_board
+    c.board.view_is in (
+      table,
+      same,
+      ap (λ m. m.1) c.other.invariant.me,
+      some_word _ _ _ _ c.self.invariant.table table,
+      beside_kept (terms_of shared.key) seat.id seat.me.0 other.id other.me.0,
+    )
 
 pub load-bound-requires : goal.load-bound-requires
 load-bound-requires c =
     let seat = c.self.inside.seat in
     let other = c.other.inside.seat in
     let shared = c.board.inside.table.shared in
-    let me = relays_beside seat.me other.me c.join_seat.new.seat.me (relay_of seat.me.0.relays) (relay_of other.me.0.relays) c.self.invariant.me c.other.invariant.me c.join_seat.ensures.2 in
-    let table = relay_table seat.table_id (relay_of seat.me.0.relays) c.args.self.now shared.table_id c.args.board.now c.self.view_is c.requires.same_board c.board.view_is in
+    let me = relays_beside seat.me other.me c.join_seat.new.seat.me (relay_of seat.me.0.relays)
+    (relay_of other.me.0.relays) c.self.invariant.me c.other.invariant.me c.join_seat.ensures.2 in
+    let table = relay_table seat.table_id (relay_of seat.me.0.relays) c.args.self.now shared.table_id c.args.board.now c.self.view_is c.requires.same_board
+    c.board.view_is in
     let server = subst (λ x. c.args.server < length x.view.terms.limits) (sym c.self.view_is) c.requires.server in (
       c.join_seat.ensures.0 ∙ table,
       has_word _ _ _ _ _ c.self.invariant.table table (server_near _ _ _ _ c.self.invariant.table server),
-      meets_at (terms_of shared.key) shared.table_id.slots c.join_seat.new.seat.id c.join_seat.new.seat.me (relay_of seat.me.0.relays) (relay_of other.me.0.relays) _ me,
+      meets_at (terms_of shared.key) shared.table_id.slots c.join_seat.new.seat.id c.join_seat.new.seat.me (relay_of seat.me.0.relays)
+          (relay_of other.me.0.relays) _ me,
     )
 
 pub split_seat-seat-requires : goal.split_seat-seat-requires
 split_seat-seat-requires c =
     let seat = c.self.inside.seat in
     let shared = c.board.inside.table.shared in
-    let table = relay_table seat.table_id (relay_of seat.me.0.relays) c.args.self.now shared.table_id c.args.board.now c.self.view_is c.requires.same_board c.board.view_is in
-    (c.load-bound.ensures.0 ∙ (c.join_seat.ensures.0 ∙ table), some_word _ _ _ _ c.self.invariant.table table, cut_kept (terms_of shared.key) c.load-bound.new.seat.id c.load-bound.new.seat.me.0)
+    let table = relay_table seat.table_id (relay_of seat.me.0.relays) c.args.self.now shared.table_id c.args.board.now c.self.view_is c.requires.same_board
+    c.board.view_is in (
+      c.load-bound.ensures.0 ∙ (c.join_seat.ensures.0 ∙ table),
+      some_word _ _ _ _ c.self.invariant.table table,
+      cut_kept (terms_of shared.key) c.load-bound.new.seat.id c.load-bound.new.seat.me.0,
+    )
 
 abbrev mine : goal.After-split_seat-seat → RelayView
 mine c = relay_of c.self.inside.seat.me.0.relays
@@ -43,7 +58,8 @@ abbrev theirs : goal.After-split_seat-seat → RelayView
 theirs c = relay_of c.other.inside.seat.me.0.relays
 
 -- what the meeting tells
-told : (c : goal.After-split_seat-seat) → HasMet (c.self.inside.places + c.args.server) c.args.server c.load-bound.result (mine c) (theirs c) c.load-bound.new.seat.me
+told : (c : goal.After-split_seat-seat) → HasMet (c.self.inside.places + c.args.server) c.args.server c.load-bound.result (mine c)
+    (theirs c) c.load-bound.new.seat.me
 told c =
     let seat = c.self.inside.seat in
     let other = c.other.inside.seat in
@@ -65,7 +81,8 @@ their_table c =
     c.split_seat-seat.ensures.3 ∙ (c.load-bound.ensures.0 ∙ (c.join_seat.ensures.0 ∙ (a ∙ sym b)))
 
 -- and apart again, as they were but for the look
-my_seat : (c : goal.After-split_seat-seat) → c.split_seat-seat.new.seat.me ≡ relay_seat (relay_looked (mine c) (c.self.inside.places + c.args.server) c.load-bound.result)
+my_seat : (c : goal.After-split_seat-seat)
+    → c.split_seat-seat.new.seat.me ≡ relay_seat (relay_looked (mine c) (c.self.inside.places + c.args.server) c.load-bound.result)
 my_seat c = left_alone c.load-bound.new.seat.me c.split_seat-seat.new.seat.me _ (theirs c) (told c).0 c.split_seat-seat.ensures.2
 
 their_seat : (c : goal.After-split_seat-seat) → c.split_seat-seat.result.me ≡ relay_seat (theirs c)

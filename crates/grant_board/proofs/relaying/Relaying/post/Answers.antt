@@ -13,8 +13,11 @@ store-requires c =
     let table = relay_table seat.table_id r c.args.self.now shared.table_id c.args.board.now c.self.view_is c.requires.same_board c.board.view_is in (
       table,
       omega (arith, c.requires.in_range, ap (λ x. x.board.words) c.self.view_is, ap (λ x. x.words) table),
-      posts_at (terms_of shared.key) shared.table_id.slots seat.id seat.me c.self.invariant.me c.args.place c.args.ticket c.args.verdict c.args.ending _ c.encode-posted.ensures c.requires.word (subst (λ x. Contains x.view.passes (grant c.args.place c.args.ticket c.args.verdict)) (sym c.self.view_is) c.requires.held),
+      posts_at (terms_of shared.key) shared.table_id.slots seat.id seat.me c.self.invariant.me c.args.place c.args.ticket c.args.verdict c.args.ending _
+          c.encode-posted.ensures c.requires.word (subst (λ x. Contains x.view.passes (grant c.args.place c.args.ticket c.args.verdict))
+          (sym c.self.view_is) c.requires.held),
     )
 
 pub returns-clause-ruled : goal.returns-clause-ruled
-returns-clause-ruled c = relay_ruled c.store.new.seat.me _ (c.store.ensures.2.0 c.args.ticket c.args.verdict c.args.ending c.requires.word c.encode-posted.ensures).0 c.store.ensures.2.1
+returns-clause-ruled c = relay_ruled c.store.new.seat.me _
+    (c.store.ensures.2.0 c.args.ticket c.args.verdict c.args.ending c.requires.word c.encode-posted.ensures).0 c.store.ensures.2.1

@@ -6,4 +6,5 @@ use Rattle.grant_board.proofs.tests.threads.holds_one_each.Goals as goal
 pub post-requires-clause-held : goal.post-requires-clause-held
 post-requires-clause-held g c =
     subst (λ x. Contains x.view.passes c.in-Taken.pass) (sym c.meet-back.ensures.looked)
-    (subst (λ v. Contains v.passes c.in-Taken.pass) (sym c.in-Taken.ensures.answer.after) (Contains-append_right c.args.first.now.view.passes (c.in-Taken.pass ∷ []) c.in-Taken.pass (0, omega arith, refl)))
+    (subst (λ v. Contains v.passes c.in-Taken.pass) (sym c.in-Taken.ensures.answer.after)
+    (Contains-append_right c.args.first.now.view.passes (c.in-Taken.pass ∷ []) c.in-Taken.pass (0, omega arith, refl)))

@@ -12,16 +12,20 @@ use Rattle.locked_book.proofs.book.Book.abort.Goals as goal
 pub offer_from-requires-clause-owing : goal.offer_from-requires-clause-owing
 offer_from-requires-clause-owing g c =
     subst (λ n. IsOwing c.abort.new.self c.self.inside.keeping.view (drop n c.abort.new.self.log)) (sym (c.len-from.ensures ∙ ap length c.log.ensures.entries))
-    (plain_owes c.self.inside.core c.abort.new.self c.self.inside.keeping.view (Abort (effective c.self.inside.core c.args.moment) c.args.ticket) c.log.ensures.legal c.self.invariant.book refl c.in_ok-abort.ensures.ok)
+    (plain_owes c.self.inside.core c.abort.new.self c.self.inside.keeping.view
+    (Abort (effective c.self.inside.core c.args.moment) c.args.ticket) c.log.ensures.legal c.self.invariant.book refl c.in_ok-abort.ensures.ok)
 
 pub invariant_of-self-2 : goal.invariant_of-self-2
 invariant_of-self-2 g c =
-    kept_again g.N.BoardName.board g.N.BoardName.terms c.self.inside.core c.abort.new.self c.self.inside.keeping c.offer_from.new.keeping (drop c.len-from.result c.abort.new.self.log)
+    kept_again g.N.BoardName.board g.N.BoardName.terms c.self.inside.core c.abort.new.self c.self.inside.keeping c.offer_from.new.keeping
+    (drop c.len-from.result c.abort.new.self.log)
     (subst (λ n. IsOwing c.abort.new.self c.self.inside.keeping.view (drop n c.abort.new.self.log)) (sym (c.len-from.ensures ∙ ap length c.log.ensures.entries))
-    (plain_owes c.self.inside.core c.abort.new.self c.self.inside.keeping.view (Abort (effective c.self.inside.core c.args.moment) c.args.ticket) c.log.ensures.legal c.self.invariant.book refl c.in_ok-abort.ensures.ok))
+    (plain_owes c.self.inside.core c.abort.new.self c.self.inside.keeping.view
+    (Abort (effective c.self.inside.core c.args.moment) c.args.ticket) c.log.ensures.legal c.self.invariant.book refl c.in_ok-abort.ensures.ok))
     c.self.invariant.named c.self.invariant.of_terms c.offer_from.ensures.offered
 
 pub returns-clause-carried : goal.returns-clause-carried
 returns-clause-carried g c =
-    carried c.args.self.now c.self.inside.core c.abort.new.self c.self.inside.keeping c.offer_from.new.keeping c.args.woken.now c.offer_from.new.woken c.len-from.result c.self.view_is
+    carried c.args.self.now c.self.inside.core c.abort.new.self c.self.inside.keeping c.offer_from.new.keeping c.args.woken.now c.offer_from.new.woken
+    c.len-from.result c.self.view_is
     (c.len-from.ensures ∙ ap length c.log.ensures.entries) c.offer_from.ensures.offered c.offer_from.ensures.woken

@@ -12,5 +12,6 @@ invariant_of-result g c =
     subst (IsKeptBook g.N.BoardName.board g.N.BoardName.terms c.args.core) (sym c.new.ensures) (record {
       named = c.requires.board;
       of_terms = ap (λ (v : KeeperView). v.terms) c.requires.seat;
-      book = subst (λ (v : KeeperView). IsBook c.args.core v) (sym (c.requires.seat ∙ ap new_keeper c.requires.terms)) (subst (λ (h : History). IsBook h (new_keeper (terms_of c.args.core.setup))) (sym c.requires.first) (first_book c.args.core.setup));
+      book = subst (λ (v : KeeperView). IsBook c.args.core v) (sym (c.requires.seat ∙ ap new_keeper c.requires.terms))
+          (subst (λ (h : History). IsBook h (new_keeper (terms_of c.args.core.setup))) (sym c.requires.first) (first_book c.args.core.setup));
     })

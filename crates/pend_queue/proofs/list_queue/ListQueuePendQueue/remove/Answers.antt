@@ -15,4 +15,5 @@ node_is_pair None = refl
 node_is_pair (Some x) = refl
 
 pub returns-clause-permutation : goal.returns-clause-permutation
-returns-clause-permutation g c = rw (node_is_pair c.take_out.result, c.take_out.ensures.value, c.take_out.ensures.items, ← c.self.view_is) (IsPermutation-without g.met.K.Ord.total _ _ c.self.invariant)
+returns-clause-permutation g c = rw (node_is_pair c.take_out.result, c.take_out.ensures.value, c.take_out.ensures.items, ← c.self.view_is)
+    (IsPermutation-without g.met.K.Ord.total _ _ c.self.invariant)

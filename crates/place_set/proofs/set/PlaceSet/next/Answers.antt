@@ -1,4 +1,5 @@
-use Rattle.std.proofs.Common.{rules, ℕ, ◌≡◌, ◌+◌, ◌*◌, ◌/◌, ◌%◌, ◌^◌, ◌<◌, ◌≤◌, nat_lt, Bool, true, false, List, Option, None, Some, MatchOption, length, slice_index, w64, refl, ap, sym, ◌∙◌, subst, arith}
+use Rattle.std.proofs.Common.{rules, ℕ, ◌≡◌, ◌+◌, ◌*◌, ◌/◌, ◌%◌, ◌^◌, ◌<◌, ◌≤◌, nat_lt, Bool, true, false}
+use Rattle.std.proofs.Common.{List, Option, None, Some, MatchOption, length, slice_index, w64, refl, ap, sym, ◌∙◌, subst, arith}
 use Rattle.std.specs.Int.{trailing_zeros}
 use Rattle.std.proofs.lemmas.Bool.Decides.{nat_tests}
 use Rattle.place_set.specs.Sets.{Has, IsNext}
@@ -14,10 +15,12 @@ returns-then-rest-ne0 c =
 
 -- none is before the words that come later
 later : (words : List ℕ) (from : ℕ) (o : Option ℕ) → ((other : ℕ) → from ≤ other → other < 64 * (from / 64 + 1) → Has words other → ⊥)
-    → MatchOption o ((place : ℕ) → 64 * (from / 64 + 1) ≤ place → Has words place → ⊥) (IsNext words (64 * (from / 64 + 1))) → MatchOption o ((place : ℕ) → from ≤ place → Has words place → ⊥) (IsNext words from)
+    → MatchOption o ((place : ℕ) → 64 * (from / 64 + 1) ≤ place → Has words place → ⊥) (IsNext words (64 * (from / 64 + 1)))
+    → MatchOption o ((place : ℕ) → from ≤ place → Has words place → ⊥) (IsNext words from)
 later words from None none is = λ place after has. by_test words from none is place after has (nat_lt place (64 * (from / 64 + 1))) refl
   where
-    by_test : (words : List ℕ) (from : ℕ) → ((other : ℕ) → from ≤ other → other < 64 * (from / 64 + 1) → Has words other → ⊥) → ((place : ℕ) → 64 * (from / 64 + 1) ≤ place → Has words place → ⊥)
+    by_test : (words : List ℕ) (from : ℕ) → ((other : ℕ) → from ≤ other → other < 64 * (from / 64 + 1) → Has words other → ⊥)
+        → ((place : ℕ) → 64 * (from / 64 + 1) ≤ place → Has words place → ⊥)
         → (place : ℕ) → from ≤ place → Has words place → (b : Bool) → nat_lt place (64 * (from / 64 + 1)) ≡ b → ⊥
     by_test words from none is place after has true e = none place after (grind (arith, nat_tests)) has
     by_test words from none is place after has false e = is place (grind (arith, nat_tests)) has
@@ -35,7 +38,8 @@ later words from (Some p) none is = record {
 pub returns : goal.returns
 returns c =
     let found = c.in-Some.ensures.lookup.3 in
-    let empty : slice_index c.self.inside.words (c.args.from / 64) / 2 ^ (c.args.from % 64) ≡ 0 = ap (λ n. n / 2 ^ (c.args.from % 64)) (sym (found.1 0)) ∙ c.if-rest-ne0.false in
+    let empty : slice_index c.self.inside.words (c.args.from / 64) / 2 ^ (c.args.from % 64) ≡ 0 = ap (λ n. n / 2 ^ (c.args.from % 64)) (sym (found.1 0))
+    ∙ c.if-rest-ne0.false in
     later c.args.self.now c.args.from c.next_word.result
     (subst (λ (words : List ℕ). (other : ℕ) → c.args.from ≤ other → other < 64 * (c.args.from / 64 + 1) → Has words other → ⊥) c.self.view_is
     (none_here c.self.inside.words c.args.from (omega (arith, found.0, c.self.told)) (search rules) empty))

@@ -10,4 +10,5 @@ returns-in-Some c = ap finished (settled_known _ c.args.self _ _ c.in_ok-draft.e
 
 pub returns-in-None : goal.returns-in-None
 returns-in-None c =
-    subst (λ (read : Result Draft ConfigFault). Answers c.whole.result (finished read)) (sym (settled_whole _ c.args.self _ c.in_ok-draft.ensures c.in-None.is)) c.whole.ensures
+    subst (λ (read : Result Draft ConfigFault). Answers c.whole.result (finished read))
+    (sym (settled_whole _ c.args.self _ c.in_ok-draft.ensures c.in-None.is)) c.whole.ensures

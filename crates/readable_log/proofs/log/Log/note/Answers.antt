@@ -13,11 +13,13 @@ invariant_of-self c =
     let s = c.self.inside in
     let base = base_rows s.base.rows in
     let short : length s.list.items < s.most = subst (λ (v : Recorded). length v.entries < v.room) (sym c.self.view_is) c.requires.room in
-    let may : MayFollow base s.list.items c.args.entry = subst (λ (v : Recorded). MayFollow (base_rows v.base.rows) v.entries c.args.entry) (sym c.self.view_is) c.requires.follows in
+    let may : MayFollow base s.list.items c.args.entry =
+    subst (λ (v : Recorded). MayFollow (base_rows v.base.rows) v.entries c.args.entry) (sym c.self.view_is) c.requires.follows in
     let kept = kept_push base s.list.items s.granted.items s.moment s.most c.args.entry c.self.invariant.1 short may c.requires.ungranted in (
       c.self.invariant.0,
       subst (λ (l : List Entry). IsKept base l s.granted.items c.unwrap_or-self-inside.result s.most) (sym c.put.ensures.items)
-          (subst (λ (m : ℕ). IsKept base (s.list.items ++ c.args.entry ∷ []) s.granted.items m s.most) (sym (c.unwrap_or-self-inside.ensures ∙ ap (λ o. unwrap_or o s.moment) c.moment_in.ensures)) kept),
+          (subst (λ (m : ℕ). IsKept base (s.list.items ++ c.args.entry ∷ []) s.granted.items m s.most)
+          (sym (c.unwrap_or-self-inside.ensures ∙ ap (λ o. unwrap_or o s.moment) c.moment_in.ensures)) kept),
       subst (λ (n : ℕ). s.most ≤ n) (sym c.put.ensures.room) c.self.invariant.2,
       c.self.invariant.3,
     )

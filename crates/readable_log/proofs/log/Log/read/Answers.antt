@@ -13,5 +13,6 @@ returns-in_err-follow-clause-unreadable c =
     let l = c.loop-entry in
     let es = c.args.entries.now in
     let base = base_rows c.args.base.rows in
-    let may : MayFollow base (take l.entry-index es) c.entry-item.result = subst (MayFollow base (take l.entry-index es)) (sym c.entry-item.is) (follows_at base [] es readable l.entry-index c.entry-item.result (omega arith)) in
+    let may : MayFollow base (take l.entry-index es) c.entry-item.result =
+    subst (MayFollow base (take l.entry-index es)) (sym c.entry-item.is) (follows_at base [] es readable l.entry-index c.entry-item.result (omega arith)) in
     c.in_err-follow.ensures.unreadable is (subst (λ (r : Recorded). MayFollow (base_rows r.base.rows) r.entries c.entry-item.result) (sym l.invariant.log) may))

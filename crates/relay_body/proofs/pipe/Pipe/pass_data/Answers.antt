@@ -18,7 +18,8 @@ returns-in_err-emit_size-clause-err g c =
       size ++ [],
       some_data [] (omega arith),
       breaks_as (LacksData c.args.size) refl (sym (append-nil size))
-          (breaks_weaker (LacksData c.args.size) (breaks_emit (g.S.Source.stream c.args.source.now) [] c.args.self.now.inbox c.in_err-emit_size.ensures.err refl)),
+          (breaks_weaker (LacksData c.args.size) (breaks_emit
+          (g.S.Source.stream c.args.source.now) [] c.args.self.now.inbox c.in_err-emit_size.ensures.err refl)),
     )
 
 pub returns-in_err-pass_length-clause-err : goal.returns-in_err-pass_length-clause-err

@@ -4,7 +4,8 @@ use Rattle.relay_body.proofs.pipe.Pipe.pass_length.Given as goal
 
 abbrev pub invariant-passing : goal.invariant-passing
 invariant-passing g l = (body : List ℕ) × (length body + l.left ≡ l.count)
-    × Moves (ends l.initial.self (g.S.Source.stream l.initial.source) (g.K.Sink.stream l.initial.sink)) (ends l.self (g.S.Source.stream l.source) (g.K.Sink.stream l.sink)) body body
+    × Moves (ends l.initial.self (g.S.Source.stream l.initial.source) (g.K.Sink.stream l.initial.sink))
+    (ends l.self (g.S.Source.stream l.source) (g.K.Sink.stream l.sink)) body body
 
 abbrev pub decreases-passing : goal.decreases-passing
 decreases-passing g l = l.left

@@ -1,5 +1,6 @@
 -- Bytes are read until a line feed stands there, or comes too late.
-use Rattle.std.proofs.Common.{◌≡◌, ◌∙◌, ◌+◌, ◌<◌, ℕ, suc, List, [], ◌∷◌, ◌++◌, length, take, drop, sym, ap, arith, append-nil, length-append, length-take, add-one}
+use Rattle.std.proofs.Common.{◌≡◌, ◌∙◌, ◌+◌, ◌<◌, ℕ, suc, List, [], ◌∷◌, ◌++◌}
+use Rattle.std.proofs.Common.{length, take, drop, sym, ap, arith, append-nil, length-append, length-take, add-one}
 use Rattle.relay_body.specs.Steps.{LacksNothing}
 use Rattle.relay_body.specs.Trailers.{print_line, LacksLine}
 use Rattle.relay_body.proofs.Exits.{at_exit}

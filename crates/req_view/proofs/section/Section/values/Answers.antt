@@ -18,7 +18,8 @@ pub new-requires : goal.new-requires
 new-requires c =
     let text = c.self.inside.text.items in
     let fields = c.self.inside.places.items in
-    let spans = found c.self.inside.by_name (map (named_span text) fields) (lowercase c.args.name.now) _ _ c.iter.ensures c.get_all.ensures.value c.self.invariant.1 in
+    let spans = found c.self.inside.by_name (map (named_span text) fields)
+    (lowercase c.args.name.now) _ _ c.iter.ensures c.get_all.ensures.value c.self.invariant.1 in
     let within = spans-within (length text) text c.args.name.now fields c.self.invariant.0 in
     let P : List ℕ → List Span → Type 0 = λ bytes found. All (IsWithin (length bytes)) found in
     subst (λ (bytes : List ℕ). P bytes c.iter.result) (sym c.deref.ensures.value) (subst (P text) (sym spans) within)
@@ -27,7 +28,8 @@ pub returns : goal.returns
 returns c =
     let text = c.self.inside.text.items in
     let fields = c.self.inside.places.items in
-    let spans = found c.self.inside.by_name (map (named_span text) fields) (lowercase c.args.name.now) _ _ c.iter.ensures c.get_all.ensures.value c.self.invariant.1 in
+    let spans = found c.self.inside.by_name (map (named_span text) fields)
+    (lowercase c.args.name.now) _ _ c.iter.ensures c.get_all.ensures.value c.self.invariant.1 in
     c.new.ensures
     ∙ (λ k. map (span_bytes (c.deref.ensures.value k)) (spans k))
     ∙ spans-values text c.args.name.now fields

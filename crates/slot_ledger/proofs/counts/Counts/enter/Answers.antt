@@ -9,4 +9,5 @@ overflow_add-self c =
     omega arith
 
 pub raise-requires-in-Server-clause-few : goal.raise-requires-in-Server-clause-few
-raise-requires-in-Server-clause-few c = subst (λ (x : Counted). queued_at x (Server c.in-Server.server) ≤ 4096) (sym c.self.view_is) (c.requires.few.waiting (Server c.in-Server.server))
+raise-requires-in-Server-clause-few c = subst (λ (x : Counted). queued_at x (Server c.in-Server.server) ≤ 4096) (sym c.self.view_is)
+    (c.requires.few.waiting (Server c.in-Server.server))

@@ -6,7 +6,8 @@ use Rattle.slot_ledger.proofs.ledger.Ledger.fail.Goals as goal
 
 pub invariant_of-self : goal.invariant_of-self
 invariant_of-self g c = record {
-  ledger = ledger_same _ _ _ _ _ c.args.place c.self.invariant.ledger (subst (λ (k : Kept _). HasRow k.slots c.args.place) (sym c.self.view_is) (c.requires.0, c.requires.1)) (λ s. refl) c.fail.ensures;
+  ledger = ledger_same _ _ _ _ _ c.args.place c.self.invariant.ledger
+      (subst (λ (k : Kept _). HasRow k.slots c.args.place) (sym c.self.view_is) (c.requires.0, c.requires.1)) (λ s. refl) c.fail.ensures;
   each = c.self.invariant.each;
   limited = c.self.invariant.limited;
 }

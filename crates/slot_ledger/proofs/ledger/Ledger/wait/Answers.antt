@@ -7,7 +7,8 @@ pass-requires-clause-counted g c = ledger_includes c.self.inside.setup _ _ c.arg
 
 pub invariant_of-self : goal.invariant_of-self
 invariant_of-self g c = record {
-  ledger = ledger_changed _ _ _ _ _ _ _ c.args.place c.row-from.result c.self.invariant.ledger c.row-from.ensures (λ s. refl) c.wait.ensures.waiting c.pass.ensures.passed c.pass.ensures.served c.pass.ensures.own;
+  ledger = ledger_changed _ _ _ _ _ _ _ c.args.place c.row-from.result c.self.invariant.ledger c.row-from.ensures
+      (λ s. refl) c.wait.ensures.waiting c.pass.ensures.passed c.pass.ensures.served c.pass.ensures.own;
   each = c.self.invariant.each;
   limited = c.self.invariant.limited;
 }

@@ -11,7 +11,8 @@ loop-place-preserved g c =
       slots = c.push_reserved.ensures.items ∙ ap (λ l. l ++ None ∷ []) before.slots ∙ replicate_more c.loop-place.place None;
       room = search rules;
       vacant = let e = ap length pushed in let l = length-append c.loop-place.vacant.items ((c.args.places - 1 - c.loop-place.place) ∷ []) in omega arith;
-      each = λ at h. ap (λ l. slice_get l at) pushed ∙ each_push (λ k. c.args.places - 1 - k) c.loop-place.vacant.items c.loop-place.place before.vacant before.each at h;
+      each = λ at h. ap (λ l. slice_get l at) pushed
+          ∙ each_push (λ k. c.args.places - 1 - k) c.loop-place.vacant.items c.loop-place.place before.vacant before.each at h;
       vacant_room = search rules;
     }
 
@@ -19,7 +20,8 @@ pub invariant_of-result : goal.invariant_of-result
 invariant_of-result g c =
     let inv = c.loop-place.invariant in
     let all : c.loop-place.place ≡ c.args.places = omega arith in
-    kept_new _ _ _ c.args.places c.loop-place.place _ all inv.slots inv.vacant inv.each inv.vacant_room c.in_ok-with_room.ensures.empty c.in_ok-with_room.ensures.room
+    kept_new _ _ _ c.args.places c.loop-place.place _ all inv.slots inv.vacant inv.each inv.vacant_room c.in_ok-with_room.ensures.empty
+    c.in_ok-with_room.ensures.room
 
 pub returns : goal.returns
 returns g c = let all : c.loop-place.place ≡ c.args.places = omega arith in c.loop-place.invariant.slots ∙ ap (λ n. replicate n None) all

@@ -6,6 +6,9 @@ use Rattle.slot_ledger.proofs.tickets.Tickets.get.Goals as goal
 
 pub returns : goal.returns
 returns c =
-    let there = subst (λ (l : List Entry). IsInStretches c.args.ticket c.self.inside.kept c.self.inside.next l c.in_ok-at.at) c.deref.ensures.value c.in_ok-at.ensures in
-    subst (λ (i : Indexed). MatchOption c.index.result.now.place (IsAbsent c.args.ticket i.pairs) (λ place. Contains i.pairs (c.args.ticket, place))) c.self.view_is
-    (place_tells c.args.ticket c.self.inside.kept c.self.inside.next c.in_ok-at.at c.self.inside.entries.items c.index.result.now c.self.invariant there c.index.ensures)
+    let there = subst (λ (l : List Entry). IsInStretches c.args.ticket c.self.inside.kept c.self.inside.next l c.in_ok-at.at) c.deref.ensures.value
+    c.in_ok-at.ensures in
+    subst (λ (i : Indexed). MatchOption c.index.result.now.place (IsAbsent c.args.ticket i.pairs)
+    (λ place. Contains i.pairs (c.args.ticket, place))) c.self.view_is
+    (place_tells c.args.ticket c.self.inside.kept c.self.inside.next c.in_ok-at.at c.self.inside.entries.items c.index.result.now c.self.invariant there
+    c.index.ensures)

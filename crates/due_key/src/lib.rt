@@ -9,7 +9,7 @@ mod key;
 mod moment;
 mod offset;
 
-pub use class::Class;
+pub use class::{Class, HIGHEST_CLASS, LOWEST_CLASS};
 pub use due::Due;
 pub use key::{Key, order_of_keys};
 pub use moment::Moment;

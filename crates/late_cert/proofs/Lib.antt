@@ -1,6 +1,8 @@
 pub mod Exchange
 pub mod Least
 pub mod Sound
+pub mod Tables
+pub mod Worst
 pub mod Order
 pub mod Sorted
 pub mod Grouped

@@ -1,4 +1,9 @@
-ghost use Rattle.std.specs.Prelude.{◌≡◌, pos, List, [], ◌∷◌};
+ghost use Rattle.std.specs.Prelude.{◌≡◌, pos, ℤ, List, [], ◌∷◌, Some, None};
+ghost use Rattle.due_key.specs.Range.{IsBetween};
+ghost use Rattle.due_key.specs.declared.class.TheConstants.{LOWEST_CLASS, HIGHEST_CLASS};
+ghost use Rattle.dispatch_log.specs.declared.queue.Queue.{Queue};
+ghost use Rattle.late_cert.specs.Running.{IsWorstOf, worst_so_far};
+ghost use Rattle.late_cert.specs.declared.table.Running.{Running};
 ghost use Rattle.readable_log.specs.Grants.{stays};
 ghost use Rattle.dispatch_log.specs.declared.queue.Queue.TheVariants.{Backend};
 ghost use Rattle.late_cert.specs.Lateness.{latenesses, IsAssignment};
@@ -58,4 +63,11 @@ pub fn worked_reports()
     ensures chosen_before { IsChosen waited_before chosen_before }
     ensures sound_before { IsSound waited_before chosen_before }
     ensures joined_in_the_window_before { IsSound waited_before joined_in_the_window_before → ⊥ }
+{}
+
+/// The law of the running worst: where it is that of a window, it is for each queue and class what a sound report says, and `None` only where
+/// no stay of it ended with a slot.
+pub fn running_worst_is_certified()
+    ensures worst { (window : Window) (running : Running) (report : Report) → IsWorstOf window running → IsSound window report → IsBetween LOWEST_CLASS HIGHEST_CLASS report.class → worst_so_far running report.queue report.class ≡ Some report.worst }
+    ensures none { (window : Window) (running : Running) (queue : Queue) (class : ℤ) → IsWorstOf window running → IsBetween LOWEST_CLASS HIGHEST_CLASS class → worst_so_far running queue class ≡ None → stays window queue class ≡ [] }
 {}

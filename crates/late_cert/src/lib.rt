@@ -7,15 +7,19 @@ mod check;
 mod laws;
 mod making;
 mod report;
+mod running;
+mod table;
+mod worsts;
 
 pub use check::audit;
 pub use laws::{
-    chosen_is_sound, reports_are_determined, reports_of_legal_logs_are_sound, sound_is_least,
-    worked_reports,
+    chosen_is_sound, reports_are_determined, reports_of_legal_logs_are_sound,
+    running_worst_is_certified, sound_is_least, worked_reports,
 };
 pub use making::certify;
 pub use readable_log::Stay;
 pub use report::{Report, Reports, Stays};
+pub use table::Running;
 
 #[cfg(test)]
 mod tests;

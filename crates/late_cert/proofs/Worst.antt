@@ -1,0 +1,138 @@
+-- The worst of grants: of one grant more, and of the stays of a window.
+use Rattle.std.proofs.Common.{◌≡◌, ℕ, zero, suc, ◌+◌, ◌<◌, ◌≤◌, Bool, true, false, cond, List, [], ◌∷◌, ◌++◌, length, map, take, drop, Contains, refl, sym}
+use Rattle.std.proofs.Common.{ap, subst, ◌∙◌, arith, Option, Some, None, ℤ, ◌≤ℤ◌, ◌&&◌, int_lt, inl, inr}
+use Rattle.std.proofs.Math.ListN.{get_or}
+use Rattle.std.specs.Int.{int_max}
+use Rattle.std.specs.Option.{option_map_or}
+use Rattle.std.specs.Ordering.{int_eq}
+use Rattle.std.specs.List.{AllByRecursion, filter}
+use Rattle.std.proofs.lemmas.Int.{ints, clamps}
+use Rattle.std.proofs.lemmas.List.{map-append, append-nil}
+use Rattle.std.proofs.lemmas.List.Elements.{Contains-append_left, Contains-append_right, Contains-append_cases, filter-append}
+use Rattle.due_key.specs.Range.{IsBetween}
+use Rattle.due_key.specs.declared.class.TheConstants.{LOWEST_CLASS, HIGHEST_CLASS}
+use Rattle.dispatch_log.specs.declared.queue.Queue.{Queue}
+use Rattle.dispatch_log.specs.Rows.{same_queue}
+use Rattle.readable_log.specs.Grants.{is_of, stays, grants}
+use Rattle.readable_log.specs.Readable.{IsReadable}
+use Rattle.readable_log.specs.Timely.{IsTimely}
+use Rattle.readable_log.specs.Windows.{Window}
+use Rattle.readable_log.specs.declared.grant.Grant.{Grant}
+use Rattle.readable_log.specs.declared.grant.Stay.{Stay}
+use Rattle.readable_log.proofs.Timely.{timely}
+use Rattle.late_cert.specs.Lateness.{own_lateness}
+use Rattle.late_cert.specs.Reports.{IsSound}
+use Rattle.late_cert.specs.Running.{IsGreatest, IsWorstIn, latenesses_of, worst_with}
+use Rattle.late_cert.specs.declared.report.Report.{Report}
+use Rattle.dispatch_log.proofs.Choices.{queue_same}
+use Rattle.list_facts.proofs.Members.{Contains-head, Contains-tail, Contains-nil, Contains-cases, each_at_member, all_map}
+use Rattle.std.proofs.lemmas.Bool.Decides.{Decides-int_eq}
+use Rattle.late_cert.specs.Tests.{late_by}
+use Rattle.late_cert.proofs.Sound.{lateness_of}
+
+Contains-lone : {X : Type 0} (x y : X) → Contains (x ∷ []) y → y ≡ x
+Contains-lone x y among = elim (Contains-cases x [] y among) [ inl same ↦ sym same | inr none ↦ absurd (Contains-nil y none) ]
+
+Contains-map : {X Y : Type 0} (f : X → Y) (xs : List X) (x : X) → Contains xs x → Contains (map f xs) (f x)
+Contains-map f [] x among = absurd (Contains-nil x among)
+Contains-map f (y ∷ ys) x among = elim (Contains-cases y ys x among) [
+  | inl same ↦ subst (λ z. Contains (f y ∷ map f ys) (f z)) same (Contains-head (f y) (map f ys))
+  | inr later ↦ Contains-tail (f y) (map f ys) (f x) (Contains-map f ys x later)
+]
+
+-- the greatest of numbers and one more
+pub greatest_with : (numbers : List ℤ) (worst : Option ℤ) (number : ℤ) → IsGreatest numbers worst
+    → IsGreatest (numbers ++ number ∷ []) (Some (option_map_or (int_max number) worst number))
+greatest_with numbers None number is =
+    subst (λ l. IsGreatest (l ++ number ∷ []) (Some number)) (sym is)
+    (Contains-head number [], λ n among. subst (λ z. z ≤ℤ number) (sym (Contains-lone number n among)) (grind (arith, ints)))
+greatest_with numbers (Some worst) number is = (reached (int_lt worst number), bounded)
+  where
+    reached : (b : Bool) → Contains (numbers ++ number ∷ []) (cond b number worst)
+    reached true = Contains-append_right numbers (number ∷ []) number (Contains-head number [])
+    reached false = Contains-append_left numbers (number ∷ []) worst is.0
+    bounded : (n : ℤ) → Contains (numbers ++ number ∷ []) n → n ≤ℤ int_max number worst
+    bounded n among = elim (Contains-append_cases numbers (number ∷ []) n among) [
+      | inl old ↦ let below : n ≤ℤ worst = is.1 n old in grind (arith, ints, clamps)
+      | inr new ↦ let same : n ≡ number = Contains-lone number n new in grind (arith, ints, clamps)
+    ]
+
+-- the greatest of numbers is one
+pub greatest_is_one : (numbers : List ℤ) (worst : Option ℤ) (number : ℤ) → IsGreatest numbers worst → Contains numbers number
+    → ((n : ℤ) → Contains numbers n → n ≤ℤ number) → worst ≡ Some number
+greatest_is_one numbers None number is among bound = absurd (Contains-nil number (subst (λ l. Contains l number) is among))
+greatest_is_one numbers (Some worst) number is among bound =
+    let up : number ≤ℤ worst = is.1 number among in
+    let down : worst ≤ℤ number = bound worst is.0 in
+    ap Some (grind (arith, ints))
+
+is_of_parts : (queue : Queue) (class : ℤ) (g : Grant) → is_of queue class g ≡ true → (queue ≡ g.queue) × (class ≡ g.class)
+is_of_parts queue class g e =
+    let both = and_parts (same_queue queue g.queue) (int_eq class g.class) e in
+    (queue_same queue g.queue both.0, (Decides-int_eq class g.class).0 both.1)
+  where
+    and_parts : (a b : Bool) → (a && b) ≡ true → (a ≡ true) × (b ≡ true)
+    and_parts true b e = (refl, e)
+    and_parts false b e = cc
+
+-- the worst of some grants and one more
+pub among_with : (gs : List Grant) (g : Grant) (before : Queue → ℤ → Option ℤ) (queue : Queue) (class : ℤ)
+    → IsGreatest (latenesses_of queue class gs) (before queue class)
+    → IsGreatest (latenesses_of queue class (gs ++ g ∷ [])) (worst_with before g.queue g.class (late_by g) queue class)
+among_with gs g before queue class is =
+    subst (λ l. IsGreatest l (worst_with before g.queue g.class (late_by g) queue class)) (sym parts) (go (is_of queue class g) refl)
+  where
+    parts : latenesses_of queue class (gs ++ g ∷ []) ≡ latenesses_of queue class gs ++ map late_by (filter (is_of queue class) (g ∷ []))
+    parts = ap (map late_by) (filter-append (is_of queue class) gs (g ∷ [])) ∙ map-append late_by (filter (is_of queue class) gs) (filter (is_of queue class) (g ∷ []))
+    go : (b : Bool) → is_of queue class g ≡ b → IsGreatest (latenesses_of queue class gs ++ map late_by (cond b (g ∷ []) []))
+        (cond b (Some (option_map_or (int_max (late_by g)) (before g.queue g.class) (late_by g))) (before queue class))
+    go true e =
+        let sames = is_of_parts queue class g e in
+        subst (λ o. IsGreatest (latenesses_of queue class gs ++ late_by g ∷ []) (Some (option_map_or (int_max (late_by g)) o (late_by g))))
+        (ap (λ q. before q class) sames.0 ∙ ap (before g.queue) sames.1) (greatest_with (latenesses_of queue class gs) (before queue class) (late_by g) is)
+    go false e = subst (λ l. IsGreatest l (before queue class)) (sym (append-nil (latenesses_of queue class gs))) is
+
+-- the latenesses of a readable window's stays are those of its grants
+pub own_latenesses : (window : Window) → IsReadable window → (queue : Queue) (class : ℤ)
+    → map (own_lateness window) (stays window queue class) ≡ latenesses_of queue class (grants window)
+own_latenesses window readable queue class = go (grants window) (timely window readable)
+  where
+    go : (gs : List Grant) → AllByRecursion (IsTimely window) gs
+        → map (own_lateness window) (map (λ g. g.stay) (filter (is_of queue class) gs)) ≡ latenesses_of queue class gs
+    go [] all = refl
+    go (g ∷ gs) all = by (is_of queue class g) (go gs all.1)
+      where
+        by : (b : Bool) → map (own_lateness window) (map (λ g. g.stay) (filter (is_of queue class) gs)) ≡ latenesses_of queue class gs
+            → map (own_lateness window) (map (λ g. g.stay) (cond b (g ∷ filter (is_of queue class) gs) (filter (is_of queue class) gs)))
+            ≡ map late_by (cond b (g ∷ filter (is_of queue class) gs) (filter (is_of queue class) gs))
+        by true rest = ap (λ z. z ∷ map (own_lateness window) (map (λ g. g.stay) (filter (is_of queue class) gs))) (lateness_of window g all.0) ∙ ap (λ l. late_by g ∷ l) rest
+        by false rest = rest
+
+-- the worst so far of a queue and class is what a sound report of it says
+pub certified : (window : Window) (report : Report) (worst : Option ℤ) → IsWorstIn window report.queue report.class worst → IsSound window report
+    → worst ≡ Some report.worst
+certified window report worst is sound =
+    greatest_is_one (map (own_lateness window) (stays window report.queue report.class)) worst report.worst is
+    (subst (Contains (map (own_lateness window) (stays window report.queue report.class))) sound.worst.late
+    (Contains-map (own_lateness window) (stays window report.queue report.class) sound.worst.stay sound.worst.member))
+    (λ n. each_at_member (λ z. z ≤ℤ report.worst) _ n
+    (all_map (own_lateness window) (λ stay. own_lateness window stay ≤ℤ report.worst) (λ z. z ≤ℤ report.worst) (λ stay below. below)
+    (stays window report.queue report.class) sound.bounded))
+
+-- no stays where there is no worst
+pub none_certified : (window : Window) (queue : Queue) (class : ℤ) (worst : Option ℤ) → IsWorstIn window queue class worst → worst ≡ None
+    → stays window queue class ≡ []
+none_certified window queue class worst is none = go (stays window queue class) (subst (IsWorstIn window queue class) none is)
+  where
+    go : (ss : List Stay) → map (own_lateness window) ss ≡ [] → ss ≡ []
+    go [] e = refl
+    go (s ∷ ss) e = cc
+
+-- what holds of each item from one on
+pub from_one_on : {X : Type 0} (P : X → Type 0) (xs : List X) (from at : ℕ) (other : X) → AllByRecursion P (drop from xs) → from ≤ at → at < length xs
+    → P (get_or xs at other)
+from_one_on P [] from at other all reached there = absurd (omega arith)
+from_one_on P (x ∷ xs) zero zero other all reached there = all.0
+from_one_on P (x ∷ xs) zero (suc at) other all reached there = from_one_on P xs zero at other all.1 (omega arith) (omega arith)
+from_one_on P (x ∷ xs) (suc from) zero other all reached there = absurd (omega arith)
+from_one_on P (x ∷ xs) (suc from) (suc at) other all reached there = from_one_on P xs from at other all (omega arith) (omega arith)

@@ -1,0 +1,9 @@
+-- The queues that there are.
+use Rattle.std.specs.Prelude.{ℕ, ◌<◌}
+use Rattle.dispatch_log.specs.declared.queue.Queue.{Queue}
+use Rattle.dispatch_log.specs.declared.queue.Queue.TheVariants.{Backend, Server}
+
+-- a queue is the backend's, or that of one of so many servers
+abbrev pub IsQueueOf : ℕ → Queue → Type 0
+IsQueueOf servers Backend = Unit {0}
+IsQueueOf servers (Server server) = server < servers

@@ -90,6 +90,17 @@ impl<Q: PendQueue<Key, usize>> Core<Q> {
         Ok(it)
     }
 
+    /// Whether an arrival bound to this server, where it has a pin, would be refused now for another cause than memory. Takes no memory. `O(1)`.
+    pub fn admits(&self, pin: Option<usize>) -> Result<(), Refusal>
+        ensures ok { OnOk result (refuses_arrival self.now pin ≡ None) }
+        ensures err { IfErr result (λ refusal. refuses_arrival self.now pin ≡ Some refusal) }
+    {
+        match self.events.trace.refuses_arrival(pin) {
+            Some(refusal) => Err(refusal),
+            None => Ok(()),
+        }
+    }
+
     /// The request with this ticket is over, and its slot comes back where it has one. Refused, in this order, where
     /// the log is full, no live request has the ticket, or it still waits. Takes no memory, and
     /// `O(log n)` in the live requests and `O(s)` in the servers beside the queue's own cost.

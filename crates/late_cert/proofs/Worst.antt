@@ -22,12 +22,12 @@ use Rattle.readable_log.specs.declared.grant.Stay.{Stay}
 use Rattle.readable_log.proofs.Timely.{timely}
 use Rattle.late_cert.specs.Lateness.{own_lateness}
 use Rattle.late_cert.specs.Reports.{IsSound}
-use Rattle.late_cert.specs.Running.{IsGreatest, IsWorstIn, latenesses_of, worst_with}
+use Rattle.late_cert.specs.Running.{IsGreatest, IsWorstIn, IsWorstOf, IsWorstAmong, latenesses_of, worst_so_far, worst_with}
+use Rattle.late_cert.specs.declared.table.Running.{Running}
 use Rattle.late_cert.specs.declared.report.Report.{Report}
-use Rattle.dispatch_log.proofs.Choices.{queue_same}
 use Rattle.list_facts.proofs.Members.{Contains-head, Contains-tail, Contains-nil, Contains-cases, each_at_member, all_map}
-use Rattle.std.proofs.lemmas.Bool.Decides.{Decides-int_eq}
 use Rattle.late_cert.specs.Tests.{late_by}
+use Rattle.late_cert.proofs.Sorted.{is_of_true}
 use Rattle.late_cert.proofs.Sound.{lateness_of}
 
 Contains-lone : {X : Type 0} (x y : X) → Contains (x ∷ []) y → y ≡ x
@@ -66,15 +66,6 @@ greatest_is_one numbers (Some worst) number is among bound =
     let down : worst ≤ℤ number = bound worst is.0 in
     ap Some (grind (arith, ints))
 
-is_of_parts : (queue : Queue) (class : ℤ) (g : Grant) → is_of queue class g ≡ true → (queue ≡ g.queue) × (class ≡ g.class)
-is_of_parts queue class g e =
-    let both = and_parts (same_queue queue g.queue) (int_eq class g.class) e in
-    (queue_same queue g.queue both.0, (Decides-int_eq class g.class).0 both.1)
-  where
-    and_parts : (a b : Bool) → (a && b) ≡ true → (a ≡ true) × (b ≡ true)
-    and_parts true b e = (refl, e)
-    and_parts false b e = cc
-
 -- the worst of some grants and one more
 pub among_with : (gs : List Grant) (g : Grant) (before : Queue → ℤ → Option ℤ) (queue : Queue) (class : ℤ)
     → IsGreatest (latenesses_of queue class gs) (before queue class)
@@ -87,7 +78,7 @@ among_with gs g before queue class is =
     go : (b : Bool) → is_of queue class g ≡ b → IsGreatest (latenesses_of queue class gs ++ map late_by (cond b (g ∷ []) []))
         (cond b (Some (option_map_or (int_max (late_by g)) (before g.queue g.class) (late_by g))) (before queue class))
     go true e =
-        let sames = is_of_parts queue class g e in
+        let sames = is_of_true queue class g e in
         subst (λ o. IsGreatest (latenesses_of queue class gs ++ late_by g ∷ []) (Some (option_map_or (int_max (late_by g)) o (late_by g))))
         (ap (λ q. before q class) sames.0 ∙ ap (before g.queue) sames.1) (greatest_with (latenesses_of queue class gs) (before queue class) (late_by g) is)
     go false e = subst (λ l. IsGreatest l (before queue class)) (sym (append-nil (latenesses_of queue class gs))) is
@@ -136,3 +127,8 @@ from_one_on P (x ∷ xs) zero zero other all reached there = all.0
 from_one_on P (x ∷ xs) zero (suc at) other all reached there = from_one_on P xs zero at other all.1 (omega arith) (omega arith)
 from_one_on P (x ∷ xs) (suc from) zero other all reached there = absurd (omega arith)
 from_one_on P (x ∷ xs) (suc from) (suc at) other all reached there = from_one_on P xs from at other all (omega arith) (omega arith)
+
+-- the worst so far of a readable window's grants is that of its stays
+pub worst_of_window : (window : Window) → IsReadable window → (running : Running) → IsWorstAmong (grants window) running → IsWorstOf window running
+worst_of_window window readable running is queue class in_range =
+    subst (λ l. IsGreatest l (worst_so_far running queue class)) (sym (own_latenesses window readable queue class)) (is queue class in_range)

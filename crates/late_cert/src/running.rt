@@ -6,7 +6,7 @@ ghost use Rattle.due_key.specs.Range.{IsBetween};
 ghost use Rattle.due_key.specs.declared.class.TheConstants.{LOWEST_CLASS, HIGHEST_CLASS};
 ghost use Rattle.dispatch_log.specs.declared.queue.Queue.{Queue};
 ghost use Rattle.late_cert.specs.Queues.{IsQueueOf};
-ghost use Rattle.late_cert.specs.Running.{worst_with, worst_so_far, has_room, IsWorstAmong, IsWorstOf, HasRoomFor};
+ghost use Rattle.late_cert.specs.Running.{worst_with, worst_so_far, has_room, IsWorstAmong, HasRoomFor};
 ghost use Rattle.late_cert.specs.Table.{row_number};
 
 use crate::check::lateness;
@@ -68,7 +68,7 @@ impl Running {
         requires from { from ≤ length (grants (window_of log.now)) }
         requires told { IsWorstAmong (take from (grants (window_of log.now))) self.old }
         requires room { AllByRecursion (HasRoomFor self.old) (drop from (grants (window_of log.now))) }
-        ensures worst { IsWorstOf (window_of log.now) self.new }
+        ensures worst { IsWorstAmong (grants (window_of log.now)) self.new }
         ensures room { (class : ℤ) → has_room self.new class ≡ has_room self.old class }
         ensures servers { self.new.servers ≡ self.old.servers }
     {

@@ -8,7 +8,7 @@ use Rattle.readable_log.specs.declared.grant.Grant.{Grant}
 use Rattle.late_cert.specs.Queues.{IsQueueOf}
 use Rattle.late_cert.specs.Running.{IsGreatest, IsWorstAmong, HasRoomFor, has_room, latenesses_of, worst_so_far, worst_with}
 use Rattle.late_cert.specs.Tests.{late_by}
-use Rattle.late_cert.proofs.Worst.{among_with, own_latenesses, from_one_on}
+use Rattle.late_cert.proofs.Worst.{among_with, from_one_on}
 use Rattle.late_cert.proofs.table.Running.granted_from.Goals as goal
 
 roomy : (c : goal.After-lateness) → HasRoomFor c.args.self.now c.index-grants-number.result
@@ -50,7 +50,5 @@ pub returns-clause-worst : goal.returns-clause-worst
 returns-clause-worst c queue class in_range =
     let gs : List Grant = c.grants-grants.result.now in
     let whole : take c.loop-number.number gs ≡ gs = take_all c.loop-number.number gs (omega arith) in
-    subst (λ l. IsGreatest l (worst_so_far c.loop-number.self queue class))
-    (sym (own_latenesses (window_of c.args.log.now) c.grants-grants.ensures.readable queue class))
-    (subst (λ l. IsGreatest (latenesses_of queue class l) (worst_so_far c.loop-number.self queue class)) (whole ∙ c.grants-grants.ensures.grants)
-    (c.loop-number.invariant.worst queue class in_range))
+    subst (λ l. IsGreatest (latenesses_of queue class l) (worst_so_far c.loop-number.self queue class)) (whole ∙ c.grants-grants.ensures.grants)
+    (c.loop-number.invariant.worst queue class in_range)

@@ -1,0 +1,17 @@
+use Rattle.std.proofs.Common.{subst, sym, ◌≡◌}
+use Rattle.dispatch_log.specs.Histories.{History}
+use Rattle.readable_log.specs.Readable.{IsReadable}
+use Rattle.readable_log.specs.Windows.{window_in}
+use Rattle.late_cert.specs.Running.{IsWorstIn}
+use Rattle.late_cert.proofs.Worst.{worst_of_window}
+use Rattle.reporting_core.proofs.Telling.{same_window}
+use Rattle.reporting_core.proofs.dispatcher.ReportingCore.worst.Goals as goal
+
+pub returns : goal.returns
+returns g c =
+    let h : History = c.self.inside.core in
+    let readable : IsReadable (window_in h) =
+        subst IsReadable (same_window c.log.result.now h c.log.ensures.base c.log.ensures.entries) c.grants.ensures.readable in
+    subst (λ (x : History). IsWorstIn (window_in x) c.args.queue c.args.class c.worst.result) c.self.view_is
+    (subst (IsWorstIn (window_in h) c.args.queue c.args.class) (sym c.worst.ensures.worst)
+    (worst_of_window (window_in h) readable c.self.inside.running c.self.invariant.worst c.args.queue c.args.class c.worst.ensures.range))

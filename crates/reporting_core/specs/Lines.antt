@@ -1,0 +1,31 @@
+-- What each server was given in a window.
+use Rattle.std.specs.Prelude.{◌≡◌, ℕ, ◌==◌, ◌<◌, Bool, false, List, count_by, length, slice_get, Some}
+use Rattle.dispatch_log.specs.declared.entry.Entry.{Entry}
+use Rattle.dispatch_log.specs.declared.entry.Entry.TheVariants.{Direct, Granted}
+use Rattle.dispatch_log.specs.Histories.{History}
+use Rattle.dispatch_log.specs.Words.{is_up}
+use Rattle.dispatch_trace.specs.Histories.{scene_of}
+use Rattle.reporting_core.specs.declared.lines.ServerLine.{ServerLine}
+
+-- whether an entry puts a request on a server at once
+abbrev pub is_direct : ℕ → Entry → Bool
+is_direct server (Direct ticket other) = other == server
+is_direct server entry = false
+
+-- whether an entry grants a request that waited a slot of a server
+abbrev pub is_granted : ℕ → Entry → Bool
+is_granted server (Granted ticket queue other) = other == server
+is_granted server entry = false
+
+-- the line of a server: whether it is up, and how many requests the window's entries gave it, at once and after they waited
+abbrev pub line_of : History → ℕ → ServerLine
+line_of history server = record {
+  up = is_up (scene_of history) server;
+  direct = count_by (is_direct server) history.log;
+  granted = count_by (is_granted server) history.log;
+}
+
+-- a line for each server, in order
+pub record AreLines (history : History) (lines : List ServerLine) : Type 0 where
+  pub each : length lines ≡ length history.setup.servers
+  pub line : (server : ℕ) (line : ServerLine) → slice_get lines server ≡ Some line → line ≡ line_of history server

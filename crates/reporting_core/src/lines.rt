@@ -1,0 +1,48 @@
+ghost use Rattle.std.specs.Prelude.{◌≡◌};
+ghost use Rattle.reporting_core.specs.Lines.{is_direct, is_granted, line_of};
+
+use dispatch_core::Core;
+use dispatch_log::Entry;
+use due_key::Key;
+use pend_queue::PendQueue;
+
+/// A server in the report of a window.
+#[derive(Clone, Copy, Debug, PartialEq, Eq)]
+pub struct ServerLine {
+    /// Whether it is up, by the results of its checks.
+    pub up: bool,
+    /// How many requests it was given when they came.
+    pub direct: usize,
+    /// How many it was given after they had waited.
+    pub granted: usize,
+}
+
+/// The line of a server. `O(n)` in the window's entries.
+pub(crate) fn line_of<Q: PendQueue<Key, usize>>(core: &Core<Q>, server: usize) -> ServerLine
+    ensures { result ≡ line_of core.now server }
+{
+    let entries = core.log().entries();
+    ServerLine {
+        up: core.up(server),
+        direct: entries.iter().filter(|entry| is_direct(server, entry)).count(),
+        granted: entries.iter().filter(|entry| is_granted(server, entry)).count(),
+    }
+}
+
+fn is_direct(server: usize, entry: &Entry) -> bool
+    ensures { result ≡ is_direct server entry.now }
+{
+    match entry {
+        Entry::Direct(_, other) => *other == server,
+        _ => false,
+    }
+}
+
+fn is_granted(server: usize, entry: &Entry) -> bool
+    ensures { result ≡ is_granted server entry.now }
+{
+    match entry {
+        Entry::Granted(_, _, other) => *other == server,
+        _ => false,
+    }
+}

@@ -1,6 +1,6 @@
 -- Returns, new limits and windows: what they owe.
 use Rattle.std.proofs.Common.{◌≡◌, ℕ, zero, suc, ◌+◌, ◌-◌, ◌*◌, ◌<◌, ◌≤◌, ◌==◌, max, min, nat_lt, nat_le, not, Bool, true, false, cond}
-use Rattle.std.proofs.Common.{List, [], ◌∷◌, ◌++◌, Option, None, Some, map, drop, length, set, is_none, refl, ap, sym, ◌∙◌, subst, arith}
+use Rattle.std.proofs.Common.{List, [], ◌∷◌, ◌++◌, Option, None, Some, map, drop, length, set, is_none, ◌⊎◌, inl, inr, IfOk, IfSome, IfNone, OnErr, Result, Ok, Err, refl, ap, sym, ◌∙◌, subst, arith}
 use Rattle.std.specs.Option.{option_map_or}
 use Rattle.std.proofs.lemmas.Bool.Decides.{nat_tests}
 use Rattle.std.proofs.lemmas.List.{append-nil, length-map}
@@ -37,6 +37,8 @@ use Rattle.outstanding.specs.Outstanding.{verdict_at}
 use Rattle.outstanding.specs.Verdicts.{verdicts, endings}
 use Rattle.outstanding.proofs.Owing.{own_tickets, out_row, owes, owes_end, state_on}
 use Rattle.outstanding.proofs.Weighing.{IsOutAt, count_of_served}
+use Rattle.atomic_table.specs.Seated.{TableId}
+use Rattle.locked_book.specs.Books.{IsKeptBook}
 use Rattle.locked_book.specs.Ends.{refuses_end, IsAcceptable}
 use Rattle.locked_book.proofs.Events.{added_is, sets_none, limits_kept}
 
@@ -194,3 +196,20 @@ pub served_within : (h : History) (server places : ℕ) → IsLegal h → places
 served_within h server places legal same =
     let few = count_by-le-length (is_served_by server) (state_of h).rows in
     omega (arith, few, (within h legal).places, same)
+
+-- a call that makes room changes nothing, or begins the next window
+pub room_made : {T E : Type 0} (answer : Result (Option T) E) (old new : History) (R Full : Type 0) (A B : T → Type 0)
+    → IfOk answer (λ found. IfNone found (R × (new ≡ old))) → IfOk answer (λ found. IfSome found (λ it. Full × A it × B it × (new ≡ next_window old)))
+    → OnErr answer (new ≡ old) → (new ≡ old) ⊎ (new ≡ next_window old)
+room_made (Ok None) old new R Full A B none some err = inl none.1
+room_made (Ok (Some it)) old new R Full A B none some err = inr some.3
+room_made (Err e) old new R Full A B none some err = inl err
+
+pub roomy_book : (board : TableId) (terms : Terms) (old new : History) (keeper : Keeper) → IsKeptBook board terms old keeper
+    → (new ≡ old) ⊎ (new ≡ next_window old) → IsKeptBook board terms new keeper
+roomy_book board terms old new keeper is (inl same) = subst (λ h. IsKeptBook board terms h keeper) (sym same) is
+roomy_book board terms old new keeper is (inr next) = subst (λ h. IsKeptBook board terms h keeper) (sym next) (record {
+  named = is.named;
+  of_terms = is.of_terms;
+  book = rolled_book old keeper.view is.book;
+})

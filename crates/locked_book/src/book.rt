@@ -9,6 +9,12 @@ ghost use Rattle.outstanding.specs.Turns.{VisitsSome, Turns};
 ghost use Rattle.locked_book.specs.Ends.{IsAcceptable};
 ghost use Rattle.dispatch_log.specs.Histories.{first_window, next_window, state_of, effective, refuses_arrival, refuses_abort, refuses_tick, refuses_check, refuses_limit, SomeExpires, RefusedOrNoMemory};
 ghost use Rattle.dispatch_log.specs.Legal.{AddsEvent, IsLegal};
+ghost use Rattle.dispatch_trace.specs.Histories.{HasEntryRoom};
+ghost use Rattle.late_cert.specs.Reports.{AreReports};
+ghost use Rattle.late_cert.specs.Running.{IsWorstIn};
+ghost use Rattle.readable_log.specs.Windows.{window_in};
+ghost use Rattle.reporting_core.specs.Lines.{AreLines};
+ghost use Rattle.reporting_core.specs.Reporting.{IsNew};
 ghost use Rattle.grant_board.specs.KeeperCalls.{new_keeper, FindsUnposted, Vouches};
 ghost use Rattle.outstanding.specs.Books.{terms_of, IsBook};
 ghost use Rattle.outstanding.specs.Calls.{event_of, CarriesOut, TakesBack, SetsBound};
@@ -16,13 +22,15 @@ ghost use Rattle.outstanding.specs.Calls.{event_of, CarriesOut, TakesBack, SetsB
 use crate::keeping::Keeping;
 use crate::offering::offer_from;
 use dispatch_core::Core;
-use dispatch_log::Refusal;
+use reporting_core::{ReportingCore, ServerLine, Window};
+use dispatch_log::{Queue, Refusal};
 use dispatch_trace::Ticketed;
 use due_key::{Class, Key, Moment, Offset};
 use grant_board::{Board, BoardName, KeeperSeat, RelaySeat, Return};
+use late_cert::{Reports, Running};
 use pend_queue::PendQueue;
 use place_set::PlaceSet;
-use std::alloc::Global;
+use std::alloc::{AllocError, Global};
 use std::marker::{Model, PhantomData};
 use verdict::Ending;
 
@@ -31,7 +39,7 @@ use verdict::Ending;
 /// made are added to the caller's set, for whoever waits there.
 #[derive(Drop)]
 pub struct Book<Q: PendQueue<Key, usize>, N: BoardName> {
-    core: Core<Q>,
+    core: ReportingCore<Q>,
     keeping: Keeping,
     of: PhantomData<N>,
 }
@@ -56,18 +64,20 @@ pub struct Wanted {
 }
 
 impl<Q: PendQueue<Key, usize>, N: BoardName> Book<Q, N> {
-    /// A book of a dispatcher and a keeper's seat that have done nothing, where the board was opened for the dispatcher's places and limits.
-    pub fn new(core: Core<Q>, seat: KeeperSeat) -> Book<Q, N>
+    /// A book of a dispatcher and a keeper's seat that have done nothing, where the board was opened for the dispatcher's places and limits, and a
+    /// running worst for the dispatcher's servers that was told nothing.
+    pub fn new(core: Core<Q>, seat: KeeperSeat, running: Running) -> Book<Q, N>
         requires first { core ≡ first_window core.setup [] }
         requires board { seat.board ≡ N.board }
         requires terms { N.terms ≡ terms_of core.setup }
         requires seat { seat.view ≡ new_keeper N.terms }
+        requires running { IsNew running (length core.setup.servers) }
         ensures { result ≡ record { history = core; view = seat.view } }
     {
         // Says that there are at most 4,096 places, which is what the set of those that are out has room for.
         core.places();
         Book {
-            core,
+            core: ReportingCore::new(core, running),
             keeping: Keeping::new(seat),
             of: PhantomData,
         }
@@ -210,6 +220,38 @@ impl<Q: PendQueue<Key, usize>, N: BoardName> Book<Q, N> {
         Ok(())
     }
 
+    /// The reports of the present window. `O(n log n)` in its grants; fails only where memory is refused.
+    pub fn report(&self, alloc: Global) -> Result<Reports, AllocError>
+        ensures { IfOk result (AreReports (window_in self.now.history)) }
+    {
+        self.core.report(alloc)
+    }
+
+    /// A line for each server in file order, of the present window. `O(s n)` in the servers and entries; fails only where memory is refused.
+    pub fn servers(&self, alloc: Global) -> Result<Vec<ServerLine>, AllocError>
+        ensures { IfOk result (λ lines. AreLines self.now.history lines.items) }
+    {
+        self.core.servers(alloc)
+    }
+
+    /// The greatest lateness of a queue and class in the present window, in milliseconds; `None` only where none of them was granted a slot.
+    /// `O(1)`, no memory.
+    pub fn worst(&self, queue: Queue, class: Class) -> Option<i64>
+        ensures { IsWorstIn (window_in self.now.history) queue class result }
+    {
+        self.core.worst(queue, class)
+    }
+
+    /// Begins the next window where the log has no room for an event, and hands out what is told of the one that ended; `None` where it has
+    /// room. Where memory is refused nothing changes, and the board never does.
+    pub fn make_room(&mut self, alloc: Global) -> Result<Option<Window>, AllocError>
+        ensures none { IfOk result (λ found. IfNone found (HasEntryRoom self.old.history × (self.new ≡ self.old))) }
+        ensures some { IfOk result (λ found. IfSome found (λ window. (HasEntryRoom self.old.history → ⊥) × AreReports (window_in self.old.history) window.reports × AreLines self.old.history window.servers.items × (self.new ≡ record self.old { history = next_window self.old.history }))) }
+        ensures err { OnErr result (self.new ≡ self.old) }
+    {
+        self.core.make_room(alloc)
+    }
+
     /// Begins the next window of the log. The board doesn't change.
     pub fn roll(&mut self)
         ensures { self.new ≡ record self.old { history = next_window self.old.history } }
@@ -275,7 +317,7 @@ fn bound_of(limit: u32, served: usize) -> u32
 }
 
 // A return becomes its event.
-fn note_end<Q: PendQueue<Key, usize>>(core: &mut Core<Q>, moment: Moment, back: Return)
+fn note_end<Q: PendQueue<Key, usize>>(core: &mut ReportingCore<Q>, moment: Moment, back: Return)
     requires { IsAcceptable core.old back }
     ensures { AddsEvent core.old core.new (event_of (effective core.old moment) back) }
 {

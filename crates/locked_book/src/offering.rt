@@ -3,16 +3,16 @@ ghost use Rattle.outstanding.specs.Books.{IsOwing};
 ghost use Rattle.outstanding.specs.Calls.{grants_in, with_offers, Wakes};
 
 use crate::keeping::Keeping;
-use dispatch_core::Core;
 use due_key::Key;
 use grant_board::Board;
 use outstanding::verdict_in;
 use pend_queue::PendQueue;
 use place_set::PlaceSet;
+use reporting_core::ReportingCore;
 
 /// Offers the verdicts of the entries from this one on. `O(log n)` in the live requests for each.
 pub fn offer_from<Q: PendQueue<Key, usize>>(
-    core: &Core<Q>,
+    core: &ReportingCore<Q>,
     keeping: &mut Keeping,
     board: &Board,
     from: usize,

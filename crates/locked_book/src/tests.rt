@@ -1,4 +1,4 @@
-ghost use Rattle.std.specs.Prelude.{◌≡◌, ◌<◌, ◌∷◌, [], IfOk};
+ghost use Rattle.std.specs.Prelude.{◌≡◌, ◌<◌, ◌∷◌, [], IfOk, length};
 ghost use Rattle.dispatch_log.specs.Histories.{first_window};
 ghost use Rattle.grant_board.specs.KeeperCalls.{new_keeper};
 ghost use Rattle.grant_board.specs.RelayCalls.{new_relay};
@@ -7,10 +7,11 @@ ghost use Rattle.outstanding.specs.Books.{terms_of};
 
 use crate::{Book, Wanted};
 use dispatch_core::Core;
-use dispatch_log::{ServerSet, Servers, Setup};
+use dispatch_log::{Queue, ServerSet, Servers, Setup};
 use dispatch_trace::Ticketed;
 use due_key::{Class, Key, Moment, Offset};
 use grant_board::{Board, BoardName, KeeperSeat, RelaySeat, Taking};
+use late_cert::Running;
 use pend_queue::ListQueue;
 use place_set::PlaceSet;
 use std::alloc::Global;
@@ -24,6 +25,7 @@ type Lists = ListQueue<Key, usize>;
 fn dispatcher(alloc: Global) -> Result<Core<Lists>, Fail>
     ensures first { IfOk result (λ core. core ≡ first_window core.setup []) }
     ensures terms { IfOk result (λ core. terms_of core.setup ≡ terms 4 (1 ∷ [])) }
+    ensures one_server { IfOk result (λ core. length core.setup.servers ≡ 1) }
 {
     let server = ServerSet {
         limit: 1,
@@ -75,13 +77,15 @@ fn serve_two<N: BoardName>(
     core: Core<Lists>,
     seat: KeeperSeat,
     mut relay: RelaySeat,
-) -> Result<Option<usize>, Fail>
+) -> Result<(Option<usize>, Option<i64>), Fail>
     requires first { core ≡ first_window core.setup [] }
     requires named { (board.now ≡ N.board) × (seat.board ≡ N.board) × (relay.board ≡ N.board) }
     requires terms { (N.terms ≡ terms_of core.setup) × (relay.view.terms ≡ N.terms) }
     requires seat { seat.view ≡ new_keeper N.terms }
+    requires one_server { length core.setup.servers ≡ 1 }
 {
-    let mut book: Book<Lists, N> = Book::new(core, seat);
+    let running = Running::new(alloc, 1)?;
+    let mut book: Book<Lists, N> = Book::new(core, seat, running);
     let mut woken = PlaceSet::new();
     let Ok(first) = book.arrive(alloc, board, Moment::zero(), nothing_special(), &mut woken) else {
         return Err(Fail::from("refused"));
@@ -96,7 +100,7 @@ fn serve_two<N: BoardName>(
     let Ok(()) = book.turn(board, Moment::zero(), &mut woken) else {
         return Err(Fail::from("refused"));
     };
-    Ok(woken.next(0))
+    Ok((woken.next(0), book.worst(Queue::Backend, Class::clamp(0))))
 }
 
 #[test]
@@ -104,7 +108,8 @@ fn a_slot_is_handed_on(rt: HostRuntime) -> Result<(), Fail> {
     let alloc = rt.alloc();
     let core = dispatcher(alloc)?;
     let (board, seat, relay) = Board::open(alloc, 4, &[1])?;
-    let woken = serve_two::<Brand>(alloc, &board, core, seat, relay)?;
+    let (woken, worst) = serve_two::<Brand>(alloc, &board, core, seat, relay)?;
     assert_eq!(rt; woken, Some(1));
+    assert_eq!(rt; worst, Some(0));
     Ok(())
 }

@@ -5,7 +5,7 @@ use Rattle.locked_book.proofs.book.Book.roll.Goals as goal
 
 pub invariant_of-self : goal.invariant_of-self
 invariant_of-self g c =
-    subst (λ h. IsKeptBook g.N.BoardName.board g.N.BoardName.terms h c.self.inside.keeping) (sym c.roll.ensures.window)
+    subst (λ h. IsKeptBook g.N.BoardName.board g.N.BoardName.terms h c.self.inside.keeping) (sym c.roll.ensures)
     (record {
       named = c.self.invariant.named;
       of_terms = c.self.invariant.of_terms;

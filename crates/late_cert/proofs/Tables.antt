@@ -52,6 +52,7 @@ same_row class other in_range other_in_range same =
     from_zero : (z : ℤ) → pos 0 ≤ℤ z → pos (at_least_zero z) ≡ z
     from_zero (pos n) above = refl
     from_zero (negsuc n) above = absurd (grind (arith, ints))
+
     at_its_number : (c : ℤ) → IsBetween LOWEST_CLASS HIGHEST_CLASS c → pos (row_number c) ≡ c -ℤ LOWEST_CLASS
     at_its_number c range = from_zero (c -ℤ LOWEST_CLASS) (let low = range.lower in grind (arith, ints))
 
@@ -66,11 +67,13 @@ noted table at row new queue class late numbered there stands in_range told othe
     seen : worst_at (set table at (Some new)) other number
         ≡ option_and_then (λ r. worst_of r other) (cond (row_number number == at) (Some new) (row_at table (row_number number)))
     seen = ap (option_and_then (λ r. worst_of r other)) (got_set table at (Some new) None there (row_number number))
+
     by_queue : (b : Bool) → worst_at table other number ≡ worst_of row other → worst_at table queue class ≡ worst_of row queue
         → cond b (Some (option_map_or (int_max late) (worst_of row queue) late)) (worst_of row other)
         ≡ cond (b && true) (Some (option_map_or (int_max late) (worst_at table queue class) late)) (worst_at table other number)
     by_queue true own its = ap (λ o. Some (option_map_or (int_max late) o late)) (sym its)
     by_queue false own its = sym own
+
     go : (b : Bool) → int_eq number class ≡ b → worst_at (set table at (Some new)) other number
         ≡ cond (same_queue other queue && b) (Some (option_map_or (int_max late) (worst_at table queue class) late)) (worst_at table other number)
     go true e =
@@ -79,19 +82,20 @@ noted table at row new queue class late numbered there stands in_range told othe
         let same_at : (row_number number == at) ≡ true = (Decides-eqb (row_number number) at).1 (sym (numbered ∙ ap row_number one_class)) in
         let own : worst_at table other number ≡ worst_of row other = ap (option_and_then (λ r. worst_of r other)) here in
         let its : worst_at table queue class ≡ worst_of row queue =
-            ap (option_and_then (λ r. worst_of r queue)) (ap (row_at table) (sym numbered) ∙ stands) in
+        ap (option_and_then (λ r. worst_of r queue)) (ap (row_at table) (sym numbered) ∙ stands) in
         seen ∙ ap (λ b. option_and_then (λ r. worst_of r other) (cond b (Some new) (row_at table (row_number number)))) same_at ∙ told other
-            ∙ by_queue (same_queue other queue) own its
+        ∙ by_queue (same_queue other queue) own its
     go false e =
         let apart : (row_number number == at) ≡ false = other_row (row_number number == at) refl in
         seen ∙ ap (λ b. option_and_then (λ r. worst_of r other) (cond b (Some new) (row_at table (row_number number)))) apart
-            ∙ by_none (same_queue other queue)
+        ∙ by_none (same_queue other queue)
       where
         other_row : (b : Bool) → (row_number number == at) ≡ b → b ≡ false
         other_row true is =
             let one_class : class ≡ number = same_row class number in_range number_in_range (sym ((Decides-eqb (row_number number) at).0 is ∙ numbered)) in
             let equal : int_eq number class ≡ true = (Decides-int_eq number class).1 (sym one_class) in cc
         other_row false is = refl
+
         by_none : (b : Bool) → worst_at table other number
             ≡ cond (b && false) (Some (option_map_or (int_max late) (worst_at table queue class) late)) (worst_at table other number)
         by_none true = refl

@@ -51,6 +51,7 @@ greatest_with numbers (Some worst) number is = (reached (int_lt worst number), b
     reached : (b : Bool) → Contains (numbers ++ number ∷ []) (cond b number worst)
     reached true = Contains-append_right numbers (number ∷ []) number (Contains-head number [])
     reached false = Contains-append_left numbers (number ∷ []) worst is.0
+
     bounded : (n : ℤ) → Contains (numbers ++ number ∷ []) n → n ≤ℤ int_max number worst
     bounded n among = elim (Contains-append_cases numbers (number ∷ []) n among) [
       | inl old ↦ let below : n ≤ℤ worst = is.1 n old in grind (arith, ints, clamps)
@@ -75,6 +76,7 @@ among_with gs g before queue class is =
   where
     parts : latenesses_of queue class (gs ++ g ∷ []) ≡ latenesses_of queue class gs ++ map late_by (filter (is_of queue class) (g ∷ []))
     parts = ap (map late_by) (filter-append (is_of queue class) gs (g ∷ [])) ∙ map-append late_by (filter (is_of queue class) gs) (filter (is_of queue class) (g ∷ []))
+
     go : (b : Bool) → is_of queue class g ≡ b → IsGreatest (latenesses_of queue class gs ++ map late_by (cond b (g ∷ []) []))
         (cond b (Some (option_map_or (int_max (late_by g)) (before g.queue g.class) (late_by g))) (before queue class))
     go true e =

@@ -27,10 +27,7 @@ impl Running {
         for _ in 0..CLASSES {
             table.push(None)?;
         }
-        Ok(Running {
-            table,
-            servers,
-        })
+        Ok(Running { table, servers })
     }
 
     /// Makes room for the grants of a class, from whatever queue. Changes no answer; where memory is refused, nothing.

@@ -22,7 +22,6 @@ ghost use Rattle.outstanding.specs.Calls.{event_of, CarriesOut, TakesBack, SetsB
 use crate::keeping::Keeping;
 use crate::offering::offer_from;
 use dispatch_core::Core;
-use reporting_core::{ReportingCore, ServerLine, Window};
 use dispatch_log::{Queue, Refusal};
 use dispatch_trace::Ticketed;
 use due_key::{Class, Key, Moment, Offset};
@@ -30,6 +29,7 @@ use grant_board::{Board, BoardName, KeeperSeat, RelaySeat, Return};
 use late_cert::{Reports, Running};
 use pend_queue::PendQueue;
 use place_set::PlaceSet;
+use reporting_core::{ReportingCore, ServerLine, Window};
 use std::alloc::{AllocError, Global};
 use std::marker::{Model, PhantomData};
 use verdict::Ending;

@@ -49,7 +49,7 @@ grants_behind base past [] fs = ap (λ l. grants_after base l fs) (sym (append-n
 grants_behind base past (e ∷ es) fs =
     let own : List Grant = option_map_or (λ grant. grant ∷ []) (grant_after base past e) [] in
     ap (λ l. own ++ l) (grants_behind base (past ++ e ∷ []) es fs
-        ∙ ap (λ l. grants_after base (past ++ e ∷ []) es ++ grants_after base l fs) (append_assoc past (e ∷ []) es))
+    ∙ ap (λ l. grants_after base (past ++ e ∷ []) es ++ grants_after base l fs) (append_assoc past (e ∷ []) es))
     ∙ sym (append_assoc own (grants_after base (past ++ e ∷ []) es) (grants_after base (past ++ e ∷ es) fs))
 
 -- ---- classes
@@ -119,6 +119,7 @@ classes_on P Q on base log have = record { waited = each_row base have.waited; a
     each_row : (rows : List BaseRow) → AllByRecursion (λ row. P row.class) rows → AllByRecursion (λ row. Q row.class) rows
     each_row [] all = tt
     each_row (row ∷ rows) all = (on row.class all.0, each_row rows all.1)
+
     each_entry : (es : List Entry) → ArriveSo P es → ArriveSo Q es
     each_entry [] all = tt
     each_entry (e ∷ es) all = (by_arrival (arrival_in e) all.0, each_entry es all.1)
@@ -140,6 +141,7 @@ queue_there setup s (Server own) server takes free =
     second : (a b : Bool) → (a && b) ≡ true → b ≡ true
     second true b e = e
     second false b e = cc
+
     there : (o : Option ServerSet) → slice_get setup.servers server ≡ o
         → option_map_or (λ it. (limit_of (scene setup s) server == 0) || nat_lt (served server s.rows) (limit_of (scene setup s) server)) o false ≡ true
         → server < length setup.servers
@@ -292,12 +294,14 @@ live_classes P h legal have = each (state_of h).rows (λ row live. of_row row (a
     arrived : HaveArrived (base_rows h.base.rows) h.log (state_of h).rows
     arrived = rows_arrived (base_rows h.base.rows) h.setup h.base h.log (base_arrived h.setup h.base legal.begins)
         (judged_keep_order h.setup h.base h.log legal.begins legal.lawful.judged)
+
     of_row : (row : Row) → HasArrived (base_rows h.base.rows) h.log row.key.ticket row.key.class row.key.due → P row.key.class
     of_row row = by_key (key_known (base_rows h.base.rows) row.key.ticket h.log) (known_class P (base_rows h.base.rows) h.log row.key.ticket have)
       where
         by_key : (o : Option Key) → IfSome o (λ key. P key.class) → IsSomeAnd o (λ it. (it.class ≡ row.key.class) × (it.due ≡ row.key.due)) → P row.key.class
         by_key None known is = absurd is
         by_key (Some key) known is = subst P is.0 known
+
     each : (rows : Rows) → ((row : Row) → IsRow rows row → P row.key.class) → AllByRecursion (λ (row : BaseRow). P row.class) (base_rows rows)
     each [] of = tt
     each (None ∷ rows) of = each rows (λ row live. of row (suc live.0, live.1))

@@ -10,5 +10,5 @@ pub use dispatcher::ReportingCore;
 pub use lines::ServerLine;
 pub use reporting::Window;
 
-
-
+#[cfg(test)]
+mod tests;

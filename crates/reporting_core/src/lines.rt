@@ -24,8 +24,14 @@ pub(crate) fn line_of<Q: PendQueue<Key, usize>>(core: &Core<Q>, server: usize) -
     let entries = core.log().entries();
     ServerLine {
         up: core.up(server),
-        direct: entries.iter().filter(|entry| is_direct(server, entry)).count(),
-        granted: entries.iter().filter(|entry| is_granted(server, entry)).count(),
+        direct: entries
+            .iter()
+            .filter(|entry| is_direct(server, entry))
+            .count(),
+        granted: entries
+            .iter()
+            .filter(|entry| is_granted(server, entry))
+            .count(),
     }
 }
 

@@ -20,7 +20,7 @@ returns-clause-worst c =
     noted c.args.self.now.table.items c.row_of.result c.in-Some.row c.note.new.self c.args.queue c.args.class c.args.late c.row_of.ensures.number
     (within c) (stands c) c.row_of.ensures.class
     (λ other. subst (λ z. worst_of c.note.new.self other
-        ≡ cond (same_queue other c.args.queue) (Some (option_map_or (int_max z) (worst_of c.in-Some.row c.args.queue) z)) (worst_of c.in-Some.row other))
+    ≡ cond (same_queue other c.args.queue) (Some (option_map_or (int_max z) (worst_of c.in-Some.row c.args.queue) z)) (worst_of c.in-Some.row other))
     (to_z-of_z w64 c.args.late c.ranges.late) (c.note.ensures.worst other))
 
 pub returns-clause-room : goal.returns-clause-room

@@ -15,7 +15,7 @@ roomy : (c : goal.After-lateness) → HasRoomFor c.args.self.now c.index-grants-
 roomy c =
     let gs : List Grant = c.grants-grants.result.now in
     let all : AllByRecursion (HasRoomFor c.args.self.now) (drop c.args.from gs) =
-        subst (λ l. AllByRecursion (HasRoomFor c.args.self.now) (drop c.args.from l)) (sym c.grants-grants.ensures.grants) c.requires.room in
+    subst (λ l. AllByRecursion (HasRoomFor c.args.self.now) (drop c.args.from l)) (sym c.grants-grants.ensures.grants) c.requires.room in
     subst (HasRoomFor c.args.self.now) (sym c.index-grants-number.is)
     (from_one_on (HasRoomFor c.args.self.now) gs c.args.from c.loop-number.number c.index-grants-number.result all c.loop-number.auto.number c.loop-number-test.true)
 
@@ -32,7 +32,7 @@ loop-number-preserved c =
     let g : Grant = c.index-grants-number.result in
     let was = c.loop-number.self in
     let more : take (c.loop-number.number + 1) gs ≡ take c.loop-number.number gs ++ g ∷ [] =
-        take_more gs c.loop-number.number g c.loop-number-test.true ∙ ap (λ it. take c.loop-number.number gs ++ it ∷ []) (sym c.index-grants-number.is) in
+    take_more gs c.loop-number.number g c.loop-number-test.true ∙ ap (λ it. take c.loop-number.number gs ++ it ∷ []) (sym c.index-grants-number.is) in
     let told : ℤ = to_z w64 (of_z w64 c.lateness.result) in
     let late : told ≡ late_by g = to_z-of_z w64 c.lateness.result (record { sfits = c.lateness.type_inv }) ∙ c.lateness.ensures in
     record {

@@ -12,5 +12,5 @@ returns-in-Server-clause-worst c other =
     let s = c.in-Server.server in
     let there : s < length row.servers.items = subst (IsQueueOf (length row.servers.items)) c.in-Server.is c.requires in
     subst (λ q. worst_of (record { backend = row.backend; servers = with_item row.servers s c.args.worst }) other
-        ≡ cond (same_queue other q) c.args.worst (worst_of row other))
+    ≡ cond (same_queue other q) c.args.worst (worst_of row other))
     (sym c.in-Server.is) (server_set row s c.args.worst there other)

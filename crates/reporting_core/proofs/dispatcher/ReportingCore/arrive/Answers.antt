@@ -43,8 +43,8 @@ granted_from-requires-clause-room g c = (is_ready g c).room
 pub invariant_of-self-2 : goal.invariant_of-self-2
 invariant_of-self-2 g c =
     let room_made : IsReporting c.self.inside.core c.reserve.new.self =
-        reserved c.self.inside.core c.self.inside.running c.reserve.new.self c.self.invariant c.reserve.ensures.room c.reserve.ensures.worst
-        c.reserve.ensures.servers in
+    reserved c.self.inside.core c.self.inside.running c.reserve.new.self c.self.invariant c.reserve.ensures.room c.reserve.ensures.worst
+    c.reserve.ensures.servers in
     reported c.self.inside.core c.arrive.new.self c.reserve.new.self c.granted_from.new.self c.log-2.result.now
     (tells c.self.inside.core c.arrive.new.self (Arrive (effective c.self.inside.core c.args.moment)
     (record {

@@ -11,7 +11,7 @@ pub returns : goal.returns
 returns g c =
     let h : History = c.self.inside.core in
     let readable : IsReadable (window_in h) =
-        subst IsReadable (same_window c.log.result.now h c.log.ensures.base c.log.ensures.entries) c.grants.ensures.readable in
+    subst IsReadable (same_window c.log.result.now h c.log.ensures.base c.log.ensures.entries) c.grants.ensures.readable in
     subst (λ (x : History). IsWorstIn (window_in x) c.args.queue c.args.class c.worst.result) c.self.view_is
     (subst (IsWorstIn (window_in h) c.args.queue c.args.class) (sym c.worst.ensures.worst)
     (worst_of_window (window_in h) readable c.self.inside.running c.self.invariant.worst c.args.queue c.args.class c.worst.ensures.range))

@@ -8,9 +8,9 @@
 #![tactic(auto)]
 
 mod board;
-mod ends;
 mod keeper;
 pub mod laws;
+mod opening;
 mod pass;
 mod plays;
 mod relay;

@@ -4,8 +4,8 @@ use Rattle.std.proofs.Common.{[], ◌∷◌, Option, Some, None, Result, Ok, Err
 use Rattle.std.specs.Option.{is_some}
 use Rattle.std.specs.List.{list_any}
 use Rattle.proxy_words.specs.Text.{uncommented}
-use Rattle.proxy_config.specs.declared.faults.Cause.{Cause}
-use Rattle.proxy_config.specs.declared.faults.Cause.TheVariants as causes
+use Rattle.proxy_config.specs.declared.faults.FaultCause.{FaultCause}
+use Rattle.proxy_config.specs.declared.faults.FaultCause.TheVariants as causes
 use Rattle.proxy_config.specs.declared.draft.Draft.{Draft}
 use Rattle.proxy_config.specs.declared.draft.Section.{Section}
 use Rattle.proxy_config.specs.declared.draft.Section.TheVariants as sections
@@ -20,44 +20,45 @@ use Rattle.proxy_config.specs.Rules.{server_index}
 use Rattle.proxy_config.specs.Keywords.{keyword_of}
 use Rattle.proxy_config.specs.Settings as server
 use Rattle.proxy_config.specs.Draft as draft
-use Rattle.proxy_config.specs.Rows.{words_of, in_values, takes, IsMisplaced, BeginsRefused, IsRead, EachInItsRow}
+use Rattle.proxy_config.specs.CauseTable.{words_of, in_values, takes, IsMisplaced, BeginsRefused, IsRead, EachInItsRow}
 use Rattle.proxy_config.proofs.Causes.{is_of_words, Within, within_ok, within_err, within_bind, within_or, within_unless}
 use Rattle.proxy_config.proofs.Causes.{within_word, within_end, within_shared, within_settings, within_acl, within_rule, within_pin}
 
-abbrev is_count : Cause → Bool
+abbrev is_count : FaultCause → Bool
 is_count causes.Limit = true
 is_count causes.Twice = true
 is_count other = false
 
-abbrev is_place : Cause → Bool
+abbrev is_place : FaultCause → Bool
 is_place causes.Place = true
 is_place other = false
 
-abbrev is_section : Cause → Bool
+abbrev is_section : FaultCause → Bool
 is_section causes.Section = true
 is_section other = false
 
 -- what can stand once the section takes the line
-abbrev is_placed : Cause → Bool
+abbrev is_placed : FaultCause → Bool
 is_placed cause = is_of_words cause || is_count cause
 
 -- what can stand in a line that begins no section
-abbrev is_of_keywords : Cause → Bool
+abbrev is_of_keywords : FaultCause → Bool
 is_of_keywords cause = is_placed cause || is_place cause
 
 -- what can stand in a line that is read by its words
-abbrev is_of_lines : Cause → Bool
+abbrev is_of_lines : FaultCause → Bool
 is_of_lines cause = is_of_keywords cause || is_section cause
 
 more : (a b : Bool) → a ≡ true → (a || b) ≡ true
 more true b is = refl
 more false b is = cc
 
-pub weaker : {A : Type 0} {may : Cause → Bool} {r : Result A Cause} (also : Cause → Bool) → Within may r → Within (λ cause. may cause || also cause) r
+pub weaker : {A : Type 0} {may : FaultCause → Bool} {r : Result A FaultCause} (also : FaultCause → Bool) → Within may r
+    → Within (λ cause. may cause || also cause) r
 weaker {A} {may} also within = record { fault = λ cause is. more (may cause) (also cause) (within.fault cause is) }
 
 -- where a cause can't stand, it doesn't
-pub never : {A : Type 0} {may : Cause → Bool} {r : Result A Cause} (cause : Cause) → Within may r → may cause ≡ false → r ≡ Err cause → ⊥
+pub never : {A : Type 0} {may : FaultCause → Bool} {r : Result A FaultCause} (cause : FaultCause) → Within may r → may cause ≡ false → r ≡ Err cause → ⊥
 never cause within holds is = let both : true ≡ false = sym (within.fault cause is) ∙ holds in absurd (let none = both in cc)
 
 -- lines of words alone
@@ -191,7 +192,7 @@ line_in servers d n keywords.UseServer words other inside = use_in servers d wor
 -- a line that begins a section, taken or refused
 listen_row : (d : Draft) (n : ℕ) (words : List (List ℕ)) (b : Bool) → is_some d.listen ≡ b
     → Within (λ cause. is_of_words cause || is_section cause) (draft.listen_line d n words)
-listen_row d n words true second = subst (λ (r : Result Draft Cause). Within (λ cause. is_of_words cause || is_section cause) r)
+listen_row d n words true second = subst (λ (r : Result Draft FaultCause). Within (λ cause. is_of_words cause || is_section cause) r)
     (sym (second_listen d n words second)) (within_err causes.Section refl)
 listen_row d n words false first = weaker is_section (first_listen d n words first)
 
@@ -211,10 +212,10 @@ place_only servers d n keyword words true t one taken is = absurd (never causes.
 place_only servers d n keyword words false true other taken is = absurd (never causes.Place (line_in servers d n keyword words other taken) refl is)
 place_only servers d n keyword words false false other taken is = taken
 
-all_lines : {r : Result Draft Cause} → Within (λ cause. is_of_words cause || is_section cause) r → Within is_of_lines r
+all_lines : {r : Result Draft FaultCause} → Within (λ cause. is_of_words cause || is_section cause) r → Within is_of_lines r
 all_lines within = record { fault = λ cause is. wider cause (within.fault cause is) }
   where
-    wider : (cause : Cause) → (is_of_words cause || is_section cause) ≡ true → is_of_lines cause ≡ true
+    wider : (cause : FaultCause) → (is_of_words cause || is_section cause) ≡ true → is_of_lines cause ≡ true
     wider causes.Quoting holds = holds
     wider causes.Missing holds = holds
     wider causes.Place holds = refl
@@ -236,14 +237,14 @@ line_causes : (servers : List Server) (d : Draft) (n : ℕ) (keyword : Keyword) 
 line_causes servers d n keyword words true t one taken = all_lines (section_row servers d n keyword words one)
 line_causes servers d n keyword words false true other taken = weaker is_section (weaker is_place (line_in servers d n keyword words other taken))
 line_causes servers d n keyword words false false other taken =
-    subst (λ (r : Result Draft Cause). Within is_of_lines r) (sym (line_out servers d n keyword words taken)) (within_err causes.Place refl)
+    subst (λ (r : Result Draft FaultCause). Within is_of_lines r) (sym (line_out servers d n keyword words taken)) (within_err causes.Place refl)
 
 not_of_section : (servers : List Server) (d : Draft) (n : ℕ) (keyword : Keyword) (words : List (List ℕ)) (t : Bool) → begins keyword ≡ false
     → takes d.section keyword ≡ t
     → draft.keyword_line servers d n keyword words ≡ Err causes.Section → ⊥
 not_of_section servers d n keyword words true other taken is = never causes.Section (line_in servers d n keyword words other taken) refl is
 not_of_section servers d n keyword words false other taken is =
-    let both : (let one : Result Draft Cause = Err causes.Section in one ≡ Err causes.Place) = sym is ∙ line_out servers d n keyword words taken in
+    let both : (let one : Result Draft FaultCause = Err causes.Section in one ≡ Err causes.Place) = sym is ∙ line_out servers d n keyword words taken in
     absurd (let none = both in cc)
 
 -- a fault of a section is that of one that is refused
@@ -282,7 +283,8 @@ words_place servers d n [] is = absurd (let none = is in cc)
 words_place servers d n (word ∷ words) is = of (keyword_of word) refl
   where
     of : (o : Option Keyword) → keyword_of word ≡ o → (keyword : Keyword) × (keyword_of word ≡ Some keyword) × (takes d.section keyword ≡ false)
-    of None known = absurd (let fault : (let one : Result Draft Cause = Err causes.Keyword in one ≡ Err causes.Place) = (rw known at is) in let none = fault in
+    of None known = absurd (let fault : (let one : Result Draft FaultCause = Err causes.Keyword in one ≡ Err causes.Place) = (rw known at is) in
+        let none = fault in
         cc)
     of (Some keyword) known = (keyword, known, place_only servers d n keyword words (begins keyword) (takes d.section keyword) refl refl (rw known at is))
 
@@ -300,7 +302,7 @@ words_section servers d n (word ∷ words) is = of (keyword_of word) refl
   where
     of : (o : Option Keyword) → keyword_of word ≡ o
         → (keyword_of word ≡ Some keywords.Refused) ⊎ ((keyword_of word ≡ Some keywords.Listen) × (is_some d.listen ≡ true))
-    of None known = absurd (let fault : (let one : Result Draft Cause = Err causes.Keyword in one ≡ Err causes.Section) = (rw known at is) in
+    of None known = absurd (let fault : (let one : Result Draft FaultCause = Err causes.Keyword in one ≡ Err causes.Section) = (rw known at is) in
         let none = fault in cc)
     of (Some keyword) known = elim (section_only servers d n keyword words (rw known at is)) [
       | inl refused ↦ inl (known ∙ ap Some refused)
@@ -315,7 +317,7 @@ words_refused servers d n (word ∷ words) (inl refused) = rw refused refl
 words_refused servers d n (word ∷ words) (inr again) = rw again.0 (second_listen d n words again.1)
 
 -- what a line makes of the draft, by three tests and its words
-abbrev stepped : Bool → Bool → Bool → Draft → Result Draft Cause → Result Draft Cause
+abbrev stepped : Bool → Bool → Bool → Draft → Result Draft FaultCause → Result Draft FaultCause
 stepped ignored quoted too_long d read = cond ignored (unless too_long causes.Limit >>= λ short. Ok d)
     (unless quoted causes.Quoting >>= λ plain. unless too_long causes.Limit >>= λ short. read)
 
@@ -325,20 +327,22 @@ step_is : (servers : List Server) (too_long : Bool) (d : Draft) (n : ℕ) (line 
 unfolding draft.step
 step_is servers too_long d n line = refl
 
-abbrev is_of_step : Cause → Bool
+abbrev is_of_step : FaultCause → Bool
 is_of_step causes.Quoting = true
 is_of_step causes.Limit = true
 is_of_step other = false
 
-no_other : (one cause : Cause) → is_of_step one ≡ true → (let fault : Result Draft Cause = Err one in fault ≡ Err cause) → is_of_step cause ≡ false → ⊥
+no_other : (one cause : FaultCause) → is_of_step one ≡ true → (let fault : Result Draft FaultCause = Err one in fault ≡ Err cause) → is_of_step cause ≡ false
+    → ⊥
 no_other one cause holds is fails = let same : one ≡ cause = same_cause is in
     let both : true ≡ false = sym holds ∙ ap is_of_step same ∙ fails in absurd (let none = both in cc)
   where
-    same_cause : {a b : Cause} → (let fault : Result Draft Cause = Err a in fault ≡ Err b) → a ≡ b
+    same_cause : {a b : FaultCause} → (let fault : Result Draft FaultCause = Err a in fault ≡ Err b) → a ≡ b
     same_cause is = cc
 
 -- where a cause that words alone can give is given, they were read
-read_only : (ignored quoted too_long : Bool) (d : Draft) (read : Result Draft Cause) (cause : Cause) → stepped ignored quoted too_long d read ≡ Err cause
+read_only : (ignored quoted too_long : Bool) (d : Draft) (read : Result Draft FaultCause) (cause : FaultCause)
+    → stepped ignored quoted too_long d read ≡ Err cause
     → is_of_step cause ≡ false → (ignored ≡ false) × (quoted ≡ false) × (too_long ≡ false) × (read ≡ Err cause)
 read_only true quoted true d read cause is other = absurd (no_other causes.Limit cause refl is other)
 read_only true quoted false d read cause is other = absurd (let none = is in cc)
@@ -346,7 +350,7 @@ read_only false true too_long d read cause is other = absurd (no_other causes.Qu
 read_only false false true d read cause is other = absurd (no_other causes.Limit cause refl is other)
 read_only false false false d read cause is other = (refl, refl, refl, is)
 
-quoting_only : (ignored quoted too_long : Bool) (d : Draft) (read : Result Draft Cause) → Within is_of_lines read
+quoting_only : (ignored quoted too_long : Bool) (d : Draft) (read : Result Draft FaultCause) → Within is_of_lines read
     → stepped ignored quoted too_long d read ≡ Err causes.Quoting
     → (ignored ≡ false) × (quoted ≡ true)
 quoting_only true quoted true d read within is = absurd (let none = is in cc)

@@ -5,8 +5,8 @@ use Rattle.list_facts.proofs.Never.{false_true}
 use Rattle.proxy_config.specs.declared.draft.Draft.{Draft}
 use Rattle.proxy_config.specs.declared.draft.Section.{Section}
 use Rattle.proxy_config.specs.declared.draft.Section.TheVariants as sections
-use Rattle.proxy_config.specs.declared.faults.Cause.{Cause}
-use Rattle.proxy_config.specs.declared.faults.Cause.TheVariants as causes
+use Rattle.proxy_config.specs.declared.faults.FaultCause.{FaultCause}
+use Rattle.proxy_config.specs.declared.faults.FaultCause.TheVariants as causes
 use Rattle.proxy_config.specs.declared.keywords.Keyword.{Keyword}
 use Rattle.proxy_config.specs.declared.keywords.Keyword.TheVariants as keywords
 use Rattle.proxy_config.specs.declared.parts.Server.{Server}
@@ -22,20 +22,20 @@ use Rattle.proxy_config.specs.Faulty.{HasFault, TakesRule, TakesServer}
 use Rattle.proxy_config.specs.Keywords.{keyword_of}
 use Rattle.proxy_config.specs.Conditions as conditions
 use Rattle.proxy_config.specs.Outcomes.{◌>>=◌}
-use Rattle.proxy_config.specs.Rows.{in_values}
+use Rattle.proxy_config.specs.CauseTable.{in_values}
 use Rattle.proxy_config.specs.Rules as rules
 use Rattle.proxy_config.specs.Settings as server
 use Rattle.proxy_config.specs.Values as values
 
 -- a fault of a keyword's line is one of the line
-of_line : (servers : List Server) (d : Draft) (n : ℕ) (word : List ℕ) (more : List (List ℕ)) (keyword : Keyword) (cause : Cause)
+of_line : (servers : List Server) (d : Draft) (n : ℕ) (word : List ℕ) (more : List (List ℕ)) (keyword : Keyword) (cause : FaultCause)
     → keyword_of word ≡ Some keyword → draft.keyword_line servers d n keyword more ≡ Err cause → draft.words_line servers d n (word ∷ more) ≡ Err cause
 unfolding draft.words_line
 of_line servers d n word more keyword cause is faulty =
     ap (λ (o : Option Keyword). ok_or o causes.Keyword >>= λ k. draft.keyword_line servers d n k more) is ∙ faulty
 
 -- a fault of the values' line is one in both sections that take it
-of_values : (d : Draft) (kind : Shared) (more : List (List ℕ)) (cause : Cause) → in_values d.section ≡ true
+of_values : (d : Draft) (kind : Shared) (more : List (List ℕ)) (cause : FaultCause) → in_values d.section ≡ true
     → ((v : Values) → values.shared_line kind v more ≡ Err cause) → draft.value_line d kind more ≡ Err cause
 unfolding draft.value_line
 of_values d kind more cause inside faulty = by_section d.section refl inside
@@ -55,7 +55,7 @@ set_fails Rise value s none = rw none refl
 set_fails Fall value s none = rw none refl
 
 module _ (servers : List Server) (d : Draft) (n : ℕ) where
-  pub has_fault : (words : List (List ℕ)) (cause : Cause) → HasFault servers d words cause → draft.words_line servers d n words ≡ Err cause
+  pub has_fault : (words : List (List ℕ)) (cause : FaultCause) → HasFault servers d words cause → draft.words_line servers d n words ≡ Err cause
   unfolding draft.words_line draft.global_line draft.defaults_line draft.optional_name draft.listen_line draft.bind_line draft.server_line draft.test_line
       draft.request_line draft.use_line rules.acl_line rules.rule_line rules.pin_line conditions.guard_at values.fixed_line values.retries_line
       values.option_line values.timeout_line

@@ -3,8 +3,8 @@ use Rattle.std.proofs.Common.{◌≡◌, ◌∙◌, ◌⊎◌, inl, inr, ◌+◌
 use Rattle.std.proofs.Common.{◌∷◌, ◌++◌, length, Option, Some, None, Result, Ok, Err, refl, sym, ap, subst, arith}
 use Rattle.std.specs.Result.{IfOk, IfErr}
 use Rattle.std.specs.Str.Lines.{lines}
-use Rattle.proxy_config.specs.declared.faults.Cause.{Cause}
-use Rattle.proxy_config.specs.declared.faults.Cause.TheVariants as causes
+use Rattle.proxy_config.specs.declared.faults.FaultCause.{FaultCause}
+use Rattle.proxy_config.specs.declared.faults.FaultCause.TheVariants as causes
 use Rattle.proxy_config.specs.declared.faults.ConfigFault.{ConfigFault}
 use Rattle.proxy_config.specs.declared.faults.ReadError.{ReadError}
 use Rattle.proxy_config.specs.declared.faults.ReadError.TheVariants as errors
@@ -20,7 +20,7 @@ same_err : {A : Type 0} (f g : ConfigFault) → (let one : Result A ConfigFault 
 same_err f g same = cc
 
 -- what a line and those after it come to is its fault, or what they come to from the draft that it leaves
-after_ok : (n : ℕ) (taken : Result Draft Cause) (more : Draft → Result Draft ConfigFault) (e : Draft) → then_lines n taken more ≡ Ok e
+after_ok : (n : ℕ) (taken : Result Draft FaultCause) (more : Draft → Result Draft ConfigFault) (e : Draft) → then_lines n taken more ≡ Ok e
     → (next : Draft) × (taken ≡ Ok next) × (more next ≡ Ok e)
 after_ok n (Ok next) more e is = (next, refl, is)
 after_ok n (Err cause) more e is = cc
@@ -57,7 +57,7 @@ later servers long d next n line lines fault taken f = record {
   cause = f.cause;
 }
 
-here : (servers : List Server) (long : Option ℕ) (d : Draft) (n : ℕ) (line : List ℕ) (lines : List (List ℕ)) (cause : Cause)
+here : (servers : List Server) (long : Option ℕ) (d : Draft) (n : ℕ) (line : List ℕ) (lines : List (List ℕ)) (cause : FaultCause)
     → step servers (is_line long n) d n line ≡ Err cause
     → Fault servers long d n (line ∷ lines) (record { line = n; cause = cause })
 here servers long d n line lines cause faulty = record {
@@ -72,7 +72,7 @@ here servers long d n line lines cause faulty = record {
 }
 
 after_fault : (servers : List Server) (long : Option ℕ) (d : Draft) (n : ℕ) (line : List ℕ) (lines : List (List ℕ)) (fault : ConfigFault)
-    (taken : Result Draft Cause)
+    (taken : Result Draft FaultCause)
     → step servers (is_line long n) d n line ≡ taken
     → ((next : Draft) → run servers long next (n + 1) lines ≡ Err fault → Fault servers long next (n + 1) lines fault)
     → then_lines n taken (λ next. run servers long next (n + 1) lines) ≡ Err fault → Fault servers long d n (line ∷ lines) fault

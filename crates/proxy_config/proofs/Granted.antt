@@ -4,8 +4,8 @@ use Rattle.std.specs.Option.{ok_or, is_some}
 use Rattle.std.specs.List.{list_any}
 use Rattle.std.specs.Prelude.{nat_le}
 use Rattle.proxy_words.specs.Text.{uncommented, words}
-use Rattle.proxy_config.specs.declared.faults.Cause.{Cause}
-use Rattle.proxy_config.specs.declared.faults.Cause.TheVariants as causes
+use Rattle.proxy_config.specs.declared.faults.FaultCause.{FaultCause}
+use Rattle.proxy_config.specs.declared.faults.FaultCause.TheVariants as causes
 use Rattle.proxy_config.specs.declared.draft.Draft.{Draft}
 use Rattle.proxy_config.specs.declared.draft.Section.{Section}
 use Rattle.proxy_config.specs.declared.draft.Section.TheVariants as sections
@@ -101,11 +101,11 @@ abbrev pub fit : List Pin → Draft → Draft
 fit ps d = record d { pins = ps }
 
 -- a line that was read as a draft and a wish, by the servers and behind these pins
-abbrev pub granted : List Server → List Pin → Draft × Option Wish → Result Draft Cause
+abbrev pub granted : List Server → List Pin → Draft × Option Wish → Result Draft FaultCause
 granted servers ps (d, None) = Ok (fit ps d)
 granted servers ps (d, Some wish) = wished.pin_of servers wish >>= λ pin. Ok (fit (ps ++ pin ∷ []) d)
 
-plainly : (servers : List Server) (ps : List Pin) (r : Result Draft Cause) → (r >>= λ x. Ok (fit ps x)) ≡ (wished.plain r >>= granted servers ps)
+plainly : (servers : List Server) (ps : List Pin) (r : Result Draft FaultCause) → (r >>= λ x. Ok (fit ps x)) ≡ (wished.plain r >>= granted servers ps)
 plainly servers ps (Ok d) = refl
 plainly servers ps (Err cause) = refl
 
@@ -132,7 +132,7 @@ use_granted servers ps d n ws = sym (assoc (wished.use_line (length ps) d n ws) 
     assoc (unless (not (draft.in_listen d.section)) causes.Place) _ (λ wish. granted servers ps (d, Some wish))
     ∙ same_next (unless (not (draft.in_listen d.section)) causes.Place) _ _ (λ place place_is.
     assoc (wished.has_room (length ps) d) _ (λ wish. granted servers ps (d, Some wish)) ∙ same_next (wished.has_room (length ps) d) _ _ (λ limit limit_is.
-    sym (ap (λ (r : Result Pin Cause). r >>= λ pin. Ok (fit (ps ++ pin ∷ []) d)) (pin_granted servers n d.acls ws)
+    sym (ap (λ (r : Result Pin FaultCause). r >>= λ pin. Ok (fit (ps ++ pin ∷ []) d)) (pin_granted servers n d.acls ws)
     ∙ assoc (wished.wish_line n d.acls ws) (wished.pin_of servers) (λ pin. Ok (fit (ps ++ pin ∷ []) d))))))
 
 line_granted : (servers : List Server) (ps : List Pin) (d : Draft) (n : ℕ) (keyword : Keyword) (ws : List (List ℕ))

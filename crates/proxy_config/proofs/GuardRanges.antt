@@ -6,7 +6,7 @@ use Rattle.std.specs.List.{All, AllByRecursion, position}
 use Rattle.std.specs.Str.{bytes_eq}
 use Rattle.std.proofs.lemmas.List.Elements.{All-from_recursion, All-weaker}
 use Rattle.std.proofs.lemmas.List.Quantifiers.{position-Some}
-use Rattle.proxy_config.specs.declared.faults.Cause.TheVariants as causes
+use Rattle.proxy_config.specs.declared.faults.FaultCause.TheVariants as causes
 use Rattle.proxy_config.specs.declared.parts.Acl.{Acl}
 use Rattle.proxy_config.specs.declared.parts.Condition.{Condition}
 use Rattle.proxy_config.specs.declared.parts.Guard.{Guard}

@@ -5,8 +5,8 @@ use Rattle.std.specs.Prelude.{nat_le}
 use Rattle.std.specs.Str.{bytes_eq}
 use Rattle.proxy_words.specs.Numerals.{numeral}
 use Rattle.proxy_words.specs.Times.{time}
-use Rattle.proxy_config.specs.declared.faults.Cause.{Cause}
-use Rattle.proxy_config.specs.declared.faults.Cause.TheVariants as causes
+use Rattle.proxy_config.specs.declared.faults.FaultCause.{FaultCause}
+use Rattle.proxy_config.specs.declared.faults.FaultCause.TheVariants as causes
 use Rattle.proxy_config.specs.declared.draft.Draft.{Draft}
 use Rattle.proxy_config.specs.declared.draft.Section.{Section}
 use Rattle.proxy_config.specs.declared.draft.Section.TheVariants as sections
@@ -62,16 +62,16 @@ left_shared n shared.Timeout v = left_timeout n v
 left_shared n shared.Note v = left_ok (λ words. v)
 
 -- a setting's value, and then what reads on
-left_set : {n : ℕ} (setting : Setting) (word : List ℕ) (s : Settings) (next : List (List ℕ) → Settings → Result Settings Cause)
+left_set : {n : ℕ} (setting : Setting) (word : List ℕ) (s : Settings) (next : List (List ℕ) → Settings → Result Settings FaultCause)
     → ((t : Settings) → LeftReader n (λ words. next words t)) → LeftReader n (λ words. server.set setting word s >>= next words)
 left_set {n} setting word s next left = by_value (server.set setting word s) refl
   where
-    by_value : (r : Result Settings Cause) → server.set setting word s ≡ r → LeftReader n (λ words. server.set setting word s >>= next words)
+    by_value : (r : Result Settings FaultCause) → server.set setting word s ≡ r → LeftReader n (λ words. server.set setting word s >>= next words)
     by_value (Ok t) is = same _ (λ words. next words t) (λ words. rw is refl) (left t)
     by_value (Err cause) is = same _ (λ words. Err cause) (λ words. rw is refl) (left_err cause)
 
 -- what reads on behind a word of the settings
-setting_behind : Settings → List ℕ → List (List ℕ) → Result Settings Cause
+setting_behind : Settings → List ℕ → List (List ℕ) → Result Settings FaultCause
 setting_behind s word words = cond (server.is_check word) (server.settings (record s { check = true }) words)
     (ok_or (server.setting_of word) causes.Keyword >>= λ setting. word_at words >>= λ value. server.set setting value.0 s >>= λ next.
     server.settings next value.1)

@@ -16,8 +16,8 @@ use borrow.Author.Tests.{ltb-false, ltb-true}
 use Rattle.proxy_words.specs.Numerals.{numeral}
 use Rattle.proxy_words.specs.Times.{time}
 use Rattle.proxy_words.specs.Text.{uncommented, words}
-use Rattle.proxy_config.specs.declared.faults.Cause.{Cause}
-use Rattle.proxy_config.specs.declared.faults.Cause.TheVariants as causes
+use Rattle.proxy_config.specs.declared.faults.FaultCause.{FaultCause}
+use Rattle.proxy_config.specs.declared.faults.FaultCause.TheVariants as causes
 use Rattle.proxy_config.specs.declared.faults.ConfigFault.{ConfigFault}
 use Rattle.proxy_config.specs.declared.faults.ReadError.{ReadError}
 use Rattle.proxy_config.specs.declared.parts.Bind.{Bind}
@@ -51,7 +51,7 @@ use Rattle.proxy_config.specs.Rules.{acl_line, rule_line, pin_line, server_index
 use Rattle.proxy_config.specs.Draft as draft
 use Rattle.proxy_config.specs.File.{Answers, declared_servers, is_line, long_line, reading, whole}
 use Rattle.proxy_config.specs.Laws.{TakenIn, Says}
-use Rattle.proxy_config.specs.Sound.{IsSoundCheck, IsSoundGuard, IsSoundServer, IsSoundTime, IsSound}
+use Rattle.proxy_config.specs.Sound.{IsSoundCheck, IsSoundGuard, IsSoundServer, IsSoundTime, IsSoundConfig}
 use Rattle.proxy_config.proofs.Outcomes.{bind_ok, chosen, from_ok, ok_or_ok, unless_ok}
 use Rattle.proxy_config.proofs.FirstFaults.{reading-ok}
 use Rattle.proxy_config.proofs.GuardRanges.{acls_longer, more_pins, more_rules, pin_sound, rule_sound}
@@ -304,9 +304,11 @@ listen_keeps known d e n words is sound =
 value_keeps : (known : List Server) (d e : Draft) (kind : Shared) (words : List (List ℕ)) (section : Section) → d.section ≡ section
     → draft.value_line d kind words ≡ Ok e → SoundDraft known d → SoundDraft known e
 unfolding draft.value_line
-value_keeps known d e kind words sections.Outside at_ is sound = let fault : (let one : Result Draft Cause = Err causes.Place in one ≡ Ok e) = (rw at_ at is) in
+value_keeps known d e kind words sections.Outside at_ is sound = let fault : (let one : Result Draft FaultCause = Err causes.Place in one ≡ Ok e) =
+    (rw at_ at is) in
     absurd (let none = fault in cc)
-value_keeps known d e kind words sections.Global at_ is sound = let fault : (let one : Result Draft Cause = Err causes.Place in one ≡ Ok e) = (rw at_ at is) in
+value_keeps known d e kind words sections.Global at_ is sound = let fault : (let one : Result Draft FaultCause = Err causes.Place in one ≡ Ok e) =
+    (rw at_ at is) in
     absurd (let none = fault in cc)
 value_keeps known d e kind words sections.Defaults at_ is sound =
     let v = bind_ok (values.shared_line kind d.defaults words) _ e (rw at_ at is) in
@@ -489,14 +491,15 @@ timeout_sound v sound = of_queue (nat_lt 0 v.queue) refl
     of_queue true above = record { some = ltb-true 0 v.queue above; within = sound.queue }
     of_queue false above = time_sound v.connect sound.connect
 
-whole_sound : (listen : Option ℕ) (bind : Option Bind) (d : Draft) (config : Config) → whole listen bind d ≡ Ok config → SoundDraft d.servers d → IsSound config
+whole_sound : (listen : Option ℕ) (bind : Option Bind) (d : Draft) (config : Config) → whole listen bind d ≡ Ok config → SoundDraft d.servers d
+    → IsSoundConfig config
 whole_sound None bind d config is sound = absurd (let none = is in cc)
 whole_sound (Some line) None d config is sound = absurd (let none = is in cc)
 whole_sound (Some line) (Some bind) d config is sound = elim (chosen (length d.servers == 0) _ _ _ is) [
   | inl none ↦ absurd (let fault = none.1 in cc)
   | inr some ↦
       let filled : 0 < length d.servers = above_zero (length d.servers) some.0 in
-      subst IsSound (config_same _ config some.1) (record {
+      subst IsSoundConfig (config_same _ config some.1) (record {
         some = filled;
         most = sound.most;
         servers = All-from_recursion IsSoundServer d.servers sound.servers;
@@ -519,7 +522,7 @@ whole_sound (Some line) (Some bind) d config is sound = elim (chosen (length d.s
     config_same x y same = cc
 
 -- what is accepted is sound
-pub says-sound : (bytes : List ℕ) (config : Config) → Says bytes config → IsSound config
+pub says-sound : (bytes : List ℕ) (config : Config) → Says bytes config → IsSoundConfig config
 says-sound bytes config says =
     let known = declared_servers bytes in
     let start : SoundDraft known draft.start = record {
@@ -537,6 +540,6 @@ says-sound bytes config says =
     (subst (λ (servers : List Server). SoundDraft servers says.draft) same
     (taken_keep known (long_line bytes) draft.start says.draft 1 (lines bytes) says.taken_in start))
 
-pub answers-sound : (result : Result Config ReadError) (bytes : List ℕ) → Answers result (reading bytes) → IfOk result IsSound
+pub answers-sound : (result : Result Config ReadError) (bytes : List ℕ) → Answers result (reading bytes) → IfOk result IsSoundConfig
 answers-sound (Ok config) bytes is = says-sound bytes config (reading-ok bytes config is)
 answers-sound (Err e) bytes is = tt

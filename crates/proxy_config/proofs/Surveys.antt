@@ -3,8 +3,8 @@ use Rattle.std.proofs.Common.{◌≡◌, ◌∙◌, ◌+◌, ◌++◌, ℕ, Bool
 use Rattle.std.specs.List.{list_any}
 use Rattle.std.specs.Option.{ok_or}
 use Rattle.proxy_words.specs.Text.{uncommented, words}
-use Rattle.proxy_config.specs.declared.faults.Cause.{Cause}
-use Rattle.proxy_config.specs.declared.faults.Cause.TheVariants as causes
+use Rattle.proxy_config.specs.declared.faults.FaultCause.{FaultCause}
+use Rattle.proxy_config.specs.declared.faults.FaultCause.TheVariants as causes
 use Rattle.proxy_config.specs.declared.faults.ConfigFault.{ConfigFault}
 use Rattle.proxy_config.specs.declared.draft.Draft.{Draft}
 use Rattle.proxy_config.specs.declared.draft.Section.TheVariants as sections
@@ -32,7 +32,7 @@ abbrev bare : Draft → Draft
 bare d = record d { rules = []; pins = [] }
 
 -- the draft that a line leaves, by its keyword
-abbrev left : Draft → Option Keyword → Result (Draft × Option Wish) Cause → Draft
+abbrev left : Draft → Option Keyword → Result (Draft × Option Wish) FaultCause → Draft
 left d keyword (Ok (e, wish)) = e
 left d keyword (Err cause) = after_fault d keyword
 
@@ -54,23 +54,23 @@ after_bare d keyword = by_test (ends_listen d keyword) refl (same_end keyword)
         ap (λ (t : Bool). bare (cond t (record (bare d) { section = sections.Outside }) (bare d))) (same ∙ e)
         ∙ sym (ap (λ (t : Bool). bare (cond t (record d { section = sections.Outside }) d)) e)
 
-moved : (d : Draft) (keyword : Option Keyword) (r read : Result Draft Cause) → read ≡ (r >>= λ x. Ok (bare x))
+moved : (d : Draft) (keyword : Option Keyword) (r read : Result Draft FaultCause) → read ≡ (r >>= λ x. Ok (bare x))
     → bare (unless_faulty (bare d) keyword read) ≡ bare (left d keyword (wished.plain r))
-moved d keyword (Ok e) read is = ap (λ (x : Result Draft Cause). bare (unless_faulty (bare d) keyword x)) is
-moved d keyword (Err cause) read is = ap (λ (x : Result Draft Cause). bare (unless_faulty (bare d) keyword x)) is ∙ after_bare d keyword
+moved d keyword (Ok e) read is = ap (λ (x : Result Draft FaultCause). bare (unless_faulty (bare d) keyword x)) is
+moved d keyword (Err cause) read is = ap (λ (x : Result Draft FaultCause). bare (unless_faulty (bare d) keyword x)) is ∙ after_bare d keyword
 
 -- a line that changes rules and pins alone, and ends no section
-kept : (d : Draft) (keyword : Option Keyword) (r : Result Draft Cause) → ends_listen d keyword ≡ false → ((e : Draft) → r ≡ Ok e → bare e ≡ bare d)
+kept : (d : Draft) (keyword : Option Keyword) (r : Result Draft FaultCause) → ends_listen d keyword ≡ false → ((e : Draft) → r ≡ Ok e → bare e ≡ bare d)
     → bare (unless_faulty d keyword r) ≡ bare d
 kept d keyword (Ok e) stays same = same e refl
 kept d keyword (Err cause) stays same = ap (λ (t : Bool). bare (cond t (record d { section = sections.Outside }) d)) stays
 
-left_plain : (d : Draft) (keyword : Option Keyword) (r : Result Draft Cause) → ends_listen d keyword ≡ false → ((e : Draft) → r ≡ Ok e → bare e ≡ bare d)
+left_plain : (d : Draft) (keyword : Option Keyword) (r : Result Draft FaultCause) → ends_listen d keyword ≡ false → ((e : Draft) → r ≡ Ok e → bare e ≡ bare d)
     → bare (left d keyword (wished.plain r)) ≡ bare d
 left_plain d keyword (Ok e) stays same = same e refl
 left_plain d keyword (Err cause) stays same = ap (λ (t : Bool). bare (cond t (record d { section = sections.Outside }) d)) stays
 
-left_wish : (d : Draft) (keyword : Option Keyword) (r : Result Wish Cause) → ends_listen d keyword ≡ false
+left_wish : (d : Draft) (keyword : Option Keyword) (r : Result Wish FaultCause) → ends_listen d keyword ≡ false
     → left d keyword (r >>= λ wish. Ok (d, Some wish)) ≡ d
 left_wish d keyword (Ok wish) stays = refl
 left_wish d keyword (Err cause) stays = ap (λ (t : Bool). cond t (record d { section = sections.Outside }) d) stays
@@ -148,13 +148,13 @@ step_bare pins too_long d n line = by_test (draft.is_ignored d.section (words (u
     by_test false false true = after_bare d (keyword_in line)
     by_test false false false = words_left pins d n (words (uncommented line))
 
-pin_kept : (d e : Draft) (keyword : Option Keyword) (ps : List Pin) (r : Result Pin Cause) → ends_listen d keyword ≡ false → e ≡ d
+pin_kept : (d e : Draft) (keyword : Option Keyword) (ps : List Pin) (r : Result Pin FaultCause) → ends_listen d keyword ≡ false → e ≡ d
     → bare (unless_faulty d keyword (r >>= λ pin. Ok (fit (ps ++ pin ∷ []) e))) ≡ bare e
 pin_kept d e keyword ps (Ok pin) stays own = refl
 pin_kept d e keyword ps (Err cause) stays own = ap (λ (t : Bool). bare (cond t (record d { section = sections.Outside }) d)) stays ∙ ap bare (sym own)
 
 -- a draft with its own pins: a pin that is asked for leaves it but for them
-granted_left : (servers : List Server) (d : Draft) (keyword : Option Keyword) (r : Result (Draft × Option Wish) Cause)
+granted_left : (servers : List Server) (d : Draft) (keyword : Option Keyword) (r : Result (Draft × Option Wish) FaultCause)
     → ((e : Draft) (wish : Wish) → r ≡ Ok (e, Some wish) → (e ≡ d) × (ends_listen d keyword ≡ false))
     → bare (unless_faulty d keyword (r >>= granted servers d.pins)) ≡ bare (left d keyword r)
 granted_left servers d keyword (Ok (e, None)) own = refl
@@ -164,7 +164,7 @@ granted_left servers d keyword (Err cause) own = refl
 step_left : (servers : List Server) (too_long : Bool) (d : Draft) (n : ℕ) (line : List ℕ)
     → bare (unless_faulty d (keyword_in line) (draft.step servers too_long d n line))
     ≡ bare (left d (keyword_in line) (wished.step (length d.pins) too_long d n line))
-step_left servers too_long d n line = ap (λ (r : Result Draft Cause). bare (unless_faulty d (keyword_in line) r))
+step_left servers too_long d n line = ap (λ (r : Result Draft FaultCause). bare (unless_faulty d (keyword_in line) r))
     (step_granted servers d.pins too_long d n line)
     ∙ granted_left servers d (keyword_in line) (wished.step (length d.pins) too_long d n line)
     (λ e wish is. ((of_line (length d.pins) too_long d e n line wish is).1, asks_ends_none (length d.pins) too_long d e n line wish is))
@@ -187,7 +187,7 @@ survey_same long d e n [] same = ap (λ (x : Draft). x.servers) same
 survey_same long d e n (line ∷ lines) same =
     survey_same long (next long d n line) (next long e n line) (n + 1) lines (step_same (is_line long n) d e n line same)
 
-took_left : (known : Option ConfigFault) (p : Progress) (n : ℕ) (keyword : Option Keyword) (r : Result (Draft × Option Wish) Cause)
+took_left : (known : Option ConfigFault) (p : Progress) (n : ℕ) (keyword : Option Keyword) (r : Result (Draft × Option Wish) FaultCause)
     → (took known p n keyword r).draft ≡ left p.draft keyword r
 took_left None p n keyword (Ok (d, None)) = refl
 took_left None p n keyword (Ok (d, Some wish)) = refl
@@ -209,5 +209,5 @@ pub survey-taken : (servers : List Server) (long : Option ℕ) (d e : Draft) (n 
 survey-taken servers long d e n [] taken = ap (λ (x : Draft). x.servers) (sym taken)
 survey-taken servers long d e n (line ∷ lines) taken =
     survey_same long (next long d n line) taken.0 (n + 1) lines (step_left [] (is_line long n) d n line ∙ sym (step_left servers (is_line long n) d n line)
-    ∙ ap (λ (r : Result Draft Cause). bare (unless_faulty d (keyword_in line) r)) taken.1)
+    ∙ ap (λ (r : Result Draft FaultCause). bare (unless_faulty d (keyword_in line) r)) taken.1)
     ∙ survey-taken servers long taken.0 e (n + 1) lines taken.2

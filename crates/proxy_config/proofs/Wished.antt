@@ -3,8 +3,8 @@ use Rattle.std.proofs.Common.{◌≡◌, ℕ, Bool, not, List, [], ◌∷◌, Op
 use Rattle.std.specs.Option.{ok_or}
 use Rattle.std.specs.List.{list_any}
 use Rattle.proxy_words.specs.Text.{uncommented, words}
-use Rattle.proxy_config.specs.declared.faults.Cause.{Cause}
-use Rattle.proxy_config.specs.declared.faults.Cause.TheVariants as causes
+use Rattle.proxy_config.specs.declared.faults.FaultCause.{FaultCause}
+use Rattle.proxy_config.specs.declared.faults.FaultCause.TheVariants as causes
 use Rattle.proxy_config.specs.declared.draft.Draft.{Draft}
 use Rattle.proxy_config.specs.declared.keywords.Keyword.{Keyword}
 use Rattle.proxy_config.specs.declared.keywords.Keyword.TheVariants as keywords
@@ -20,15 +20,15 @@ use Rattle.proxy_config.specs.Wishes as wished
 use Rattle.proxy_config.proofs.Outcomes.{bind_ok, chosen, from_ok}
 
 -- two lines that were read alike leave one draft, and ask alike
-same_read : (x y : Draft × Option Wish) → (let one : Result (Draft × Option Wish) Cause = Ok x in one ≡ Ok y) → x ≡ y
+same_read : (x y : Draft × Option Wish) → (let one : Result (Draft × Option Wish) FaultCause = Ok x in one ≡ Ok y) → x ≡ y
 same_read x y is = cc
 
-no_wish : (d e : Draft) (wish : Wish) → (let one : Result (Draft × Option Wish) Cause = Ok (d, None) in one ≡ Ok (e, Some wish)) → ⊥
+no_wish : (d e : Draft) (wish : Wish) → (let one : Result (Draft × Option Wish) FaultCause = Ok (d, None) in one ≡ Ok (e, Some wish)) → ⊥
 no_wish d e wish is =
     let none : (let one : Option Wish = None in one ≡ Some wish) = ap (λ (x : Draft × Option Wish). x.1) (same_read (d, None) (e, Some wish) is) in
     cc
 
-plain_none : (r : Result Draft Cause) (e : Draft) (wish : Wish) → wished.plain r ≡ Ok (e, Some wish) → ⊥
+plain_none : (r : Result Draft FaultCause) (e : Draft) (wish : Wish) → wished.plain r ≡ Ok (e, Some wish) → ⊥
 plain_none (Ok d) e wish is = no_wish d e wish is
 plain_none (Err cause) e wish is = cc
 
@@ -50,7 +50,7 @@ use_numbered pins d n ws wish is =
 abbrev Own : Draft → Draft → ℕ → Wish → Type 0
 Own d e n wish = (wish.line ≡ n) × (e ≡ d)
 
-from_both : (d e : Draft) (v w : Wish) → (let one : Result (Draft × Option Wish) Cause = Ok (d, Some v) in one ≡ Ok (e, Some w)) → (v ≡ w) × (e ≡ d)
+from_both : (d e : Draft) (v w : Wish) → (let one : Result (Draft × Option Wish) FaultCause = Ok (d, Some v) in one ≡ Ok (e, Some w)) → (v ≡ w) × (e ≡ d)
 from_both d e v w is =
     let same = same_read (d, Some v) (e, Some w) is in
     let wish : (let one : Option Wish = Some v in one ≡ Some w) = ap (λ (x : Draft × Option Wish). x.1) same in

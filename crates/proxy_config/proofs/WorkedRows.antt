@@ -1,7 +1,7 @@
 -- The definitions at worked examples: what must hold, and wrong words that must not be taken.
 use Rattle.std.proofs.Common.{◌≡◌, ◌++◌, ℕ, true, false, List, [], ◌∷◌, Some, None, Ok, Err, negsuc, codes, refl}
 use Rattle.proxy_words.specs.Text.{words}
-use Rattle.proxy_config.specs.declared.faults.Cause.TheVariants as causes
+use Rattle.proxy_config.specs.declared.faults.FaultCause.TheVariants as causes
 use Rattle.proxy_config.specs.declared.parts.Expression.TheVariants.{Int, HeaderValue}
 use Rattle.proxy_words.specs.Names.{is_name}
 use Rattle.proxy_config.specs.Names.{is_acl_name}

@@ -3,8 +3,8 @@ use Rattle.std.specs.Prelude.{ℕ, ◌+◌, Bool, true, false, ◌&&◌, nat_le,
 use Rattle.std.specs.Option.{ok_or}
 use Rattle.std.specs.List.{list_any}
 use Rattle.proxy_words.specs.Text.{words, uncommented}
-use Rattle.proxy_config.specs.declared.faults.Cause.{Cause}
-use Rattle.proxy_config.specs.declared.faults.Cause.TheVariants as causes
+use Rattle.proxy_config.specs.declared.faults.FaultCause.{FaultCause}
+use Rattle.proxy_config.specs.declared.faults.FaultCause.TheVariants as causes
 use Rattle.proxy_config.specs.declared.draft.Draft.{Draft}
 use Rattle.proxy_config.specs.declared.draft.Section.{Section}
 use Rattle.proxy_config.specs.declared.draft.Section.TheVariants as sections
@@ -49,24 +49,24 @@ abbrev pub most_rules : ℕ
 most_rules = 256
 
 -- `global`
-unfoldable pub global_line : Draft → List (List ℕ) → Result Draft Cause
+unfoldable pub global_line : Draft → List (List ℕ) → Result Draft FaultCause
 global_line d words = do
   end ← end_at words
   Ok (record d { section = sections.Global })
 
 -- a name, or none
-unfoldable pub optional_name : List (List ℕ) → Result (Unit {0}) Cause
+unfoldable pub optional_name : List (List ℕ) → Result (Unit {0}) FaultCause
 optional_name [] = Ok tt
 optional_name (name ∷ words) = unless (not (is_name name)) causes.Name >>= λ named. end_at words
 
 -- `defaults`, and a name or none: all values are built in again
-unfoldable pub defaults_line : Draft → List (List ℕ) → Result Draft Cause
+unfoldable pub defaults_line : Draft → List (List ℕ) → Result Draft FaultCause
 defaults_line d words = do
   name ← optional_name words
   Ok (record d { section = sections.Defaults; defaults = values.built_in })
 
 -- `listen NAME`, once: it begins with the values of `defaults`
-unfoldable pub listen_line : Draft → ℕ → List (List ℕ) → Result Draft Cause
+unfoldable pub listen_line : Draft → ℕ → List (List ℕ) → Result Draft FaultCause
 listen_line d n words = do
   again ← unless (is_some d.listen) causes.Section
   name ← word_at words
@@ -75,7 +75,7 @@ listen_line d n words = do
   Ok (record d { section = sections.Listen; listen = Some n; values = d.defaults })
 
 -- a line that `defaults` and `listen` take
-unfoldable pub value_line : Draft → Shared → List (List ℕ) → Result Draft Cause
+unfoldable pub value_line : Draft → Shared → List (List ℕ) → Result Draft FaultCause
 value_line d shared words = elim d.section [
   | sections.Outside ↦ Err causes.Place
   | sections.Global ↦ Err causes.Place
@@ -89,7 +89,7 @@ in_listen sections.Listen = true
 in_listen other = false
 
 -- `bind A:PORT`, once
-unfoldable pub bind_line : Draft → List (List ℕ) → Result Draft Cause
+unfoldable pub bind_line : Draft → List (List ℕ) → Result Draft FaultCause
 bind_line d words = do
   place ← unless (not (in_listen d.section)) causes.Place
   again ← unless (is_some d.bind) causes.Twice
@@ -102,7 +102,7 @@ abbrev pub server_of : List ℕ → Address → Settings → Server
 server_of name address s = record { name = name; address = address; maxconn = s.maxconn; maxqueue = s.maxqueue; weight = s.weight; check = server.checks s }
 
 -- `server NAME A:PORT`, and settings
-unfoldable pub server_line : Draft → List (List ℕ) → Result Draft Cause
+unfoldable pub server_line : Draft → List (List ℕ) → Result Draft FaultCause
 server_line d words = do
   place ← unless (not (in_listen d.section)) causes.Place
   limit ← unless (nat_le most_servers (length d.servers)) causes.Limit
@@ -115,18 +115,18 @@ server_line d words = do
   Ok (record d { servers = d.servers ++ server_of name.0 address s ∷ [] })
 
 -- `acl ..`
-unfoldable pub test_line : Draft → List (List ℕ) → Result Draft Cause
+unfoldable pub test_line : Draft → List (List ℕ) → Result Draft FaultCause
 test_line d words = do
   place ← unless (not (in_listen d.section)) causes.Place
   limit ← unless (nat_le most_acl_lines d.acl_lines) causes.Limit
   acls ← acl_line d.acls words
   Ok (record d { acls = acls; acl_lines = d.acl_lines + 1 })
 
-abbrev pub has_room : Draft → Result (Unit {0}) Cause
+abbrev pub has_room : Draft → Result (Unit {0}) FaultCause
 has_room d = unless (nat_le most_rules (length d.rules + length d.pins)) causes.Limit
 
 -- `http-request ..`
-unfoldable pub request_line : Draft → List (List ℕ) → Result Draft Cause
+unfoldable pub request_line : Draft → List (List ℕ) → Result Draft FaultCause
 request_line d words = do
   place ← unless (not (in_listen d.section)) causes.Place
   limit ← has_room d
@@ -134,7 +134,7 @@ request_line d words = do
   Ok (record d { rules = d.rules ++ rule ∷ [] })
 
 -- `use-server ..`, of the servers of the whole file
-unfoldable pub use_line : List Server → Draft → List (List ℕ) → Result Draft Cause
+unfoldable pub use_line : List Server → Draft → List (List ℕ) → Result Draft FaultCause
 use_line servers d words = do
   place ← unless (not (in_listen d.section)) causes.Place
   limit ← has_room d
@@ -142,7 +142,7 @@ use_line servers d words = do
   Ok (record d { pins = d.pins ++ pin ∷ [] })
 
 -- a line by its keyword, its number and its other words
-abbrev pub keyword_line : List Server → Draft → ℕ → Keyword → List (List ℕ) → Result Draft Cause
+abbrev pub keyword_line : List Server → Draft → ℕ → Keyword → List (List ℕ) → Result Draft FaultCause
 keyword_line servers d n keywords.Global words = global_line d words
 keyword_line servers d n keywords.Defaults words = defaults_line d words
 keyword_line servers d n keywords.Listen words = listen_line d n words
@@ -155,7 +155,7 @@ keyword_line servers d n keywords.HttpRequest words = request_line d words
 keyword_line servers d n keywords.UseServer words = use_line servers d words
 
 -- a line by its words
-unfoldable pub words_line : List Server → Draft → ℕ → List (List ℕ) → Result Draft Cause
+unfoldable pub words_line : List Server → Draft → ℕ → List (List ℕ) → Result Draft FaultCause
 words_line servers d n [] = Ok d
 words_line servers d n (word ∷ words) = ok_or (keyword_of word) causes.Keyword >>= λ keyword. keyword_line servers d n keyword words
 
@@ -173,7 +173,7 @@ abbrev pub is_quoting : ℕ → Bool
 is_quoting byte = is_in (34 ∷ 39 ∷ 92 ∷ []) byte
 
 -- what a line makes of the draft, by its number, and whether the file is too long in it
-unfoldable pub step : List Server → Bool → Draft → ℕ → List ℕ → Result Draft Cause
+unfoldable pub step : List Server → Bool → Draft → ℕ → List ℕ → Result Draft FaultCause
 step servers too_long d n line =
     if is_ignored d.section (words (uncommented line)) then (unless too_long causes.Limit >>= λ short. Ok d)
     else do

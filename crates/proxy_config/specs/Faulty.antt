@@ -5,8 +5,8 @@ use Rattle.proxy_words.specs.Names.{is_name}
 use Rattle.proxy_words.specs.Numerals.{numeral}
 use Rattle.proxy_words.specs.Times.{time}
 use Rattle.proxy_config.specs.declared.draft.Draft.{Draft}
-use Rattle.proxy_config.specs.declared.faults.Cause.{Cause}
-use Rattle.proxy_config.specs.declared.faults.Cause.TheVariants as causes
+use Rattle.proxy_config.specs.declared.faults.FaultCause.{FaultCause}
+use Rattle.proxy_config.specs.declared.faults.FaultCause.TheVariants as causes
 use Rattle.proxy_config.specs.declared.keywords.Keyword.TheVariants as keywords
 use Rattle.proxy_config.specs.declared.parts.Server.{Server}
 use Rattle.proxy_config.specs.declared.parts.Address.{Address}
@@ -20,7 +20,7 @@ use Rattle.proxy_config.specs.Draft.{in_listen, most_servers, most_acl_lines, mo
 use Rattle.proxy_config.specs.Keywords.{keyword_of}
 use Rattle.proxy_config.specs.Names.{is_acl_name}
 use Rattle.proxy_config.specs.Pieces.{number_in, number_from, time_from}
-use Rattle.proxy_config.specs.Rows.{in_values}
+use Rattle.proxy_config.specs.CauseTable.{in_values}
 use Rattle.proxy_config.specs.Rules.{action_of, server_index}
 use Rattle.proxy_config.specs.Samples.{expression_of}
 use Rattle.proxy_config.specs.Settings.{is_check, setting_of}
@@ -47,7 +47,7 @@ value_in Inter word = time_from 1 word
 value_in Rise word = number_from 1 word
 value_in Fall word = number_from 1 word
 
-pub data HasFault (servers : List Server) (d : Draft) : List (List ℕ) → Cause → Type 0 where
+pub data HasFault (servers : List Server) (d : Draft) : List (List ℕ) → FaultCause → Type 0 where
   -- `keyword`: a first word that is none; another mode or balance; an option, a timeout, an action or a setting that isn't one
   no_keyword : (word : List ℕ) (more : List (List ℕ)) → keyword_of word ≡ None → HasFault servers d (word ∷ more) causes.Keyword
   another_mode : (word mode : List ℕ) (more : List (List ℕ)) → keyword_of word ≡ Some (keywords.Shared shared.Mode) → in_values d.section ≡ true

@@ -3,8 +3,8 @@ use Rattle.std.specs.Prelude.{◌≡◌, ℕ, ◌+◌, ◌==◌, Bool, true, fal
 use Rattle.std.specs.Prelude.{[], ◌∷◌, length, take, count_by, Option, Some, None, Result, Ok, Err}
 use Rattle.std.specs.Str.Lines.{lines}
 use Rattle.proxy_words.specs.Text.{is_line_feed, words, uncommented}
-use Rattle.proxy_config.specs.declared.faults.Cause.{Cause}
-use Rattle.proxy_config.specs.declared.faults.Cause.TheVariants as causes
+use Rattle.proxy_config.specs.declared.faults.FaultCause.{FaultCause}
+use Rattle.proxy_config.specs.declared.faults.FaultCause.TheVariants as causes
 use Rattle.proxy_config.specs.declared.faults.ConfigFault.{ConfigFault}
 use Rattle.proxy_config.specs.declared.faults.ReadError.{ReadError}
 use Rattle.proxy_config.specs.declared.faults.ReadError.TheVariants as errors
@@ -32,7 +32,7 @@ is_line None n = false
 is_line (Some line) n = line == n
 
 -- a line's outcome, with its number beside the cause, and what comes after it
-abbrev pub then_lines : {A B : Type 0} → ℕ → Result B Cause → (B → Result A ConfigFault) → Result A ConfigFault
+abbrev pub then_lines : {A B : Type 0} → ℕ → Result B FaultCause → (B → Result A ConfigFault) → Result A ConfigFault
 then_lines n (Ok made) more = more made
 then_lines n (Err cause) more = Err (record { line = n; cause = cause })
 
@@ -60,7 +60,7 @@ ends_listen d other = false
 abbrev pub after_fault : Draft → Option Keyword → Draft
 after_fault d keyword = if ends_listen d keyword then record d { section = sections.Outside } else d
 
-abbrev pub unless_faulty : Draft → Option Keyword → Result Draft Cause → Draft
+abbrev pub unless_faulty : Draft → Option Keyword → Result Draft FaultCause → Draft
 unless_faulty d keyword (Ok next) = next
 unless_faulty d keyword (Err cause) = after_fault d keyword
 

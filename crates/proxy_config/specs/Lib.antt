@@ -14,7 +14,7 @@ pub mod Wishes
 pub mod Progress
 pub mod Laws
 pub mod ConditionGrammar
-pub mod Rows
+pub mod CauseTable
 pub mod Faulty
 pub mod Sound
 pub mod LeftToRight

@@ -1,6 +1,6 @@
 -- What is known once some lines were read, and what they and the servers of the whole file come to.
 use Rattle.std.specs.Prelude.{ℕ, Bool, List, [], ◌∷◌, ◌++◌, length, Option, Some, None, Result, Ok, Err}
-use Rattle.proxy_config.specs.declared.faults.Cause.{Cause}
+use Rattle.proxy_config.specs.declared.faults.FaultCause.{FaultCause}
 use Rattle.proxy_config.specs.declared.faults.ConfigFault.{ConfigFault}
 use Rattle.proxy_config.specs.declared.draft.Draft.{Draft}
 use Rattle.proxy_config.specs.declared.keywords.Keyword.{Keyword}
@@ -16,7 +16,7 @@ abbrev pub start : Progress
 start = record { draft = draft.start; wishes = []; fault = None }
 
 -- a line's outcome, with its number and its keyword: past a fault no pin counts, and no other fault
-abbrev pub took : Option ConfigFault → Progress → ℕ → Option Keyword → Result (Draft × Option Wish) Cause → Progress
+abbrev pub took : Option ConfigFault → Progress → ℕ → Option Keyword → Result (Draft × Option Wish) FaultCause → Progress
 took None p n keyword (Ok (d, None)) = record p { draft = d }
 took None p n keyword (Ok (d, Some wish)) = record p { draft = d; wishes = p.wishes ++ wish ∷ [] }
 took None p n keyword (Err cause) = record p { draft = after_fault p.draft keyword; fault = Some (record { line = n; cause = cause }) }

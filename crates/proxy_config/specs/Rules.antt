@@ -2,8 +2,8 @@
 use Rattle.std.specs.Prelude.{ℕ, if◌then◌else◌, List, [], ◌∷◌, ◌++◌, not, position, Option, Some, None, Result, Ok, codes}
 use Rattle.std.specs.Option.{ok_or}
 use Rattle.std.specs.Str.{bytes_eq}
-use Rattle.proxy_config.specs.declared.faults.Cause.{Cause}
-use Rattle.proxy_config.specs.declared.faults.Cause.TheVariants as causes
+use Rattle.proxy_config.specs.declared.faults.FaultCause.{FaultCause}
+use Rattle.proxy_config.specs.declared.faults.FaultCause.TheVariants as causes
 use Rattle.proxy_config.specs.declared.parts.Acl.{Acl}
 use Rattle.proxy_config.specs.declared.parts.Action.{Action}
 use Rattle.proxy_config.specs.declared.parts.Action.TheVariants.{SetPriorityClass, SetPriorityOffset}
@@ -25,7 +25,7 @@ with_test name test (acl ∷ acls) = if bytes_eq acl.name name then record acl {
     else acl ∷ with_test name test acls
 
 -- `acl NAME TEST`
-unfoldable pub acl_line : List Acl → List (List ℕ) → Result (List Acl) Cause
+unfoldable pub acl_line : List Acl → List (List ℕ) → Result (List Acl) FaultCause
 acl_line acls words = do
   name ← word_at words
   named ← unless (not (is_acl_name name.0)) causes.Name
@@ -39,7 +39,7 @@ action_of word =
     else None
 
 -- `http-request ACTION EXPRESSION`, and a guard or none
-unfoldable pub rule_line : List Acl → List (List ℕ) → Result Rule Cause
+unfoldable pub rule_line : List Acl → List (List ℕ) → Result Rule FaultCause
 rule_line acls words = do
   first ← word_at words
   action ← ok_or (action_of first.0) causes.Keyword
@@ -53,7 +53,7 @@ abbrev pub server_index : List ℕ → List Server → Option ℕ
 server_index name servers = position (λ server. bytes_eq server.name name) servers
 
 -- `use-server NAME` and a guard
-unfoldable pub pin_line : List Server → List Acl → List (List ℕ) → Result Pin Cause
+unfoldable pub pin_line : List Server → List Acl → List (List ℕ) → Result Pin FaultCause
 pin_line servers acls words = do
   name ← word_at words
   named ← unless (not (is_name name.0)) causes.Name

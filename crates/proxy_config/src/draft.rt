@@ -9,7 +9,7 @@ ghost use Rattle.proxy_config.specs.Wishes as wished;
 ghost use Rattle.proxy_config.specs.File as file;
 
 use crate::addresses::{address, bind};
-use crate::faults::{Cause, LineError};
+use crate::faults::{FaultCause, LineError};
 use crate::keywords::{Keyword, keyword_of, section_of};
 use crate::parts::{Acl, Bind, Pin, Rule, Server};
 use crate::pieces::{end, word};
@@ -89,10 +89,10 @@ impl Draft {
         let text = without_comment(line);
         let ignored = is_ignored(self.section, Words::new(text));
         if !ignored && has_quoting(text) {
-            return Err(Cause::Quoting.into());
+            return Err(FaultCause::Quoting.into());
         }
         if too_long {
-            return Err(Cause::Limit.into());
+            return Err(FaultCause::Limit.into());
         }
         if ignored {
             return Ok(None);
@@ -135,12 +135,12 @@ impl Draft {
         let Some(word) = words.next() else {
             return Ok(None);
         };
-        let keyword = keyword_of(word).ok_or(Cause::Keyword)?;
+        let keyword = keyword_of(word).ok_or(FaultCause::Keyword)?;
         match keyword {
             Keyword::Global => self.global(words)?,
             Keyword::Defaults => self.defaults(words)?,
             Keyword::Listen => self.listen(number, words)?,
-            Keyword::Refused => return Err(Cause::Section.into()),
+            Keyword::Refused => return Err(FaultCause::Section.into()),
             Keyword::Shared(shared) => self.value(shared, words)?,
             Keyword::Bind => self.bind(words)?,
             Keyword::Server => self.server(alloc, words)?,
@@ -175,11 +175,11 @@ impl Draft {
         ensures { Becomes result self.old self.new (grammar.listen_line self.old number words.entry) }
     {
         if self.listen.is_some() {
-            return Err(Cause::Section.into());
+            return Err(FaultCause::Section.into());
         }
         let (name, words) = word(words)?;
         if !is_name(name) {
-            return Err(Cause::Name.into());
+            return Err(FaultCause::Name.into());
         }
         end(words)?;
         self.section = Section::Listen;
@@ -193,7 +193,7 @@ impl Draft {
         ensures { Becomes result self.old self.new (grammar.value_line self.old shared words.entry) }
     {
         match self.section {
-            Section::Outside | Section::Global => Err(Cause::Place.into()),
+            Section::Outside | Section::Global => Err(FaultCause::Place.into()),
             Section::Defaults => {
                 self.defaults = shared_line(shared, self.defaults, words)?;
                 Ok(())
@@ -210,13 +210,13 @@ impl Draft {
         ensures { Becomes result self.old self.new (grammar.bind_line self.old words.entry) }
     {
         if !in_listen(self.section) {
-            return Err(Cause::Place.into());
+            return Err(FaultCause::Place.into());
         }
         if self.bind.is_some() {
-            return Err(Cause::Twice.into());
+            return Err(FaultCause::Twice.into());
         }
         let (word, words) = word(words)?;
-        let bind = bind(word).ok_or(Cause::Address)?;
+        let bind = bind(word).ok_or(FaultCause::Address)?;
         end(words)?;
         self.bind = Some(bind);
         Ok(())
@@ -227,17 +227,17 @@ impl Draft {
         ensures { Becomes result self.old self.new (grammar.server_line self.old words.entry) }
     {
         if !in_listen(self.section) {
-            return Err(Cause::Place.into());
+            return Err(FaultCause::Place.into());
         }
         if self.servers.len() >= MOST_SERVERS {
-            return Err(Cause::Limit.into());
+            return Err(FaultCause::Limit.into());
         }
         let (name, words) = word(words)?;
         if !is_name(name) {
-            return Err(Cause::Name.into());
+            return Err(FaultCause::Name.into());
         }
         if server_index(name, &self.servers).is_some() {
-            return Err(Cause::Twice.into());
+            return Err(FaultCause::Twice.into());
         }
         let (second, words) = word(words)?;
         let address = address(alloc, second)?;
@@ -259,10 +259,10 @@ impl Draft {
         ensures { Becomes result self.old self.new (grammar.test_line self.old words.entry) }
     {
         if !in_listen(self.section) {
-            return Err(Cause::Place.into());
+            return Err(FaultCause::Place.into());
         }
         if self.acl_lines >= MOST_ACL_LINES {
-            return Err(Cause::Limit.into());
+            return Err(FaultCause::Limit.into());
         }
         acl_line(alloc, &mut self.acls, words)?;
         self.acl_lines += 1;
@@ -274,7 +274,7 @@ impl Draft {
         ensures { Becomes result self.old self.new (wished.request_line pins self.old words.entry) }
     {
         if !in_listen(self.section) {
-            return Err(Cause::Place.into());
+            return Err(FaultCause::Place.into());
         }
         self.has_room(pins)?;
         let rule = rule_line(alloc, &self.acls, words)?;
@@ -293,18 +293,18 @@ impl Draft {
         ensures { Gives (λ x. x) result (wished.use_line pins self.now number words.entry) }
     {
         if !in_listen(self.section) {
-            return Err(Cause::Place.into());
+            return Err(FaultCause::Place.into());
         }
         self.has_room(pins)?;
         wish_line(alloc, number, &self.acls, words)
     }
 
-    fn has_room(&self, pins: usize) -> Result<(), Cause>
+    fn has_room(&self, pins: usize) -> Result<(), FaultCause>
         ensures { Sees (λ x. x) result (wished.has_room pins self.now) }
     {
         let rules = self.rules.len();
         if rules >= MOST_RULES || pins >= MOST_RULES - rules {
-            return Err(Cause::Limit);
+            return Err(FaultCause::Limit);
         }
         Ok(())
     }
@@ -359,14 +359,14 @@ fn is_quoting(byte: u8) -> bool
 }
 
 #[tactic(auto, unfolding(crate::specs::Draft::optional_name))]
-fn optional_name(mut words: Words) -> Result<(), Cause>
+fn optional_name(mut words: Words) -> Result<(), FaultCause>
     ensures { Sees (λ x. x) result (grammar.optional_name words.entry) }
 {
     match words.next() {
         None => Ok(()),
         Some(name) => {
             if !is_name(name) {
-                return Err(Cause::Name);
+                return Err(FaultCause::Name);
             }
             end(words)
         }

@@ -8,9 +8,9 @@ ghost use Rattle.proxy_config.specs.Faulty.{HasFault};
 ghost use Rattle.proxy_config.specs.File.{run};
 ghost use Rattle.proxy_config.specs.Laws.{FirstFault};
 ghost use Rattle.proxy_config.specs.LeftToRight.{IsLeftToRight};
-ghost use Rattle.proxy_config.specs.Rows.{EachInItsRow};
+ghost use Rattle.proxy_config.specs.CauseTable.{EachInItsRow};
 ghost use Rattle.proxy_config.specs.declared.draft.Draft.{Draft};
-ghost use Rattle.proxy_config.specs.declared.faults.Cause.{Cause};
+ghost use Rattle.proxy_config.specs.declared.faults.FaultCause.{FaultCause};
 ghost use Rattle.proxy_config.specs.declared.faults.ConfigFault.{ConfigFault};
 ghost use Rattle.proxy_config.specs.declared.parts.Acl.{Acl};
 ghost use Rattle.proxy_config.specs.declared.parts.Condition.{Condition};
@@ -41,7 +41,7 @@ pub fn each_cause_stands_in_its_row()
 /// The other causes stand where their rows say: `keyword`, `words`, `number`, `address`, `name`, `twice`, `unknown`,
 /// `condition` and `limit`, each for the words that have it, whatever words follow them.
 pub fn each_cause_has_its_words()
-    ensures { (servers : List Server) (draft : Draft) (n : ℕ) (words : List (List ℕ)) (cause : Cause) →
+    ensures { (servers : List Server) (draft : Draft) (n : ℕ) (words : List (List ℕ)) (cause : FaultCause) →
         HasFault servers draft words cause → words_line servers draft n words ≡ Err cause }
 {}
 

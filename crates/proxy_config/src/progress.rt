@@ -6,7 +6,7 @@ ghost use Rattle.proxy_config.specs.File.{Answers};
 ghost use Rattle.proxy_config.specs.Progress as grammar;
 
 use crate::draft::Draft;
-use crate::faults::{Cause, ConfigFault, LineError, ReadError};
+use crate::faults::{ConfigFault, FaultCause, LineError, ReadError};
 use crate::parts::Config;
 use crate::values::set_time;
 use crate::wishes::{Wish, pins_of};
@@ -134,10 +134,10 @@ fn whole(draft: Draft) -> Result<Config, ReadError>
 }
 
 fn missing(line: u64) -> ReadError
-    ensures { result ≡ ReadError.Fault (record { line = line; cause = Cause.Missing }) }
+    ensures { result ≡ ReadError.Fault (record { line = line; cause = FaultCause.Missing }) }
 {
     ReadError::Fault(ConfigFault {
         line,
-        cause: Cause::Missing,
+        cause: FaultCause::Missing,
     })
 }

@@ -6,7 +6,7 @@ ghost use Rattle.readable_log.specs.Windows.{base_rows};
 ghost use Rattle.readable_log.specs.declared.base.BaseRow.{BaseRow};
 ghost use Rattle.readable_log.specs.Index.{IsIndexOf};
 ghost use Rattle.readable_log.specs.Readable.{MayFollow, IsReadable};
-ghost use Rattle.readable_log.specs.declared.read.ReadError.TheVariants.{NotReadable};
+ghost use Rattle.readable_log.specs.declared.read.Unreadable.TheVariants.{NotReadable};
 
 use crate::base::{Base, BaseRow};
 use crate::log::Log;
@@ -18,7 +18,7 @@ use thiserror::Error;
 
 /// Why entries were not read.
 #[derive(Clone, Copy, Debug, PartialEq, Eq, Error)]
-pub enum ReadError {
+pub enum Unreadable {
     /// A growth found no memory.
     #[error("no memory")]
     NoMemory,
@@ -38,16 +38,16 @@ struct Index {
 impl Log {
     /// The window of these entries after this base, whoever made them, with no more room. `O(n log n)`.
     /// Refused where memory is, or else exactly where they aren't readable.
-    pub fn read(alloc: Global, base: Base, entries: &[Entry]) -> Result<Log, ReadError>
+    pub fn read(alloc: Global, base: Base, entries: &[Entry]) -> Result<Log, Unreadable>
         ensures ok { IfOk result (λ log. log ≡ record { base = base; entries = entries.now; room = length entries.now }) }
         ensures readable { OnOk result (IsReadable (record { base = base_rows base.rows; entries = entries.now })) }
         ensures unreadable { IfErr result (λ error. error ≡ NotReadable → IsReadable (record { base = base_rows base.rows; entries = entries.now }) → ⊥) }
     {
         let Ok(mut log) = Log::with_room(alloc, base, entries.len()) else {
-            return Err(ReadError::NoMemory);
+            return Err(Unreadable::NoMemory);
         };
         let Ok(mut index) = index_of(alloc, log.base()) else {
-            return Err(ReadError::NoMemory);
+            return Err(Unreadable::NoMemory);
         };
         for entry in entries {
             follow(&mut log, &mut index, *entry)?;
@@ -87,7 +87,7 @@ fn note_row(index: &mut Index, row: BaseRow) -> Result<(), AllocError>
 }
 
 /// Adds an entry if it may follow.
-fn follow(log: &mut Log, index: &mut Index, entry: Entry) -> Result<(), ReadError>
+fn follow(log: &mut Log, index: &mut Index, entry: Entry) -> Result<(), Unreadable>
     requires room { length log.old.entries < log.old.room }
     requires indexed { IsIndexOf (base_rows log.old.base.rows) log.old.entries index.old }
     ensures follows { OnOk result (MayFollow (base_rows log.old.base.rows) log.old.entries entry) }
@@ -99,11 +99,11 @@ fn follow(log: &mut Log, index: &mut Index, entry: Entry) -> Result<(), ReadErro
         return follow_grant(log, index, ticket, queue, server);
     }
     if !log.may_note(&entry) {
-        return Err(ReadError::NotReadable);
+        return Err(Unreadable::NotReadable);
     }
     log.note(entry);
     let Ok(()) = note(index, &entry, log.len()) else {
-        return Err(ReadError::NoMemory);
+        return Err(Unreadable::NoMemory);
     };
     Ok(())
 }
@@ -115,7 +115,7 @@ fn follow_grant(
     ticket: u64,
     queue: Queue,
     server: usize,
-) -> Result<(), ReadError>
+) -> Result<(), Unreadable>
     requires room { length log.old.entries < log.old.room }
     requires indexed { IsIndexOf (base_rows log.old.base.rows) log.old.entries index.now }
     ensures follows { OnOk result (MayFollow (base_rows log.old.base.rows) log.old.entries (Granted ticket queue server)) }
@@ -123,14 +123,14 @@ fn follow_grant(
     ensures unreadable { IfErr result (λ error. MayFollow (base_rows log.old.base.rows) log.old.entries (Granted ticket queue server) → ⊥) }
 {
     if log.is_empty() {
-        return Err(ReadError::NotReadable);
+        return Err(Unreadable::NotReadable);
     }
     let Some(known) = index.keys.get(&ticket) else {
-        return Err(ReadError::NotReadable);
+        return Err(Unreadable::NotReadable);
     };
     let wait = (ticket, server_of(queue));
     let Some(joined) = index.joinings.get(&wait).copied() else {
-        return Err(ReadError::NotReadable);
+        return Err(Unreadable::NotReadable);
     };
     let key = Key { ticket, ..*known };
     log.note_grant(key, queue, server, joined);

@@ -1,4 +1,4 @@
 mod NameBytes
 mod Headers
-mod Rows
+mod WorkedRows
 pub mod Bodies

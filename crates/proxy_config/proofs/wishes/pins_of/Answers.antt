@@ -1,5 +1,5 @@
 use Rattle.std.proofs.Common.{◌≡◌, ◌∙◌, sym, ap, append_assoc, refl, Ok, Result, List, [], ◌∷◌, ◌++◌}
-use Rattle.proxy_config.specs.declared.faults.Cause.{Cause}
+use Rattle.proxy_config.specs.declared.faults.FaultCause.{FaultCause}
 use Rattle.proxy_config.specs.declared.faults.ConfigFault.{ConfigFault}
 use Rattle.proxy_config.specs.declared.parts.Pin.{Pin}
 use Rattle.proxy_config.specs.declared.parts.Server.{Server}
@@ -14,7 +14,7 @@ next_pin : (servers : List Server) (all : Result (List Pin) ConfigFault) (pins n
     → all ≡ grammar.with_pins servers rest (λ more. Ok (new ++ more))
 next_pin servers all pins new left rest wish pin so_far is read pushed =
     so_far ∙ ap (λ (wishes : List Wish). grammar.with_pins servers wishes (λ more. Ok (pins ++ more))) is
-    ∙ ap (λ (r : Result Pin Cause). then_lines wish.line r (λ one. grammar.with_pins servers rest (λ more. Ok (pins ++ one ∷ more)))) read
+    ∙ ap (λ (r : Result Pin FaultCause). then_lines wish.line r (λ one. grammar.with_pins servers rest (λ more. Ok (pins ++ one ∷ more)))) read
     ∙ simp append_assoc refl
     ∙ ap (λ (ps : List Pin). grammar.with_pins servers rest (λ more. Ok (ps ++ more))) (sym pushed)
 

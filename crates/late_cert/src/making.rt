@@ -10,7 +10,7 @@ use crate::check::lateness;
 use crate::report::{Report, Reports, Stays};
 use dispatch_log::Queue;
 use due_key::{Class, Due};
-use readable_log::{Log, SlotGrant, Stay, server_of};
+use readable_log::{Log, SlotGrant, Stay};
 use std::alloc::{AllocError, Global};
 
 /// The reports of a log: one for each queue and class that has a grant, the backend's queue first,
@@ -31,7 +31,7 @@ fn sorted_grants(alloc: Global, grants: &[SlotGrant]) -> Result<Vec<SlotGrant>, 
     ensures stable { IfOk result (λ sorted. IsStableBy is_before grants.now sorted.items) }
 {
     let mut sorted = Vec::from_slice(alloc, grants)?;
-    sorted.sort_by_key(|grant| (server_of(grant.queue), grant.class))?;
+    sorted.sort_by_key(|grant| (grant.queue, grant.class))?;
     Ok(sorted)
 }
 

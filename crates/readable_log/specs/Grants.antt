@@ -113,8 +113,3 @@ is_of queue class grant = same_queue queue grant.queue && int_eq class grant.cla
 -- the stays of a queue and class that ended with the grant of a slot, in order
 abbrev pub stays : Window → Queue → ℤ → List Stay
 stays window queue class = map (λ grant. grant.stay) (filter (is_of queue class) (grants window))
-
--- the server whose queue it is; None for the backend's
-abbrev pub server_of : Queue → Option ℕ
-server_of Backend = None
-server_of (Server server) = Some server

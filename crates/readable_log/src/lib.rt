@@ -15,7 +15,7 @@ pub use laws::{
     rows_have_arrived, worked_logs,
 };
 pub use log::Log;
-pub use read::{Unreadable, server_of};
+pub use read::Unreadable;
 
 #[cfg(test)]
 mod tests;

@@ -1,7 +1,7 @@
 ghost use Rattle.std.specs.Prelude.{◌≡◌, ◌<◌, ◌+◌, [], ◌∷◌, ◌++◌, IfOk, IfErr, OnOk, None, Some, length, IsTrue, ◌↔◌, List, take};
 ghost use Rattle.dispatch_log.specs.declared.entry.Entry.{Entry};
 ghost use Rattle.dispatch_log.specs.declared.entry.Entry.TheVariants.{Granted};
-ghost use Rattle.readable_log.specs.Grants.{arrival_in, joining_in, grant_in, server_of};
+ghost use Rattle.readable_log.specs.Grants.{arrival_in, joining_in, grant_in};
 ghost use Rattle.readable_log.specs.Windows.{base_rows};
 ghost use Rattle.readable_log.specs.declared.base.BaseRow.{BaseRow};
 ghost use Rattle.readable_log.specs.Index.{IsIndexOf};
@@ -32,7 +32,7 @@ pub enum Unreadable {
 #[derive(Drop)]
 struct Index {
     keys: BTreeMap<u64, Key>,
-    joinings: BTreeMap<(u64, Option<usize>), usize>,
+    joinings: BTreeMap<(u64, Queue), usize>,
 }
 
 impl Log {
@@ -81,7 +81,7 @@ fn note_row(index: &mut Index, row: BaseRow) -> Result<(), AllocError>
     };
     index.keys.insert(row.ticket, key)?;
     if let Some(queue) = row.queue {
-        index.joinings.insert((row.ticket, server_of(queue)), 0)?;
+        index.joinings.insert((row.ticket, queue), 0)?;
     }
     Ok(())
 }
@@ -128,8 +128,7 @@ fn follow_grant(
     let Some(known) = index.keys.get(&ticket) else {
         return Err(Unreadable::NotReadable);
     };
-    let wait = (ticket, server_of(queue));
-    let Some(joined) = index.joinings.get(&wait).copied() else {
+    let Some(joined) = index.joinings.get(&(ticket, queue)).copied() else {
         return Err(Unreadable::NotReadable);
     };
     let key = Key { ticket, ..*known };
@@ -161,16 +160,6 @@ fn note_joining(
 ) -> Result<(), AllocError>
     ensures { OnOk result ((base : List BaseRow) (log : List Entry) (entry : Entry) → position ≡ length log + 1 → arrival_in entry ≡ None → joining_in entry ≡ Some (record { ticket = ticket; queue = queue }) → IsIndexOf base log index.old → IsIndexOf base (log ++ entry ∷ []) index.new) }
 {
-    index.joinings.insert((ticket, server_of(queue)), position)?;
+    index.joinings.insert((ticket, queue), position)?;
     Ok(())
-}
-
-/// The server whose queue it is; None for the backend's.
-pub fn server_of(queue: Queue) -> Option<usize>
-    ensures { result ≡ server_of queue }
-{
-    match queue {
-        Queue::Backend => None,
-        Queue::Server(server) => Some(server),
-    }
 }

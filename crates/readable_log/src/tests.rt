@@ -1,7 +1,7 @@
 ghost use Rattle.std.specs.Prelude.{◌≡◌, ◌<◌, IfOk, None, length, replicate};
 ghost use Rattle.dispatch_log.specs.Setups.{IsSound};
 
-use crate::{Base, BaseRow, Log, SlotGrant, Stay, Unreadable, server_of};
+use crate::{Base, BaseRow, Log, SlotGrant, Stay, Unreadable};
 use check_state::Health;
 use dispatch_log::{Allowance, Arrival, Entry, Phase, Queue, Row, ServerSet, Servers, Setup};
 use due_key::{Class, Due, Key, Moment, Offset};
@@ -219,10 +219,4 @@ fn who_waits_elsewhere_in_the_base_is_refused(rt: HostRuntime) -> Result<(), Fai
     let log = Log::read(alloc, with_seven(alloc)?, entries.as_slice());
     assert!(rt; matches!(log, Err(Unreadable::NotReadable)));
     Ok(())
-}
-
-#[test]
-fn queues_have_their_servers(rt: HostRuntime) {
-    assert_eq!(rt; server_of(Queue::Server(3)), Some(3));
-    assert_eq!(rt; server_of(Queue::Backend), None);
 }

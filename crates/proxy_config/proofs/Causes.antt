@@ -19,6 +19,7 @@ use Rattle.proxy_config.specs.Names.{is_acl_name}
 use Rattle.proxy_config.specs.Samples as tests
 use Rattle.proxy_config.specs.Conditions as conditions
 use Rattle.proxy_config.specs.Rules as rules
+use Rattle.proxy_config.proofs.Resolving.{pin_line}
 use Rattle.proxy_config.specs.Settings as settings
 use Rattle.proxy_config.specs.Values as values
 
@@ -192,8 +193,8 @@ within_rule acls words = within_bind _ _ (within_word words) (λ first. within_b
     within_bind _ _ (within_word first.1) (λ second.
     within_bind _ _ (within_or _ causes.Condition refl) (λ value. within_bind _ _ (optional_guard acls second.1) (λ guard. within_ok _)))))
 
-pub within_pin : (servers : List Server) (acls : List Acl) (words : List (List ℕ)) → Within is_of_words (rules.pin_line servers acls words)
-unfolding rules.pin_line
+pub within_pin : (servers : List Server) (acls : List Acl) (words : List (List ℕ)) → Within is_of_words (pin_line servers acls words)
+unfolding pin_line
 within_pin servers acls words = within_bind _ _ (within_word words) (λ name. within_bind _ _ (within_unless (not (is_name name.0)) causes.Name refl) (λ named.
     within_bind _ _ (within_or (rules.server_index name.0 servers) causes.Unknown refl)
     (λ server. within_bind _ _ (within_word name.1) (λ first. within_bind _ _ (guard_at acls first.0 first.1) (λ guard. within_ok _)))))

@@ -25,7 +25,8 @@ use Rattle.proxy_config.specs.Names.{is_acl_name}
 use Rattle.proxy_config.specs.Samples.{test_to_end, expression_of}
 use Rattle.proxy_config.specs.Conditions.{condition, guard_at, optional_guard}
 use Rattle.proxy_config.specs.ConditionGrammar.{IsOperand, IsSigned, AreTerms, AreSeparated}
-use Rattle.proxy_config.specs.Rules.{acl_line, action_of, pin_line, rule_line, server_index, with_test}
+use Rattle.proxy_config.specs.Rules.{acl_line, action_of, rule_line, server_index, with_test}
+use Rattle.proxy_config.proofs.Resolving.{pin_line}
 use Rattle.proxy_config.specs.Sound.{IsSoundOperand, IsSoundCondition, IsSoundGuard}
 use Rattle.proxy_config.proofs.Outcomes.{bind_ok, chosen, from_ok, ok_or_ok}
 use Rattle.proxy_config.proofs.ConditionWords.{condition-found}

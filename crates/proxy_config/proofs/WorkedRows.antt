@@ -11,7 +11,8 @@ use Rattle.proxy_config.specs.Conditions.{alternatives, condition, operand_at, t
 use Rattle.proxy_config.specs.Settings.{built_in, settings}
 use Rattle.proxy_config.specs.Draft.{step, words_line, optional_name, defaults_line, listen_line, bind_line, server_of}
 use Rattle.proxy_config.specs.File.{reading}
-use Rattle.proxy_config.specs.Wishes.{pin_of, with_pins, wish_line}
+use Rattle.proxy_config.specs.Wishes.{pin_of, wish_line}
+use Rattle.proxy_config.specs.Progress.{with_pins}
 use Rattle.proxy_config.specs.declared.parts.Host.TheVariants as hosts
 use Rattle.proxy_config.specs.declared.parts.Server.{Server}
 use Rattle.proxy_config.specs.declared.wishes.Wish.{Wish}

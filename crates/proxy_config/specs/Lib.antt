@@ -11,6 +11,7 @@ pub mod Keywords
 pub mod Draft
 pub mod File
 pub mod Wishes
+pub mod Resolved
 pub mod Progress
 pub mod Laws
 pub mod ConditionGrammar

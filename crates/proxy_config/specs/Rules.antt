@@ -51,13 +51,3 @@ rule_line acls words = do
 -- which of the servers has the name
 abbrev pub server_index : List ℕ → List Server → Option ℕ
 server_index name servers = position (λ server. bytes_eq server.name name) servers
-
--- `use-server NAME` and a guard
-unfoldable pub pin_line : List Server → List Acl → List (List ℕ) → Result Pin FaultCause
-pin_line servers acls words = do
-  name ← word_at words
-  named ← unless (not (is_name name.0)) causes.Name
-  server ← ok_or (server_index name.0 servers) causes.Unknown
-  first ← word_at name.1
-  guard ← guard_at acls first.0 first.1
-  Ok (record { server = server; guard = guard })

@@ -5,13 +5,12 @@ ghost use Rattle.std.specs.List.{list_any};
 ghost use Rattle.proxy_words.specs.Text.{words as words_of, uncommented};
 ghost use Rattle.proxy_config.specs.Outcomes.{Becomes, Gives, Leaves, Sees};
 ghost use Rattle.proxy_config.specs.Draft as grammar;
-ghost use Rattle.proxy_config.specs.Wishes as wished;
 ghost use Rattle.proxy_config.specs.File as file;
 
 use crate::addresses::{address, bind};
 use crate::faults::{FaultCause, LineError};
 use crate::keywords::{Keyword, keyword_of, section_of};
-use crate::parts::{Acl, Bind, Pin, Rule, Server};
+use crate::parts::{Acl, Bind, Rule, Server};
 use crate::pieces::{end, word};
 use crate::rules::{acl_line, rule_line, server_index};
 use crate::settings::{Settings, settings_to_end};
@@ -51,7 +50,6 @@ pub(crate) struct Draft {
     pub acls: Items<Acl>,
     pub acl_lines: usize,
     pub rules: Items<Rule>,
-    pub pins: Items<Pin>,
 }
 
 impl Draft {
@@ -68,13 +66,12 @@ impl Draft {
             acls: Items::new(alloc),
             acl_lines: 0,
             rules: Items::new(alloc),
-            pins: Items::new(alloc),
         }
     }
 
     /// Takes a line in, by its number and whether the file is too long in it, behind so many pins. The pin of a
     /// `use-server` line is returned as its wish. An error changes nothing.
-    #[tactic(auto, unfolding(crate::specs::Wishes::step))]
+    #[tactic(auto, unfolding(crate::specs::Draft::step))]
     pub(crate) fn step(
         &mut self,
         alloc: Global,
@@ -84,7 +81,7 @@ impl Draft {
         line: &[u8],
     ) -> Result<Option<Wish>, LineError>
         ensures { Leaves result self.old self.new
-            (wished.step pins too_long self.old number line.now) }
+            (grammar.step pins too_long self.old number line.now) }
     {
         let text = without_comment(line);
         let ignored = is_ignored(self.section, Words::new(text));
@@ -120,7 +117,7 @@ impl Draft {
         }
     }
 
-    #[tactic(auto, unfolding(crate::specs::Wishes::words_line))]
+    #[tactic(auto, unfolding(crate::specs::Draft::words_line))]
     fn take_words(
         &mut self,
         alloc: Global,
@@ -129,7 +126,7 @@ impl Draft {
         words: Words,
     ) -> Result<Option<Wish>, LineError>
         ensures { Leaves result self.old self.new
-            (wished.words_line pins self.old number words.entry) }
+            (grammar.words_line pins self.old number words.entry) }
     {
         let mut words = words;
         let Some(word) = words.next() else {
@@ -269,9 +266,9 @@ impl Draft {
         Ok(())
     }
 
-    #[tactic(auto, unfolding(crate::specs::Wishes::request_line))]
+    #[tactic(auto, unfolding(crate::specs::Draft::request_line))]
     fn request(&mut self, alloc: Global, pins: usize, words: Words) -> Result<(), LineError>
-        ensures { Becomes result self.old self.new (wished.request_line pins self.old words.entry) }
+        ensures { Becomes result self.old self.new (grammar.request_line pins self.old words.entry) }
     {
         if !in_listen(self.section) {
             return Err(FaultCause::Place.into());
@@ -282,7 +279,7 @@ impl Draft {
         Ok(())
     }
 
-    #[tactic(auto, unfolding(crate::specs::Wishes::use_line))]
+    #[tactic(auto, unfolding(crate::specs::Draft::use_line))]
     fn use_server(
         &self,
         alloc: Global,
@@ -290,7 +287,7 @@ impl Draft {
         number: u64,
         words: Words,
     ) -> Result<Wish, LineError>
-        ensures { Gives (λ x. x) result (wished.use_line pins self.now number words.entry) }
+        ensures { Gives (λ x. x) result (grammar.use_line pins self.now number words.entry) }
     {
         if !in_listen(self.section) {
             return Err(FaultCause::Place.into());
@@ -300,7 +297,7 @@ impl Draft {
     }
 
     fn has_room(&self, pins: usize) -> Result<(), FaultCause>
-        ensures { Sees (λ x. x) result (wished.has_room pins self.now) }
+        ensures { Sees (λ x. x) result (grammar.has_room pins self.now) }
     {
         let rules = self.rules.len();
         if rules >= MOST_RULES || pins >= MOST_RULES - rules {

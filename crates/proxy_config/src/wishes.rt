@@ -3,6 +3,7 @@
 ghost use Rattle.std.specs.Prelude.{◌≡◌, Ok, IfOk, IfErr};
 ghost use Rattle.proxy_config.specs.File.{Answers};
 ghost use Rattle.proxy_config.specs.Outcomes.{Gives, Sees};
+ghost use Rattle.proxy_config.specs.Progress.{with_pins};
 ghost use Rattle.proxy_config.specs.Wishes as grammar;
 
 use crate::conditions::guard;
@@ -75,7 +76,7 @@ pub(crate) fn pins_of(
     servers: &Items<Server>,
     wishes: Items<Wish>,
 ) -> Result<Items<Pin>, ReadError>
-    ensures { Answers result (grammar.with_pins servers.now wishes Ok) }
+    ensures { Answers result (with_pins servers.now wishes Ok) }
 {
     let mut pins = Items::new(alloc);
     'wishes: for wish in wishes.into_vec() {

@@ -2,3 +2,4 @@ mod NameBytes
 mod Headers
 mod WorkedRows
 pub mod Bodies
+pub mod KindsOfLines

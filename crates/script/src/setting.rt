@@ -10,7 +10,7 @@ use proxy_words::{Words, number};
 
 /// What a header line of a script sets.
 #[derive(Debug, Drop)]
-pub(crate) enum Setting<'a> {
+pub enum Setting<'a> {
     /// `places N`: the greatest number of live requests.
     Places(usize),
     /// `log N`: the greatest number of log entries.

@@ -1,4 +1,4 @@
-use crate::{Header, MOST_BYTES, Name, ScriptError, is_faulty, read};
+use crate::{Header, Line, MOST_BYTES, Name, ScriptError, is_faulty, read};
 use dispatch_log::ServerSet;
 use proxy_words::Lines;
 use std::alloc::Global;
@@ -17,7 +17,7 @@ fn fault_from(script: &[u8], header: usize) -> Option<usize> {
     let mut number = 0usize;
     for line in Lines::new(script) {
         number = number.saturating_add(1);
-        if header < number && is_faulty(line) {
+        if header < number && is_faulty(&Line::of(line)) {
             return Some(number);
         }
     }

@@ -1,10 +1,9 @@
 #!/usr/bin/env python3
-"""What HAProxy does with the two cases of the README: which of a hundred waiting requests is served next where the last one is due
-first, and how many a server serves at once. It starts the `haproxy` on the path before a small server that counts.
+"""What HAProxy does with the README's case: which of a hundred requests that wait is served first where the last one is due first, and
+how many requests a server has at once. It starts the `haproxy` on the path before a small server that counts, on free ports of the
+loopback, and needs nothing but Python beside it. It takes about a minute.
 
-    bench/haproxy.py
-
-Needs haproxy and Python alone. The ports are free ones of the loopback."""
+    python3 bench/haproxy.py"""
 import collections
 import http.client
 import http.server
@@ -29,8 +28,7 @@ defaults
 listen w
     bind 127.0.0.1:{front}
     http-request set-priority-offset hdr(X-Offset)
-    {options}
-    server s 127.0.0.1:{back} maxconn {limit} {check}
+    server s 127.0.0.1:{back} maxconn {limit}
 """
 
 
@@ -69,6 +67,9 @@ class Server(http.server.ThreadingHTTPServer):
     daemon_threads = True
     request_queue_size = 1024
 
+    def handle_error(self, request, client_address):
+        pass
+
 
 def free_port():
     with socket.socket() as s:
@@ -76,24 +77,21 @@ def free_port():
         return s.getsockname()[1]
 
 
-def ask(port, name, offset=None, timeout=60):
+def ask(port, name, offset=None):
     headers = {} if offset is None else {"X-Offset": str(offset)}
-    try:
-        c = http.client.HTTPConnection("127.0.0.1", port, timeout=timeout)
-        c.request("GET", "/" + name, headers=headers)
-        c.getresponse().read()
-        c.close()
-    except OSError:
-        pass
+    connection = http.client.HTTPConnection("127.0.0.1", port, timeout=60)
+    connection.request("GET", "/" + name, headers=headers)
+    connection.getresponse().read()
+    connection.close()
 
 
 class Proxy:
-    def __init__(self, limit, options="", check=""):
+    def __init__(self, limit):
         self.front, self.back = free_port(), free_port()
         self.folder = tempfile.mkdtemp()
         path = os.path.join(self.folder, "haproxy.cfg")
         with open(path, "w") as f:
-            f.write(CONFIG.format(front=self.front, back=self.back, limit=limit, options=options, check=check))
+            f.write(CONFIG.format(front=self.front, back=self.back, limit=limit))
         self.server = Server(("127.0.0.1", self.back), Counter)
         threading.Thread(target=self.server.serve_forever, daemon=True).start()
         self.process = subprocess.Popen(["haproxy", "-db", "-q", "-f", path], stderr=subprocess.DEVNULL)
@@ -107,7 +105,7 @@ class Proxy:
 
 
 def place_of_the_first_due(offset, others=99, apart=0.004):
-    """Its place among the hundred that wait, where it came last and its offset is this."""
+    """Its place among the hundred that wait, where it came last and has this offset."""
     Counter.order, Counter.present, Counter.most, Counter.seconds = [], 0, 0, 0.0
     Counter.gate = threading.Event()
     proxy = Proxy(1)
@@ -130,12 +128,12 @@ def place_of_the_first_due(offset, others=99, apart=0.004):
 
 
 def most_at_once(limit, rounds=40, requests=200):
-    """The most that the server served at once."""
+    """How many rounds had so many requests at the server at once, at most."""
     Counter.order, Counter.present, Counter.most, Counter.seconds = [], 0, 0, 0.002
     Counter.gate = threading.Event()
     Counter.gate.set()
     proxy = Proxy(limit)
-    per = collections.Counter()
+    rounds_of = collections.Counter()
     for _ in range(rounds):
         Counter.most = 0
         threads = [threading.Thread(target=ask, args=(proxy.front, f"r{i}")) for i in range(requests)]
@@ -143,15 +141,17 @@ def most_at_once(limit, rounds=40, requests=200):
             t.start()
         for t in threads:
             t.join()
-        per[Counter.most] += 1
+        rounds_of[Counter.most] += 1
     proxy.close()
-    return dict(per)
+    return dict(rounds_of)
 
 
 if __name__ == "__main__":
     if shutil.which("haproxy") is None:
         sys.exit("haproxy isn't on the path")
     print(subprocess.run(["haproxy", "-v"], capture_output=True, text=True).stdout.splitlines()[0])
-    for offset in [-5000, -100000, -262143, -262144, -300000, -500000, -524287]:
-        print("offset", offset, "served %d of %d" % place_of_the_first_due(offset))
-    print("limit 4, most at once in each round:", most_at_once(4))
+    for offset in [-5000, -100000, -300000, -500000, -524287]:
+        place, of = place_of_the_first_due(offset)
+        print(f"offset {offset}: served as number {place} of {of}")
+    for most, rounds in sorted(most_at_once(4).items()):
+        print(f"maxconn 4: at most {most} at once in {rounds} bursts of 200 requests")

@@ -1,6 +1,6 @@
 -- Where the causes that the lines before a line decide can stand.
-use Rattle.std.proofs.Common.{◌≡◌, ◌∙◌, ◌⊎◌, inl, inr, ◌||◌, ℕ, Bool, true, false, cond, not, List}
-use Rattle.std.proofs.Common.{[], ◌∷◌, length, Option, Some, None, Result, Ok, Err, refl, sym, ap, subst}
+use Rattle.std.proofs.Common.{◌≡◌, ◌∙◌, ◌⊎◌, inl, inr, ◌||◌, ℕ, Bool, true, false, not, List}
+use Rattle.std.proofs.Common.{[], ◌∷◌, length, Option, Some, None, Result, Err, refl, sym, ap, subst}
 use Rattle.std.specs.Option.{is_some}
 use Rattle.std.specs.List.{list_any}
 use Rattle.proxy_words.specs.Text.{uncommented}
@@ -13,7 +13,6 @@ use Rattle.proxy_config.specs.declared.keywords.Keyword.{Keyword}
 use Rattle.proxy_config.specs.declared.keywords.Keyword.TheVariants as keywords
 use Rattle.proxy_config.specs.declared.parts.Server.{Server}
 use Rattle.proxy_config.specs.declared.values.Shared.{Shared}
-use Rattle.proxy_config.specs.Outcomes.{◌>>=◌, unless}
 use Rattle.proxy_words.specs.Names.{is_name}
 use Rattle.proxy_config.specs.Addresses.{address_of}
 use Rattle.proxy_config.specs.Rules.{server_index}

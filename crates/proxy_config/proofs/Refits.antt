@@ -1,5 +1,5 @@
 -- Lines of other keywords go by no rule.
-use Rattle.std.proofs.Common.{◌≡◌, ◌∙◌, ◌++◌, ℕ, not, List, ◌∷◌, length, Ok, refl, sym}
+use Rattle.std.proofs.Common.{◌≡◌, ◌∙◌, ℕ, not, List, length, Ok, refl, sym}
 use Rattle.std.specs.Option.{ok_or, is_some}
 use Rattle.std.specs.Prelude.{nat_le}
 use Rattle.proxy_config.specs.declared.faults.FaultCause.TheVariants as causes

@@ -1,5 +1,5 @@
 -- What lines say where all servers of the file are known.
-use Rattle.std.specs.Prelude.{ℕ, Bool, List, [], ◌∷◌, ◌++◌, length, Option, Some, None, Result, Ok, Err}
+use Rattle.std.specs.Prelude.{ℕ, Bool, List, [], ◌∷◌, ◌++◌, length, Option, Some, None, Result, Ok}
 use Rattle.proxy_config.specs.declared.faults.FaultCause.{FaultCause}
 use Rattle.proxy_config.specs.declared.draft.Draft.{Draft}
 use Rattle.proxy_config.specs.declared.parts.Pin.{Pin}

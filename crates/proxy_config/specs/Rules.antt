@@ -7,16 +7,14 @@ use Rattle.proxy_config.specs.declared.faults.FaultCause.TheVariants as causes
 use Rattle.proxy_config.specs.declared.parts.Acl.{Acl}
 use Rattle.proxy_config.specs.declared.parts.Action.{Action}
 use Rattle.proxy_config.specs.declared.parts.Action.TheVariants.{SetPriorityClass, SetPriorityOffset}
-use Rattle.proxy_config.specs.declared.parts.Pin.{Pin}
 use Rattle.proxy_config.specs.declared.parts.Rule.{Rule}
 use Rattle.proxy_config.specs.declared.parts.Server.{Server}
 use Rattle.proxy_config.specs.declared.parts.Test.{Test}
 use Rattle.proxy_config.specs.Outcomes.{◌>>=◌, unless}
-use Rattle.proxy_words.specs.Names.{is_name}
 use Rattle.proxy_config.specs.Names.{is_acl_name}
 use Rattle.proxy_config.specs.Pieces.{word_at}
 use Rattle.proxy_config.specs.Samples.{test_to_end, expression_of}
-use Rattle.proxy_config.specs.Conditions.{guard_at, optional_guard}
+use Rattle.proxy_config.specs.Conditions.{optional_guard}
 
 -- the ACLs with one alternative more of this name
 abbrev pub with_test : List ℕ → Test → List Acl → List Acl

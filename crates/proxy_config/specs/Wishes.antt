@@ -1,5 +1,5 @@
 -- What a `use-server` line asks for before all servers are known: it names its server.
-use Rattle.std.specs.Prelude.{ℕ, not, List, Result, Ok, Err}
+use Rattle.std.specs.Prelude.{ℕ, not, List, Result, Ok}
 use Rattle.std.specs.Option.{ok_or}
 use Rattle.proxy_config.specs.declared.faults.FaultCause.{FaultCause}
 use Rattle.proxy_config.specs.declared.faults.FaultCause.TheVariants as causes

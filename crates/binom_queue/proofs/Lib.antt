@@ -5,5 +5,5 @@ mod Keyed
 mod Orders
 mod Queued
 mod Raised
-mod Rows
+mod WorkedRows
 mod Walks

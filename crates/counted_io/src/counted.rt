@@ -1,6 +1,6 @@
 ghost use Rattle.std.specs.Prelude.{◌≡◌, ◌≤◌};
 
-use crate::ends::{Failed, Sink, Source};
+use crate::streams::{Failed, Sink, Source};
 use std::io::{Read, Write};
 
 /// A reader or a writer of the standard library, as a source or a sink.

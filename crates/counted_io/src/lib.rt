@@ -5,10 +5,10 @@
 #![tactic(auto)]
 
 mod counted;
-mod ends;
+mod streams;
 
 pub use counted::Counted;
-pub use ends::{Failed, Sink, Source};
+pub use streams::{Failed, Sink, Source};
 
 #[cfg(test)]
 mod tests;

@@ -21,7 +21,7 @@ use Rattle.dispatch_log.specs.Legal.{IsBase, IsLegal, AddsEvent}
 use Rattle.dispatch_log.specs.Judgement.{checking, granting, was_up}
 use Rattle.dispatch_log.specs.Refusals.{lacks_room, is_checked}
 use Rattle.dispatch_log.specs.States.{State, after, after_all, opening_state}
-use Rattle.dispatch_log.specs.Words.{is_up}
+use Rattle.dispatch_log.specs.Scenes.{is_up}
 use Rattle.dispatch_log.proofs.Accepted.{none_refuses}
 use Rattle.dispatch_log.proofs.Judged.{after_all-push, stage_after-push}
 use Rattle.pend_queue.specs.Held.{Held}

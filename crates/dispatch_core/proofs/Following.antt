@@ -7,7 +7,7 @@ use Rattle.dispatch_log.specs.declared.entry.Entry.TheVariants.{Health}
 use Rattle.dispatch_log.specs.declared.setup.Setup.{Setup}
 use Rattle.dispatch_log.specs.Histories.{History, state_of}
 use Rattle.dispatch_log.specs.Judgement.{Stage, checking, falling, granting, IsOver, MayGrant, MayCome, was_up}
-use Rattle.dispatch_log.specs.Words.{is_up}
+use Rattle.dispatch_log.specs.Scenes.{is_up}
 use Rattle.dispatch_log.proofs.Judged.{stage_after-push}
 use Rattle.dispatch_core.specs.Steps.{GoesOn, CarriesOn, MovesAll, HasEventRoom}
 use Rattle.dispatch_trace.specs.Histories.{with_entry, stage_of, scene_of, waiting_of, MayComeNext}

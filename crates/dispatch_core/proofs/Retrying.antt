@@ -13,7 +13,7 @@ use Rattle.dispatch_log.specs.declared.row.Row.{Row}
 use Rattle.dispatch_log.specs.declared.setup.Setup.{Setup}
 use Rattle.dispatch_log.specs.Histories.{History, state_of, refuses_failure}
 use Rattle.dispatch_log.specs.Legal.{IsLegal}
-use Rattle.dispatch_log.specs.Judgement.{IsPut, Stage, failing, leaving, granting, MayGrant, MayCome, next_stage, HasSlot}
+use Rattle.dispatch_log.specs.Judgement.{IsPut, Stage, failing, freed_by_failure, granting, MayGrant, MayCome, next_stage, HasSlot}
 use Rattle.dispatch_log.specs.Refusals.{has_a_slot}
 use Rattle.dispatch_log.specs.Retries.{are_spent, are_redispatched, failed_row, failed}
 use Rattle.dispatch_log.specs.Rows.{Rows, StandsAt, changed, in_phase, row_of, server_in, phase_is_served_by, pin_of, failures_of}
@@ -40,7 +40,7 @@ carries_retry h one t server k stage goes room =
     (omega arith) (omega arith) room.places
 
 module _ (one two : History) (t server : ℕ) (stage : stage_of one ≡ failing t) (freed : two ≡ with_entry one (Freed t server)) where
-  pub freed_stage : stage_of two ≡ leaving t server
+  pub freed_stage : stage_of two ≡ freed_by_failure t server
   freed_stage = ap stage_of freed ∙ stage_after-push granting one.log (Freed t server) ∙ ap (λ (x : Stage). next_stage x (Freed t server)) stage
 
   freed_rows : (state_of two).rows ≡ changed t (in_phase Loose) (state_of one).rows
@@ -83,8 +83,8 @@ module _ (one two : History) (t server : ℕ) (stage : stage_of one ≡ failing 
   redispatch_room room = room_left one two (goes_entry one two (Freed t server) freed refl) 1 (omega arith) (omega arith) room.places
 
   module _ (three : History) (settled : Settles two three) where
-    settled_stage : stage_of three ≡ leaving t server
-    settled_stage = settled.leaving t server freed_stage
+    settled_stage : stage_of three ≡ freed_by_failure t server
+    settled_stage = settled.freed_by_failure t server freed_stage
 
     again : IsTrue (are_redispatched three.setup (failures_of t (state_of three).rows))
     again = subst (λ (x : Stage). MayGrant three.setup (state_of three) x) settled_stage settled.may_grant
@@ -96,7 +96,7 @@ module _ (one two : History) (t server : ℕ) (stage : stage_of one ≡ failing 
         (placed e put)
       where
         placed : (e : Entry) → IsPut (scene_of three) (state_of three).cursor None (Some server) t e
-            → MayCome three.setup (state_of three) (length three.log) (leaving t server) e × (next_stage (leaving t server) e ≡ granting)
+            → MayCome three.setup (state_of three) (length three.log) (freed_by_failure t server) e × (next_stage (freed_by_failure t server) e ≡ granting)
         placed (Direct u v) put = (record { redispatched = again; settled = settled.settled; put = put }, refl)
         placed (Joined u q) put = (record { redispatched = again; settled = settled.settled; put = put }, refl)
         placed (Left u NoServer) put = (record { redispatched = again; settled = settled.settled; put = put }, refl)

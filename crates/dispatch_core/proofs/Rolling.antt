@@ -13,7 +13,7 @@ use Rattle.dispatch_log.specs.declared.setup.ServerSet.{ServerSet}
 use Rattle.dispatch_log.specs.Health.{results_of, shortened_by, shortened_all}
 use Rattle.dispatch_log.specs.Histories.{History, state_of, next_window}
 use Rattle.dispatch_log.specs.Legal.{IsLegal}
-use Rattle.dispatch_log.specs.Setups.{IsSound, is_within, checks_count}
+use Rattle.dispatch_log.specs.Setups.{IsSound, is_within, has_rise_and_fall}
 use Rattle.dispatch_log.specs.States.{State}
 use Rattle.dispatch_log.proofs.Windows.{next_legal, shortened_length}
 use Rattle.pend_queue.specs.Held.{Held}
@@ -63,7 +63,7 @@ at_shortened (s ∷ servers) [] (suc k) it stands = at_shortened servers [] k it
 at_shortened (s ∷ servers) (r ∷ results) zero it stands = ap (λ (x : ServerSet). shortened_by x.rise_fall r) (same_Some s it stands)
 at_shortened (s ∷ servers) (r ∷ results) (suc k) it stands = at_shortened servers results k it stands
 
-still_by : (it : Option (ℕ × ℕ)) (results : List Bool) (health : Option Standing) → checks_count it ≡ true → IsHealthBy it results health
+still_by : (it : Option (ℕ × ℕ)) (results : List Bool) (health : Option Standing) → has_rise_and_fall it ≡ true → IsHealthBy it results health
     → IsHealthBy it (shortened_by it results) health
 still_by None results health counts is = is
 still_by (Some it) results health counts is =
@@ -80,7 +80,7 @@ still_healths servers results healths within are = record {
   each = λ k it stands.
       let its = subst (λ (x : ServerSet). IsTrue (is_within x)) (get_or_from_slice_get servers k it it stands)
       (within k it (slice_get_within servers k it stands)) in
-      let counts = (and_parts (nat_le it.weight 256) (checks_count it.rise_fall) its).1 in
+      let counts = (and_parts (nat_le it.weight 256) (has_rise_and_fall it.rise_fall) its).1 in
       subst (λ r. IsHealthBy it.rise_fall r (slice_index_or healths k None)) (sym (at_shortened servers results k it stands))
       (still_by it.rise_fall (results_of results k) (slice_index_or healths k None) counts (are.each k it stands));
 }

@@ -8,7 +8,7 @@ use Rattle.dispatch_log.specs.declared.queue.Queue.{Queue}
 use Rattle.dispatch_log.specs.declared.row.Phase.TheVariants.{Serving}
 use Rattle.dispatch_log.specs.declared.setup.Setup.{Setup}
 use Rattle.dispatch_log.specs.Histories.{History, state_of}
-use Rattle.dispatch_log.specs.Judgement.{Stage, leaving, telling, checking, falling, granting, IsOver, MayGrant, next_stage}
+use Rattle.dispatch_log.specs.Judgement.{Stage, freed_by_failure, telling, checking, falling, granting, IsOver, MayGrant, next_stage}
 use Rattle.dispatch_log.specs.Retries.{are_redispatched}
 use Rattle.dispatch_log.specs.Rows.{pin_of, in_phase}
 use Rattle.dispatch_log.specs.States.{State, after}
@@ -33,7 +33,7 @@ grant_over setup s t u v q over = absurd over
 -- and more may come
 grant_more : (setup : Setup) (s : State) (t : Stage) (u v : ℕ) (q : Queue) → MayGrant setup s t
     → MayGrant setup (after setup s (Granted u q v)) (next_stage t (Granted u q v))
-grant_more setup s (leaving l w) u v q may = subst (λ n. IsTrue (are_redispatched setup n)) (sym (failures_stay l u (Serving v) s.rows)) may
+grant_more setup s (freed_by_failure l w) u v q may = subst (λ n. IsTrue (are_redispatched setup n)) (sym (failures_stay l u (Serving v) s.rows)) may
 grant_more setup s granting u v q may = tt
 grant_more setup s telling u v q may = tt
 grant_more setup s (checking w) u v q may = tt
@@ -44,7 +44,7 @@ grant_more setup s t u v q may = absurd may
 pub record GrantsSince (old now : History) : Type 0 where
   pub goes : GoesOn old now
   pub over : IsOverNext old → IsOverNext now
-  pub leaving : (ticket server : ℕ) → stage_of old ≡ leaving ticket server → stage_of now ≡ leaving ticket server
+  pub freed_by_failure : (ticket server : ℕ) → stage_of old ≡ freed_by_failure ticket server → stage_of now ≡ freed_by_failure ticket server
   pub may_grant : MayGrantNext now
   pub room : length now.log + waiting_of now ≤ now.setup.log
   pub counted : length goes.entries + waiting_of now ≡ waiting_of old
@@ -55,7 +55,7 @@ pub since_none : (h : History) → MayGrantNext h → length h.log + waiting_of 
 since_none h may_grant room = record {
   goes = goes_none h;
   over = λ over. over;
-  leaving = λ ticket server stage. stage;
+  freed_by_failure = λ ticket server stage. stage;
   may_grant = may_grant;
   room = room;
   counted = omega arith;
@@ -69,9 +69,9 @@ since_more old now next since grant =
     record {
       goes = goes_more old now next e since.goes grant.grants refl;
       over = λ over. goes_on IsOver (grant_over now.setup (state_of now) (stage_of now) grant.ticket grant.server grant.queue (since.over over));
-      leaving =
+      freed_by_failure =
           λ ticket server stage. ap stage_of grant.grants ∙ stage_after-push granting now.log e
-          ∙ ap (λ (t : Stage). next_stage t e) (since.leaving ticket server stage);
+          ∙ ap (λ (t : Stage). next_stage t e) (since.freed_by_failure ticket server stage);
       may_grant = goes_on MayGrant (grant_more now.setup (state_of now) (stage_of now) grant.ticket grant.server grant.queue grant.lawful.0);
       room =
           let longer : length next.log ≡ length now.log + 1 = longer now next e grant.grants in
@@ -114,7 +114,7 @@ pub settles : (old now last : History) → GrantsSince old now → last ≡ now 
 settles old now last since same judged settled = subst (λ (h : History). Settles old h) (sym same) (record {
   goes = since.goes;
   over = since.over;
-  leaving = since.leaving;
+  freed_by_failure = since.freed_by_failure;
   may_grant = since.may_grant;
   few = (let counted = since.counted in omega arith);
   pins = λ ticket. since.pins ticket;

@@ -15,12 +15,12 @@ use Rattle.dispatch_log.specs.declared.refusal.Refusal.TheVariants.{LogFull}
 use Rattle.dispatch_log.specs.declared.setup.Setup.{Setup}
 use Rattle.dispatch_log.specs.Histories.{History, SomeExpires, state_of, effective}
 use Rattle.dispatch_log.specs.Legal.{IsLegal, AddsEvent}
-use Rattle.dispatch_log.specs.Judgement.{Stage, telling, granting, has_expired, IsExpired, IsFirstExpired, IsInPhase, IsOver, MayGrant, MayCome, next_stage}
+use Rattle.dispatch_log.specs.Judgement.{Stage, telling, granting, HasExpired, IsExpired, IsFirstExpired, IsInPhase, IsOver, MayGrant, MayCome, next_stage}
 use Rattle.dispatch_log.specs.Refusals.{is_waiting, lacks_room, tick_refusal}
 use Rattle.dispatch_log.specs.Rows.{Rows, StandsAt, with_change, changed, in_phase}
 use Rattle.dispatch_log.specs.Grants.{IsSettled}
 use Rattle.dispatch_log.specs.States.{State, opening_state, scene}
-use Rattle.dispatch_log.specs.Words.{Scene}
+use Rattle.dispatch_log.specs.Scenes.{Scene}
 use Rattle.dispatch_log.proofs.Judged.{after_all-push, stage_after-push, judged_push}
 use Rattle.list_facts.proofs.Places.{tally, count-set}
 use Rattle.dispatch_log.proofs.RowLemmas.{with_change_own, with_change_other}
@@ -36,7 +36,7 @@ use Rattle.dispatch_log.proofs.Runs.{adds_piece}
 use Rattle.dispatch_core.proofs.Calls.{legal_places}
 use Rattle.dispatch_trace.proofs.Expiring.{expired_since}
 
-told_not_expired : (setup : Setup) (now : ℕ) (r : Row) (phase : Phase) → has_expired setup now r.phase → r.phase ≡ phase → is_waiting phase ≡ false
+told_not_expired : (setup : Setup) (now : ℕ) (r : Row) (phase : Phase) → HasExpired setup now r.phase → r.phase ≡ phase → is_waiting phase ≡ false
     → ⊥
 told_not_expired setup now r phase expired same idle =
     let it = expired_since setup now r.phase expired in
@@ -47,7 +47,7 @@ told_not_expired setup now r phase expired same idle =
 
 -- once a ticket is told, the rows that have expired are the other ones that had
 module _ (setup : Setup) (rows : Rows) (now t : ℕ) (phase : Phase) (idle : is_waiting phase ≡ false) where
-  still_expired : (p : ℕ) (r : Row) → StandsAt (changed t (in_phase phase) rows) p r → has_expired setup now r.phase
+  still_expired : (p : ℕ) (r : Row) → StandsAt (changed t (in_phase phase) rows) p r → HasExpired setup now r.phase
       → StandsAt rows p r × (r.key.ticket ≢ t)
   still_expired p r stands expired = by_cell (slice_get rows p) refl (sym (slice_get-map (with_change t (in_phase phase)) rows p) ∙ stands)
     where
@@ -121,7 +121,7 @@ module _ (old now : History) (tickets : List (ℕ × ℕ)) (t u : ℕ) (since : 
   ascending_are : IsAscending nat_cmp ((t, u) ∷ drop 1 tickets)
   ascending_are = subst (IsAscending nat_cmp) tickets_are since.ascending
 
-  its_row : (row : Row) × StandsAt (state_of now).rows u row × has_expired now.setup (state_of now).moment row.phase × (row.key.ticket ≡ t)
+  its_row : (row : Row) × StandsAt (state_of now).rows u row × HasExpired now.setup (state_of now).moment row.phase × (row.key.ticket ≡ t)
   its_row = (since.expired t u).0 (subst (λ (l : List (ℕ × ℕ)). Contains l (t, u)) (sym tickets_are) (Contains-head (t, u) (drop 1 tickets)))
 
   pub its_place : IsAt (state_of now).rows (record { place = u; ticket = t })
@@ -179,13 +179,13 @@ module _ (old now : History) (tickets : List (ℕ × ℕ)) (t u : ℕ) (since : 
     left_expired : AreExpired next (drop 1 tickets)
     left_expired ticket place =
         subst (λ (x : Setup). (Contains (drop 1 tickets) (ticket, place) → (row : Row) × StandsAt (state_of next).rows place row
-        × has_expired x (state_of next).moment row.phase × (row.key.ticket ≡ ticket))
-        × ((row : Row) × StandsAt (state_of next).rows place row × has_expired x (state_of next).moment row.phase × (row.key.ticket ≡ ticket)
+        × HasExpired x (state_of next).moment row.phase × (row.key.ticket ≡ ticket))
+        × ((row : Row) × StandsAt (state_of next).rows place row × HasExpired x (state_of next).moment row.phase × (row.key.ticket ≡ ticket)
         → Contains (drop 1 tickets) (ticket, place))) (sym setup_next)
         (state_next
-        (λ (s : State). (Contains (drop 1 tickets) (ticket, place) → (row : Row) × StandsAt s.rows place row × has_expired now.setup s.moment row.phase
+        (λ (s : State). (Contains (drop 1 tickets) (ticket, place) → (row : Row) × StandsAt s.rows place row × HasExpired now.setup s.moment row.phase
         × (row.key.ticket ≡ ticket))
-        × ((row : Row) × StandsAt s.rows place row × has_expired now.setup s.moment row.phase × (row.key.ticket ≡ ticket)
+        × ((row : Row) × StandsAt s.rows place row × HasExpired now.setup s.moment row.phase × (row.key.ticket ≡ ticket)
         → Contains (drop 1 tickets) (ticket, place))) (
           λ among.
               let it =
@@ -265,7 +265,7 @@ module _ (h one : History) (m : ℕ) (begun : one ≡ with_entry h (Tick m)) whe
       judged = judged.judged;
       whole =
           subst (λ (x : Stage). IsOver one.setup (state_of one) x) (sym tick_tells)
-          (λ row expired. none (row, expired.0, subst (λ n. has_expired one.setup n row.phase) (sym same_moment) expired.1));
+          (λ row expired. none (row, expired.0, subst (λ n. HasExpired one.setup n row.phase) (sym same_moment) expired.1));
       settled = subst (λ (x : Scene). IsSettled x) (sym same_scene) legal.lawful.settled;
     });
   }

@@ -6,7 +6,7 @@ use Rattle.dispatch_log.specs.declared.row.Row.{Row}
 use Rattle.dispatch_log.specs.declared.setup.Setup.{Setup}
 use Rattle.dispatch_log.specs.Grants.{IsSettled}
 use Rattle.dispatch_log.specs.Histories.{History, state_of, begins_event}
-use Rattle.dispatch_log.specs.Judgement.{HasSlot, IsTold, granting, leaving, falling}
+use Rattle.dispatch_log.specs.Judgement.{HasSlot, IsTold, granting, freed_by_failure, falling}
 use Rattle.dispatch_log.specs.Rows.{Rows, IsRow, pin_of, phase_waits_in}
 use Rattle.dispatch_trace.specs.declared.position.Ticketed.{Ticketed}
 use Rattle.dispatch_trace.specs.Histories.{with_entry, stage_of, scene_of, waiting_of, HasPlaces, IsAt, IsJudged, IsOverNext, MayGrantNext}
@@ -32,7 +32,7 @@ pub record GoesOn (old new : History) : Type 0 where
 pub record Settles (old new : History) : Type 0 where
   pub goes : GoesOn old new
   pub over : IsOverNext old → IsOverNext new
-  pub leaving : (ticket server : ℕ) → stage_of old ≡ leaving ticket server → stage_of new ≡ leaving ticket server
+  pub freed_by_failure : (ticket server : ℕ) → stage_of old ≡ freed_by_failure ticket server → stage_of new ≡ freed_by_failure ticket server
   pub may_grant : MayGrantNext new
   pub few : length goes.entries ≤ waiting_of old
   pub pins : (ticket : ℕ) → pin_of ticket (state_of new).rows ≡ pin_of ticket (state_of old).rows

@@ -3,7 +3,7 @@ ghost use Rattle.dispatch_log.specs.declared.entry.Entry.TheVariants.{Arrive, Do
 ghost use Rattle.dispatch_log.specs.Dispatch.{IsDispatched};
 ghost use Rattle.dispatch_log.specs.Histories.{History, first_window, next_window, state_of, effective, refuses_arrival, refuses_done, refuses_failure, refuses_abort, refuses_tick, refuses_check, refuses_limit, SomeExpires, RefusedOrNoMemory};
 ghost use Rattle.dispatch_log.specs.Legal.{IsLegal, AddsEvent};
-ghost use Rattle.dispatch_log.specs.Words.{is_up};
+ghost use Rattle.dispatch_log.specs.Scenes.{is_up};
 ghost use Rattle.dispatch_log.specs.Rows.{row_of, served, queued};
 ghost use Rattle.dispatch_log.specs.Setups.{IsSound};
 ghost use Rattle.dispatch_trace.specs.Histories.{scene_of, IsAt, HasEntryRoom};

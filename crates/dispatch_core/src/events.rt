@@ -2,7 +2,7 @@ ghost use Rattle.std.specs.Prelude.{◌≡◌, ◌+◌, ◌<◌, ◌≤◌, [], 
 ghost use Rattle.check_state.specs.Standing.{change_between};
 ghost use Rattle.dispatch_log.specs.Histories.{state_of};
 ghost use Rattle.dispatch_log.specs.Judgement.{returning, failing, checking, falling, telling, was_up, HasSlot};
-ghost use Rattle.dispatch_log.specs.Words.{is_up};
+ghost use Rattle.dispatch_log.specs.Scenes.{is_up};
 ghost use Rattle.dispatch_log.specs.Retries.{are_spent, are_redispatched};
 ghost use Rattle.dispatch_log.specs.Rows.{pin_of, failures_of};
 ghost use Rattle.dispatch_core.specs.Steps.{IsReturn, Places, Leaves, Settles, CarriesOn, MovesAll, HasEventRoom};

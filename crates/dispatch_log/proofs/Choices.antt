@@ -20,7 +20,7 @@ use Rattle.dispatch_log.specs.Grants.{CanTake, IsNextTaker}
 use Rattle.dispatch_log.specs.Picks.{weight_of, steps_after, IsPick}
 use Rattle.dispatch_log.specs.Placement.{IsCandidate, IsChosen, IsJoining, IsTurnedAway}
 use Rattle.dispatch_log.specs.Rows.{Rows, IsRow, queued, same_queue, phase_waits_in}
-use Rattle.dispatch_log.specs.Words.{Scene, of_server, is_up, is_usable, is_free, has_room, takes_pinned, working_pin, may_take, may_go_to}
+use Rattle.dispatch_log.specs.Scenes.{Scene, of_server, is_up, is_usable, is_free, has_room, takes_pinned, working_pin, may_take, may_go_to}
 use Rattle.dispatch_log.proofs.RowLemmas.{HaveOwnTickets}
 
 -- keys of which neither comes after the other are one

@@ -5,7 +5,7 @@ use Rattle.std.proofs.Math.ListN.{set}
 use Rattle.std.proofs.lemmas.Option.{same_Some}
 use Rattle.dispatch_log.specs.declared.row.Phase.TheVariants.{Loose}
 use Rattle.dispatch_log.specs.declared.row.Row.{Row}
-use Rattle.dispatch_log.specs.Judgement.{Stage, placing, ending, leaving}
+use Rattle.dispatch_log.specs.Judgement.{Stage, placing, ending, freed_by_failure}
 use Rattle.dispatch_log.specs.Rows.{Rows, StandsAt, IsVacant}
 use Rattle.list_facts.proofs.Places.{get-set_same, get-set_other, get-set_cases}
 use Rattle.list_facts.proofs.Never.{none_some}
@@ -15,7 +15,7 @@ use Rattle.dispatch_log.proofs.RowLemmas.{HaveOwnTickets}
 abbrev pub loose_ticket : Stage → Option ℕ
 loose_ticket (placing ticket) = Some ticket
 loose_ticket (ending ticket) = Some ticket
-loose_ticket (leaving ticket server) = Some ticket
+loose_ticket (freed_by_failure ticket server) = Some ticket
 loose_ticket stage = None
 
 -- a ticket's row is in no place

@@ -18,13 +18,13 @@ use Rattle.dispatch_log.specs.declared.setup.Setup.{Setup}
 use Rattle.dispatch_log.specs.Dispatch.{bound_by, bound_of, KeepsLimits, given_between, is_arrival_of, is_end_of, arrivals_of, ends_of, is_placed, IsDispatched}
 use Rattle.dispatch_log.specs.Histories.{History, state_of}
 use Rattle.dispatch_log.specs.Legal.{IsBase, IsLegal}
-use Rattle.dispatch_log.specs.Judgement.{Stage, placing, returning, ending, failing, leaving, aborting, telling}
+use Rattle.dispatch_log.specs.Judgement.{Stage, placing, returning, ending, failing, freed_by_failure, aborting, telling}
 use Rattle.dispatch_log.specs.Judgement.{checking, falling, granting, IsPut, MayCome, next_stage, stage_after, AllMayCome}
 use Rattle.dispatch_log.specs.Refusals.{has_a_slot}
 use Rattle.dispatch_log.specs.Retries.{failed}
 use Rattle.dispatch_log.specs.Rows.{Rows, StandsAt, IsRow, changed, in_phase, in_backend_since, gone, pin_of, has_ticket, is_served_by, served, rows_of}
 use Rattle.dispatch_log.specs.States.{State, scene, after, after_all, arrived}
-use Rattle.dispatch_log.specs.Words.{Scene, is_free}
+use Rattle.dispatch_log.specs.Scenes.{Scene, is_free}
 use Rattle.dispatch_log.proofs.Accepted.{row_of_accepted}
 use Rattle.dispatch_log.proofs.Consistency.{IsConsistent, loose_ticket}
 use Rattle.dispatch_log.proofs.Judged.{consistent_after, consistent_all, over_none}
@@ -155,17 +155,17 @@ writes_of setup s n t (Granted u q v) is may =
     named setup s (Granted u q v) u it.live.0 it.row (in_phase (Serving v)) is.tickets it.live.1 it.named refl refl
     (λ server same. inl (slot_was_free setup s v server it.next.takes.0 same)) (λ ticket. refl)
 writes_of setup s n (placing t) e is may = put_writes setup s t (placing t) e s.cursor (scene setup s).ups (pin_of t s.rows) None is refl may
-writes_of setup s n (leaving t w) (Left u Retries) is may =
+writes_of setup s n (freed_by_failure t w) (Left u Retries) is may =
     let it = is.owed t refl in
     named setup s (Left u Retries) u it.place it.row (in_phase (Told Retries)) is.tickets it.stands (it.named ∙ sym may.0) refl refl
     (λ server e. false_true e) (λ ticket. refl)
-writes_of setup s n (leaving t w) (Direct u v) is may =
-    put_writes setup s t (leaving t w) (Direct u v) s.cursor (scene setup s).ups None (Some w) is refl may.put
-writes_of setup s n (leaving t w) (Joined u q) is may =
-    put_writes setup s t (leaving t w) (Joined u q) s.cursor (scene setup s).ups None (Some w) is refl may.put
-writes_of setup s n (leaving t w) (Left u NoServer) is may =
-    put_writes setup s t (leaving t w) (Left u NoServer) s.cursor (scene setup s).ups None (Some w) is refl may.put
-writes_of setup s n (leaving t w) e is may = absurd may.put
+writes_of setup s n (freed_by_failure t w) (Direct u v) is may =
+    put_writes setup s t (freed_by_failure t w) (Direct u v) s.cursor (scene setup s).ups None (Some w) is refl may.put
+writes_of setup s n (freed_by_failure t w) (Joined u q) is may =
+    put_writes setup s t (freed_by_failure t w) (Joined u q) s.cursor (scene setup s).ups None (Some w) is refl may.put
+writes_of setup s n (freed_by_failure t w) (Left u NoServer) is may =
+    put_writes setup s t (freed_by_failure t w) (Left u NoServer) s.cursor (scene setup s).ups None (Some w) is refl may.put
+writes_of setup s n (freed_by_failure t w) e is may = absurd may.put
 writes_of setup s n (returning t) (Freed u v) is may =
     let slot = may.1 in
     named setup s (Freed u v) u slot.live.0 slot.row (in_phase Loose) is.tickets slot.live.1 slot.named refl refl

@@ -14,14 +14,14 @@ use Rattle.dispatch_log.specs.declared.row.Row.{Row}
 use Rattle.dispatch_log.specs.declared.setup.Setup.{Setup}
 use Rattle.dispatch_log.specs.declared.queue.Queue.{Queue}
 use Rattle.dispatch_log.specs.declared.queue.Queue.TheVariants.{Backend, Server}
-use Rattle.dispatch_log.specs.Judgement.{IsInPhase, HasSlot, IsTold, Stage, placing, returning, ending, failing, leaving, aborting, telling, checking}
-use Rattle.dispatch_log.specs.Judgement.{falling, granting, IsOver, MayGrant, IsPut, MayCome, IsFirstIn, has_expired, next_stage, stage_after, AllMayCome}
+use Rattle.dispatch_log.specs.Judgement.{IsInPhase, HasSlot, IsTold, Stage, placing, returning, ending, failing, freed_by_failure, aborting, telling, checking}
+use Rattle.dispatch_log.specs.Judgement.{falling, granting, IsOver, MayGrant, IsPut, MayCome, IsFirstIn, HasExpired, next_stage, stage_after, AllMayCome}
 use Rattle.dispatch_log.specs.Health.{results_of}
 use Rattle.dispatch_log.specs.Refusals.{is_waiting, has_a_slot, failure_refusal}
 use Rattle.dispatch_log.specs.Retries.{failed}
 use Rattle.dispatch_log.specs.Rows.{Rows, StandsAt, with_change, changed, in_phase, in_backend_since, gone, phase_waits_in, pin_of, served}
 use Rattle.dispatch_log.specs.States.{State, scene, after, after_all, arrived}
-use Rattle.dispatch_log.specs.Words.{Scene}
+use Rattle.dispatch_log.specs.Scenes.{Scene}
 use Rattle.dispatch_log.proofs.Accepted.{row_of_accepted}
 use Rattle.dispatch_log.proofs.Consistency.{IsConsistent, IsLoose, loose_ticket, at_stage, placed, moved, loosened, removed, dismissed, admitted}
 use Rattle.dispatch_log.proofs.RowLemmas.{changed_at}
@@ -57,7 +57,7 @@ over_none setup s t over = absurd over
 -- the row that is in no place, or none, stays so over a grant
 pub grant_keeps : (setup : Setup) (s : State) (t : Stage) (u v : ℕ) (q : Queue) → MayGrant setup s t
     → loose_ticket t ≡ loose_ticket (next_stage t (Granted u q v))
-grant_keeps setup s (leaving t w) u v q may = refl
+grant_keeps setup s (freed_by_failure t w) u v q may = refl
 grant_keeps setup s granting u v q may = refl
 grant_keeps setup s telling u v q may = refl
 grant_keeps setup s (checking w) u v q may = refl
@@ -83,7 +83,7 @@ slot_firm (Waiting other m) slot e = cc
 slot_firm (Serving v) slot e = cc
 slot_firm (Told c) slot e = cc
 
-expired_firm : (setup : Setup) (now : ℕ) (phase : Phase) → has_expired setup now phase → phase ≢ Loose
+expired_firm : (setup : Setup) (now : ℕ) (phase : Phase) → HasExpired setup now phase → phase ≢ Loose
 expired_firm setup now Loose expired e = absurd expired
 expired_firm setup now (Waiting other m) expired e = cc
 expired_firm setup now (Serving v) expired e = cc
@@ -154,16 +154,17 @@ consistent_after setup s n (placing t) (Joined u q) is may =
     put_after setup s t (placing t) (Joined u q) (scene setup s) s.cursor (pin_of t s.rows) None is refl refl may
 consistent_after setup s n (placing t) (Left u NoServer) is may =
     put_after setup s t (placing t) (Left u NoServer) (scene setup s) s.cursor (pin_of t s.rows) None is refl refl may
-consistent_after setup s n (leaving t w) (Direct u v) is may =
-    put_after setup s t (leaving t w) (Direct u v) (scene setup s) s.cursor None (Some w) is refl refl may.put
-consistent_after setup s n (leaving t w) (Joined u q) is may =
-    put_after setup s t (leaving t w) (Joined u q) (scene setup s) s.cursor None (Some w) is refl refl may.put
-consistent_after setup s n (leaving t w) (Left u NoServer) is may =
-    put_after setup s t (leaving t w) (Left u NoServer) (scene setup s) s.cursor None (Some w) is refl refl may.put
-consistent_after setup s n (leaving t w) (Left u Retries) is may = settled_in s t u (leaving t w) granting (Told Retries) is refl refl may.0 (λ e. cc)
-consistent_after setup s n (leaving t w) e is may = absurd may.put
+consistent_after setup s n (freed_by_failure t w) (Direct u v) is may =
+    put_after setup s t (freed_by_failure t w) (Direct u v) (scene setup s) s.cursor None (Some w) is refl refl may.put
+consistent_after setup s n (freed_by_failure t w) (Joined u q) is may =
+    put_after setup s t (freed_by_failure t w) (Joined u q) (scene setup s) s.cursor None (Some w) is refl refl may.put
+consistent_after setup s n (freed_by_failure t w) (Left u NoServer) is may =
+    put_after setup s t (freed_by_failure t w) (Left u NoServer) (scene setup s) s.cursor None (Some w) is refl refl may.put
+consistent_after setup s n (freed_by_failure t w) (Left u Retries) is may =
+    settled_in s t u (freed_by_failure t w) granting (Told Retries) is refl refl may.0 (λ e. cc)
+consistent_after setup s n (freed_by_failure t w) e is may = absurd may.put
 consistent_after setup s n (returning t) (Freed u v) is may = gives_back s u u v (returning t) (ending u) is refl refl refl may.1
-consistent_after setup s n (failing t) (Freed u v) is may = gives_back s u u v (failing t) (leaving u v) is refl refl refl may.1
+consistent_after setup s n (failing t) (Freed u v) is may = gives_back s u u v (failing t) (freed_by_failure u v) is refl refl refl may.1
 consistent_after setup s n (failing t) (Retried u v k) is may = at_stage s.rows s.ticket (failing t) granting is refl
 consistent_after setup s n (ending t) (Ended u) is may =
     let it = is.owed t refl in
@@ -270,26 +271,26 @@ limits_all setup s (e ∷ es) = limits_all setup (after setup s e) es ∙ limits
 pub direct_row : (setup : Setup) (s : State) (n : ℕ) (t : Stage) (u v : ℕ) → IsConsistent s.rows s.ticket t → MayCome setup s n t (Direct u v)
     → IsLoose s.rows u
 direct_row setup s n (placing t) u v is may = renamed s.rows t u (is.owed t refl) may.0
-direct_row setup s n (leaving t w) u v is may = renamed s.rows t u (is.owed t refl) may.put.0
+direct_row setup s n (freed_by_failure t w) u v is may = renamed s.rows t u (is.owed t refl) may.put.0
 direct_row setup s n t u v is may = absurd may
 
 pub joined_row : (setup : Setup) (s : State) (n : ℕ) (t : Stage) (u : ℕ) (q : Queue) → IsConsistent s.rows s.ticket t → MayCome setup s n t (Joined u q)
     → IsLoose s.rows u
 joined_row setup s n (placing t) u q is may = renamed s.rows t u (is.owed t refl) may.0
-joined_row setup s n (leaving t w) u q is may = renamed s.rows t u (is.owed t refl) may.put.0
+joined_row setup s n (freed_by_failure t w) u q is may = renamed s.rows t u (is.owed t refl) may.put.0
 joined_row setup s n t u q is may = absurd may
 
 -- the row that is told is in no place yet, or waits
 pub left_row : (setup : Setup) (s : State) (n : ℕ) (t : Stage) (u : ℕ) (c : Cause) → IsConsistent s.rows s.ticket t → MayCome setup s n t (Left u c)
     → IsLoose s.rows u ⊎ IsInPhase is_waiting s.rows u
 left_row setup s n (placing t) u NoServer is may = inl (renamed s.rows t u (is.owed t refl) may.0)
-left_row setup s n (leaving t w) u NoServer is may = inl (renamed s.rows t u (is.owed t refl) may.put.0)
-left_row setup s n (leaving t w) u Retries is may = inl (renamed s.rows t u (is.owed t refl) may.0)
-left_row setup s n (leaving t w) u c is may = absurd may.put
+left_row setup s n (freed_by_failure t w) u NoServer is may = inl (renamed s.rows t u (is.owed t refl) may.put.0)
+left_row setup s n (freed_by_failure t w) u Retries is may = inl (renamed s.rows t u (is.owed t refl) may.0)
+left_row setup s n (freed_by_failure t w) u c is may = absurd may.put
 left_row setup s n (aborting t) u Aborted is may = inr may.1
 left_row setup s n telling u Timeout is may = inr (record { row = may.row; live = may.expired.0; named = may.named; phase = waits may.row.phase may.expired.1 })
   where
-    waits : (phase : Phase) → has_expired setup s.moment phase → IsTrue (is_waiting phase)
+    waits : (phase : Phase) → HasExpired setup s.moment phase → IsTrue (is_waiting phase)
     waits (Waiting q m) expired = refl
     waits Loose expired = absurd expired
     waits (Serving v) expired = absurd expired
@@ -300,9 +301,9 @@ left_row setup s n t u c is may = absurd may
 pub loose_left : (setup : Setup) (s : State) (n : ℕ) (t : Stage) (u : ℕ) (c : Cause) → IsConsistent s.rows s.ticket t → c ≢ Aborted → c ≢ Timeout
     → MayCome setup s n t (Left u c) → IsLoose s.rows u
 loose_left setup s n (placing t) u NoServer is first second may = renamed s.rows t u (is.owed t refl) may.0
-loose_left setup s n (leaving t w) u NoServer is first second may = renamed s.rows t u (is.owed t refl) may.put.0
-loose_left setup s n (leaving t w) u Retries is first second may = renamed s.rows t u (is.owed t refl) may.0
-loose_left setup s n (leaving t w) u c is first second may = absurd may.put
+loose_left setup s n (freed_by_failure t w) u NoServer is first second may = renamed s.rows t u (is.owed t refl) may.put.0
+loose_left setup s n (freed_by_failure t w) u Retries is first second may = renamed s.rows t u (is.owed t refl) may.0
+loose_left setup s n (freed_by_failure t w) u c is first second may = absurd may.put
 loose_left setup s n (aborting t) u Aborted is first second may = absurd (first refl)
 loose_left setup s n telling u Timeout is first second may = absurd (second refl)
 loose_left setup s n t u c is first second may = absurd may
@@ -312,18 +313,18 @@ pub ended_row : (setup : Setup) (s : State) (n : ℕ) (t : Stage) (u : ℕ) → 
     → IsLoose s.rows u ⊎ IsTold s.rows u
 ended_row setup s n (ending t) u is may = inl (renamed s.rows t u (is.owed t refl) may)
 ended_row setup s n (returning t) u is may = inr may.1
-ended_row setup s n (leaving t w) u is may = absurd may.put
+ended_row setup s n (freed_by_failure t w) u is may = absurd may.put
 ended_row setup s n t u is may = absurd may
 
 -- a slot that is given back was the ticket's
 pub freed_slot : (setup : Setup) (s : State) (n : ℕ) (t : Stage) (u v : ℕ) → MayCome setup s n t (Freed u v) → HasSlot s.rows u v
 freed_slot setup s n (returning t) u v may = may.1
 freed_slot setup s n (failing t) u v may = may.1
-freed_slot setup s n (leaving t w) u v may = absurd may.put
+freed_slot setup s n (freed_by_failure t w) u v may = absurd may.put
 freed_slot setup s n t u v may = absurd may
 
 -- a stay that is moved is the first of its server's queue
 pub moved_row : (setup : Setup) (s : State) (n : ℕ) (t : Stage) (u v : ℕ) → MayCome setup s n t (Moved u v) → IsFirstIn (Server v) s.rows u
 moved_row setup s n (falling w) u v may = may.2
-moved_row setup s n (leaving t w) u v may = absurd may.put
+moved_row setup s n (freed_by_failure t w) u v may = absurd may.put
 moved_row setup s n t u v may = absurd may

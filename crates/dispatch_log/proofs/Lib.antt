@@ -12,6 +12,7 @@ pub mod Runs
 pub mod WrongLogs
 pub mod FourPlaces
 pub mod WrongChanges
+pub mod QueueOrder
 pub mod RightLogs
 pub mod RightWindows
 pub mod WrongWindows

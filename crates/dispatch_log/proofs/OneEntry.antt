@@ -17,12 +17,12 @@ use Rattle.dispatch_log.specs.declared.setup.Setup.{Setup}
 use Rattle.dispatch_log.specs.Grants.{IsSettled, IsLawfulGrant}
 use Rattle.dispatch_log.specs.Histories.{begins_event}
 use Rattle.dispatch_log.specs.Judgement.{IsInPhase, HasSlot, IsTold, IsFirstExpired, IsFirstIn, was_up, Stage, placing, returning, ending, failing}
-use Rattle.dispatch_log.specs.Judgement.{leaving, aborting, telling, checking, falling, granting, IsOver, MayGrant, IsPut, IsPutAnew, MayCome}
+use Rattle.dispatch_log.specs.Judgement.{freed_by_failure, aborting, telling, checking, falling, granting, IsOver, MayGrant, IsPut, IsPutAnew, MayCome}
 use Rattle.dispatch_log.specs.Refusals.{is_waiting}
 use Rattle.dispatch_log.specs.Retries.{are_spent, are_redispatched, are_retried}
 use Rattle.dispatch_log.specs.Rows.{Rows, phase_is_served_by, phase_is_told, phase_waits_in, pin_of, failures_of}
 use Rattle.dispatch_log.specs.States.{State, scene}
-use Rattle.dispatch_log.specs.Words.{Scene, is_up, is_free, may_go_to}
+use Rattle.dispatch_log.specs.Scenes.{Scene, is_up, is_free, may_go_to}
 use Rattle.dispatch_log.proofs.Choices.{key_same, row_same, waits_same, goes, taker_same, chosen_same, chosen_not_backend, chosen_not_away}
 use Rattle.dispatch_log.proofs.RowLemmas.{HaveOwnTickets}
 
@@ -37,9 +37,9 @@ module _ (setup : Setup) (s : State) where
       (ticket ≡ leaver) × HasSlot s.rows ticket server × (failures_of ticket s.rows ≡ failures) × IsTrue (are_retried setup failures)
   Owed (failing leaver) (Freed ticket server) =
       (ticket ≡ leaver) × HasSlot s.rows ticket server × (IsTrue (are_retried setup (failures_of ticket s.rows)) → ⊥)
-  Owed (leaving leaver server) (Left ticket Retries) =
+  Owed (freed_by_failure leaver server) (Left ticket Retries) =
       (ticket ≡ leaver) × IsTrue (are_spent setup (failures_of ticket s.rows))
-  Owed (leaving leaver server) entry = IsPutAnew setup s leaver server entry
+  Owed (freed_by_failure leaver server) entry = IsPutAnew setup s leaver server entry
   Owed (aborting leaver) (Left ticket Aborted) = (ticket ≡ leaver) × IsInPhase is_waiting s.rows ticket
   Owed telling (Left ticket Timeout) = IsFirstExpired setup s ticket
   Owed (checking checked) (Health server up) =
@@ -70,7 +70,7 @@ module _ (setup : Setup) (s : State) where
   granted_or_owed n (returning t) e none may = inr may
   granted_or_owed n (ending t) e none may = inr may
   granted_or_owed n (failing t) e none may = inr may
-  granted_or_owed n (leaving t w) e none may = inr may
+  granted_or_owed n (freed_by_failure t w) e none may = inr may
   granted_or_owed n (aborting t) e none may = inr may
   granted_or_owed n telling e none may = inr may
   granted_or_owed n (checking w) e none may = inr may
@@ -208,7 +208,7 @@ module _ (setup : Setup) (s : State) (own : HaveOwnTickets s.rows) (within : 0 <
       }
   carried_on t e owed = absurd owed
 
-  left_behind : (t w : ℕ) (e : Entry) → Owed setup s (leaving t w) e
+  left_behind : (t w : ℕ) (e : Entry) → Owed setup s (freed_by_failure t w) e
       → ((e ≡ Left t Retries) × IsTrue (are_spent setup (failures_of t s.rows))) ⊎ IsPutAnew setup s t w e
   left_behind t w (Left u Retries) owed = inl (ap (λ k. Left k Retries) owed.0, subst (λ k. are_spent setup (failures_of k s.rows) ≡ true) owed.0 owed.1)
   left_behind t w e owed = inr owed
@@ -261,7 +261,7 @@ module _ (setup : Setup) (s : State) (own : HaveOwnTickets s.rows) (within : 0 <
         | inl again ↦ a.kept again ∙ ap (λ k. Retried t k (failures_of t s.rows)) server ∙ sym (b.kept again)
         | inr refused ↦ a.given_back refused ∙ ap (Freed t) server ∙ sym (b.given_back refused)
       ]
-  owed_same (leaving t w) e f first second =
+  owed_same (freed_by_failure t w) e f first second =
       elim (left_behind t w e first) [
         | inl a ↦ elim (left_behind t w f second) [
           | inl b ↦ a.0 ∙ sym b.0
@@ -294,7 +294,7 @@ module _ (setup : Setup) (s : State) (own : HaveOwnTickets s.rows) (within : 0 <
 
   -- and where a slot may go to another request first, the one that is put anew isn't put yet
   grant_owes_none : (t : Stage) (u v : ℕ) (q : Queue) (e : Entry) → MayGrant setup s t → IsLawfulGrant sc s.cursor u q v → Owed setup s t e → ⊥
-  grant_owes_none (leaving t w) u v q e may grant owed =
+  grant_owes_none (freed_by_failure t w) u v q e may grant owed =
       elim (left_behind t w e owed) [
         | inl spent ↦ spent_not_redispatched setup (failures_of t s.rows) spent.1 may
         | inr put ↦ put.settled v grant.next.takes

@@ -18,9 +18,9 @@ use Rattle.dispatch_log.specs.States.{opening_limits}
 use Rattle.dispatch_log.proofs.Windows.{opening_base}
 use Rattle.dispatch_log.specs.Grants.{IsSettled}
 use Rattle.dispatch_log.specs.Legal.{IsLegal}
-use Rattle.dispatch_log.specs.Judgement.{AreLawful, has_expired}
+use Rattle.dispatch_log.specs.Judgement.{AreLawful, HasExpired}
 use Rattle.dispatch_log.specs.Rows.{phase_waits_in}
-use Rattle.dispatch_log.specs.Words.{Scene, may_go_to}
+use Rattle.dispatch_log.specs.Scenes.{Scene, may_go_to}
 use Rattle.dispatch_log.specs.Worked.{plain_server}
 use Rattle.dispatch_log.specs.WorkedChanges.{checked_server, worked_with_checks, worked_in_time}
 use Rattle.dispatch_log.proofs.FourPlaces.{for_no_row, for_one_row, for_two_rows, for_three_rows, first_row, second_row, third_row}
@@ -166,7 +166,7 @@ rising_is_lawful = record {
                     expired = ((1, refl), (up_by 1 4, up_by 6 1));
                     named = refl;
                     first = λ other is.
-                        for_three_rows (λ r. has_expired (worked_in_time []).setup 7 r.phase
+                        for_three_rows (λ r. HasExpired (worked_in_time []).setup 7 r.phase
                         → 2 ≤ r.key.ticket) (first_row None 0 (Serving 0)) (second_row None (Waiting Backend 1)) (third_row None (Waiting Backend 2))
                         (λ expired. absurd expired) (λ expired. up_by 2 0) (λ expired. up_by 2 1) other is.0 is.1;
                   },
@@ -176,7 +176,7 @@ rising_is_lawful = record {
                       expired = ((2, refl), (up_by 1 4, up_by 7 0));
                       named = refl;
                       first = λ other is.
-                          for_three_rows (λ r. has_expired (worked_in_time []).setup 7 r.phase
+                          for_three_rows (λ r. HasExpired (worked_in_time []).setup 7 r.phase
                           → 3 ≤ r.key.ticket) (first_row None 0 (Serving 0)) (second_row None (Told Timeout)) (third_row None (Waiting Backend 2))
                           (λ expired. absurd expired) (λ expired. absurd expired) (λ expired. up_by 3 0) other is.0 is.1;
                     },
@@ -191,7 +191,7 @@ rising_is_lawful = record {
     ),
   );
   whole = λ row is.
-      for_three_rows (λ r. has_expired (worked_in_time []).setup 7 r.phase
+      for_three_rows (λ r. HasExpired (worked_in_time []).setup 7 r.phase
       → ⊥) (first_row None 0 (Serving 0)) (second_row None (Told Timeout)) (third_row None (Told Timeout))
       (λ expired. expired) (λ expired. expired) (λ expired. expired) row is.0 is.1;
   settled = for_one_server _ (λ can. false_true can.0) (λ n can. false_true can.0);

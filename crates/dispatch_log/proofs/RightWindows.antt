@@ -19,7 +19,7 @@ use Rattle.dispatch_log.specs.Legal.{IsLegal}
 use Rattle.dispatch_log.specs.Rows.{Rows, phase_waits_in}
 use Rattle.dispatch_log.specs.Setups.{IsSound, is_within}
 use Rattle.dispatch_log.specs.States.{State, after_all, opening_limits}
-use Rattle.dispatch_log.specs.Words.{Scene, may_go_to}
+use Rattle.dispatch_log.specs.Scenes.{Scene, may_go_to}
 use Rattle.dispatch_log.specs.Worked.{plain_server, worked, worked_setup, two_wait}
 use Rattle.dispatch_log.specs.WorkedWindows.{pair_server, worked_by_pairs, two_are_served}
 use Rattle.dispatch_log.specs.WorkedWindows.{raised_limit_grants, lowered_limit_is_reached, waits_of_the_base_are_served}

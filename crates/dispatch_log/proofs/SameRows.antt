@@ -16,7 +16,7 @@ use Rattle.dispatch_log.specs.declared.setup.Setup.{Setup}
 use Rattle.dispatch_log.specs.Determined.{HaveSameRows, IsSameButForPlaces}
 use Rattle.dispatch_log.specs.Retries.{failed}
 use Rattle.dispatch_log.specs.Rows.{Rows, IsRow, IsVacant, row_of, with_change, changed, in_phase, in_backend_since, gone, pin_of, is_served_by}
-use Rattle.dispatch_log.specs.States.{State, after, arrived, put_on, put_in}
+use Rattle.dispatch_log.specs.States.{State, after, arrived, cursor_after_placing, cursor_after_joining}
 use Rattle.dispatch_log.proofs.Accepted.{row_of_found}
 use Rattle.dispatch_log.proofs.RowLemmas.{HaveOwnTickets, row_of_at, row_of_none}
 
@@ -126,11 +126,12 @@ module _ (setup : Setup) (s : State) (other : Rows) (same : HaveSameRows s.rows 
       same
   after-same (Direct u v) none =
       there_too (Direct u v)
-      (ap (λ (pin : Option ℕ). record s { rows = changed u (in_phase (Serving v)) other; cursor = put_on v pin s.cursor }) (pin_of-same u))
+      (ap (λ (pin : Option ℕ). record s { rows = changed u (in_phase (Serving v)) other; cursor = cursor_after_placing v pin s.cursor }) (pin_of-same u))
       (changed_too u (in_phase (Serving v)))
   after-same (Joined u q) none =
       there_too (Joined u q)
-      (ap (λ (pin : Option ℕ). record s { rows = changed u (in_phase (Waiting q s.moment)) other; cursor = put_in q pin s.cursor }) (pin_of-same u))
+      (ap (λ (pin : Option ℕ). record s { rows = changed u (in_phase (Waiting q s.moment)) other; cursor = cursor_after_joining q pin s.cursor })
+      (pin_of-same u))
       (changed_too u (in_phase (Waiting q s.moment)))
   after-same (Granted u q v) none = there_too (Granted u q v) refl (changed_too u (in_phase (Serving v)))
   after-same (Moved u v) none = there_too (Moved u v) refl (changed_too u (in_backend_since s.moment))

@@ -12,14 +12,14 @@ use Rattle.dispatch_log.specs.declared.row.Row.{Row}
 use Rattle.dispatch_log.specs.declared.setup.Setup.{Setup}
 use Rattle.dispatch_log.specs.Determined.{HaveSameRows}
 use Rattle.dispatch_log.specs.Grants.{CanTake, IsSettled, IsNextTaker, IsLawfulGrant}
-use Rattle.dispatch_log.specs.Judgement.{IsInPhase, IsFirstExpired, IsFirstIn, Stage, placing, returning, ending, failing, leaving}
+use Rattle.dispatch_log.specs.Judgement.{IsInPhase, IsFirstExpired, IsFirstIn, Stage, placing, returning, ending, failing, freed_by_failure}
 use Rattle.dispatch_log.specs.Judgement.{aborting, telling, checking, falling, granting, MayGrant, IsPut, IsPutAnew}
 use Rattle.dispatch_log.specs.Picks.{load, weight_of, IsNoMoreLoaded, IsPick}
 use Rattle.dispatch_log.specs.Placement.{IsCandidate, IsChosen}
 use Rattle.dispatch_log.specs.Retries.{are_spent, are_redispatched, are_retried}
 use Rattle.dispatch_log.specs.Rows.{Rows, pin_of, failures_of, is_served_by, waits_in, served, queued}
 use Rattle.dispatch_log.specs.States.{State, scene}
-use Rattle.dispatch_log.specs.Words.{Scene, limit_of, of_server, is_up, is_usable, is_free, has_room, takes_pinned, working_pin}
+use Rattle.dispatch_log.specs.Scenes.{Scene, limit_of, of_server, is_up, is_usable, is_free, has_room, takes_pinned, working_pin}
 use Rattle.dispatch_log.proofs.OneEntry.{Owed, MayBeGranted, IsNext}
 use Rattle.dispatch_log.proofs.RowLemmas.{HaveOwnTickets}
 use Rattle.dispatch_log.proofs.SameRows.{row_of-same, pin_of-same}
@@ -171,8 +171,8 @@ module _ (setup : Setup) (s : State) (other : Rows) (same : HaveSameRows s.rows 
     phase_back _ u owed.1,
     λ retried. owed.2 (subst (λ (n : ℕ). are_retried setup n ≡ true) (sym (failures-same u)) retried),
   )
-  owed_back (leaving t w) (Left u Retries) owed = (owed.0, subst (λ (n : ℕ). are_spent setup n ≡ true) (failures-same u) owed.1)
-  owed_back (leaving t w) e owed = anew_back t w e owed
+  owed_back (freed_by_failure t w) (Left u Retries) owed = (owed.0, subst (λ (n : ℕ). are_spent setup n ≡ true) (failures-same u) owed.1)
+  owed_back (freed_by_failure t w) e owed = anew_back t w e owed
   owed_back (aborting t) (Left u Aborted) owed = (owed.0, phase_back _ u owed.1)
   owed_back telling (Left u Timeout) owed = expired_back u owed
   owed_back (checking v) (Health w up) owed = owed
@@ -180,7 +180,7 @@ module _ (setup : Setup) (s : State) (other : Rows) (same : HaveSameRows s.rows 
   owed_back t e owed = absurd owed
 
   may_grant_back : (t : Stage) → MayGrant setup there t → MayGrant setup s t
-  may_grant_back (leaving t w) may = subst (λ (n : ℕ). are_redispatched setup n ≡ true) (failures-same t) may
+  may_grant_back (freed_by_failure t w) may = subst (λ (n : ℕ). are_redispatched setup n ≡ true) (failures-same t) may
   may_grant_back granting may = tt
   may_grant_back telling may = λ row expired. may row (same.there row expired.0, expired.1)
   may_grant_back (checking v) may = may

@@ -18,10 +18,10 @@ use Rattle.dispatch_log.specs.declared.row.Row.{Row}
 use Rattle.dispatch_log.specs.declared.setup.ServerSet.{ServerSet}
 use Rattle.dispatch_log.specs.declared.setup.Setup.{Setup}
 use Rattle.dispatch_log.specs.Bounds.{IsAtOneOf}
-use Rattle.dispatch_log.specs.Judgement.{Stage, placing, leaving, IsPut, MayCome, AllMayCome, next_stage}
+use Rattle.dispatch_log.specs.Judgement.{Stage, placing, freed_by_failure, IsPut, MayCome, AllMayCome, next_stage}
 use Rattle.dispatch_log.specs.Retries.{failed}
 use Rattle.dispatch_log.specs.Rows.{Rows, IsRow, IsVacant, changed, in_phase, in_backend_since, gone, pin_of}
-use Rattle.dispatch_log.specs.States.{State, scene, after, after_all, arrived, put_on, granted_by}
+use Rattle.dispatch_log.specs.States.{State, scene, after, after_all, arrived, cursor_after_placing, cursor_after_granting}
 use Rattle.dispatch_log.proofs.Choices.{free_there, chosen_there}
 use Rattle.dispatch_log.proofs.SameRows.{changed_row}
 
@@ -56,7 +56,7 @@ admitted_at_servers n rows p r vacant here at row live =
       | inr e ↦ at row (live.0, e.1)
     ]
 
-put_on_within : (n v cursor : ℕ) (pin : Option ℕ) → v < n → (0 < n → cursor < n) → 0 < n → put_on v pin cursor < n
+put_on_within : (n v cursor : ℕ) (pin : Option ℕ) → v < n → (0 < n → cursor < n) → 0 < n → cursor_after_placing v pin cursor < n
 put_on_within n v cursor None low was some = low
 put_on_within n v cursor (Some p) low was some = by_test (p == v)
   where
@@ -66,7 +66,7 @@ put_on_within n v cursor (Some p) low was some = by_test (p == v)
 
 module _ (setup : Setup) (s : State) where
   granted_within : (v : ℕ) → v < length setup.servers → (0 < length setup.servers → s.cursor < length setup.servers) → 0 < length setup.servers
-      → granted_by setup v s.cursor < length setup.servers
+      → cursor_after_granting setup v s.cursor < length setup.servers
   granted_within v low was some = by_test (option_map_or (λ (it : ServerSet). it.weight == 0) (slice_get setup.servers v) true)
     where
       by_test : (b : Bool) → cond b s.cursor v < length setup.servers
@@ -134,8 +134,8 @@ module _ (setup : Setup) (s : State) where
       }
   keeps_after n (placing t) (Direct u v) keeps may = put_keeps (pin_of t s.rows) None t (Direct u v) keeps may
   keeps_after n (placing t) (Joined u q) keeps may = put_keeps (pin_of t s.rows) None t (Joined u q) keeps may
-  keeps_after n (leaving t w) (Direct u v) keeps may = put_keeps None (Some w) t (Direct u v) keeps may.put
-  keeps_after n (leaving t w) (Joined u q) keeps may = put_keeps None (Some w) t (Joined u q) keeps may.put
+  keeps_after n (freed_by_failure t w) (Direct u v) keeps may = put_keeps None (Some w) t (Direct u v) keeps may.put
+  keeps_after n (freed_by_failure t w) (Joined u q) keeps may = put_keeps None (Some w) t (Joined u q) keeps may.put
   keeps_after n t (Direct u v) keeps may = absurd may
   keeps_after n t (Joined u q) keeps may = absurd may
   keeps_after n t (Moved u v) keeps may =

@@ -17,14 +17,14 @@ use Rattle.dispatch_log.specs.declared.row.Row.{Row}
 use Rattle.dispatch_log.specs.declared.setup.Setup.{Setup}
 use Rattle.dispatch_log.specs.declared.queue.Queue.{Queue}
 use Rattle.dispatch_log.specs.declared.queue.Queue.TheVariants.{Backend, Server}
-use Rattle.dispatch_log.specs.Judgement.{HasSlot, Stage, placing, returning, ending, failing, leaving, aborting, telling, checking}
+use Rattle.dispatch_log.specs.Judgement.{HasSlot, Stage, placing, returning, ending, failing, freed_by_failure, aborting, telling, checking}
 use Rattle.dispatch_log.specs.Judgement.{falling, granting, IsOver, MayGrant, IsPut, MayCome, next_stage, stage_after, AllMayCome}
 use Rattle.dispatch_log.specs.Refusals.{is_waiting, has_a_slot}
 use Rattle.dispatch_log.specs.Retries.{are_redispatched, are_retried, are_spent, failed}
 use Rattle.dispatch_log.specs.Rows.{Rows, StandsAt, IsRow, IsVacant, changed, in_phase, in_backend_since}
 use Rattle.dispatch_log.specs.Rows.{gone, pin_of, phase_is_told, phase_is_served_by, phase_waits_in, failures_of}
 use Rattle.dispatch_log.specs.States.{State, scene, after, after_all, arrived}
-use Rattle.dispatch_log.specs.Words.{Scene}
+use Rattle.dispatch_log.specs.Scenes.{Scene}
 use Rattle.dispatch_log.proofs.Accepted.{row_of_accepted}
 use Rattle.dispatch_log.proofs.Consistency.{IsConsistent, IsLoose}
 use Rattle.dispatch_log.proofs.Judged.{consistent_after}
@@ -35,7 +35,7 @@ use Rattle.list_facts.proofs.Places.{get-set_cases}
 -- the ticket whose failure a stage deals with
 abbrev pub failing_ticket : Stage → Option ℕ
 failing_ticket (failing ticket) = Some ticket
-failing_ticket (leaving ticket server) = Some ticket
+failing_ticket (freed_by_failure ticket server) = Some ticket
 failing_ticket stage = None
 
 -- but for that one, each request that isn't told has failed no more often than it is tried again
@@ -122,7 +122,7 @@ slot_untold v (Told c) slot = false_true slot
 -- a row that waits isn't the one whose failure the stage deals with, which has a slot or is in no place
 grant_excused : (setup : Setup) (s : State) (t : Stage) (u p : ℕ) (r : Row) → IsConsistent s.rows s.ticket t → MayGrant setup s t → StandsAt s.rows p r
     → r.key.ticket ≡ u → IsTrue (is_waiting r.phase) → failing_ticket t ≢ Some u
-grant_excused setup s (leaving t w) u p r is may stands named waits e =
+grant_excused setup s (freed_by_failure t w) u p r is may stands named waits e =
     let it = is.owed t refl in
     let at : it.place ≡ p = is.tickets.own it.place p it.row r it.stands stands (it.named ∙ same_Some t u e ∙ sym named) in
     let same : it.row ≡ r = same_Some it.row r (same_Some (Some it.row) (Some r) (sym it.stands ∙ subst (λ k. StandsAt s.rows k r) (sym at) stands)) in
@@ -134,7 +134,7 @@ grant_excused setup s (falling v) u p r is may stands named waits e = none_some 
 grant_excused setup s t u p r is may stands named waits e = absurd may
 
 grant_excuses : (setup : Setup) (s : State) (t : Stage) (u v : ℕ) (q : Queue) → MayGrant setup s t → Excuses t (next_stage t (Granted u q v))
-grant_excuses setup s (leaving t w) u v q may ticket other e = other e
+grant_excuses setup s (freed_by_failure t w) u v q may ticket other e = other e
 grant_excuses setup s granting u v q may ticket other e = none_some e
 grant_excuses setup s telling u v q may ticket other e = none_some e
 grant_excuses setup s (checking w) u v q may ticket other e = none_some e
@@ -180,13 +180,13 @@ module _ (setup : Setup) (s : State) where
       (λ ticket differs other. others ticket (λ e. differs (e ∙ sym put.0)))
   placed_tried t cursor at pin avoid old e is tried it few others none put = absurd put
 
-  anew_tried : (t w : ℕ) (e : Entry) (n : ℕ) → IsConsistent s.rows s.ticket (leaving t w) → AreTried setup (leaving t w) s.rows
-      → failing_ticket (next_stage (leaving t w) e) ≡ None
+  anew_tried : (t w : ℕ) (e : Entry) (n : ℕ) → IsConsistent s.rows s.ticket (freed_by_failure t w) → AreTried setup (freed_by_failure t w) s.rows
+      → failing_ticket (next_stage (freed_by_failure t w) e) ≡ None
       → IsTrue (are_redispatched setup (failures_of t s.rows)) → IsPut (scene setup s) s.cursor None (Some w) t e
-      → AreTried setup (next_stage (leaving t w) e) (after setup s e).rows
+      → AreTried setup (next_stage (freed_by_failure t w) e) (after setup s e).rows
   anew_tried t w e n is tried none redispatched put =
       let it = is.owed t refl in
-      placed_tried t s.cursor (scene setup s) None (Some w) (leaving t w) e is tried it
+      placed_tried t s.cursor (scene setup s) None (Some w) (freed_by_failure t w) e is tried it
       (subst (λ k. k ≤ setup.retries) (failures_at s.rows t it.place it.row is.tickets it.stands it.named) (redispatched_few setup _ redispatched))
       (λ ticket differs same. differs (sym (same_Some t ticket same))) none put
 
@@ -258,19 +258,20 @@ module _ (setup : Setup) (s : State) where
       placing_none t (Joined u q) put = refl
       placing_none t (Left u NoServer) put = refl
       placing_none t e put = absurd put
-  tried_after n (leaving t w) (Left u Retries) is may tried =
+  tried_after n (freed_by_failure t w) (Left u Retries) is may tried =
       let it = is.owed t refl in
-      told_now setup (leaving t w) granting s.rows u it.place it.row (in_phase (Told Retries)) tried is.tickets it.stands (it.named
+      told_now setup (freed_by_failure t w) granting s.rows u it.place it.row (in_phase (Told Retries)) tried is.tickets it.stands (it.named
       ∙ sym may.0) (in_told it.row (Told Retries) refl)
       (λ ticket differs other same. differs (sym (same_Some t ticket same) ∙ sym may.0))
-  tried_after n (leaving t w) (Direct u v) is may tried = anew_tried t w (Direct u v) n is tried refl may.redispatched may.put
-  tried_after n (leaving t w) (Joined u q) is may tried = anew_tried t w (Joined u q) n is tried refl may.redispatched may.put
-  tried_after n (leaving t w) (Left u NoServer) is may tried = anew_tried t w (Left u NoServer) n is tried refl may.redispatched may.put
-  tried_after n (leaving t w) e is may tried = absurd may.put
+  tried_after n (freed_by_failure t w) (Direct u v) is may tried = anew_tried t w (Direct u v) n is tried refl may.redispatched may.put
+  tried_after n (freed_by_failure t w) (Joined u q) is may tried = anew_tried t w (Joined u q) n is tried refl may.redispatched may.put
+  tried_after n (freed_by_failure t w) (Left u NoServer) is may tried = anew_tried t w (Left u NoServer) n is tried refl may.redispatched may.put
+  tried_after n (freed_by_failure t w) e is may tried = absurd may.put
   tried_after n (returning t) (Freed u v) is may tried =
       freed_tried (returning t) (ending u) u v is tried may.1 (λ w other e. none_some e) (λ ticket other e. none_some e)
   tried_after n (failing t) (Freed u v) is may tried =
-      freed_tried (failing t) (leaving u v) u v is tried may.1 (λ w other e. other refl) (λ ticket other e. other (ap Some (may.0 ∙ same_Some t ticket e)))
+      freed_tried (failing t) (freed_by_failure u v) u v is tried may.1 (λ w other e. other refl)
+      (λ ticket other e. other (ap Some (may.0 ∙ same_Some t ticket e)))
   tried_after n (failing t) (Retried u v k) is may tried = retried_tried t u k is tried may.0 may.2 may.3
   tried_after n (ending t) (Ended u) is may tried =
       let it = is.owed t refl in

@@ -17,7 +17,7 @@ use Rattle.dispatch_log.specs.declared.setup.Setup.{Setup}
 use Rattle.dispatch_log.specs.declared.refusal.Refusal.TheVariants.{LogFull, NoSuchServer, TicketsSpent, PlacesFull}
 use Rattle.dispatch_log.specs.Dispatch.{given_between}
 use Rattle.dispatch_log.specs.Refusals.{lacks_room, pins_to_none, tickets_are_spent, is_full, arrival_refusal}
-use Rattle.dispatch_log.specs.Setups.{IsSound, is_within, checks_count}
+use Rattle.dispatch_log.specs.Setups.{IsSound, is_within, has_rise_and_fall}
 use Rattle.dispatch_log.specs.Grants.{IsSettled}
 use Rattle.dispatch_log.specs.Health.{is_up_by, ups_of, shortened_by, shortened_all}
 use Rattle.dispatch_log.specs.Histories.{History, state_of, rolled, next_window}
@@ -127,9 +127,9 @@ legal_keeps h legal = keeps_all h.setup h.base 0 granting h.log (record { rows =
 -- the shortest results leave the same servers up
 shortened_up : (server : ServerSet) → IsTrue (is_within server) → (results : List Bool)
     → is_up_by server.rise_fall (shortened_by server.rise_fall results) ≡ is_up_by server.rise_fall results
-shortened_up server within results = by_checks server.rise_fall (and_parts (nat_le server.weight 256) (checks_count server.rise_fall) within).1
+shortened_up server within results = by_checks server.rise_fall (and_parts (nat_le server.weight 256) (has_rise_and_fall server.rise_fall) within).1
   where
-    by_checks : (it : Option (ℕ × ℕ)) → checks_count it ≡ true → is_up_by it (shortened_by it results) ≡ is_up_by it results
+    by_checks : (it : Option (ℕ × ℕ)) → has_rise_and_fall it ≡ true → is_up_by it (shortened_by it results) ≡ is_up_by it results
     by_checks None counts = refl
     by_checks (Some it) counts =
         let both = and_parts (nat_lt 0 it.0) (nat_lt 0 it.1) counts in

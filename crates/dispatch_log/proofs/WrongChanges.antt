@@ -6,7 +6,7 @@ use Rattle.dispatch_log.specs.declared.queue.Queue.{Queue}
 use Rattle.dispatch_log.specs.declared.queue.Queue.TheVariants.{Backend, Server}
 use Rattle.dispatch_log.specs.declared.row.Row.{Row}
 use Rattle.dispatch_log.specs.Legal.{IsLegal}
-use Rattle.dispatch_log.specs.Judgement.{has_expired}
+use Rattle.dispatch_log.specs.Judgement.{HasExpired}
 use Rattle.dispatch_log.specs.Rows.{IsRow}
 use Rattle.dispatch_log.proofs.FourPlaces.{for_parted_rows, for_three_rows, first_row, second_row, third_row}
 use Rattle.dispatch_log.specs.Worked.{worked}
@@ -50,7 +50,7 @@ not_beside_a_usable_one legal = legal.lawful.judged.1.0.1.1 0 refl
 pub not_early : IsLegal (worked_in_time told_one_millisecond_early) → ⊥
 not_early legal =
     let first = legal.lawful.judged.1.1.1.1.1.1.1.0 in
-    for_three_rows (λ r. r.key.ticket ≡ 2 → has_expired (worked_in_time []).setup 5 r.phase
+    for_three_rows (λ r. r.key.ticket ≡ 2 → HasExpired (worked_in_time []).setup 5 r.phase
     → ⊥) (first_row None 0 (Serving 0)) (second_row None (Waiting Backend 1)) (third_row None (Waiting Backend 2))
     (λ named expired. expired)
     (λ named expired. let since : 1 + 5 ≤ 5 = expired.1 in absurd (omega arith))

@@ -8,7 +8,7 @@ use Rattle.dispatch_log.specs.declared.row.Phase.{Phase}
 use Rattle.dispatch_log.specs.declared.row.Row.{Row}
 use Rattle.dispatch_log.specs.Picks.{weight_of, IsPick}
 use Rattle.dispatch_log.specs.Rows.{Rows, IsRow, phase_waits_in}
-use Rattle.dispatch_log.specs.Words.{Scene, is_free, may_take, may_go_to}
+use Rattle.dispatch_log.specs.Scenes.{Scene, is_free, may_take, may_go_to}
 
 -- a key is the least of the rows whose phase passes a test: none of them has a smaller one
 abbrev pub IsLeastOf : (Phase → Bool) → Rows → Key → Type 0

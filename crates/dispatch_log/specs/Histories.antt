@@ -7,7 +7,7 @@ use Rattle.dispatch_log.specs.declared.refusal.Refusal.TheVariants.{NoMemory}
 use Rattle.dispatch_log.specs.declared.row.Row.{Row}
 use Rattle.dispatch_log.specs.declared.setup.Setup.{Setup}
 use Rattle.dispatch_log.specs.Health.{shortened_all}
-use Rattle.dispatch_log.specs.Judgement.{has_expired}
+use Rattle.dispatch_log.specs.Judgement.{HasExpired}
 use Rattle.dispatch_log.specs.Refusals.{arrival_refusal, done_refusal, failure_refusal, abort_refusal, tick_refusal, check_refusal, limit_refusal}
 use Rattle.dispatch_log.specs.Rows.{IsRow}
 use Rattle.dispatch_log.specs.States.{State, opening_state, after_all}
@@ -39,7 +39,7 @@ effective history moment = max (state_of history).moment moment
 
 -- at a moment, some request has waited as long as requests may
 abbrev pub SomeExpires : History → ℕ → Type 0
-SomeExpires history moment = (row : Row) × IsRow (state_of history).rows row × has_expired history.setup (effective history moment) row.phase
+SomeExpires history moment = (row : Row) × IsRow (state_of history).rows row × HasExpired history.setup (effective history moment) row.phase
 
 -- what refuses an arrival with a pin, or the return of a ticket's slot, its failure, its abort, a tick, or a check or a new
 -- limit of a server, now

@@ -21,7 +21,7 @@ use Rattle.dispatch_log.specs.Refusals.{arrival_refusal, done_refusal, failure_r
 use Rattle.dispatch_log.specs.Retries.{are_spent, are_redispatched, are_retried}
 use Rattle.dispatch_log.specs.Rows.{Rows, IsRow, IsVacant, phase_is_served_by, phase_is_told, phase_waits_in, pin_of, failures_of}
 use Rattle.dispatch_log.specs.States.{State, scene, after, after_all}
-use Rattle.dispatch_log.specs.Words.{Scene, is_up}
+use Rattle.dispatch_log.specs.Scenes.{Scene, is_up}
 use Rattle.dispatch_log.specs.Placement.{IsDirect, IsJoining, IsTurnedAway}
 use Rattle.dispatch_log.specs.Grants.{IsLeastOf, IsSettled, IsLawfulGrant}
 
@@ -51,14 +51,14 @@ pub record IsNewcomer (state : State) (moment : ℕ) (arrival : Arrival) : Type 
   pub due : IsDueFrom moment arrival.due
 
 -- expired: a request waits since a moment that lies as far back as requests may wait
-abbrev pub has_expired : Setup → ℕ → Phase → Type 0
-has_expired setup now (Waiting queue since) = (0 < setup.queue_timeout) × (since + setup.queue_timeout ≤ now)
-has_expired setup now Loose = ⊥
-has_expired setup now (Serving server) = ⊥
-has_expired setup now (Told cause) = ⊥
+abbrev pub HasExpired : Setup → ℕ → Phase → Type 0
+HasExpired setup now (Waiting queue since) = (0 < setup.queue_timeout) × (since + setup.queue_timeout ≤ now)
+HasExpired setup now Loose = ⊥
+HasExpired setup now (Serving server) = ⊥
+HasExpired setup now (Told cause) = ⊥
 
 abbrev pub IsExpired : Setup → State → Row → Type 0
-IsExpired setup state row = IsRow state.rows row × has_expired setup state.moment row.phase
+IsExpired setup state row = IsRow state.rows row × HasExpired setup state.moment row.phase
 
 -- the expired request with the lowest ticket
 pub record IsFirstExpired (setup : Setup) (state : State) (ticket : ℕ) : Type 0 where
@@ -90,7 +90,7 @@ pub data Stage : Type 0 where
   -- what the failure of this ticket's connection opens with: it is tried again, or its slot is given back
   failing : ℕ → Stage
   -- what becomes of this ticket, whose slot at this server was given back
-  leaving : ℕ → ℕ → Stage
+  freed_by_failure : ℕ → ℕ → Stage
   -- what the abort of this ticket opens with
   aborting : ℕ → Stage
   -- the requests that expired, one by one
@@ -114,7 +114,7 @@ IsOver setup state stage = ⊥
 
 -- grants may come: the event owes nothing else, or a request is redispatched, whose slot goes to another one first
 abbrev pub MayGrant : Setup → State → Stage → Type 0
-MayGrant setup state (leaving leaver server) = IsTrue (are_redispatched setup (failures_of leaver state.rows))
+MayGrant setup state (freed_by_failure leaver server) = IsTrue (are_redispatched setup (failures_of leaver state.rows))
 MayGrant setup state stage = IsOver setup state stage
 
 -- an event may begin: the one before is over, all is settled, nothing refuses the call, and moments never fall and stay
@@ -160,9 +160,9 @@ module _ (setup : Setup) (state : State) (used : ℕ) where
       (ticket ≡ leaver) × HasSlot state.rows ticket server × (failures_of ticket state.rows ≡ failures) × IsTrue (are_retried setup failures)
   MayCome (failing leaver) (Freed ticket server) =
       (ticket ≡ leaver) × HasSlot state.rows ticket server × (IsTrue (are_retried setup (failures_of ticket state.rows)) → ⊥)
-  MayCome (leaving leaver server) (Left ticket Retries) =
+  MayCome (freed_by_failure leaver server) (Left ticket Retries) =
       (ticket ≡ leaver) × IsTrue (are_spent setup (failures_of ticket state.rows))
-  MayCome (leaving leaver server) entry = IsPutAnew setup state leaver server entry
+  MayCome (freed_by_failure leaver server) entry = IsPutAnew setup state leaver server entry
   MayCome (aborting leaver) (Left ticket Aborted) = (ticket ≡ leaver) × IsInPhase is_waiting state.rows ticket
   MayCome telling (Left ticket Timeout) = IsFirstExpired setup state ticket
   MayCome (checking checked) (Health server up) =
@@ -180,9 +180,9 @@ next_stage stage (Abort moment ticket) = aborting ticket
 next_stage stage (Tick moment) = telling
 next_stage stage (Check moment server ok) = checking server
 next_stage stage (Limit moment server limit) = granting
-next_stage (failing leaver) (Freed ticket server) = leaving ticket server
+next_stage (failing leaver) (Freed ticket server) = freed_by_failure ticket server
 next_stage stage (Freed ticket server) = ending ticket
-next_stage (leaving leaver server) (Granted ticket queue taker) = leaving leaver server
+next_stage (freed_by_failure leaver server) (Granted ticket queue taker) = freed_by_failure leaver server
 next_stage telling (Left ticket cause) = telling
 next_stage stage (Health server true) = granting
 next_stage stage (Health server false) = falling server

@@ -1,6 +1,6 @@
 pub mod Setups
 pub mod Rows
-pub mod Words
+pub mod Scenes
 pub mod Health
 pub mod Retries
 pub mod States

@@ -3,7 +3,7 @@ use Rattle.std.specs.Prelude.{ℕ, ◌+◌, ◌-◌, ◌*◌, ◌≤◌, nat_lt,
 use Rattle.std.specs.Option.{option_map_or}
 use Rattle.dispatch_log.specs.declared.queue.Queue.TheVariants.{Server}
 use Rattle.dispatch_log.specs.Rows.{served, queued}
-use Rattle.dispatch_log.specs.Words.{Scene}
+use Rattle.dispatch_log.specs.Scenes.{Scene}
 
 -- a server's weight; 0 where no server has the number
 abbrev pub weight_of : Scene → ℕ → ℕ
@@ -21,9 +21,12 @@ IsNoMoreLoaded scene server other = load scene server * weight_of scene other �
 abbrev pub steps_after : Scene → ℕ → ℕ → ℕ
 steps_after scene cursor server = if nat_lt cursor server then server - cursor else (server + length scene.servers) - cursor
 
--- pick: of a set of servers one that is no more loaded than any, and of several such the nearest after the cursor
+-- least loaded: of a set of servers, one that is no more loaded than any
+abbrev pub IsLeastLoaded : Scene → (ℕ → Type 0) → ℕ → Type 0
+IsLeastLoaded scene among server = (other : ℕ) → among other → IsNoMoreLoaded scene server other
+
+-- pick: of the least loaded of a set of servers the nearest after the cursor
 pub record IsPick (scene : Scene) (cursor : ℕ) (among : ℕ → Type 0) (server : ℕ) : Type 0 where
   pub member : among server
-  pub least : (other : ℕ) → among other → IsNoMoreLoaded scene server other
-  pub nearest : (other : ℕ) → among other → ((third : ℕ) → among third → IsNoMoreLoaded scene other third)
-      → steps_after scene cursor server ≤ steps_after scene cursor other
+  pub least : IsLeastLoaded scene among server
+  pub nearest : (other : ℕ) → among other → IsLeastLoaded scene among other → steps_after scene cursor server ≤ steps_after scene cursor other

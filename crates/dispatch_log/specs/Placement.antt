@@ -3,7 +3,7 @@ use Rattle.std.specs.Prelude.{◌≡◌, ℕ, IsTrue, Option, None, Some, MatchO
 use Rattle.dispatch_log.specs.declared.queue.Queue.{Queue}
 use Rattle.dispatch_log.specs.declared.queue.Queue.TheVariants.{Backend, Server}
 use Rattle.dispatch_log.specs.Picks.{IsPick}
-use Rattle.dispatch_log.specs.Words.{Scene, is_usable, is_free, has_room, working_pin}
+use Rattle.dispatch_log.specs.Scenes.{Scene, is_usable, is_free, has_room, working_pin}
 
 -- a server that balancing may choose: a usable one with room, and the avoided one only where no other has room
 abbrev pub IsCandidate : Scene → Option ℕ → ℕ → Type 0

@@ -1,6 +1,9 @@
 -- The live requests: a list of places, each empty or with a row.
 use Rattle.std.specs.Prelude.{◌≡◌, ℕ, ◌==◌, Bool, false, true, List, [], ◌∷◌, Option, None, Some, map, count_by, slice_get, if◌then◌else◌}
 use Rattle.std.specs.Option.{option_and_then, option_map_or}
+use Rattle.std.specs.Ordering.{nat_cmp}
+use Rattle.std.specs.declared.cmp.Ordering.{Ordering}
+use Rattle.std.specs.declared.cmp.Ordering.TheVariants.{Less, Equal, Greater}
 use Rattle.dispatch_log.specs.declared.queue.Queue.{Queue}
 use Rattle.dispatch_log.specs.declared.queue.Queue.TheVariants.{Backend, Server}
 use Rattle.dispatch_log.specs.declared.row.Phase.{Phase}
@@ -38,6 +41,13 @@ abbrev pub same_queue : Queue → Queue → Bool
 same_queue Backend Backend = true
 same_queue (Server a) (Server b) = a == b
 same_queue a b = false
+
+-- how two queues compare: the backend's comes first, then the servers' in order
+abbrev pub queue_cmp : Queue → Queue → Ordering
+queue_cmp Backend Backend = Equal
+queue_cmp Backend (Server b) = Less
+queue_cmp (Server a) Backend = Greater
+queue_cmp (Server a) (Server b) = nat_cmp a b
 
 abbrev pub phase_waits_in : Queue → Phase → Bool
 phase_waits_in queue (Waiting other since) = same_queue queue other

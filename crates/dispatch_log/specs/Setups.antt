@@ -4,13 +4,13 @@ use Rattle.dispatch_log.specs.declared.setup.ServerSet.{ServerSet}
 use Rattle.dispatch_log.specs.declared.setup.Setup.{Setup}
 
 -- where a server is checked, rise and fall are at least 1
-abbrev pub checks_count : Option (ℕ × ℕ) → Bool
-checks_count None = true
-checks_count (Some it) = nat_lt 0 it.0 && nat_lt 0 it.1
+abbrev pub has_rise_and_fall : Option (ℕ × ℕ) → Bool
+has_rise_and_fall None = true
+has_rise_and_fall (Some it) = nat_lt 0 it.0 && nat_lt 0 it.1
 
 -- a server within its limits
 abbrev pub is_within : ServerSet → Bool
-is_within server = nat_le server.weight 256 && checks_count server.rise_fall
+is_within server = nat_le server.weight 256 && has_rise_and_fall server.rise_fall
 
 -- a setup within its limits
 pub record IsSound (setup : Setup) : Type 0 where

@@ -16,7 +16,7 @@ use Rattle.dispatch_log.specs.declared.setup.Setup.{Setup}
 use Rattle.dispatch_log.specs.Health.{ups_of, with_result}
 use Rattle.dispatch_log.specs.Retries.{failed}
 use Rattle.dispatch_log.specs.Rows.{Rows, changed, in_phase, in_backend_since, gone, pin_of, served}
-use Rattle.dispatch_log.specs.Words.{Scene}
+use Rattle.dispatch_log.specs.Scenes.{Scene}
 
 -- the live requests, each server's results of checks, what each may serve at present, the moment of the last event, the
 -- last ticket that was given, and the server that balancing picked last
@@ -61,18 +61,18 @@ abbrev pub arrived : Arrival → Row
 arrived arrival = record { key = key_of arrival; pin = arrival.pin; failures = 0; phase = Loose }
 
 -- the server that balancing picked last, where a request of this pin was put on a server: its pin is no pick
-abbrev pub put_on : ℕ → Option ℕ → ℕ → ℕ
-put_on server None cursor = server
-put_on server (Some pin) cursor = if pin == server then cursor else server
+abbrev pub cursor_after_placing : ℕ → Option ℕ → ℕ → ℕ
+cursor_after_placing server None cursor = server
+cursor_after_placing server (Some pin) cursor = if pin == server then cursor else server
 
 -- the same where a ticket joined a queue
-abbrev pub put_in : Queue → Option ℕ → ℕ → ℕ
-put_in Backend pin cursor = cursor
-put_in (Server server) pin cursor = put_on server pin cursor
+abbrev pub cursor_after_joining : Queue → Option ℕ → ℕ → ℕ
+cursor_after_joining Backend pin cursor = cursor
+cursor_after_joining (Server server) pin cursor = cursor_after_placing server pin cursor
 
 -- the same where a server took a request: one of weight 0 is no pick
-abbrev pub granted_by : Setup → ℕ → ℕ → ℕ
-granted_by setup server cursor = if option_map_or (λ it. it.weight == 0) (slice_get setup.servers server) true then cursor else server
+abbrev pub cursor_after_granting : Setup → ℕ → ℕ → ℕ
+cursor_after_granting setup server cursor = if option_map_or (λ it. it.weight == 0) (slice_get setup.servers server) true then cursor else server
 
 -- a server's limit is set, and what it serves is noted
 abbrev pub with_limit : ℕ → ℕ → State → List Allowance
@@ -97,15 +97,15 @@ after setup state (Check moment server ok) = record state { results = with_resul
 after setup state (Limit moment server limit) = record state { limits = with_limit server limit state; moment = moment }
 after setup state (Direct ticket server) = record state {
   rows = changed ticket (in_phase (Serving server)) state.rows;
-  cursor = put_on server (pin_of ticket state.rows) state.cursor;
+  cursor = cursor_after_placing server (pin_of ticket state.rows) state.cursor;
 }
 after setup state (Joined ticket queue) = record state {
   rows = changed ticket (in_phase (Waiting queue state.moment)) state.rows;
-  cursor = put_in queue (pin_of ticket state.rows) state.cursor;
+  cursor = cursor_after_joining queue (pin_of ticket state.rows) state.cursor;
 }
 after setup state (Granted ticket queue server) = record state {
   rows = changed ticket (in_phase (Serving server)) state.rows;
-  cursor = granted_by setup server state.cursor;
+  cursor = cursor_after_granting setup server state.cursor;
 }
 after setup state (Moved ticket server) = record state { rows = changed ticket (in_backend_since state.moment) state.rows }
 after setup state (Retried ticket server failures) = state

@@ -17,7 +17,7 @@ pub use laws::{
     legal_logs_are_dispatched, legal_logs_keep_within, runs_are_dispatched, windows_begin_at_bases,
     worked_logs_are_legal, wrong_logs_are_not_legal,
 };
-pub use queue::Queue;
+pub use queue::{Queue, order_of_queues};
 pub use refusal::Refusal;
 pub use row::{Phase, Row};
 pub use setup::{ServerSet, Servers, Setup};

@@ -1,3 +1,7 @@
+ghost use Rattle.std.specs.Prelude.{◌≡◌};
+ghost use Rattle.dispatch_log.specs.declared.queue.Queue.{Queue};
+ghost use Rattle.dispatch_log.specs.Rows.{queue_cmp};
+
 /// A queue of waiting requests. The backend's comes before the servers', and these in file order.
 #[derive(Clone, Copy, Debug, PartialEq, Eq, PartialOrd, Ord)]
 pub enum Queue {
@@ -6,3 +10,8 @@ pub enum Queue {
     /// The queue of one server.
     Server(usize),
 }
+
+/// The law of the order of queues: code with a bound `Ord` compares them so.
+pub fn order_of_queues()
+    ensures { (a b : Queue) → ⟦<Queue as Ord>⟧.cmp a b ≡ queue_cmp a b }
+{}

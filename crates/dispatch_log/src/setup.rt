@@ -74,16 +74,16 @@ impl Setup {
 }
 
 impl ServerSet {
-    ghost use Rattle.dispatch_log.specs.Setups.{is_within, checks_count};
+    ghost use Rattle.dispatch_log.specs.Setups.{is_within, has_rise_and_fall};
 
     fn sound(&self) -> bool
         ensures { result ≡ is_within self.now }
     {
-        self.weight <= 256 && self.checks_count()
+        self.weight <= 256 && self.has_rise_and_fall()
     }
 
-    fn checks_count(&self) -> bool
-        ensures { result ≡ checks_count self.now.rise_fall }
+    fn has_rise_and_fall(&self) -> bool
+        ensures { result ≡ has_rise_and_fall self.now.rise_fall }
     {
         match self.rise_fall {
             None => true,

@@ -26,7 +26,7 @@ use Rattle.dispatch_log.specs.Refusals.{first_of, is_full, pins_to_none}
 use Rattle.dispatch_log.specs.Rows.{Rows, row_of, pin_of}
 use Rattle.dispatch_log.specs.Setups.{IsSound}
 use Rattle.dispatch_log.specs.States.{State, after, arrived, opening_state, opening_limits}
-use Rattle.dispatch_log.specs.Words.{Scene}
+use Rattle.dispatch_log.specs.Scenes.{Scene}
 use Rattle.dispatch_log.proofs.Windows.{none_stands, opening_base}
 use Rattle.list_facts.proofs.Places.{tally, get-set_same}
 use Rattle.dispatch_log.proofs.RowLemmas.{row_of_at, row_of_none}

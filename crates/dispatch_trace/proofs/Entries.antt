@@ -10,7 +10,7 @@ use Rattle.dispatch_log.specs.declared.row.Phase.{Phase}
 use Rattle.dispatch_log.specs.declared.row.Phase.TheVariants.{Loose, Serving, Told}
 use Rattle.dispatch_log.specs.declared.row.Row.{Row}
 use Rattle.dispatch_log.specs.Histories.{History, state_of}
-use Rattle.dispatch_log.specs.Judgement.{IsTold, MayCome, Stage, leaving, placing}
+use Rattle.dispatch_log.specs.Judgement.{IsTold, MayCome, Stage, freed_by_failure, placing}
 use Rattle.dispatch_log.specs.Refusals.{is_waiting}
 use Rattle.dispatch_log.specs.Rows.{changed, in_phase, gone}
 use Rattle.dispatch_log.specs.States.{State, after, scene}
@@ -39,7 +39,7 @@ direct_within h u v may = by_stage (stage_of h) may
   where
     by_stage : (t : Stage) → MayCome h.setup (state_of h) (length h.log) t (Direct u v) → v < length h.setup.servers
     by_stage (placing n) m = free_within (scene h.setup (state_of h)) v m.1.1
-    by_stage (leaving n w) m = free_within (scene h.setup (state_of h)) v m.put.1.1
+    by_stage (freed_by_failure n w) m = free_within (scene h.setup (state_of h)) v m.put.1.1
     by_stage t m = absurd m
 
 -- the position of a trace after an entry

@@ -12,7 +12,7 @@ use Rattle.dispatch_log.specs.declared.row.Phase.TheVariants.{Loose, Waiting, Se
 use Rattle.dispatch_log.specs.declared.row.Row.{Row}
 use Rattle.dispatch_log.specs.declared.setup.Setup.{Setup}
 use Rattle.dispatch_log.specs.Histories.{History, state_of, effective, SomeExpires}
-use Rattle.dispatch_log.specs.Judgement.{has_expired}
+use Rattle.dispatch_log.specs.Judgement.{HasExpired}
 use Rattle.dispatch_log.specs.Rows.{StandsAt}
 use Rattle.dispatch_log.proofs.RowLemmas.{HaveOwnTickets}
 use Rattle.pend_queue.specs.Pairs.{IsAscending, IsAbsent, inserted}
@@ -41,7 +41,7 @@ pub record Since (setup : Setup) (now : ℕ) (phase : Phase) : Type 0 where
   pub limited : 0 < setup.queue_timeout
   pub long_ago : since + setup.queue_timeout ≤ now
 
-pub expired_since : (setup : Setup) (now : ℕ) (phase : Phase) → has_expired setup now phase → Since setup now phase
+pub expired_since : (setup : Setup) (now : ℕ) (phase : Phase) → HasExpired setup now phase → Since setup now phase
 expired_since setup now (Waiting queue since) expired = record { queue = queue; since = since; waits = refl; limited = expired.0; long_ago = expired.1 }
 expired_since setup now Loose expired = absurd expired
 expired_since setup now (Serving server) expired = absurd expired
@@ -73,12 +73,12 @@ module _ (h : History) (places : List ℕ) (are : AreInTurn (WaitsSince (state_o
   first_has_row (Some place) is = stay_has_row place (first_member places place (sym is))
 
   -- one that has waited as long as it may is among them
-  pub expired_stays : (now p : ℕ) (row : Row) → StandsAt (state_of h).rows p row → has_expired h.setup now row.phase → Contains places p
+  pub expired_stays : (now p : ℕ) (row : Row) → StandsAt (state_of h).rows p row → HasExpired h.setup now row.phase → Contains places p
   expired_stays now p row stands expired = let it = expired_since h.setup now row.phase expired in are.all p it.since (row, it.queue, stands, it.waits)
 
   -- and then the first of the rest of them has
   earlier_expires : (now place p : ℕ) (before later : List ℕ) (row : Row) → places ≡ before ++ place ∷ later → Contains (place ∷ later) p
-      → StandsAt (state_of h).rows p row → has_expired h.setup now row.phase → ExpiresAt h now place
+      → StandsAt (state_of h).rows p row → HasExpired h.setup now row.phase → ExpiresAt h now place
   earlier_expires now place p before later row parts among stands expired = elim (Contains-cases place later p among) [
     | inl same ↦ (row, subst (λ n. StandsAt (state_of h).rows n row) (sym same) stands, expired)
     | inr after ↦
@@ -91,11 +91,11 @@ module _ (h : History) (places : List ℕ) (are : AreInTurn (WaitsSince (state_o
         → since ≤ next) later p fall.0 after own.0 it.since own.1 (row, it.queue, stands, it.waits) in
         let limited = it.limited in
         let long_ago = it.long_ago in
-        (own.1.0, own.1.2, subst (λ (phase : Phase). has_expired h.setup now phase) (sym own.1.3) (limited, omega arith))
+        (own.1.0, own.1.2, subst (λ (phase : Phase). HasExpired h.setup now phase) (sym own.1.3) (limited, omega arith))
   ]
 
   none_expires : (now p : ℕ) (before rest : List ℕ) (row : Row) → places ≡ before ++ rest → IfSome (slice_get rest 0) (λ at. ¬ (ExpiresAt h now at))
-      → Contains rest p → StandsAt (state_of h).rows p row → has_expired h.setup now row.phase → ⊥
+      → Contains rest p → StandsAt (state_of h).rows p row → HasExpired h.setup now row.phase → ⊥
   none_expires now p before [] row parts none among stands expired = Contains-nil p among
   none_expires now p before (place ∷ later) row parts none among stands expired =
       none (earlier_expires now place p before later row parts among stands expired)
@@ -107,12 +107,12 @@ module _ (h : History) (places : List ℕ) (are : AreInTurn (WaitsSince (state_o
   some_expires now moment first None is when none = (
     λ some. absurd (false_true some),
     λ some. absurd (none_expires now some.1.0 [] places some.0 refl (subst (λ (o : Option ℕ). IfSome o (λ at. ¬ (ExpiresAt h now at))) is none)
-        (expired_stays now some.1.0 some.0 some.1.1 (subst (λ n. has_expired h.setup n some.0.phase) (sym when) some.2))
+        (expired_stays now some.1.0 some.0 some.1.1 (subst (λ n. HasExpired h.setup n some.0.phase) (sym when) some.2))
         some.1.1
-        (subst (λ n. has_expired h.setup n some.0.phase) (sym when) some.2)),
+        (subst (λ n. HasExpired h.setup n some.0.phase) (sym when) some.2)),
   )
   some_expires now moment first (Some at) is when its =
-      (λ some. (its.1.0, (at, its.1.1), subst (λ n. has_expired h.setup n its.1.0.phase) when its.1.2), λ some. refl)
+      (λ some. (its.1.0, (at, its.1.1), subst (λ n. HasExpired h.setup n its.1.0.phase) when its.1.2), λ some. refl)
 
 -- how far a walk along the stays has come: over those before, whose requests have waited as long as they may, and whose
 -- tickets are in the queue
@@ -121,7 +121,7 @@ pub record HasWalked (h : History) (places : List ℕ) (now : ℕ) (tickets : Li
   pub rest : List ℕ
   pub parts : places ≡ before ++ rest
   pub told : (p : ℕ) (row : Row) → Contains before p → StandsAt (state_of h).rows p row
-      → Contains tickets (row.key.ticket, p) × has_expired h.setup now row.phase
+      → Contains tickets (row.key.ticket, p) × HasExpired h.setup now row.phase
   pub named : (ticket p : ℕ) → Contains tickets (ticket, p) → (row : Row) × Contains before p × StandsAt (state_of h).rows p row
       × (row.key.ticket ≡ ticket)
   pub ascending : IsAscending nat_cmp tickets
@@ -237,7 +237,7 @@ module _ (h : History) (places : List ℕ) (stays : Stays h places) (now : ℕ) 
                 let expires : its.0 ≡ row = same_Some its.0 row (same_Some (Some its.0) (Some row) (sym its.1 ∙ stands)) in (
                   subst (λ n. Contains more (other.key.ticket, n)) e (subst (λ (r : Row). Contains more (r.key.ticket, place)) (sym one) new),
                   subst
-                      (λ (r : Row). has_expired h.setup now r.phase) (expires ∙ sym one) its.2,
+                      (λ (r : Row). HasExpired h.setup now r.phase) (expires ∙ sym one) its.2,
                 )
           ];
       named = λ ticket p among.
@@ -280,9 +280,9 @@ pub walk_ends : (h : History) (places : List ℕ) (now : ℕ) (tickets : List (�
 walk_ends h places now tickets are when walked ticket place = (
   λ among.
       let it = walked.named ticket place among in
-      (it.0, it.2, subst (λ n. has_expired h.setup n it.0.phase) when (walked.told place it.0 it.1 it.2).1, it.3),
+      (it.0, it.2, subst (λ n. HasExpired h.setup n it.0.phase) when (walked.told place it.0 it.1 it.2).1, it.3),
   λ its.
-      let expired = subst (λ n. has_expired h.setup n its.0.phase) (sym when) its.2 in
+      let expired = subst (λ n. HasExpired h.setup n its.0.phase) (sym when) its.2 in
       let among = subst (λ (l : List ℕ). Contains l place) walked.parts (expired_stays h places are now place its.0 its.1 expired) in
       elim (Contains-append_cases walked.before walked.rest place among) [
         | inl e ↦ subst (λ n. Contains tickets (n, place)) its.3 (walked.told place its.0 e its.1).0
@@ -309,13 +309,13 @@ module _ {N : Type 0} (pair_of : N → Key × ℕ) (t : Traced N) (is : IsTrace 
     setup_is : setup ≡ h.setup
     setup_is = made ∙ ap (λ (x : History). x.setup) same
 
-    pub expires_there : has_expired setup now row.phase → ExpiresAt h now at
-    expires_there expired = (row, row_read at row read, subst (λ (x : Setup). has_expired x now row.phase) setup_is expired)
+    pub expires_there : HasExpired setup now row.phase → ExpiresAt h now at
+    expires_there expired = (row, row_read at row read, subst (λ (x : Setup). HasExpired x now row.phase) setup_is expired)
 
-    pub expires_not : (has_expired setup now row.phase → ⊥) → ¬ (ExpiresAt h now at)
+    pub expires_not : (HasExpired setup now row.phase → ⊥) → ¬ (ExpiresAt h now at)
     expires_not waits its =
         let one : its.0 ≡ row = same_Some its.0 row (same_Some (Some its.0) (Some row) (sym its.1 ∙ row_read at row read)) in
-        waits (subst (λ (x : Setup). has_expired x now row.phase) (sym setup_is) (subst (λ (r : Row). has_expired h.setup now r.phase) one its.2))
+        waits (subst (λ (x : Setup). HasExpired x now row.phase) (sym setup_is) (subst (λ (r : Row). HasExpired h.setup now r.phase) one its.2))
 
   pub own_tickets : HaveOwnTickets (state_of h).rows
   own_tickets = subst (λ (x : History). HaveOwnTickets (state_of x).rows) same (trace_consistent pair_of t is).tickets

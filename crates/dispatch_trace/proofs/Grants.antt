@@ -14,8 +14,8 @@ use Rattle.dispatch_log.specs.Histories.{History, state_of}
 use Rattle.dispatch_log.specs.Refusals.{is_waiting}
 use Rattle.dispatch_log.specs.Rows.{Rows, in_phase}
 use Rattle.dispatch_log.specs.declared.entry.Entry.{Entry}
-use Rattle.dispatch_log.specs.States.{scene, after_all, granted_by}
-use Rattle.dispatch_log.specs.Words.{Scene, is_up}
+use Rattle.dispatch_log.specs.States.{scene, after_all, cursor_after_granting}
+use Rattle.dispatch_log.specs.Scenes.{Scene, is_up}
 use Rattle.dispatch_log.proofs.RowLemmas.{changed_at}
 use Rattle.list_facts.proofs.Orders.{greater_from_less}
 use Rattle.readable_log.specs.Grants.{joining_of, has_joined}
@@ -140,7 +140,7 @@ module _ {N : Type 0} (pair_of : N → Key × ℕ) where
     pub grant_row : HasRow t.kept.slots place
     grant_row = let s = stands_slot t.kept.slots (state_of (history_of t)).rows place its.row calls.before.holds.rows its.stands in (s.0, s.1)
 
-    pub grant_kept : (node : N) (now : ℕ) → pair_of node ≡ (waiter.key, place) → now ≡ granted_by t.kept.setup server t.position.cursor
+    pub grant_kept : (node : N) (now : ℕ) → pair_of node ≡ (waiter.key, place) → now ≡ cursor_after_granting t.kept.setup server t.position.cursor
         → IsTrace pair_of
         (record {
           kept = with_slots t.kept (with_phase (Serving server) (loosened node t.kept.slots place) place);
@@ -159,7 +159,7 @@ module _ {N : Type 0} (pair_of : N → Key × ℕ) where
           ticket = t.position.ticket;
         }) calls.before grant_may refl calls.first.waits refl pair refl refl refl refl
         (cursor_moved t.position s now calls.before.holds.position
-        ∙ ap (λ n. position_of (record s { cursor = n })) (moved ∙ ap (granted_by t.kept.setup server) (cursor_is pair_of t calls.before)))
+        ∙ ap (λ n. position_of (record s { cursor = n })) (moved ∙ ap (cursor_after_granting t.kept.setup server) (cursor_is pair_of t calls.before)))
 
     grant_fewer : waiting_of (with_entry (history_of t) (Granted waiter.key.ticket queue server)) + 1 ≡ waiting_of (history_of t)
     grant_fewer =

@@ -26,7 +26,7 @@ use Rattle.readable_log.proofs.Joinings.{joining_of_last}
 use Rattle.readable_log.specs.Windows.{base_rows}
 use Rattle.readable_log.proofs.Based.{base_arrived, base_joined}
 use Rattle.readable_log.proofs.Judged.{judged_keep_order}
-use Rattle.readable_log.proofs.Rows.{rows_arrived, rows_joined}
+use Rattle.readable_log.proofs.RowsLeft.{rows_arrived, rows_joined}
 use Rattle.slot_ledger.specs.declared.places.Slot.{Slot}
 use Rattle.slot_ledger.specs.Ledgers.{with_slots}
 use Rattle.slot_ledger.specs.Slots.{StandsIn, with_phase, loosened, waiting, unpinned}

@@ -7,12 +7,12 @@ use Rattle.dispatch_log.specs.declared.entry.Entry.TheVariants.{Joined}
 use Rattle.dispatch_log.specs.declared.queue.Queue.{Queue}
 use Rattle.dispatch_log.specs.declared.queue.Queue.TheVariants.{Backend, Server}
 use Rattle.dispatch_log.specs.Histories.{History, state_of}
-use Rattle.dispatch_log.specs.Judgement.{Stage, placing, leaving, MayCome}
+use Rattle.dispatch_log.specs.Judgement.{Stage, placing, freed_by_failure, MayCome}
 use Rattle.dispatch_log.specs.Picks.{IsPick}
 use Rattle.dispatch_log.specs.Placement.{IsCandidate, IsChosen}
 use Rattle.dispatch_log.specs.Rows.{queued, pin_of}
 use Rattle.dispatch_log.specs.States.{scene}
-use Rattle.dispatch_log.specs.Words.{Scene, of_server, is_up, is_free, takes_pinned, working_pin, may_take}
+use Rattle.dispatch_log.specs.Scenes.{Scene, of_server, is_up, is_free, takes_pinned, working_pin, may_take}
 use Rattle.slot_ledger.specs.Counts.{IsQueueOf}
 use Rattle.list_facts.proofs.Both.{and_second}
 use Rattle.server_pick.proofs.Chosen.{room_within}
@@ -54,7 +54,7 @@ joined_within h u (Server v) may = by_stage (stage_of h) may
   where
     by_stage : (t : Stage) → MayCome h.setup (state_of h) (length h.log) t (Joined u (Server v)) → v < length h.setup.servers
     by_stage (placing n) m = chosen_within (scene h.setup (state_of h)) (state_of h).cursor (pin_of n (state_of h).rows) None v m.1.0
-    by_stage (leaving n w) m = chosen_within (scene h.setup (state_of h)) (state_of h).cursor None (Some w) v m.put.1.0
+    by_stage (freed_by_failure n w) m = chosen_within (scene h.setup (state_of h)) (state_of h).cursor None (Some w) v m.put.1.0
     by_stage t m = absurd m
 
 -- the server and the queue of a lawful grant are among them

@@ -14,7 +14,7 @@ use Rattle.dispatch_log.specs.Judgement.{Stage, granting, next_stage, stage_afte
 use Rattle.dispatch_log.specs.Grants.{IsSettled}
 use Rattle.dispatch_log.specs.Legal.{IsBase}
 use Rattle.dispatch_log.specs.States.{scene, after}
-use Rattle.dispatch_log.specs.Words.{Scene}
+use Rattle.dispatch_log.specs.Scenes.{Scene}
 use Rattle.dispatch_trace.specs.declared.position.Ticketed.{Ticketed}
 
 -- a history with an entry more

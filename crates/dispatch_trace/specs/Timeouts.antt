@@ -2,7 +2,7 @@
 use Rattle.std.specs.Prelude.{◌≡◌, ℕ, ◌↔◌, List, Contains}
 use Rattle.dispatch_log.specs.declared.row.Row.{Row}
 use Rattle.dispatch_log.specs.Histories.{History, state_of}
-use Rattle.dispatch_log.specs.Judgement.{has_expired}
+use Rattle.dispatch_log.specs.Judgement.{HasExpired}
 use Rattle.dispatch_log.specs.Rows.{StandsAt}
 
 -- a place has a request
@@ -11,11 +11,11 @@ HasRowAt history place = (row : Row) × StandsAt (state_of history).rows place r
 
 -- the request at a place has waited, at a moment, as long as it may
 abbrev pub ExpiresAt : History → ℕ → ℕ → Type 0
-ExpiresAt history now place = (row : Row) × StandsAt (state_of history).rows place row × has_expired history.setup now row.phase
+ExpiresAt history now place = (row : Row) × StandsAt (state_of history).rows place row × HasExpired history.setup now row.phase
 
 -- tickets with places are just those of the expired requests
 abbrev pub AreExpired : History → List (ℕ × ℕ) → Type 0
 AreExpired history tickets =
     (ticket place : ℕ)
     → Contains tickets (ticket, place) ↔
-    ((row : Row) × StandsAt (state_of history).rows place row × has_expired history.setup (state_of history).moment row.phase × (row.key.ticket ≡ ticket))
+    ((row : Row) × StandsAt (state_of history).rows place row × HasExpired history.setup (state_of history).moment row.phase × (row.key.ticket ≡ ticket))

@@ -3,7 +3,7 @@ ghost use Rattle.std.specs.Option.{IfSome};
 ghost use Rattle.std.specs.Ordering.{nat_cmp};
 ghost use Rattle.dispatch_log.specs.declared.entry.Entry.TheVariants.{Tick};
 ghost use Rattle.dispatch_log.specs.Histories.{effective, refuses_tick, SomeExpires};
-ghost use Rattle.dispatch_log.specs.Judgement.{has_expired};
+ghost use Rattle.dispatch_log.specs.Judgement.{HasExpired};
 ghost use Rattle.pend_queue.specs.Pairs.{IsAscending};
 ghost use Rattle.dispatch_trace.specs.Histories.{with_entry, MayAccept, IsJudged};
 ghost use Rattle.dispatch_trace.specs.Timeouts.{HasRowAt, ExpiresAt, AreExpired};
@@ -68,7 +68,7 @@ impl<Q: PendQueue<Key, usize>> Trace<Q> {
 /// Whether a request in this phase has waited as long as it may.
 fn has_expired(setup: &Setup, phase: Phase, now: Moment) -> bool
     requires { setup.now.queue_timeout < 2 ^ 62 }
-    ensures { IsTrue result ↔ has_expired setup.now now phase }
+    ensures { IsTrue result ↔ HasExpired setup.now now phase }
 {
     match phase {
         Phase::Waiting(_, since) => {

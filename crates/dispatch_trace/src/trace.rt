@@ -4,7 +4,7 @@ ghost use Rattle.dispatch_log.specs.Histories.{first_window, state_of, refuses_a
 ghost use Rattle.dispatch_log.specs.Refusals.{pins_to_none};
 ghost use Rattle.dispatch_log.specs.Rows.{row_of, served, queued};
 ghost use Rattle.dispatch_log.specs.Setups.{IsSound};
-ghost use Rattle.dispatch_log.specs.Words.{is_up};
+ghost use Rattle.dispatch_log.specs.Scenes.{is_up};
 ghost use Rattle.server_pick.specs.Picked.{IsPlacement, cursor_placed};
 ghost use Rattle.dispatch_trace.specs.Histories.{IsAt, IsFound, scene_of, HasEntryRoom};
 

@@ -1,25 +1,26 @@
 //! What is said of a faulty line: its cause in a sentence, and what takes the place of HAProxy's keywords that the profile leaves out.
 
-use proxy_config::Cause;
+use proxy_config::FaultCause;
 
 /// The cause in a sentence.
-pub(crate) fn sentence(cause: Cause) -> &'static str {
+pub(crate) fn sentence(cause: FaultCause) -> &'static str {
     match cause {
-        Cause::Quoting =>
+        FaultCause::Quoting =>
             "Quotes and backslashes have no meaning here, and can't stand before a comment.",
-        Cause::Section => "Of sections there are global, defaults and one listen.",
-        Cause::Keyword => "This word isn't one that can stand here.",
-        Cause::Place => "This line can't stand in this section.",
-        Cause::Words => "The line has too few words, or one too many.",
-        Cause::Number => "This isn't a number or a time, or it is out of range.",
-        Cause::Address =>
+        FaultCause::Section => "Of sections there are global, defaults and one listen.",
+        FaultCause::Keyword => "This word isn't one that can stand here.",
+        FaultCause::Place => "This line can't stand in this section.",
+        FaultCause::Words => "The line has too few words, or one too many.",
+        FaultCause::Number => "This isn't a number or a time, or it is out of range.",
+        FaultCause::Address =>
             "This isn't an address: *:PORT, :PORT, HOST:PORT or four numbers and a PORT.",
-        Cause::Name => "This isn't a name: 1 to 32 letters, digits, -, _, . and :.",
-        Cause::Twice => "This stands there already.",
-        Cause::Unknown => "No ACL or no server of this name is declared.",
-        Cause::Condition => "This isn't a condition, a test or an expression of the profile.",
-        Cause::Missing => "The listen lacks a bind or a server, or there is no listen.",
-        Cause::Limit => "This is one server, ACL line or rule too many, or the file is too long.",
+        FaultCause::Name => "This isn't a name: 1 to 32 letters, digits, -, _, . and :.",
+        FaultCause::Twice => "This stands there already.",
+        FaultCause::Unknown => "No ACL or no server of this name is declared.",
+        FaultCause::Condition => "This isn't a condition, a test or an expression of the profile.",
+        FaultCause::Missing => "The listen lacks a bind or a server, or there is no listen.",
+        FaultCause::Limit =>
+            "This is one server, ACL line or rule too many, or the file is too long.",
     }
 }
 
@@ -185,7 +186,7 @@ const CHOICES: [(&str, &str); 6] = [
 
 /// What takes the place of a line that begins with these words, or where there is none, what there is.
 pub(crate) fn advice(
-    cause: Cause,
+    cause: FaultCause,
     first: &[u8],
     second: &[u8],
     at_fault: &[u8],
@@ -204,7 +205,7 @@ pub(crate) fn advice(
         return Some(advice);
     }
     match cause {
-        Cause::Keyword | Cause::Words => found(&CHOICES, first),
+        FaultCause::Keyword | FaultCause::Words => found(&CHOICES, first),
         _ => None,
     }
 }

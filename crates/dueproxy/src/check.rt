@@ -108,14 +108,14 @@ fn status_of(checked: Checked) -> u8
 #[cfg(test)]
 mod tests {
     use super::*;
-    use proxy_config::Cause;
+    use proxy_config::FaultCause;
     use std::test::Fail;
 
     #[test]
     fn each_end_has_its_line_and_status(rt: HostRuntime) -> Result<(), Fail> {
         let fault = ConfigFault {
             line: 7,
-            cause: Cause::Keyword,
+            cause: FaultCause::Keyword,
         };
         let rows = [
             (Checked::Good(3), "ok servers 3", 0),

@@ -4,7 +4,7 @@
 //! leaving it out or by putting its section into the one `listen`, and the file is read again.
 
 use crate::advice::{advice, sentence};
-use proxy_config::{Cause, ConfigFault, MOST_BYTES, ReadError, read};
+use proxy_config::{ConfigFault, FaultCause, MOST_BYTES, ReadError, read};
 use proxy_words::{Lines, Words, without_comment};
 use std::alloc::{AllocError, Global};
 
@@ -46,7 +46,7 @@ pub(crate) fn explain(alloc: Global, bytes: &[u8]) -> Result<Explanation, AllocE
                 whole,
             });
         };
-        if fault.cause == Cause::Missing {
+        if fault.cause == FaultCause::Missing {
             text.push_str(missing(fault))?;
             break;
         }
@@ -125,7 +125,7 @@ fn set_right(
     word: Option<usize>,
 ) -> Result<(), AllocError> {
     let at = place_of(fault);
-    let kept = if fault.cause == Cause::Section {
+    let kept = if fault.cause == FaultCause::Section {
         Vec::from_slice(alloc, section_instead(lines, at))?
     } else {
         front_instead(alloc, lines, at, word.unwrap_or(0))?
@@ -240,7 +240,7 @@ fn word_at_fault(
         }
         let front = line.get(..end).unwrap_or(b"".as_slice());
         let faulty = fault_of_front(alloc, lines, at, front)? == Some(fault);
-        if faulty && fault.cause != Cause::Words {
+        if faulty && fault.cause != FaultCause::Words {
             return Ok(Some(count - 1));
         }
         if !faulty {

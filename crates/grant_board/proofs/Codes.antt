@@ -6,7 +6,7 @@ use Rattle.verdict.specs.declared.Verdict.TheVariants.{Serve, Told}
 use Rattle.verdict.specs.declared.Ending.TheVariants.{Done, Failed}
 use Rattle.grant_board.specs.declared.laws.Word.{Word}
 use Rattle.grant_board.specs.declared.laws.Word.TheVariants.{Empty, Offered, Taken, Posted}
-use Rattle.grant_board.specs.Words.{code_of, encode_of, IsWord, IsVerdict}
+use Rattle.grant_board.specs.BoardWords.{code_of, encode_of, IsWord, IsVerdict}
 
 one_verdict : (a b : Verdict) → IsVerdict a → IsVerdict b → code_of a ≡ code_of b → a ≡ b
 one_verdict (Serve s) (Serve t) p q e = ap Serve e

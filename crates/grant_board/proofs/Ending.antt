@@ -11,7 +11,7 @@ use Rattle.grant_board.specs.declared.laws.Word.{Word}
 use Rattle.grant_board.specs.declared.laws.Word.TheVariants.{Empty, Offered, Taken, Posted}
 use Rattle.verdict.specs.declared.Ending.TheVariants.{Done, Failed}
 use Rattle.grant_board.specs.declared.view.View.{View}
-use Rattle.grant_board.specs.Words.{code_of, encode_of, IsWord, IsWordAmong, nonzero}
+use Rattle.grant_board.specs.BoardWords.{code_of, encode_of, IsWord, IsWordAmong, nonzero}
 use Rattle.list_facts.specs.Weights.{total, along, Each}
 use Rattle.grant_board.specs.Views.{Terms, KeeperView, KeeperPart, RelayView}
 use Rattle.grant_board.specs.Rule.{BoardState, standing, offered, taken, posted, as_return, of_relays}

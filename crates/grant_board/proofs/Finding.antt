@@ -9,7 +9,7 @@ use Rattle.verdict.specs.declared.Ending.TheVariants.{Done, Failed}
 use Rattle.grant_board.specs.declared.laws.Word.{Word}
 use Rattle.grant_board.specs.declared.laws.Word.TheVariants.{Empty, Offered, Taken, Posted}
 use Rattle.grant_board.specs.declared.view.View.{View}
-use Rattle.grant_board.specs.Words.{encode_of}
+use Rattle.grant_board.specs.BoardWords.{encode_of}
 use Rattle.list_facts.specs.Weights.{total}
 use Rattle.grant_board.specs.Views.{Grant, grant, Terms, KeeperPart, RelayView, Sighting, at_place, serves_at, count_of}
 use Rattle.grant_board.specs.Rule.{BoardState, standing, taken, posted, of_keepers, of_relays, Orderly}

@@ -17,7 +17,7 @@ use Rattle.verdict.specs.declared.Ending.TheVariants.{Done}
 use Rattle.grant_board.specs.declared.laws.Word.{Word}
 use Rattle.grant_board.specs.declared.laws.Word.TheVariants.{Empty, Offered, Taken, Posted}
 use Rattle.grant_board.specs.declared.view.View.{View}
-use Rattle.grant_board.specs.Words.{encode_of, IsWord, IsAmong, IsWordAmong}
+use Rattle.grant_board.specs.BoardWords.{encode_of, IsWord, IsAmong, IsWordAmong}
 use Rattle.list_facts.specs.Weights.{total}
 use Rattle.grant_board.specs.Views.{Grant, grant, Terms, KeeperView, KeeperPart, RelayView, Sighting}
 use Rattle.grant_board.specs.Views.{return_of, at_place, serves_at, count_at, count_of, without}

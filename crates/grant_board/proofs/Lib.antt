@@ -9,4 +9,4 @@ mod Ending
 mod Seating
 mod Counting
 mod Reading
-mod Rows
+mod WorkedRows

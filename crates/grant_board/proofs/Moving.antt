@@ -9,7 +9,7 @@ use Rattle.atomic_table.proofs.Lists.{at_set}
 use Rattle.grant_board.specs.declared.laws.Word.{Word}
 use Rattle.grant_board.specs.declared.returned.Return.{Return}
 use Rattle.grant_board.specs.declared.view.View.{View}
-use Rattle.grant_board.specs.Words.{encode_of, IsWord, IsWordAmong}
+use Rattle.grant_board.specs.BoardWords.{encode_of, IsWord, IsWordAmong}
 use Rattle.list_facts.specs.Weights.{total, along, Each}
 use Rattle.grant_board.specs.Views.{Grant, Terms, KeeperPart, RelayView, Sighting, count_of}
 use Rattle.grant_board.specs.Rule.{Slot, BoardState, standing, offered, taken, posted, as_return, of_keepers}

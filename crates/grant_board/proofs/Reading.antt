@@ -7,12 +7,12 @@ use Rattle.verdict.specs.declared.Ending.{Ending}
 use Rattle.grant_board.specs.declared.laws.Word.{Word}
 use Rattle.grant_board.specs.declared.laws.Word.TheVariants.{Empty, Offered, Taken, Posted}
 use Rattle.grant_board.specs.declared.view.View.{View}
-use Rattle.grant_board.specs.Words.{encode_of, IsWord, IsAmong, IsWordAmong}
+use Rattle.grant_board.specs.BoardWords.{encode_of, IsWord, IsAmong, IsWordAmong}
 use Rattle.list_facts.specs.Weights.{total}
 use Rattle.grant_board.specs.Views.{Grant, grant, Terms, KeeperPart, RelayView, at_place, count_at, count_of}
 use Rattle.grant_board.specs.Rule.{BoardState, standing, taken, of_relays, Orderly}
 use Rattle.grant_board.specs.Ruled.{view}
-use Rattle.grant_board.specs.Places.{HasKeeper, HasRelay, Says, ByPlaces, RuleByPlaces}
+use Rattle.grant_board.specs.Places.{HasKeeper, HasRelay, HasItsWord, ByPlaces, RuleByPlaces}
 use Rattle.list_facts.proofs.Totals.{term_le, terms_le, has_le, found_at}
 use Rattle.grant_board.proofs.Positions.{along_le, along_found}
 use Rattle.list_facts.proofs.Each.{item_at, item_in, Each-at}
@@ -32,7 +32,7 @@ standing-case g p (Taken t d) h = let e = one-is g (grant p t d) h in (ap (λ (x
 standing-case g p (Posted t d x) h = let e = one-is g (grant p t d) h in
     (ap (λ (y : Grant). y.place) e, inr (inr (x, λ i. Posted (e i).ticket (e i).verdict x)))
 
-said : (words : List ℕ) (g : Grant) (c : Word) → slice_index words g.place ≡ encode_of c → Has g c → Says words g
+said : (words : List ℕ) (g : Grant) (c : Word) → slice_index words g.place ≡ encode_of c → Has g c → HasItsWord words g
 said words g c is has = ⊎_elim
     (λ (e : c ≡ Offered g.ticket g.verdict). inl (is ∙ ap encode_of e))
     (λ rest. ⊎_elim

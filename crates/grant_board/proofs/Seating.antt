@@ -10,7 +10,7 @@ use Rattle.verdict.specs.declared.Verdict.{Verdict}
 use Rattle.verdict.specs.declared.Verdict.TheVariants.{Serve, Told}
 use Rattle.verdict.specs.declared.Ending.{Ending}
 use Rattle.grant_board.specs.declared.laws.Word.TheVariants.{Empty, Offered, Taken, Posted}
-use Rattle.grant_board.specs.Words.{encode_of, IsWord, IsAmong, IsVerdict}
+use Rattle.grant_board.specs.BoardWords.{encode_of, IsWord, IsAmong, IsVerdict}
 use Rattle.grant_board.specs.Views.{Grant, grant, Terms, KeeperView, KeeperPart, RelayView, count_at, count_of, serves_at, without}
 use Rattle.list_facts.specs.Weights.{total}
 use Rattle.grant_board.specs.Rule.{Orderly}

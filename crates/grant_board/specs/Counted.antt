@@ -2,7 +2,7 @@
 use Rattle.std.specs.Prelude.{◌≡◌, ℕ, ◌<◌, ◌≤◌, Bool, length, slice_index}
 use Rattle.grant_board.specs.declared.laws.Word.TheVariants.{Taken}
 use Rattle.grant_board.specs.declared.tally.Tally.{Tally}
-use Rattle.grant_board.specs.Words.{IsWord}
+use Rattle.grant_board.specs.BoardWords.{IsWord}
 use Rattle.list_facts.specs.Weights.{Each}
 use Rattle.grant_board.specs.Views.{Grant, count_of}
 use Rattle.grant_board.specs.RelayCalls.{Relay}

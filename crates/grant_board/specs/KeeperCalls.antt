@@ -6,7 +6,7 @@ use Rattle.verdict.specs.declared.Ending.{Ending}
 use Rattle.atomic_table.specs.Seated.{TableId}
 use Rattle.grant_board.specs.declared.laws.Word.TheVariants.{Posted}
 use Rattle.grant_board.specs.declared.returned.Return.{Return}
-use Rattle.grant_board.specs.Words.{encode_of, MayEnd, IsUnposted}
+use Rattle.grant_board.specs.BoardWords.{encode_of, MayEnd, IsUnposted}
 use Rattle.list_facts.specs.Weights.{total, along, AreIn}
 use Rattle.grant_board.specs.Views.{Grant, grant, Terms, look, KeeperView, RelayView, return_of, count_of, without}
 use Rattle.grant_board.specs.Rule.{BoardState, standing, offered, taken, posted, as_return, Orderly}

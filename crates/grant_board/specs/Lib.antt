@@ -1,4 +1,4 @@
-pub mod Words
+pub mod BoardWords
 pub mod Views
 pub mod Names
 pub mod Rule

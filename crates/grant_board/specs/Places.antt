@@ -5,7 +5,7 @@ use lib.ListN.{get_elem?}
 use Rattle.verdict.specs.declared.Ending.{Ending}
 use Rattle.grant_board.specs.declared.laws.Word.TheVariants.{Offered, Taken, Posted}
 use Rattle.grant_board.specs.declared.view.View.{View}
-use Rattle.grant_board.specs.Words.{encode_of, IsWord, IsAmong}
+use Rattle.grant_board.specs.BoardWords.{encode_of, IsWord, IsAmong}
 use Rattle.grant_board.specs.Views.{Grant, Terms, KeeperView, KeeperPart, RelayView, count_at, count_of}
 use Rattle.grant_board.specs.Rule.{BoardState, Orderly}
 use Rattle.grant_board.specs.Ruled.{view}
@@ -19,15 +19,15 @@ abbrev pub HasRelay : BoardState → ℕ → ℕ → RelayView → Type 0
 HasRelay s j i r = (v : View) × (get_elem? s.views j ≡ some v) × (get_elem? v.relays i ≡ some r)
 
 -- the word of the grant's place has its ticket and verdict
-abbrev pub Says : List ℕ → Grant → Type 0
-Says words g =
+abbrev pub HasItsWord : List ℕ → Grant → Type 0
+HasItsWord words g =
     (slice_index words g.place ≡ encode_of (Offered g.ticket g.verdict)) ⊎ ((slice_index words g.place ≡ encode_of (Taken g.ticket g.verdict))
     ⊎ ((ending : Ending) × (slice_index words g.place ≡ encode_of (Posted g.ticket g.verdict ending))))
 
 pub record ByPlaces (terms : Terms) (s : BoardState) (k : KeeperView) : Type 0 where
   -- a place's word is empty exactly where the place isn't out, else it has the grant's ticket and verdict
   pub empty : (place : ℕ) → place < terms.places → (slice_index s.words place ≡ 0) ↔ (count_at place k.out ≡ 0)
-  pub out : (g : Grant) → Contains k.out g → Says s.words g
+  pub out : (g : Grant) → Contains k.out g → HasItsWord s.words g
   -- what is out is of the board: its place, its server, and a ticket that a word can have
   pub on_board : (g : Grant) → Contains k.out g → (g.place < terms.places) × IsWord (Offered g.ticket g.verdict) × IsAmong (length terms.limits) g.verdict
   -- it is taken exactly where a seat has the pass, with that ticket and verdict

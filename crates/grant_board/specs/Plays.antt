@@ -6,7 +6,7 @@ use Rattle.verdict.specs.declared.Ending.{Ending}
 use Rattle.atomic_table.specs.Table.{Me, Step}
 use Rattle.grant_board.specs.declared.laws.Word.TheVariants.{Offered, Taken, Posted}
 use Rattle.grant_board.specs.declared.view.View.{View}
-use Rattle.grant_board.specs.Words.{encode_of, IsWord, IsAmong, IsUnposted}
+use Rattle.grant_board.specs.BoardWords.{encode_of, IsWord, IsAmong, IsUnposted}
 use Rattle.list_facts.specs.Weights.{total}
 use Rattle.grant_board.specs.Views.{Grant, grant, Terms, RelayView, KeeperPart, count_at, count_of, without}
 use Rattle.grant_board.specs.Names.{no_terms}

@@ -6,7 +6,7 @@ use Rattle.atomic_table.specs.Seated.{TableId}
 use Rattle.grant_board.specs.declared.laws.Word.TheVariants.{Offered}
 use Rattle.grant_board.specs.declared.pass.Taking.{Taking}
 use Rattle.grant_board.specs.declared.pass.Taking.TheVariants.{Taken, NotYet}
-use Rattle.grant_board.specs.Words.{encode_of, IsWord, IsAmong, OffersNot}
+use Rattle.grant_board.specs.BoardWords.{encode_of, IsWord, IsAmong, OffersNot}
 use Rattle.grant_board.specs.Views.{Grant, Terms, look, RelayView, return_of, without}
 
 -- a relay's seat: its board, and what it knows

@@ -8,7 +8,7 @@ use Rattle.grant_board.specs.declared.laws.Word.TheVariants.{Empty, Offered, Tak
 use Rattle.grant_board.specs.declared.returned.Return.{Return}
 use Rattle.grant_board.specs.declared.view.View.{View}
 use Rattle.grant_board.specs.declared.view.Plan.{Plan}
-use Rattle.grant_board.specs.Words.{encode_of, IsWord, IsWordAmong}
+use Rattle.grant_board.specs.BoardWords.{encode_of, IsWord, IsWordAmong}
 use Rattle.list_facts.specs.Weights.{total, along, Each}
 use Rattle.grant_board.specs.Views.{Grant, grant, Terms, KeeperPart, RelayView, Sighting, return_of, count_of}
 

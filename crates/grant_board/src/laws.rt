@@ -1,7 +1,7 @@
 //! The words of the board's places, and their numbers.
 ghost use Rattle.std.specs.Prelude.{◌≡◌, ◌≢◌, ◌<◌, Some, IfSome, IfNone};
 ghost use Rattle.grant_board.specs.declared.laws.Word.TheVariants.{Offered, Posted};
-ghost use Rattle.grant_board.specs.Words.{code_of, encode_of, IsWord, IsVerdict, IsUnposted, OffersNot};
+ghost use Rattle.grant_board.specs.BoardWords.{code_of, encode_of, IsWord, IsVerdict, IsUnposted, OffersNot};
 ghost use Rattle.grant_board.specs.Places.{RuleByPlaces};
 
 use verdict::{Cause, Ending, Verdict};

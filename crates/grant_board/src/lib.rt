@@ -8,9 +8,9 @@
 #![tactic(auto)]
 
 mod board;
-mod ends;
 mod keeper;
 pub mod laws;
+mod opening;
 mod pass;
 mod plays;
 mod relay;
@@ -20,7 +20,7 @@ mod tally;
 mod view;
 
 pub use board::{Board, BoardName};
-pub use ends::Closing;
+pub use opening::Closing;
 pub use keeper::KeeperSeat;
 pub use pass::{Pass, Taking};
 pub use relay::{Met, RelaySeat};

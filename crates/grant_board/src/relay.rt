@@ -1,5 +1,5 @@
 ghost use Rattle.std.specs.Prelude.{◌≡◌, ◌+◌, ◌<◌, ◌≤◌, true, false, length, slice_index, Contains};
-ghost use Rattle.grant_board.specs.Words.{MayEnd};
+ghost use Rattle.grant_board.specs.BoardWords.{MayEnd};
 ghost use Rattle.list_facts.specs.Weights.{total};
 ghost use Rattle.grant_board.specs.Views.{Grant, count_at, count_of};
 ghost use Rattle.grant_board.specs.Ruled.{RelayRuled, MeetRuled};

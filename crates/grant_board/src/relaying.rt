@@ -1,7 +1,7 @@
 // A relay's seat of the table, a step at a time.
 ghost use Rattle.std.specs.Prelude.{◌≡◌, ◌≢◌, ◌+◌, ◌<◌, ◌≤◌, true, false, length, Contains};
 ghost use Rattle.grant_board.specs.declared.laws.Word.TheVariants.{Offered, Posted};
-ghost use Rattle.grant_board.specs.Words.{encode_of, IsWord, IsAmong};
+ghost use Rattle.grant_board.specs.BoardWords.{encode_of, IsWord, IsAmong};
 ghost use Rattle.list_facts.specs.Weights.{total};
 ghost use Rattle.grant_board.specs.Views.{Grant, grant};
 ghost use Rattle.grant_board.specs.Ruled.{RelayRuled, MeetRuled};

@@ -1,6 +1,6 @@
 // How many passes a seat has, in all and of each server.
 ghost use Rattle.std.specs.Prelude.{◌≡◌, ◌+◌, ◌<◌, ◌≤◌, ◌^◌, slice_index, replicate};
-ghost use Rattle.grant_board.specs.Words.{IsVerdict};
+ghost use Rattle.grant_board.specs.BoardWords.{IsVerdict};
 ghost use Rattle.grant_board.specs.Views.{serves_at};
 
 use verdict::Verdict;

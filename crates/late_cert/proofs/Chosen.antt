@@ -11,7 +11,7 @@ use Rattle.readable_log.specs.Grants.{stays}
 use Rattle.readable_log.specs.declared.grant.Stay.{Stay}
 use Rattle.late_cert.specs.Lateness.{own_lateness}
 use Rattle.readable_log.specs.Ordered.{AllKeepOrder, HaveArrived}
-use Rattle.late_cert.specs.Reports.{is_within, last_cut, IsCritical, IsSound, IsChosen}
+use Rattle.late_cert.specs.Reports.{is_within, last_cut, IsCritical, IsSoundReport, IsChosenReport}
 use Rattle.late_cert.specs.declared.report.Report.{Report}
 use Rattle.late_cert.proofs.Fair.{AreFair, RisesFrom, rises_lower, fair_after, rises_after}
 use Rattle.list_facts.proofs.Members.{all_weaker, all_append}
@@ -142,7 +142,7 @@ contains_middle earlier stay later = Contains-append_right earlier (stay ∷ lat
 
 -- the theorem of chosen reports
 pub chosen_sound : (setup : Setup) (start : State) (log : Window) (r : Report) → HaveArrived log.base [] start.rows → AllKeepOrder setup start log.entries
-    → IsChosen log r → IsSound log r
+    → IsChosenReport log r → IsSoundReport log r
 chosen_sound setup start log r arrived keep chosen =
     let ss = stays log r.queue r.class in
     let w = chosen.worst in

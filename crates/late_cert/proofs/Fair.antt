@@ -16,7 +16,7 @@ use Rattle.dispatch_log.specs.States.{State, after, after_all}
 use Rattle.dispatch_log.proofs.Judged.{after_all-push}
 use Rattle.readable_log.specs.Grants.{Wait, grant_in, joins, joining_of, key_known, grant_after, grants_after, is_of}
 use Rattle.readable_log.specs.declared.base.BaseRow.{BaseRow}
-use Rattle.readable_log.specs.declared.grant.Grant.{Grant}
+use Rattle.readable_log.specs.declared.grant.SlotGrant.{SlotGrant}
 use Rattle.readable_log.specs.declared.grant.Stay.{Stay}
 use Rattle.readable_log.proofs.Joinings.{none_in_second, grants_no_joining}
 use Rattle.readable_log.proofs.Timely.{follows}
@@ -41,7 +41,7 @@ stays_after base q c past es = map (λ g. g.stay) (filter (is_of q c) (grants_af
 -- ---- one grant
 
 -- what is known of a grant where it stands
-record IsTaken (s : State) (past : List Entry) (q : Queue) (c : ℤ) (e : Entry) (g : Grant) : Type 0 where
+record IsTaken (s : State) (past : List Entry) (q : Queue) (c : ℤ) (e : Entry) (g : SlotGrant) : Type 0 where
   wait : Wait
   is : grant_in e ≡ Some wait
   queue : q ≡ wait.queue
@@ -51,7 +51,8 @@ record IsTaken (s : State) (past : List Entry) (q : Queue) (c : ℤ) (e : Entry)
   class : takes.row.key.class ≡ c
   due : takes.row.key.due ≡ g.stay.due
 
-taken : (base : List BaseRow) (s : State) (past : List Entry) (q : Queue) (c : ℤ) (e : Entry) (g : Grant) → HaveArrived base past s.rows → KeepsOrder s.rows e
+taken : (base : List BaseRow) (s : State) (past : List Entry) (q : Queue) (c : ℤ) (e : Entry) (g : SlotGrant) → HaveArrived base past s.rows
+    → KeepsOrder s.rows e
     → grant_after base past e ≡ Some g → is_of q c g ≡ true → IsTaken s past q c e g
 taken base s past q c e g have keeps made of =
     let f = follows base past e g made in
@@ -63,12 +64,12 @@ taken base s past q c e g have keeps made of =
     record {
       wait = f.wait;
       is = f.is;
-      queue = same.0 ∙ ap (λ (x : Grant). x.queue) f.made;
-      joined = ap (λ (x : Grant). x.stay.joined) f.made;
-      slot = ap (λ (x : Grant). x.stay.slot) f.made;
+      queue = same.0 ∙ ap (λ (x : SlotGrant). x.queue) f.made;
+      joined = ap (λ (x : SlotGrant). x.stay.joined) f.made;
+      slot = ap (λ (x : SlotGrant). x.stay.slot) f.made;
       takes = takes;
-      class = sym facts.0 ∙ sym (ap (λ (x : Grant). x.class) f.made) ∙ sym same.1;
-      due = sym facts.1 ∙ sym (ap (λ (x : Grant). x.stay.due) f.made);
+      class = sym facts.0 ∙ sym (ap (λ (x : SlotGrant). x.class) f.made) ∙ sym same.1;
+      due = sym facts.1 ∙ sym (ap (λ (x : SlotGrant). x.stay.due) f.made);
     }
 
 due_least : (a b : Key) → key_cmp a b ≢ Greater → a.class ≡ b.class → a.due ≤ℤ b.due
@@ -94,7 +95,7 @@ later_fair base setup q c due s1 past1 none between (e ∷ es) past2 s2 is_past 
     ∙ append_assoc past1 between (e ∷ [])) (ap (λ s. after setup s e) is_state
     ∙ sym (after_all-push setup s1 between e)) (have_arrived_after base setup past2 s2 e have keep.0) keep.1)
   where
-    pair : (g : Grant) → grant_after base past2 e ≡ Some g → is_of q c g ≡ true → g.stay.joined ≤ length past1 → due ≤ℤ g.stay.due
+    pair : (g : SlotGrant) → grant_after base past2 e ≡ Some g → is_of q c g ≡ true → g.stay.joined ≤ length past1 → due ≤ℤ g.stay.due
     pair g made of low =
         let t = taken base s2 past2 q c e g have keep.0 made of in
         let row = t.takes.row in
@@ -108,7 +109,7 @@ later_fair base setup q c due s1 past1 none between (e ∷ es) past2 s2 is_past 
         let before : Waited s1.rows q row.key = subst (λ p. Waited s1.rows p row.key) (sym t.queue) (steps_back setup s1 between w.queue row.key here quiet) in
         subst (λ z. due ≤ℤ z) t.due (none row.key before t.class)
 
-    by_class : (g : Grant) → grant_after base past2 e ≡ Some g → (b : Bool) → is_of q c g ≡ b
+    by_class : (g : SlotGrant) → grant_after base past2 e ≡ Some g → (b : Bool) → is_of q c g ≡ b
         → AllByRecursion (λ u. u.joined ≤ length past1 → due ≤ℤ u.due) (stays_after base q c (past2 ++ e ∷ []) es)
         → AllByRecursion (λ u. u.joined ≤ length past1
         → due ≤ℤ u.due) (map (λ x. x.stay) (cond b (g ∷ filter (is_of q c) (grants_after base (past2 ++ e ∷ []) es))
@@ -116,7 +117,7 @@ later_fair base setup q c due s1 past1 none between (e ∷ es) past2 s2 is_past 
     by_class g made true of rest = (pair g made of, rest)
     by_class g made false of rest = rest
 
-    by_grant : (o : Option Grant) → grant_after base past2 e ≡ o
+    by_grant : (o : Option SlotGrant) → grant_after base past2 e ≡ o
         → AllByRecursion (λ u. u.joined ≤ length past1 → due ≤ℤ u.due) (stays_after base q c (past2 ++ e ∷ []) es)
         → AllByRecursion (λ u. u.joined ≤ length past1
         → due ≤ℤ u.due) (map (λ x. x.stay) (filter (is_of q c) (option_map_or (λ x. x ∷ []) o [] ++ grants_after base (past2 ++ e ∷ []) es)))
@@ -134,7 +135,7 @@ fair_after base setup q c past (e ∷ es) s have keep =
     long : length (past ++ e ∷ []) ≡ length past + 1
     long = omega (arith, length-append past (e ∷ []))
 
-    first : (g : Grant) → IsTaken s past q c e g → NoneDueEarlier (after setup s e) q c g.stay.due
+    first : (g : SlotGrant) → IsTaken s past q c e g → NoneDueEarlier (after setup s e) q c g.stay.due
     first g t key w class =
         let back : Waited s.rows q key = step_back setup s e q key w (grants_no_joining e t.wait key.ticket q t.is) in
         let waits : IsTrue (phase_waits_in t.wait.queue back.row.phase) = subst (λ p. IsTrue (phase_waits_in p back.row.phase)) t.queue back.waits in
@@ -142,7 +143,7 @@ fair_after base setup q c past (e ∷ es) s have keep =
         subst (λ z. z ≤ℤ key.due) t.due (due_least t.takes.row.key key (subst (λ (k : Key). key_cmp t.takes.row.key k ≢ Greater) back.same least) (t.class
         ∙ sym class))
 
-    by_class : (g : Grant) → grant_after base past e ≡ Some g → (b : Bool) → is_of q c g ≡ b → AreFair (stays_after base q c (past ++ e ∷ []) es)
+    by_class : (g : SlotGrant) → grant_after base past e ≡ Some g → (b : Bool) → is_of q c g ≡ b → AreFair (stays_after base q c (past ++ e ∷ []) es)
         → AreFair (map (λ x. x.stay) (cond b (g ∷ filter (is_of q c) (grants_after base (past ++ e ∷ []) es))
         (filter (is_of q c) (grants_after base (past ++ e ∷ []) es))))
     by_class g made false of rest = rest
@@ -155,7 +156,7 @@ fair_after base setup q c past (e ∷ es) s have keep =
           rest,
         )
 
-    by_grant : (o : Option Grant) → grant_after base past e ≡ o → AreFair (stays_after base q c (past ++ e ∷ []) es)
+    by_grant : (o : Option SlotGrant) → grant_after base past e ≡ o → AreFair (stays_after base q c (past ++ e ∷ []) es)
         → AreFair (map (λ x. x.stay) (filter (is_of q c) (option_map_or (λ x. x ∷ []) o [] ++ grants_after base (past ++ e ∷ []) es)))
     by_grant None made rest = rest
     by_grant (Some g) made rest = by_class g made (is_of q c g) refl rest
@@ -172,15 +173,15 @@ rises_after base q c past (e ∷ es) = by_grant (grant_after base past e) refl (
     long : length (past ++ e ∷ []) ≡ length past + 1
     long = omega (arith, length-append past (e ∷ []))
 
-    by_class : (g : Grant) → grant_after base past e ≡ Some g → (b : Bool) → RisesFrom (length (past ++ e ∷ [])) (stays_after base q c (past ++ e ∷ []) es)
+    by_class : (g : SlotGrant) → grant_after base past e ≡ Some g → (b : Bool) → RisesFrom (length (past ++ e ∷ [])) (stays_after base q c (past ++ e ∷ []) es)
         → RisesFrom (length past) (map (λ x. x.stay)
         (cond b (g ∷ filter (is_of q c) (grants_after base (past ++ e ∷ []) es)) (filter (is_of q c) (grants_after base (past ++ e ∷ []) es))))
     by_class g made false rest = rises_lower (length (past ++ e ∷ [])) (length past) (stays_after base q c (past ++ e ∷ []) es) (omega (arith, long)) rest
     by_class g made true rest =
-        let slot : g.stay.slot ≡ length past + 1 = ap (λ (x : Grant). x.stay.slot) (follows base past e g made).made in
+        let slot : g.stay.slot ≡ length past + 1 = ap (λ (x : SlotGrant). x.stay.slot) (follows base past e g made).made in
         (omega arith, subst (λ n. RisesFrom n (stays_after base q c (past ++ e ∷ []) es)) (long ∙ sym slot) rest)
 
-    by_grant : (o : Option Grant) → grant_after base past e ≡ o → RisesFrom (length (past ++ e ∷ [])) (stays_after base q c (past ++ e ∷ []) es)
+    by_grant : (o : Option SlotGrant) → grant_after base past e ≡ o → RisesFrom (length (past ++ e ∷ [])) (stays_after base q c (past ++ e ∷ []) es)
         → RisesFrom (length past) (map (λ x. x.stay) (filter (is_of q c) (option_map_or (λ x. x ∷ []) o [] ++ grants_after base (past ++ e ∷ []) es)))
     by_grant None made rest = rises_lower (length (past ++ e ∷ [])) (length past) (stays_after base q c (past ++ e ∷ []) es) (omega (arith, long)) rest
     by_grant (Some g) made rest = by_class g made (is_of q c g) rest

@@ -13,12 +13,12 @@ use Rattle.dispatch_log.specs.declared.queue.Queue.{Queue}
 use Rattle.readable_log.specs.Grants.{is_of, grants}
 use Rattle.readable_log.specs.Readable.{IsReadable}
 use Rattle.readable_log.specs.Timely.{IsTimely}
-use Rattle.readable_log.specs.declared.grant.Grant.{Grant}
+use Rattle.readable_log.specs.declared.grant.SlotGrant.{SlotGrant}
 use Rattle.readable_log.specs.declared.grant.Stay.{Stay}
 use Rattle.readable_log.proofs.Timely.{timely}
 use Rattle.late_cert.specs.Groups.{is_before, is_later, IsReportOf, AreGroups}
 use Rattle.late_cert.specs.Lateness.{own_lateness}
-use Rattle.late_cert.specs.Reports.{is_within, IsChosenFor, IsChosen, comes_before, AreAscending, is_covered, AreReports}
+use Rattle.late_cert.specs.Reports.{is_within, IsChosenFor, IsChosenReport, comes_before, AreAscending, is_covered, AreReports}
 use Rattle.late_cert.specs.Tests.{is_about, late_by}
 use Rattle.late_cert.specs.declared.report.Report.{Report}
 use Rattle.list_facts.proofs.Members.{all_weaker, all_both, all_map, all_append, all_take, all_drop, all_filter, filter_none, one_of}
@@ -32,7 +32,7 @@ use Rattle.readable_log.specs.Windows.{Window}
 -- ---- a group's report
 
 -- a group more in front
-pub one_more : (gs front back : List Grant) (q : Queue) (c : ℤ) (n : ℕ) (r : Report) (more : List Report) → n ≡ prefix_len (is_of q c) gs → 0 < n
+pub one_more : (gs front back : List SlotGrant) (q : Queue) (c : ℤ) (n : ℕ) (r : Report) (more : List Report) → n ≡ prefix_len (is_of q c) gs → 0 < n
     → front ≡ take n gs → back ≡ drop n gs → IsReportOf front r → r.queue ≡ q → r.class ≡ c → AreGroups back more → AreGroups gs (r ∷ more)
 one_more gs front back q c n r more long some is_front is_back report queue class rest =
     let same : n ≡ prefix_len (is_about r) gs = long ∙ ap (λ (p : Queue). prefix_len (is_of p c) gs) (sym queue)
@@ -43,34 +43,34 @@ one_more gs front back q c n r more long some is_front is_back report queue clas
     )
 
 -- the first grant begins its own group
-pub some_group : (gs : List Grant) (g : Grant) → slice_get gs 0 ≡ Some g → 0 < prefix_len (is_of g.queue g.class) gs
+pub some_group : (gs : List SlotGrant) (g : SlotGrant) → slice_get gs 0 ≡ Some g → 0 < prefix_len (is_of g.queue g.class) gs
 some_group [] g e = cc
 some_group (x ∷ gs) g e =
     let same : Some x ≡ Some g = e in
-    let own : is_of g.queue g.class x ≡ true = subst (λ (o : Option Grant). cond_of o) (sym same) (is_of_own g) in
+    let own : is_of g.queue g.class x ≡ true = subst (λ (o : Option SlotGrant). cond_of o) (sym same) (is_of_own g) in
     subst (λ b. 0 < cond b (1 + prefix_len (is_of g.queue g.class) gs) 0) (sym own) (omega arith)
   where
-    cond_of : Option Grant → Type 0
+    cond_of : Option SlotGrant → Type 0
     cond_of None = Unit {0}
     cond_of (Some y) = is_of g.queue g.class y ≡ true
 
-pub no_group : (gs : List Grant) → slice_get gs 0 ≡ None → gs ≡ []
+pub no_group : (gs : List SlotGrant) → slice_get gs 0 ≡ None → gs ≡ []
 no_group [] e = refl
 no_group (g ∷ gs) e = cc
 
 -- ---- the reports of sorted grants
 
 -- a report on all the grants that it is about
-pub record IsReportAmong (gs : List Grant) (r : Report) : Type 0 where
+pub record IsReportAmong (gs : List SlotGrant) (r : Report) : Type 0 where
   pub report : IsReportOf (filter (is_about r) gs) r
   pub some : 0 < length (filter (is_about r) gs)
 
-pub record AreReportsAmong (gs : List Grant) (rs : List Report) : Type 0 where
+pub record AreReportsAmong (gs : List SlotGrant) (rs : List Report) : Type 0 where
   pub each : AllByRecursion (IsReportAmong gs) rs
   pub ascending : AreAscending rs
   pub complete : AllByRecursion (λ g. IsTrue (is_covered rs g)) gs
 
-comes_after : (r s : Report) (g : Grant) → is_about s g ≡ true → is_about r g ≡ false → comes_before g.queue g.class r.queue r.class ≡ false
+comes_after : (r s : Report) (g : SlotGrant) → is_about s g ≡ true → is_about r g ≡ false → comes_before g.queue g.class r.queue r.class ≡ false
     → comes_before r.queue r.class s.queue s.class ≡ true
 comes_after r s g about other none =
     let same = is_of_true s.queue s.class g about in
@@ -78,7 +78,7 @@ comes_after r s g about other none =
     subst (λ p. comes_before r.queue r.class p s.class ≡ true) (sym same.0) (subst (λ d. comes_before r.queue r.class g.queue d ≡ true) (sym same.1) before)
 
 -- a grant that an earlier report is about is none of a later one's
-about_one : (r s : Report) (g : Grant) → comes_before r.queue r.class s.queue s.class ≡ true → is_about r g ≡ true → is_about s g ≡ false
+about_one : (r s : Report) (g : SlotGrant) → comes_before r.queue r.class s.queue s.class ≡ true → is_about r g ≡ true → is_about s g ≡ false
 about_one r s g before about = go (is_about s g) refl
   where
     go : (b : Bool) → is_about s g ≡ b → is_about s g ≡ false
@@ -90,22 +90,22 @@ about_one r s g before about = go (is_about s g) refl
         subst (λ p. comes_before r.queue r.class p g.class ≡ true) y.0 (subst (λ d. comes_before r.queue r.class s.queue d ≡ true) y.1 before) in
         absurd (false≢true (sym (same_ties r.queue g.queue r.class g.class about).0 ∙ k))
 
-covered_more : (r : Report) (rs : List Report) (g : Grant) → IsTrue (is_covered rs g) → IsTrue (is_covered (r ∷ rs) g)
+covered_more : (r : Report) (rs : List Report) (g : SlotGrant) → IsTrue (is_covered rs g) → IsTrue (is_covered (r ∷ rs) g)
 covered_more r rs g e = go (is_about r g)
   where
     go : (b : Bool) → (b || is_covered rs g) ≡ true
     go true = refl
     go false = e
 
-covered_here : (r : Report) (rs : List Report) (g : Grant) → is_about r g ≡ true → IsTrue (is_covered (r ∷ rs) g)
+covered_here : (r : Report) (rs : List Report) (g : SlotGrant) → is_about r g ≡ true → IsTrue (is_covered (r ∷ rs) g)
 covered_here r rs g e = ap (λ b. b || is_covered rs g) e
 
-front_some : (r : Report) (gs : List Grant) (n : ℕ) → 0 < n → 0 < prefix_len (is_about r) gs → 0 < length (take n gs)
+front_some : (r : Report) (gs : List SlotGrant) (n : ℕ) → 0 < n → 0 < prefix_len (is_about r) gs → 0 < length (take n gs)
 front_some r [] n some p = absurd (omega arith)
 front_some r (g ∷ gs) zero some p = absurd (omega arith)
 front_some r (g ∷ gs) (suc n) some p = omega arith
 
-pub among_groups : (rs : List Report) (gs : List Grant) → AreSorted gs → AreGroups gs rs → AreReportsAmong gs rs
+pub among_groups : (rs : List Report) (gs : List SlotGrant) → AreSorted gs → AreGroups gs rs → AreReportsAmong gs rs
 among_groups [] gs sorted groups = record {
   each = tt;
   ascending = tt;
@@ -140,11 +140,11 @@ among_groups (r ∷ rs) gs sorted groups = go
         let some : 0 < length (take (prefix_len (is_about r) gs) gs) = front_some r gs (prefix_len (is_about r) gs) groups.0 groups.0 in
         record {
           each = (
-            record { report = subst (λ l. IsReportOf l r) split.front groups.1; some = subst (λ (l : List Grant). 0 < length l) split.front some },
+            record { report = subst (λ l. IsReportOf l r) split.front groups.1; some = subst (λ (l : List SlotGrant). 0 < length l) split.front some },
             all_weaker (λ s. IsReportAmong (drop (prefix_len (is_about r) gs) gs) s × IsTrue (comes_before r.queue r.class s.queue s.class)) (IsReportAmong gs)
                 (λ s it. record {
                   report = subst (λ l. IsReportOf l s) (kept s it.1) it.0.report;
-                  some = subst (λ (l : List Grant). 0 < length l) (kept s it.1) it.0.some;
+                  some = subst (λ (l : List SlotGrant). 0 < length l) (kept s it.1) it.0.some;
                 })
                 rs (all_both (IsReportAmong (drop (prefix_len (is_about r) gs) gs))
                 (λ s. IsTrue (comes_before r.queue r.class s.queue s.class)) rs rest.each later),
@@ -160,31 +160,31 @@ among_groups (r ∷ rs) gs sorted groups = go
 
 -- ---- a report by places, and as it is chosen
 
-chosen_group : (log : Window) (gs : List Grant) (r : Report) → AllByRecursion (IsTimely log) gs → IsReportOf gs r → IsChosenFor log (map (λ g. g.stay) gs) r
+chosen_group : (log : Window) (gs : List SlotGrant) (r : Report) → AllByRecursion (IsTimely log) gs → IsReportOf gs r → IsChosenFor log (map (λ g. g.stay) gs) r
 chosen_group log gs r timely it = record {
   granted = it.granted ∙ sym (length-map gs (λ g. g.stay));
   worst = record {
     earlier = map (λ g. g.stay) (take it.at gs);
     stay = it.grant.stay;
     later = map (λ g. g.stay) (drop (suc it.at) gs);
-    parts = ap (map (λ (g : Grant). g.stay)) parts ∙ map-append (λ (g : Grant). g.stay) (take it.at gs) (it.grant ∷ drop (suc it.at) gs);
-    less = all_map (λ (g : Grant). g.stay) (λ g. IsTimely log g × (late_by g <ℤ r.worst)) (λ s. own_lateness log s <ℤ r.worst)
+    parts = ap (map (λ (g : SlotGrant). g.stay)) parts ∙ map-append (λ (g : SlotGrant). g.stay) (take it.at gs) (it.grant ∷ drop (suc it.at) gs);
+    less = all_map (λ (g : SlotGrant). g.stay) (λ g. IsTimely log g × (late_by g <ℤ r.worst)) (λ s. own_lateness log s <ℤ r.worst)
         (λ g h. subst (λ z. z <ℤ r.worst) (sym (lateness_of log g h.0)) h.1)
         (take it.at gs) (all_both (IsTimely log) (λ g. late_by g <ℤ r.worst) (take it.at gs) (all_take (IsTimely log) it.at gs timely) less);
     late = lateness_of log it.grant here ∙ sym it.worst;
-    not_more = all_map (λ (g : Grant). g.stay) (λ g. IsTimely log g × (late_by g ≤ℤ r.worst)) (λ s. own_lateness log s ≤ℤ r.worst)
+    not_more = all_map (λ (g : SlotGrant). g.stay) (λ g. IsTimely log g × (late_by g ≤ℤ r.worst)) (λ s. own_lateness log s ≤ℤ r.worst)
         (λ g h. subst (λ z. z ≤ℤ r.worst) (sym (lateness_of log g h.0)) h.1)
         (drop (suc it.at) gs) (all_drop (λ g. IsTimely log g × (late_by g ≤ℤ r.worst)) (suc it.at) gs
         (all_both (IsTimely log) (λ g. late_by g ≤ℤ r.worst) gs timely bounded));
     slot = it.to;
     due = it.due;
-    after = ap (λ z. z) it.after ∙ ap (λ (d : ℤ). fold (λ cut (s : Stay). cond (int_lt d s.due) s.slot cut) 0 (map (λ (g : Grant). g.stay) (take it.at gs)))
+    after = ap (λ z. z) it.after ∙ ap (λ (d : ℤ). fold (λ cut (s : Stay). cond (int_lt d s.due) s.slot cut) 0 (map (λ (g : SlotGrant). g.stay) (take it.at gs)))
         (sym it.due);
   };
   critical = it.critical ∙ sym (filter_map r.after r.to gs);
 }
   where
-    filter_map : (after to : ℕ) (l : List Grant)
+    filter_map : (after to : ℕ) (l : List SlotGrant)
         → filter (is_within after to) (map (λ g. g.stay) l) ≡ map (λ g. g.stay) (filter (λ g. is_within after to g.stay) l)
     filter_map after to [] = refl
     filter_map after to (g ∷ l) = step (is_within after to g.stay) (filter_map after to l)
@@ -198,7 +198,7 @@ chosen_group log gs r timely it = record {
     parts : gs ≡ take it.at gs ++ it.grant ∷ drop (suc it.at) gs
     parts = cut_at gs it.at it.grant it.stands
 
-    read : (d : Grant) → get_or gs it.at d ≡ it.grant
+    read : (d : SlotGrant) → get_or gs it.at d ≡ it.grant
     read d = get_or_from_slice_get gs it.at it.grant d it.stands
 
     under : (x y : ℤ) → int_lt y x ≡ true → y <ℤ x
@@ -230,15 +230,15 @@ chosen_group log gs r timely it = record {
 
 -- ---- the reports of a log
 
-abbrev grant_like : Report → Grant
+abbrev grant_like : Report → SlotGrant
 grant_like r = record { queue = r.queue; class = r.class; moment = 0; stay = record { ticket = 0; joined = 0; slot = 0; due = pos 0 } }
 
-pub certified : (log : Window) (sorted : List Grant) (rs : List Report) → IsReadable log → IsPermutation (grants log) sorted → IsSortedBy is_before sorted
+pub certified : (log : Window) (sorted : List SlotGrant) (rs : List Report) → IsReadable log → IsPermutation (grants log) sorted → IsSortedBy is_before sorted
     → IsStableBy is_before (grants log) sorted → AreGroups sorted rs → AreReports log rs
 certified log sorted rs readable permuted rising stable groups =
     let among = among_groups rs sorted (are_sorted sorted rising) groups in
     record {
-      chosen = all_weaker (IsReportAmong sorted) (IsChosen log) (λ r it.
+      chosen = all_weaker (IsReportAmong sorted) (IsChosenReport log) (λ r it.
           chosen_group log (filter (is_about r) (grants log)) r (all_filter (IsTimely log) (is_about r) (grants log) (timely log readable))
           (subst (λ l. IsReportOf l r) (same r) it.report))
           rs among.each;

@@ -6,7 +6,7 @@ use Rattle.std.specs.Int.{int_max}
 use Rattle.std.proofs.lemmas.Int.{ints, clamps}
 use Rattle.std.proofs.lemmas.List.Sorted.{IsPermutation-refl}
 use Rattle.dispatch_log.specs.declared.queue.Queue.{Queue}
-use Rattle.readable_log.specs.declared.grant.Grant.{Grant}
+use Rattle.readable_log.specs.declared.grant.SlotGrant.{SlotGrant}
 use Rattle.readable_log.specs.declared.grant.Stay.{Stay}
 use Rattle.readable_log.specs.Grants.{is_of, grants, stays, moment_at}
 use Rattle.readable_log.specs.Readable.{IsReadable}
@@ -14,7 +14,7 @@ use Rattle.readable_log.specs.Timely.{IsTimely}
 use Rattle.readable_log.proofs.Moments.{moments_rise}
 use Rattle.readable_log.proofs.Timely.{timely}
 use Rattle.late_cert.specs.Lateness.{own_lateness, own_slots, AreAfterJoining, latenesses, greatest}
-use Rattle.late_cert.specs.Reports.{IsSound, IsLeast, is_within, IsCritical}
+use Rattle.late_cert.specs.Reports.{IsSoundReport, IsLeast, is_within, IsCritical}
 use Rattle.late_cert.specs.declared.report.Report.{Report}
 use Rattle.late_cert.proofs.Exchange.{Reaches, reached_by_all}
 use Rattle.readable_log.specs.Windows.{Window}
@@ -57,7 +57,7 @@ own_reaches log worst (s ∷ ss) w zero below at late =
 own_reaches log worst (s ∷ ss) w (suc k) below at late = inr (own_reaches log worst ss w k (omega arith) at late)
 
 -- the log's own slots are an assignment
-own_after : (log : Window) (q : Queue) (c : ℤ) (gs : List Grant) → AllByRecursion (IsTimely log) gs
+own_after : (log : Window) (q : Queue) (c : ℤ) (gs : List SlotGrant) → AllByRecursion (IsTimely log) gs
     → AreAfterJoining (map (λ g. g.stay) (filter (is_of q c) gs)) (own_slots (map (λ g. g.stay) (filter (is_of q c) gs)))
 own_after log q c [] all = tt
 own_after log q c (g ∷ gs) all = go (is_of q c g) (own_after log q c gs all.1)
@@ -69,7 +69,7 @@ own_after log q c (g ∷ gs) all = go (is_of q c g) (own_after log q c gs all.1)
     go false rest = rest
 
 -- the theorem of least lateness
-pub sound_least : (log : Window) (r : Report) → IsReadable log → IsSound log r → IsLeast log r
+pub sound_least : (log : Window) (r : Report) → IsReadable log → IsSoundReport log r → IsLeast log r
 sound_least log r readable sound =
     let ss = stays log r.queue r.class in
     let w = sound.worst in

@@ -13,7 +13,7 @@ use Rattle.dispatch_log.specs.Determined.{AreSameHistories}
 use Rattle.dispatch_log.specs.Histories.{History}
 use Rattle.dispatch_log.specs.Legal.{IsLegal}
 use Rattle.dispatch_log.specs.Rows.{same_queue}
-use Rattle.readable_log.specs.declared.grant.Grant.{Grant}
+use Rattle.readable_log.specs.declared.grant.SlotGrant.{SlotGrant}
 use Rattle.readable_log.specs.declared.grant.Stay.{Stay}
 use Rattle.readable_log.specs.Grants.{is_of, grants, stays, moment_at}
 use Rattle.readable_log.specs.Windows.{Window, window_in}
@@ -21,7 +21,8 @@ use Rattle.dispatch_log.proofs.Choices.{queue_same}
 use Rattle.readable_log.proofs.Placeless.{same_grants, same_moments}
 use Rattle.late_cert.specs.declared.report.Report.{Report}
 use Rattle.late_cert.specs.Lateness.{own_lateness}
-use Rattle.late_cert.specs.Reports.{stays_of, is_within, last_cut, IsFirstWorst, IsChosenFor, IsChosen, comes_before, AreAscending, is_covered, AreReports}
+use Rattle.late_cert.specs.Reports.{stays_of, is_within, last_cut, IsFirstWorst, IsChosenFor}
+use Rattle.late_cert.specs.Reports.{IsChosenReport, comes_before, AreAscending, is_covered, AreReports}
 use Rattle.late_cert.proofs.Order.{before_one_way}
 
 -- the first of the latest stays is one
@@ -63,7 +64,7 @@ module _ (window other : Window) (alike : TellAlike window other) where
   late-same stay = ap (λ (n : ℕ). pos n -ℤ stay.due) (alike.moments stay.slot)
 
   stays-same : (queue : Queue) (class : ℤ) → stays other queue class ≡ stays window queue class
-  stays-same queue class = ap (λ (l : List Grant). map (λ grant. grant.stay) (filter (is_of queue class) l)) alike.granted
+  stays-same queue class = ap (λ (l : List SlotGrant). map (λ grant. grant.stay) (filter (is_of queue class) l)) alike.granted
 
   -- by how late stays are, both worst stays are the same
   worst-same : (l : List Stay) (r u : Report) → IsFirstWorst window l r → IsFirstWorst other l u
@@ -92,7 +93,7 @@ module _ (window other : Window) (alike : TellAlike window other) where
       not_more_at x less = subst (λ w. own_lateness window x ≤ℤ w) (sym (sym (late-same b.stay) ∙ b.late)) (subst (λ w. w ≤ℤ u.worst) (late-same x) less)
 
   -- the chosen report of a queue and class is one
-  chosen-same : (r u : Report) → r.queue ≡ u.queue → r.class ≡ u.class → IsChosen window r → IsChosen other u → r ≡ u
+  chosen-same : (r u : Report) → r.queue ≡ u.queue → r.class ≡ u.class → IsChosenReport window r → IsChosenReport other u → r ≡ u
   chosen-same r u queue class a b =
       let l : List Stay = stays_of window r in
       let list : stays_of other u ≡ stays_of window r = stays-same u.queue u.class ∙ ap (λ q. stays window q u.class) (sym queue)
@@ -118,24 +119,24 @@ module _ (window other : Window) (alike : TellAlike window other) where
       ∙ ap (λ x. record u { critical = x }) critical
 
 -- a report is about a grant
-some_grant : (gs : List Grant) (queue : Queue) (class : ℤ) (earlier later : List Stay) (stay : Stay)
+some_grant : (gs : List SlotGrant) (queue : Queue) (class : ℤ) (earlier later : List Stay) (stay : Stay)
     → map (λ it. it.stay) (filter (is_of queue class) gs) ≡ earlier ++ stay ∷ later
-    → (grant : Grant) × Contains gs grant × (is_of queue class grant ≡ true)
+    → (grant : SlotGrant) × Contains gs grant × (is_of queue class grant ≡ true)
 some_grant [] queue class [] later stay same = let none : [] ≡ stay ∷ later = same in cc
 some_grant [] queue class (x ∷ earlier) later stay same = let none : [] ≡ x ∷ (earlier ++ stay ∷ later) = same in cc
 some_grant (g ∷ gs) queue class earlier later stay same = by_test (is_of queue class g) refl (some_grant gs queue class earlier later stay)
   where
     by_test : (b : Bool) → is_of queue class g ≡ b
         → (map (λ it. it.stay) (filter (is_of queue class) gs) ≡ earlier ++ stay ∷ later
-        → (grant : Grant) × Contains gs grant × (is_of queue class grant ≡ true))
-        → (grant : Grant) × Contains (g ∷ gs) grant × (is_of queue class grant ≡ true)
+        → (grant : SlotGrant) × Contains gs grant × (is_of queue class grant ≡ true))
+        → (grant : SlotGrant) × Contains (g ∷ gs) grant × (is_of queue class grant ≡ true)
     by_test true e rest = (g, Contains-head g gs, e)
     by_test false e rest =
-        let it = rest (sym (ap (λ (b : Bool). map (λ (grant : Grant). grant.stay)
+        let it = rest (sym (ap (λ (b : Bool). map (λ (grant : SlotGrant). grant.stay)
         (cond b (g ∷ filter (is_of queue class) gs) (filter (is_of queue class) gs))) e) ∙ same) in
         (it.0, Contains-tail g gs it.0 it.1, it.2)
 
-covering : (reports : List Report) (grant : Grant) → is_covered reports grant ≡ true
+covering : (reports : List Report) (grant : SlotGrant) → is_covered reports grant ≡ true
     → (report : Report) × Contains reports report × (is_of report.queue report.class grant ≡ true)
 covering [] grant covered = false_true covered
 covering (r ∷ reports) grant covered = by_test (is_of r.queue r.class grant) refl (covering reports grant)
@@ -148,7 +149,7 @@ covering (r ∷ reports) grant covered = by_test (is_of r.queue r.class grant) r
         let it = rest (sym (ap (λ (b : Bool). b || is_covered reports grant) e) ∙ covered) in
         (it.0, Contains-tail r reports it.0 it.1, it.2)
 
-same_group : (grant : Grant) (q r : Queue) (c d : ℤ) → is_of q c grant ≡ true → is_of r d grant ≡ true → (q ≡ r) × (c ≡ d)
+same_group : (grant : SlotGrant) (q r : Queue) (c d : ℤ) → is_of q c grant ≡ true → is_of r d grant ≡ true → (q ≡ r) × (c ≡ d)
 same_group grant q r c d first second =
     let a = and_parts (same_queue q grant.queue) (int_eq c grant.class) first in
     let b = and_parts (same_queue r grant.queue) (int_eq d grant.class) second in
@@ -195,13 +196,13 @@ rising (x ∷ xs) (y ∷ ys) low high to back =
 each_is_there : (window other : Window) (reports others : List Report) → TellAlike window other → AreReports window reports → AreReports other others
     → (r : Report) → Contains reports r → Contains others r
 each_is_there window other reports others alike mine its r among =
-    let chosen = each_at_member (IsChosen window) reports r mine.chosen among in
+    let chosen = each_at_member (IsChosenReport window) reports r mine.chosen among in
     let grant = some_grant (grants window) r.queue r.class chosen.worst.earlier chosen.worst.later chosen.worst.stay chosen.worst.parts in
     let there = covering others grant.0 (each_at_member (λ g. IsTrue (is_covered others g)) (grants other) grant.0 its.complete
     (subst (λ l. Contains l grant.0) (sym alike.granted) grant.1)) in
     let group = same_group grant.0 r.queue there.0.queue r.class there.0.class grant.2 there.2 in
     let is : r ≡ there.0 = chosen-same window other alike r there.0 group.0 group.1 chosen
-    (each_at_member (IsChosen other) others there.0 its.chosen there.1) in
+    (each_at_member (IsChosenReport other) others there.0 its.chosen there.1) in
     subst (Contains others) (sym is) there.1
 
 pub reports_same : (h other : History) (reports others : List Report) → IsLegal h → IsLegal other → AreSameHistories h other → AreReports (window_in h) reports

@@ -1,21 +1,25 @@
 -- The order of queues and classes, as keys are compared.
-use Rattle.std.proofs.Common.{◌≡◌, ℕ, ◌&&◌, true, false, ℤ, Option, refl, arith, is_lt}
-use Rattle.std.specs.Option.{option_cmp}
-use Rattle.std.specs.Ordering.{nat_cmp, int_cmp, int_eq, ordering_then}
+use Rattle.std.proofs.Common.{◌≡◌, ℕ, ◌&&◌, true, false, ℤ, refl, arith, is_lt}
+use Rattle.std.specs.Ordering.{int_cmp, int_eq, ordering_then}
 use Rattle.std.specs.declared.cmp.Ordering.{Ordering}
 use Rattle.std.proofs.lemmas.Bool.Decides.{nat_tests}
 use Rattle.std.proofs.lemmas.Int.{ints}
 use Rattle.dispatch_log.specs.declared.queue.Queue.{Queue}
 use Rattle.dispatch_log.specs.declared.queue.Queue.TheVariants.{Backend, Server}
-use Rattle.dispatch_log.specs.Rows.{same_queue}
-use Rattle.readable_log.specs.Grants.{server_of}
+use Rattle.dispatch_log.specs.Rows.{queue_cmp, same_queue}
+use Rattle.dispatch_log.specs.contracts.queue.QueueOrd.TheImpl as derived
+use Rattle.dispatch_log.proofs.QueueOrder.{queue_order}
 use Rattle.late_cert.specs.Reports.{comes_before}
 
--- how pairs of a server or none and a class compare
-abbrev pub order : Option ℕ × ℤ → Option ℕ × ℤ → Ordering
-order a b = ordering_then (option_cmp nat_cmp a.0 b.0) (int_cmp a.1 b.1)
+-- how pairs of a queue and a class compare
+abbrev pub order : Queue × ℤ → Queue × ℤ → Ordering
+order a b = ordering_then (queue_cmp a.0 b.0) (int_cmp a.1 b.1)
 
-pub before_is : (p q : Queue) (a b : ℤ) → comes_before p a q b ≡ is_lt (order (server_of p, a) (server_of q, b))
+-- what code compares such pairs by is their order
+pub group_order : (λ (a b : Queue × ℤ). ordering_then (derived.ghosts.cmp a.0 b.0) (int_cmp a.1 b.1)) ≡ order
+group_order = λ i a b. ordering_then (queue_order i a.0 b.0) (int_cmp a.1 b.1)
+
+pub before_is : (p q : Queue) (a b : ℤ) → comes_before p a q b ≡ is_lt (order (p, a) (q, b))
 before_is Backend Backend a b = grind (arith, ints)
 before_is Backend (Server n) a b = refl
 before_is (Server m) Backend a b = refl

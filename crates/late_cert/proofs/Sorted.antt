@@ -14,13 +14,13 @@ use Rattle.dispatch_log.specs.declared.queue.Queue.{Queue}
 use Rattle.dispatch_log.specs.declared.queue.Queue.TheVariants.{Backend, Server}
 use Rattle.dispatch_log.specs.Rows.{same_queue}
 use Rattle.readable_log.specs.Grants.{is_of}
-use Rattle.readable_log.specs.declared.grant.Grant.{Grant}
+use Rattle.readable_log.specs.declared.grant.SlotGrant.{SlotGrant}
 use Rattle.late_cert.specs.Groups.{is_before}
 use Rattle.late_cert.specs.Reports.{comes_before}
 use Rattle.late_cert.proofs.Order.{before_other, ties_same, same_ties, before_one_way, before_chain}
 
 -- each grant comes no earlier than those before it
-abbrev pub AreSorted : List Grant → Type 0
+abbrev pub AreSorted : List SlotGrant → Type 0
 AreSorted [] = Unit {0}
 AreSorted (g ∷ gs) = AllByRecursion (λ h. is_before h g ≡ false) gs × AreSorted gs
 
@@ -30,17 +30,17 @@ before_order = record {
   chain = λ x y z h k. before_chain x.queue y.queue z.queue x.class y.class z.class h k;
 }
 
-from_far : (gs : List Grant) → ((i j : ℕ) (d : Grant) → i ≤ j → j < length gs → is_before (get_or gs j d) (get_or gs i d) ≡ false) → AreSorted gs
+from_far : (gs : List SlotGrant) → ((i j : ℕ) (d : SlotGrant) → i ≤ j → j < length gs → is_before (get_or gs j d) (get_or gs i d) ≡ false) → AreSorted gs
 from_far [] far = tt
 from_far (g ∷ gs) far = (
   recursion_from_All (λ h. is_before h g ≡ false) gs (λ k d below. far zero (suc k) d (omega arith) (omega arith)),
   from_far gs (λ i j d le below. far (suc i) (suc j) d (omega arith) (omega arith)),
 )
 
-pub are_sorted : (gs : List Grant) → IsSortedBy is_before gs → AreSorted gs
+pub are_sorted : (gs : List SlotGrant) → IsSortedBy is_before gs → AreSorted gs
 are_sorted gs sorted = from_far gs (sorted_far is_before before_order gs sorted)
 
-pub sorted_drop : (n : ℕ) (gs : List Grant) → AreSorted gs → AreSorted (drop n gs)
+pub sorted_drop : (n : ℕ) (gs : List SlotGrant) → AreSorted gs → AreSorted (drop n gs)
 sorted_drop zero gs sorted = sorted
 sorted_drop (suc n) [] sorted = tt
 sorted_drop (suc n) (g ∷ gs) sorted = sorted_drop n gs sorted.1
@@ -57,18 +57,18 @@ same_queue_refl Backend = refl
 same_queue_refl (Server n) = (Decides-eqb n n).1 refl
 
 -- a grant from a queue and of a class
-pub is_of_true : (q : Queue) (c : ℤ) (g : Grant) → is_of q c g ≡ true → (q ≡ g.queue) × (c ≡ g.class)
+pub is_of_true : (q : Queue) (c : ℤ) (g : SlotGrant) → is_of q c g ≡ true → (q ≡ g.queue) × (c ≡ g.class)
 is_of_true q c g e = let h = and_parts (same_queue q g.queue) (int_eq c g.class) e in (same_queue_is q g.queue h.0, (Decides-int_eq c g.class).0 h.1)
 
-pub is_of_own : (g : Grant) → is_of g.queue g.class g ≡ true
+pub is_of_own : (g : SlotGrant) → is_of g.queue g.class g ≡ true
 is_of_own g = rw (same_queue_refl g.queue, (Decides-int_eq g.class g.class).1 refl) refl
 
 -- no grant comes before a queue and class
-abbrev pub NoneBefore : Queue → ℤ → List Grant → Type 0
+abbrev pub NoneBefore : Queue → ℤ → List SlotGrant → Type 0
 NoneBefore q c gs = AllByRecursion (λ h. comes_before h.queue h.class q c ≡ false) gs
 
 -- none but the first ones are from that queue and of that class
-other_later : (q : Queue) (c : ℤ) (g h : Grant) → comes_before q c g.queue g.class ≡ true → is_before h g ≡ false → is_of q c h ≡ false
+other_later : (q : Queue) (c : ℤ) (g h : SlotGrant) → comes_before q c g.queue g.class ≡ true → is_before h g ≡ false → is_of q c h ≡ false
 other_later q c g h before later = go (is_of q c h) refl
   where
     go : (b : Bool) → is_of q c h ≡ b → is_of q c h ≡ false
@@ -80,22 +80,22 @@ other_later q c g h before later = go (is_of q c h) refl
         (subst (λ d. comes_before h.queue d g.queue g.class ≡ false) (sym same.1) later) in
         absurd (false≢true (sym k ∙ before))
 
-all_other : (q : Queue) (c : ℤ) (g : Grant) (gs : List Grant) → comes_before q c g.queue g.class ≡ true → AllByRecursion (λ h. is_before h g ≡ false) gs
+all_other : (q : Queue) (c : ℤ) (g : SlotGrant) (gs : List SlotGrant) → comes_before q c g.queue g.class ≡ true → AllByRecursion (λ h. is_before h g ≡ false) gs
     → AllByRecursion (λ h. is_of q c h ≡ false) gs
 all_other q c g [] before later = tt
 all_other q c g (h ∷ gs) before later = (other_later q c g h before later.0, all_other q c g gs before later.1)
 
-others : (q : Queue) (c : ℤ) (g : Grant) (gs : List Grant) → AreSorted (g ∷ gs) → comes_before g.queue g.class q c ≡ false → is_of q c g ≡ false
+others : (q : Queue) (c : ℤ) (g : SlotGrant) (gs : List SlotGrant) → AreSorted (g ∷ gs) → comes_before g.queue g.class q c ≡ false → is_of q c g ≡ false
     → AllByRecursion (λ h. is_of q c h ≡ false) (g ∷ gs)
 others q c g gs sorted none e = (e, all_other q c g gs (before_other q g.queue c g.class none e) sorted.0)
 
 -- what stands in front from a queue and of a class is all there is, and what follows is from others
-pub record IsSplit (q : Queue) (c : ℤ) (gs : List Grant) : Type 0 where
+pub record IsSplit (q : Queue) (c : ℤ) (gs : List SlotGrant) : Type 0 where
   pub front : take (prefix_len (is_of q c) gs) gs ≡ filter (is_of q c) gs
   pub passes : AllByRecursion (λ h. is_of q c h ≡ true) (take (prefix_len (is_of q c) gs) gs)
   pub back : AllByRecursion (λ h. is_of q c h ≡ false) (drop (prefix_len (is_of q c) gs) gs)
 
-pub split_sorted : (q : Queue) (c : ℤ) (gs : List Grant) → AreSorted gs → NoneBefore q c gs → IsSplit q c gs
+pub split_sorted : (q : Queue) (c : ℤ) (gs : List SlotGrant) → AreSorted gs → NoneBefore q c gs → IsSplit q c gs
 split_sorted q c [] sorted none = record { front = refl; passes = tt; back = tt }
 split_sorted q c (g ∷ gs) sorted none = go (is_of q c g) refl (split_sorted q c gs sorted.1 none.1)
   where
@@ -121,7 +121,7 @@ split_sorted q c (g ∷ gs) sorted none = go (is_of q c g) refl (split_sorted q 
         }
 
 -- where the first grant is from a queue and of a class, none comes before these
-pub none_before_first : (q : Queue) (c : ℤ) (gs : List Grant) → AreSorted gs → 0 < prefix_len (is_of q c) gs → NoneBefore q c gs
+pub none_before_first : (q : Queue) (c : ℤ) (gs : List SlotGrant) → AreSorted gs → 0 < prefix_len (is_of q c) gs → NoneBefore q c gs
 none_before_first q c [] sorted some = tt
 none_before_first q c (g ∷ gs) sorted some = go (is_of q c g) refl some
   where
@@ -133,7 +133,7 @@ none_before_first q c (g ∷ gs) sorted some = go (is_of q c g) refl some
         subst (λ p. NoneBefore p c (g ∷ gs)) (sym same.0) (subst (λ d. NoneBefore g.queue d (g ∷ gs)) (sym same.1) all)
 
 -- a stable sort keeps the order of what is from one queue and of one class
-ties_are : (x y : Grant) → ties is_before x y ≡ is_of x.queue x.class y
+ties_are : (x y : SlotGrant) → ties is_before x y ≡ is_of x.queue x.class y
 ties_are x y = go (is_of x.queue x.class y) refl (comes_before x.queue x.class y.queue y.class) (comes_before y.queue y.class x.queue x.class) refl refl
   where
     go : (b : Bool) → is_of x.queue x.class y ≡ b → (l r : Bool) → comes_before x.queue x.class y.queue y.class ≡ l
@@ -143,7 +143,7 @@ ties_are x y = go (is_of x.queue x.class y) refl (comes_before x.queue x.class y
     go false e false true f g = refl
     go false e false false f g = absurd (false≢true (sym e ∙ ties_same x.queue y.queue x.class y.class f g))
 
-pub stable_filter : (x : Grant) (gs sorted : List Grant) → IsStableBy is_before gs sorted
+pub stable_filter : (x : SlotGrant) (gs sorted : List SlotGrant) → IsStableBy is_before gs sorted
     → filter (is_of x.queue x.class) sorted ≡ filter (is_of x.queue x.class) gs
 stable_filter x gs sorted stable =
     sym (filter_agree (ties is_before x) (is_of x.queue x.class) (ties_are x) sorted) ∙ stable x

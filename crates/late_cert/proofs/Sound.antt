@@ -12,21 +12,21 @@ use Rattle.std.proofs.lemmas.List.Sums.{length-filter}
 use Rattle.readable_log.specs.Grants.{grants, stays}
 use Rattle.readable_log.specs.Readable.{IsReadable}
 use Rattle.readable_log.specs.Timely.{IsTimely}
-use Rattle.readable_log.specs.declared.grant.Grant.{Grant}
+use Rattle.readable_log.specs.declared.grant.SlotGrant.{SlotGrant}
 use Rattle.readable_log.specs.declared.grant.Stay.{Stay}
 use Rattle.readable_log.proofs.Timely.{timely}
 use Rattle.late_cert.specs.Lateness.{own_lateness}
-use Rattle.late_cert.specs.Reports.{is_within, HasWorst, IsCritical, IsSound}
-use Rattle.late_cert.specs.Tests.{is_about, late_by, keeps_worst, is_worst, is_listed, listed_of, is_urgent, Passes}
+use Rattle.late_cert.specs.Reports.{is_within, HasWorst, IsCritical, IsSoundReport}
+use Rattle.late_cert.specs.Tests.{is_about, late_by, keeps_worst, is_worst, is_listed, listed_of, is_urgent, PassesEachTest}
 use Rattle.late_cert.specs.declared.report.Report.{Report}
 use Rattle.readable_log.specs.Windows.{Window}
 
 -- the stays that a report is about, among some grants
-abbrev pub about : Report → List Grant → List Stay
+abbrev pub about : Report → List SlotGrant → List Stay
 about r gs = map (λ g. g.stay) (filter (is_about r) gs)
 
 -- a grant's lateness is that of its stay with its own slot
-pub lateness_of : (log : Window) (g : Grant) → IsTimely log g → own_lateness log g.stay ≡ late_by g
+pub lateness_of : (log : Window) (g : SlotGrant) → IsTimely log g → own_lateness log g.stay ≡ late_by g
 lateness_of log g timely = ap (λ (m : ℕ). pos m -ℤ g.stay.due) (sym timely.moment)
 
 all_decides : {X : Type 0} (p : X → Bool) (P : X → Type 0) → ((x : X) → Decides (p x) (P x)) → (xs : List X) → Decides (list_all p xs) (AllByRecursion P xs)
@@ -34,14 +34,14 @@ all_decides p P each [] = (λ e. tt, λ h. refl)
 all_decides p P each (x ∷ xs) = Decides-and (p x) (list_all p xs) (each x) (all_decides p P each xs)
 
 -- none is later than the worst
-keeps_decides : (r : Report) (g : Grant) → Decides (keeps_worst r g) (is_about r g ≡ true → late_by g ≤ℤ r.worst)
+keeps_decides : (r : Report) (g : SlotGrant) → Decides (keeps_worst r g) (is_about r g ≡ true → late_by g ≤ℤ r.worst)
 keeps_decides r g = go (is_about r g) (late_by g)
   where
     go : (b : Bool) (z : ℤ) → Decides (not (b && int_lt r.worst z)) (b ≡ true → z ≤ℤ r.worst)
     go true z = (λ e. λ t. grind (arith, ints), λ h. let k = h refl in grind (arith, ints))
     go false z = (λ e. λ t. cc, λ h. refl)
 
-bounded_to : (log : Window) (r : Report) (gs : List Grant) → AllByRecursion (IsTimely log) gs
+bounded_to : (log : Window) (r : Report) (gs : List SlotGrant) → AllByRecursion (IsTimely log) gs
     → AllByRecursion (λ g. is_about r g ≡ true → late_by g ≤ℤ r.worst) gs → AllByRecursion (λ s. own_lateness log s ≤ℤ r.worst) (about r gs)
 bounded_to log r [] timely all = tt
 bounded_to log r (g ∷ gs) timely all = go (is_about r g) refl (bounded_to log r gs timely.1 all.1)
@@ -51,7 +51,7 @@ bounded_to log r (g ∷ gs) timely all = go (is_about r g) refl (bounded_to log 
     go true e rest = (subst (λ z. z ≤ℤ r.worst) (sym (lateness_of log g timely.0)) (all.0 e), rest)
     go false e rest = rest
 
-bounded_from : (log : Window) (r : Report) (gs : List Grant) → AllByRecursion (IsTimely log) gs
+bounded_from : (log : Window) (r : Report) (gs : List SlotGrant) → AllByRecursion (IsTimely log) gs
     → AllByRecursion (λ s. own_lateness log s ≤ℤ r.worst) (about r gs) → AllByRecursion (λ g. is_about r g ≡ true → late_by g ≤ℤ r.worst) gs
 bounded_from log r [] timely all = tt
 bounded_from log r (g ∷ gs) timely all = go (is_about r g) refl all (bounded_from log r gs timely.1)
@@ -64,13 +64,13 @@ bounded_from log r (g ∷ gs) timely all = go (is_about r g) refl all (bounded_f
     go false e all rest = ((λ t. absurd (false≢true (sym e ∙ t))), rest all)
 
 -- one is the worst
-pub record IsWorstGrant (r : Report) (g : Grant) : Type 0 where
+pub record IsWorstGrant (r : Report) (g : SlotGrant) : Type 0 where
   pub is_about : is_about r g ≡ true
   pub slot : g.stay.slot ≡ r.to
   pub due : g.stay.due ≡ r.due
   pub late : late_by g ≡ r.worst
 
-worst_decides : (r : Report) (g : Grant) → Decides (is_worst r g) (IsWorstGrant r g)
+worst_decides : (r : Report) (g : SlotGrant) → Decides (is_worst r g) (IsWorstGrant r g)
 worst_decides r g =
     Decides-like (is_worst r g) (λ h. record { is_about = h.0.0.0; slot = h.0.0.1; due = h.0.1; late = h.1 }) (λ w. (((w.is_about, w.slot), w.due), w.late))
     (Decides-and (is_about r g && (g.stay.slot == r.to) && int_eq g.stay.due r.due) (int_eq (late_by g) r.worst)
@@ -79,7 +79,7 @@ worst_decides r g =
     (Decides-int_eq (late_by g) r.worst))
 
 -- one more grant in front
-worst_more : (log : Window) (r : Report) (g : Grant) (gs : List Grant) → HasWorst log (about r gs) r → (b : Bool)
+worst_more : (log : Window) (r : Report) (g : SlotGrant) (gs : List SlotGrant) → HasWorst log (about r gs) r → (b : Bool)
     → HasWorst log (map (λ x. x.stay) (cond b (g ∷ filter (is_about r) gs) (filter (is_about r) gs))) r
 worst_more log r g gs w false = w
 worst_more log r g gs w true = record {
@@ -90,12 +90,12 @@ worst_more log r g gs w true = record {
   late = w.late;
 }
 
-worst_here : (log : Window) (r : Report) (g : Grant) (gs : List Grant) → IsTimely log g → IsWorstGrant r g → HasWorst log (about r (g ∷ gs)) r
+worst_here : (log : Window) (r : Report) (g : SlotGrant) (gs : List SlotGrant) → IsTimely log g → IsWorstGrant r g → HasWorst log (about r (g ∷ gs)) r
 worst_here log r g gs timely w =
     subst (λ (b : Bool). HasWorst log (map (λ x. x.stay) (cond b (g ∷ filter (is_about r) gs) (filter (is_about r) gs))) r) (sym w.is_about)
     (record { stay = g.stay; member = (zero, omega arith, refl); slot = w.slot; due = w.due; late = lateness_of log g timely ∙ w.late })
 
-worst_to : (log : Window) (r : Report) (gs : List Grant) → AllByRecursion (IsTimely log) gs → list_any (is_worst r) gs ≡ true → HasWorst log (about r gs) r
+worst_to : (log : Window) (r : Report) (gs : List SlotGrant) → AllByRecursion (IsTimely log) gs → list_any (is_worst r) gs ≡ true → HasWorst log (about r gs) r
 worst_to log r [] timely e = cc
 worst_to log r (g ∷ gs) timely e = go (is_worst r g) refl e (λ h. worst_more log r g gs (worst_to log r gs timely.1 h) (is_about r g))
   where
@@ -104,7 +104,8 @@ worst_to log r (g ∷ gs) timely e = go (is_worst r g) refl e (λ h. worst_more 
     go true is e rest = worst_here log r g gs timely.0 ((worst_decides r g).0 is)
     go false is e rest = rest e
 
-worst_from : (log : Window) (r : Report) (gs : List Grant) → AllByRecursion (IsTimely log) gs → HasWorst log (about r gs) r → list_any (is_worst r) gs ≡ true
+worst_from : (log : Window) (r : Report) (gs : List SlotGrant) → AllByRecursion (IsTimely log) gs → HasWorst log (about r gs) r
+    → list_any (is_worst r) gs ≡ true
 worst_from log r [] timely w = absurd (omega (arith, w.member.1))
 worst_from log r (g ∷ gs) timely w = by_about (is_about r g) refl w (λ v. later (is_worst r g) (worst_from log r gs timely.1 v))
   where
@@ -133,7 +134,7 @@ worst_from log r (g ∷ gs) timely w = by_about (is_about r g) refl w (λ v. lat
     by_about false e v rest = rest v
 
 -- the critical ones
-listed_is : (r : Report) (gs : List Grant) → filter (is_within r.after r.to) (about r gs) ≡ listed_of r gs
+listed_is : (r : Report) (gs : List SlotGrant) → filter (is_within r.after r.to) (about r gs) ≡ listed_of r gs
 listed_is r [] = refl
 listed_is r (g ∷ gs) = go (is_about r g) (is_within r.after r.to g.stay) refl (listed_is r gs)
   where
@@ -154,11 +155,11 @@ urgent_decides r s = (
     by_cut true e h = let d = h.due in let j = h.joined (grind (arith, nat_tests)) in grind (arith, ints, nat_tests)
     by_cut false e h = let d = h.due in grind (arith, ints, nat_tests)
 
-about_length : (r : Report) (gs : List Grant) → length (about r gs) ≡ count_by (is_about r) gs
+about_length : (r : Report) (gs : List SlotGrant) → length (about r gs) ≡ count_by (is_about r) gs
 about_length r gs = length-map (filter (is_about r) gs) (λ g. g.stay) ∙ length-filter (is_about r) gs
 
 -- the tests are those of a sound report
-pub sound_exactly : (log : Window) (r : Report) → IsReadable log → Passes r (grants log) ↔ IsSound log r
+pub sound_exactly : (log : Window) (r : Report) → IsReadable log → PassesEachTest r (grants log) ↔ IsSoundReport log r
 sound_exactly log r readable = (
   λ p. record {
     granted = p.granted ∙ sym (about_length r (grants log));
@@ -183,7 +184,7 @@ sound_exactly log r readable = (
 )
 
 -- a list of stays was gone through: what is left of it is to be what is left to list
-pub none_left : (P : Type 0) (r : Report) (stays : List Stay) (gs : List Grant) (next index : ℕ) → next ≤ length stays → length gs ≤ index
+pub none_left : (P : Type 0) (r : Report) (stays : List Stay) (gs : List SlotGrant) (next index : ℕ) → next ≤ length stays → length gs ≤ index
     → ((drop next stays ≡ listed_of r (drop index gs)) ↔ P) → IsTrue (next == length stays) ↔ P
 none_left P r stays gs next index below past rest = (
   λ e. rest.0 (drop_all next stays (let s = (Decides-eqb next (length stays)).0 e in omega arith) ∙ sym none),

@@ -1,23 +1,23 @@
 -- The reports of grants that stand queue by queue and class by class.
 use Rattle.std.specs.Prelude.{◌≡◌, ℕ, ◌<◌, Bool, int_lt, List, [], ◌∷◌, length, take, drop, map, Some, slice_get}
 use Rattle.std.specs.List.{filter, prefix_len, IsFirstBest}
-use Rattle.readable_log.specs.declared.grant.Grant.{Grant}
+use Rattle.readable_log.specs.declared.grant.SlotGrant.{SlotGrant}
 use Rattle.late_cert.specs.Reports.{is_within, last_cut, comes_before}
 use Rattle.late_cert.specs.Tests.{is_about, late_by}
 use Rattle.late_cert.specs.declared.report.Report.{Report}
 
 -- whether a grant's report comes before another's
-abbrev pub is_before : Grant → Grant → Bool
+abbrev pub is_before : SlotGrant → SlotGrant → Bool
 is_before grant other = comes_before grant.queue grant.class other.queue other.class
 
 -- whether a grant is later than another
-abbrev pub is_later : Grant → Grant → Bool
+abbrev pub is_later : SlotGrant → SlotGrant → Bool
 is_later grant other = int_lt (late_by other) (late_by grant)
 
 -- a report on all of some grants, its worst the first of the latest ones
-pub record IsReportOf (group : List Grant) (report : Report) : Type 0 where
+pub record IsReportOf (group : List SlotGrant) (report : Report) : Type 0 where
   pub at : ℕ
-  pub grant : Grant
+  pub grant : SlotGrant
   pub stands : slice_get group at ≡ Some grant
   pub first : IsFirstBest is_later group (length group) at
   pub granted : report.granted ≡ length group
@@ -28,7 +28,7 @@ pub record IsReportOf (group : List Grant) (report : Report) : Type 0 where
   pub critical : report.critical ≡ map (λ it. it.stay) (filter (λ it. is_within report.after report.to it.stay) group)
 
 -- a report for each group: the grants that a list begins with and that the report is about, and so on with the rest
-abbrev pub AreGroups : List Grant → List Report → Type 0
+abbrev pub AreGroups : List SlotGrant → List Report → Type 0
 AreGroups grants [] = grants ≡ []
 AreGroups grants (report ∷ reports) =
     (0 < prefix_len (is_about report) grants)

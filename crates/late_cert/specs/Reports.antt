@@ -7,7 +7,7 @@ use Rattle.dispatch_log.specs.declared.queue.Queue.{Queue}
 use Rattle.dispatch_log.specs.declared.queue.Queue.TheVariants.{Backend, Server}
 use Rattle.dispatch_log.specs.Rows.{same_queue}
 use Rattle.readable_log.specs.Grants.{is_of, grants, stays}
-use Rattle.readable_log.specs.declared.grant.Grant.{Grant}
+use Rattle.readable_log.specs.declared.grant.SlotGrant.{SlotGrant}
 use Rattle.readable_log.specs.declared.grant.Stay.{Stay}
 use Rattle.late_cert.specs.Lateness.{own_lateness, own_slots, latenesses, greatest, IsAssignment}
 use Rattle.late_cert.specs.declared.report.Report.{Report}
@@ -45,8 +45,8 @@ pub record IsSoundFor (window : Window) (stays : List Stay) (report : Report) : 
   pub listed : report.critical ≡ filter (is_within report.after report.to) stays
   pub critical : AllByRecursion (IsCritical report) report.critical
 
-abbrev pub IsSound : Window → Report → Type 0
-IsSound window report = IsSoundFor window (stays_of window report) report
+abbrev pub IsSoundReport : Window → Report → Type 0
+IsSoundReport window report = IsSoundFor window (stays_of window report) report
 
 -- no assignment of the slots has a smaller greatest lateness than the worst, and the log's own has exactly that
 pub record IsLeastFor (window : Window) (stays : List Stay) (report : Report) : Type 0 where
@@ -80,8 +80,8 @@ pub record IsChosenFor (window : Window) (stays : List Stay) (report : Report) :
   pub worst : IsFirstWorst window stays report
   pub critical : report.critical ≡ filter (is_within report.after report.to) stays
 
-abbrev pub IsChosen : Window → Report → Type 0
-IsChosen window report = IsChosenFor window (stays_of window report) report
+abbrev pub IsChosenReport : Window → Report → Type 0
+IsChosenReport window report = IsChosenFor window (stays_of window report) report
 
 -- whether a queue comes before another: the backend's first, then the servers' in order
 abbrev pub queue_before : Queue → Queue → Bool
@@ -100,11 +100,11 @@ AreAscending (report ∷ reports) =
     AllByRecursion (λ later. IsTrue (comes_before report.queue report.class later.queue later.class)) reports × AreAscending reports
 
 -- whether one of some reports is about a grant
-abbrev pub is_covered : List Report → Grant → Bool
+abbrev pub is_covered : List Report → SlotGrant → Bool
 is_covered reports grant = list_any (λ report. is_of report.queue report.class grant) reports
 
 -- the reports of a log: the chosen one for each queue and class that has a grant, and no other, in order
 pub record AreReports (window : Window) (reports : List Report) : Type 0 where
-  pub chosen : AllByRecursion (IsChosen window) reports
+  pub chosen : AllByRecursion (IsChosenReport window) reports
   pub ascending : AreAscending reports
   pub complete : AllByRecursion (λ grant. IsTrue (is_covered reports grant)) (grants window)

@@ -3,33 +3,33 @@ use Rattle.std.specs.Prelude.{◌≡◌, ◌<◌, ◌==◌, nat_lt, ◌&&◌, no
 use Rattle.std.specs.List.{filter, list_all, list_any}
 use Rattle.std.specs.Ordering.{int_eq}
 use Rattle.readable_log.specs.Grants.{is_of}
-use Rattle.readable_log.specs.declared.grant.Grant.{Grant}
+use Rattle.readable_log.specs.declared.grant.SlotGrant.{SlotGrant}
 use Rattle.readable_log.specs.declared.grant.Stay.{Stay}
 use Rattle.late_cert.specs.Reports.{is_within}
 use Rattle.late_cert.specs.declared.report.Report.{Report}
 
 -- whether a report is about a grant
-abbrev pub is_about : Report → Grant → Bool
+abbrev pub is_about : Report → SlotGrant → Bool
 is_about report grant = is_of report.queue report.class grant
 
 -- how late a grant's slot is
-abbrev pub late_by : Grant → ℤ
+abbrev pub late_by : SlotGrant → ℤ
 late_by grant = pos grant.moment -ℤ grant.stay.due
 
 -- whether a grant is no later than the worst, where the report is about it
-abbrev pub keeps_worst : Report → Grant → Bool
+abbrev pub keeps_worst : Report → SlotGrant → Bool
 keeps_worst report grant = not (is_about report grant && int_lt report.worst (late_by grant))
 
 -- whether a grant is the worst one
-abbrev pub is_worst : Report → Grant → Bool
+abbrev pub is_worst : Report → SlotGrant → Bool
 is_worst report grant = is_about report grant && (grant.stay.slot == report.to) && int_eq grant.stay.due report.due && int_eq (late_by grant) report.worst
 
 -- whether a grant's stay is to be listed as critical
-abbrev pub is_listed : Report → Grant → Bool
+abbrev pub is_listed : Report → SlotGrant → Bool
 is_listed report grant = is_about report grant && is_within report.after report.to grant.stay
 
 -- the stays to be listed
-abbrev pub listed_of : Report → List Grant → List Stay
+abbrev pub listed_of : Report → List SlotGrant → List Stay
 listed_of report grants = map (λ grant. grant.stay) (filter (is_listed report) grants)
 
 -- whether a stay is due no later than the worst one and needs a slot after the cut
@@ -37,7 +37,7 @@ abbrev pub is_urgent : Report → Stay → Bool
 is_urgent report stay = not (int_lt report.due stay.due) && ((report.after == 0) || nat_lt report.after stay.joined)
 
 -- each test of a sound report
-pub record Passes (report : Report) (grants : List Grant) : Type 0 where
+pub record PassesEachTest (report : Report) (grants : List SlotGrant) : Type 0 where
   pub granted : report.granted ≡ count_by (is_about report) grants
   pub some : 0 < report.granted
   pub bounded : list_all (keeps_worst report) grants ≡ true

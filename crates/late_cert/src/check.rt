@@ -1,11 +1,11 @@
 ghost use Rattle.std.specs.Prelude.{◌≡◌, ◌↔◌, IsTrue, pos, ◌-ℤ◌, count_by};
 ghost use Rattle.std.specs.List.{list_all, list_any};
 ghost use Rattle.readable_log.specs.Windows.{window_of};
-ghost use Rattle.late_cert.specs.Reports.{IsSound, IsLeast};
-ghost use Rattle.late_cert.specs.Tests.{is_about, late_by, keeps_worst, is_worst, is_listed, listed_of, is_urgent, Passes};
+ghost use Rattle.late_cert.specs.Reports.{IsSoundReport, IsLeast};
+ghost use Rattle.late_cert.specs.Tests.{is_about, late_by, keeps_worst, is_worst, is_listed, listed_of, is_urgent, PassesEachTest};
 
 use crate::report::Report;
-use readable_log::{Grant, Log, Stay};
+use readable_log::{Log, SlotGrant, Stay};
 
 /// Whether a report is sound, whoever made it: it counts the stays of its queue and class, none of
 /// them is later than its worst, one of them is just so late with its slot and due date, and its
@@ -13,14 +13,14 @@ use readable_log::{Grant, Log, Stay};
 /// after the cut, where it isn't 0. Then no assignment of the slots has a smaller greatest lateness. Linear in the
 /// log's grants, and takes no memory.
 pub fn audit(log: &Log, report: &Report) -> bool
-    ensures exact { IsTrue result ↔ IsSound (window_of log.now) report.now }
+    ensures exact { IsTrue result ↔ IsSoundReport (window_of log.now) report.now }
     ensures least { IsTrue result → IsLeast (window_of log.now) report.now }
 {
     passes(log.grants(), report)
 }
 
-fn passes(grants: &[Grant], report: &Report) -> bool
-    ensures { IsTrue result ↔ Passes report.now grants.now }
+fn passes(grants: &[SlotGrant], report: &Report) -> bool
+    ensures { IsTrue result ↔ PassesEachTest report.now grants.now }
 {
     if report.granted == 0 || report.to <= report.after {
         return false;
@@ -36,7 +36,7 @@ fn passes(grants: &[Grant], report: &Report) -> bool
 }
 
 /// How many grants the report is about.
-fn count(grants: &[Grant], report: &Report) -> usize
+fn count(grants: &[SlotGrant], report: &Report) -> usize
     ensures { result ≡ count_by (is_about report.now) grants.now }
 {
     grants
@@ -45,20 +45,20 @@ fn count(grants: &[Grant], report: &Report) -> usize
         .count()
 }
 
-fn are_bounded(grants: &[Grant], report: &Report) -> bool
+fn are_bounded(grants: &[SlotGrant], report: &Report) -> bool
     ensures { result ≡ list_all (keeps_worst report.now) grants.now }
 {
     grants.iter().all(|grant| !(is_about(grant, report) && lateness(grant) > report.worst))
 }
 
-fn has_worst(grants: &[Grant], report: &Report) -> bool
+fn has_worst(grants: &[SlotGrant], report: &Report) -> bool
     ensures { result ≡ list_any (is_worst report.now) grants.now }
 {
     grants.iter().any(|grant| is_worst(grant, report))
 }
 
 /// Whether these are the stays that the report has to list.
-fn lists(grants: &[Grant], stays: &[Stay], report: &Report) -> bool
+fn lists(grants: &[SlotGrant], stays: &[Stay], report: &Report) -> bool
     ensures { IsTrue result ↔ (stays.now ≡ listed_of report.now grants.now) }
 {
     let mut next = 0;
@@ -81,13 +81,13 @@ fn are_urgent(stays: &[Stay], report: &Report) -> bool
     })
 }
 
-fn is_about(grant: &Grant, report: &Report) -> bool
+fn is_about(grant: &SlotGrant, report: &Report) -> bool
     ensures { result ≡ is_about report.now grant.now }
 {
     report.queue == grant.queue && report.class == grant.class
 }
 
-fn is_worst(grant: &Grant, report: &Report) -> bool
+fn is_worst(grant: &SlotGrant, report: &Report) -> bool
     ensures { result ≡ is_worst report.now grant.now }
 {
     is_about(grant, report)
@@ -96,14 +96,14 @@ fn is_worst(grant: &Grant, report: &Report) -> bool
         && lateness(grant) == report.worst
 }
 
-fn is_listed(grant: &Grant, report: &Report) -> bool
+fn is_listed(grant: &SlotGrant, report: &Report) -> bool
     ensures { result ≡ is_listed report.now grant.now }
 {
     is_about(grant, report) && report.after < grant.stay.slot && grant.stay.slot <= report.to
 }
 
 /// By how many milliseconds a grant's slot is late.
-pub(crate) fn lateness(grant: &Grant) -> i64
+pub(crate) fn lateness(grant: &SlotGrant) -> i64
     ensures { result ≡ late_by grant.now }
 {
     grant.stay.due.lateness(grant.moment)

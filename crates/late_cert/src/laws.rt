@@ -10,7 +10,7 @@ ghost use Rattle.late_cert.specs.Lateness.{latenesses, IsAssignment};
 ghost use Rattle.late_cert.specs.Worked.{overtaking, stay_2, stay_3, chosen, one_is_missing, joined_before_the_cut, worst_is_too_small, waited_before, chosen_before, joined_in_the_window_before};
 ghost use Rattle.readable_log.specs.Readable.{IsReadable};
 ghost use Rattle.late_cert.specs.declared.report.Report.{Report};
-ghost use Rattle.late_cert.specs.Reports.{IsChosen, IsSound, IsLeast, AreReports};
+ghost use Rattle.late_cert.specs.Reports.{IsChosenReport, IsSoundReport, IsLeast, AreReports};
 ghost use Rattle.std.specs.List.{AllByRecursion};
 ghost use Rattle.dispatch_log.specs.Determined.{AreSameHistories};
 ghost use Rattle.dispatch_log.specs.Histories.{History};
@@ -24,20 +24,20 @@ ghost use Rattle.readable_log.specs.Ordered.{AllKeepOrder, HaveArrived};
 /// queue's and class's slots to their stays, each slot after its stay's joining, has a greatest
 /// lateness of at least the report's worst, and the log's own assignment has exactly that.
 pub fn sound_is_least()
-    ensures { (window : Window) (report : Report) → IsReadable window → IsSound window report → IsLeast window report }
+    ensures { (window : Window) (report : Report) → IsReadable window → IsSoundReport window report → IsLeast window report }
 {}
 
 /// The law of chosen reports: where a window's base knows the requests that it begins with, the tickets
 /// of its arrivals are fresh and each of its grants takes the least key of its queue, the chosen report
 /// of each queue and class is sound.
 pub fn chosen_is_sound()
-    ensures { (setup : Setup) (start : State) (window : Window) (report : Report) → HaveArrived window.base [] start.rows → AllKeepOrder setup start window.entries → IsChosen window report → IsSound window report }
+    ensures { (setup : Setup) (start : State) (window : Window) (report : Report) → HaveArrived window.base [] start.rows → AllKeepOrder setup start window.entries → IsChosenReport window report → IsSoundReport window report }
 {}
 
 /// The law of legal logs' reports: each of them is sound, so that it shows that no assignment has a
 /// smaller greatest lateness than the log's own.
 pub fn reports_of_legal_logs_are_sound()
-    ensures sound { (history : History) (reports : List Report) → IsLegal history → AreReports (window_in history) reports → AllByRecursion (IsSound (window_in history)) reports }
+    ensures sound { (history : History) (reports : List Report) → IsLegal history → AreReports (window_in history) reports → AllByRecursion (IsSoundReport (window_in history)) reports }
     ensures least { (history : History) (reports : List Report) → IsLegal history → AreReports (window_in history) reports → AllByRecursion (IsLeast (window_in history)) reports }
 {}
 
@@ -55,14 +55,14 @@ pub fn worked_reports()
     ensures swapped { IsAssignment (stay_3 ∷ stay_2 ∷ []) (14 ∷ 10 ∷ []) }
     ensures swapped_is_late { latenesses overtaking (stay_3 ∷ stay_2 ∷ []) (14 ∷ 10 ∷ []) ≡ pos 23 ∷ pos 9 ∷ [] }
     ensures joined_later { IsAssignment (stay_3 ∷ stay_2 ∷ []) (5 ∷ 10 ∷ []) → ⊥ }
-    ensures chosen { IsChosen overtaking chosen }
-    ensures sound { IsSound overtaking chosen }
-    ensures one_is_missing { IsSound overtaking one_is_missing → ⊥ }
-    ensures joined_before_the_cut { IsSound overtaking joined_before_the_cut → ⊥ }
-    ensures worst_is_too_small { IsSound overtaking worst_is_too_small → ⊥ }
-    ensures chosen_before { IsChosen waited_before chosen_before }
-    ensures sound_before { IsSound waited_before chosen_before }
-    ensures joined_in_the_window_before { IsSound waited_before joined_in_the_window_before → ⊥ }
+    ensures chosen { IsChosenReport overtaking chosen }
+    ensures sound { IsSoundReport overtaking chosen }
+    ensures one_is_missing { IsSoundReport overtaking one_is_missing → ⊥ }
+    ensures joined_before_the_cut { IsSoundReport overtaking joined_before_the_cut → ⊥ }
+    ensures worst_is_too_small { IsSoundReport overtaking worst_is_too_small → ⊥ }
+    ensures chosen_before { IsChosenReport waited_before chosen_before }
+    ensures sound_before { IsSoundReport waited_before chosen_before }
+    ensures joined_in_the_window_before { IsSoundReport waited_before joined_in_the_window_before → ⊥ }
 {}
 
 /// The law of the running worst: where it is that of a window, it is for each queue and class what a sound report says, and `None` only where

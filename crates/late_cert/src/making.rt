@@ -10,7 +10,7 @@ use crate::check::lateness;
 use crate::report::{Report, Reports, Stays};
 use dispatch_log::Queue;
 use due_key::{Class, Due};
-use readable_log::{Grant, Log, Stay, server_of};
+use readable_log::{Log, SlotGrant, Stay};
 use std::alloc::{AllocError, Global};
 
 /// The reports of a log: one for each queue and class that has a grant, the backend's queue first,
@@ -25,18 +25,18 @@ pub fn certify(alloc: Global, log: &Log) -> Result<Reports, AllocError>
 }
 
 /// The grants queue by queue and class by class, else in their order.
-fn sorted_grants(alloc: Global, grants: &[Grant]) -> Result<Vec<Grant>, AllocError>
+fn sorted_grants(alloc: Global, grants: &[SlotGrant]) -> Result<Vec<SlotGrant>, AllocError>
     ensures permutation { IfOk result (λ sorted. IsPermutation grants.now sorted.items) }
     ensures sorted { IfOk result (λ sorted. IsSortedBy is_before sorted.items) }
     ensures stable { IfOk result (λ sorted. IsStableBy is_before grants.now sorted.items) }
 {
     let mut sorted = Vec::from_slice(alloc, grants)?;
-    sorted.sort_by_key(|grant| (server_of(grant.queue), grant.class))?;
+    sorted.sort_by_key(|grant| (grant.queue, grant.class))?;
     Ok(sorted)
 }
 
 /// A report for each group of grants of one queue and class.
-fn reports_of(alloc: Global, grants: &[Grant]) -> Result<Vec<Report>, AllocError>
+fn reports_of(alloc: Global, grants: &[SlotGrant]) -> Result<Vec<Report>, AllocError>
     ensures { IfOk result (λ reports. AreGroups grants.now reports.items) }
 {
     let mut reports = Vec::new(alloc);
@@ -50,7 +50,7 @@ fn reports_of(alloc: Global, grants: &[Grant]) -> Result<Vec<Report>, AllocError
 }
 
 /// How many of the grants at the front are from a queue and of a class.
-fn group_len(grants: &[Grant], queue: Queue, class: Class) -> usize
+fn group_len(grants: &[SlotGrant], queue: Queue, class: Class) -> usize
     ensures { result ≡ prefix_len (is_of queue class) grants.now }
 {
     grants
@@ -64,7 +64,7 @@ fn report_of(
     alloc: Global,
     queue: Queue,
     class: Class,
-    group: &[Grant],
+    group: &[SlotGrant],
 ) -> Result<Report, AllocError>
     requires { 0 < length group.now }
     ensures report { IfOk result (IsReportOf group.now) }
@@ -91,7 +91,7 @@ fn report_of(
 }
 
 /// Where the first of the latest grants stands.
-fn first_latest(group: &[Grant]) -> usize
+fn first_latest(group: &[SlotGrant]) -> usize
     requires { 0 < length group.now }
     ensures { IsFirstBest is_later group.now (length group.now) result }
 {
@@ -104,14 +104,14 @@ fn first_latest(group: &[Grant]) -> usize
     best
 }
 
-fn is_later(grant: &Grant, other: &Grant) -> bool
+fn is_later(grant: &SlotGrant, other: &SlotGrant) -> bool
     ensures { result ≡ is_later grant.now other.now }
 {
     lateness(grant) > lateness(other)
 }
 
 /// The slot of the last grant that is due after a date; 0 where none is.
-fn last_cut(earlier: &[Grant], due: Due) -> usize
+fn last_cut(earlier: &[SlotGrant], due: Due) -> usize
     ensures { result ≡ last_cut due (map (λ it. it.stay) earlier.now) }
 {
     earlier.iter().map(|grant| grant.stay).fold(
@@ -123,7 +123,7 @@ fn last_cut(earlier: &[Grant], due: Due) -> usize
 /// The stays whose slots lie after the cut, up to the end.
 fn critical(
     alloc: Global,
-    group: &[Grant],
+    group: &[SlotGrant],
     after: usize,
     to: usize,
 ) -> Result<Vec<Stay>, AllocError>

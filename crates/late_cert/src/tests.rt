@@ -3,7 +3,7 @@ ghost use Rattle.std.specs.Prelude.{◌≡◌, IfOk, length};
 use crate::{Report, Reports, Stays, audit, certify};
 use dispatch_log::{Arrival, Entry, Phase, Queue, Row, ServerSet, Servers, Setup};
 use due_key::{Class, Due, Key, Moment, Offset};
-use readable_log::{Base, Grant, Log, Stay};
+use readable_log::{Base, Log, SlotGrant, Stay};
 use std::alloc::{AllocError, Global};
 use std::test::Fail;
 

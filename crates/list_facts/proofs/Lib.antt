@@ -11,7 +11,7 @@ pub mod Totals
 pub mod Ones
 pub mod Each
 pub mod Front
-pub mod Kept
+pub mod Filtered
 pub mod Fronts
 pub mod Windows
 pub mod Shuffles

@@ -12,7 +12,7 @@ use Rattle.verdict.specs.declared.Ending.TheVariants as ending
 use Rattle.list_facts.proofs.Never.{false_true, none_some}
 use Rattle.grant_board.specs.declared.returned.Return.{Return}
 use Rattle.grant_board.specs.Views.{Grant, grant, Terms, KeeperView, serves_at, count_of}
-use Rattle.grant_board.specs.Words.{MayEnd}
+use Rattle.grant_board.specs.BoardWords.{MayEnd}
 use Rattle.grant_board.specs.KeeperCalls.{Keeper, Collects, FindsUnposted, MayLimit, limit_after}
 use Rattle.dispatch_log.specs.declared.allowance.Allowance.{Allowance}
 use Rattle.dispatch_log.specs.declared.entry.Entry.{Entry}

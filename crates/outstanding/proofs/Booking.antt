@@ -21,12 +21,12 @@ use Rattle.dispatch_log.specs.declared.row.Phase.TheVariants.{Loose, Waiting, Se
 use Rattle.dispatch_log.specs.declared.row.Row.{Row}
 use Rattle.dispatch_log.specs.declared.setup.Setup.{Setup}
 use Rattle.dispatch_log.specs.Histories.{begins_event}
-use Rattle.dispatch_log.specs.Judgement.{Stage, placing, returning, ending, failing, leaving, aborting, telling, checking, falling}
-use Rattle.dispatch_log.specs.Judgement.{granting, HasSlot, IsTold, MayGrant, IsPut, MayCome, IsOver, has_expired, next_stage}
+use Rattle.dispatch_log.specs.Judgement.{Stage, placing, returning, ending, failing, freed_by_failure, aborting, telling, checking, falling}
+use Rattle.dispatch_log.specs.Judgement.{granting, HasSlot, IsTold, MayGrant, IsPut, MayCome, IsOver, HasExpired, next_stage}
 use Rattle.dispatch_log.specs.Refusals.{is_waiting}
 use Rattle.dispatch_log.specs.Rows.{Rows, StandsAt, changed, in_phase, in_backend_since, gone, phase_waits_in, phase_is_served_by, phase_is_told}
 use Rattle.dispatch_log.specs.States.{State, scene, after}
-use Rattle.dispatch_log.specs.Words.{Scene}
+use Rattle.dispatch_log.specs.Scenes.{Scene}
 use Rattle.dispatch_log.proofs.Consistency.{IsConsistent, IsLoose, loose_ticket}
 use Rattle.dispatch_log.proofs.Judged.{consistent_after}
 use Rattle.dispatch_log.proofs.RowLemmas.{HaveOwnTickets, changed_at}
@@ -40,7 +40,7 @@ kept weight (returning ticket) rows = total (only ticket weight) (outstanding ro
 kept weight (failing ticket) rows = total (only ticket weight) (outstanding rows)
 kept weight (placing ticket) rows = 0
 kept weight (ending ticket) rows = 0
-kept weight (leaving ticket server) rows = 0
+kept weight (freed_by_failure ticket server) rows = 0
 kept weight (aborting ticket) rows = 0
 kept weight telling rows = 0
 kept weight (checking server) rows = 0
@@ -64,7 +64,7 @@ waiting_none (Waiting other m) waits = refl
 waiting_none (Serving v) waits = false_true waits
 waiting_none (Told c) waits = false_true waits
 
-expired_none : (setup : Setup) (now : ℕ) (phase : Phase) → has_expired setup now phase → verdict_at phase ≡ None
+expired_none : (setup : Setup) (now : ℕ) (phase : Phase) → HasExpired setup now phase → verdict_at phase ≡ None
 expired_none setup now Loose expired = refl
 expired_none setup now (Waiting q m) expired = refl
 expired_none setup now (Serving v) expired = absurd expired
@@ -78,7 +78,7 @@ serving_at v (Told c) served = false_true served
 
 -- a verdict is no word of what a placement or a fall owes
 kept_grant : (weight : Grant → ℕ) (setup : Setup) (s : State) (t : Stage) (rows : Rows) → MayGrant setup s t → kept weight t rows ≡ 0
-kept_grant weight setup s (leaving t w) rows may = refl
+kept_grant weight setup s (freed_by_failure t w) rows may = refl
 kept_grant weight setup s granting rows may = refl
 kept_grant weight setup s telling rows may = refl
 kept_grant weight setup s (checking w) rows may = refl
@@ -86,7 +86,7 @@ kept_grant weight setup s (falling w) rows may = refl
 kept_grant weight setup s t rows may = absurd may
 
 kept_granted : (weight : Grant → ℕ) (t : Stage) (u v : ℕ) (q : Queue) (rows : Rows) → kept weight (next_stage t (Granted u q v)) rows ≡ 0
-kept_granted weight (leaving t w) u v q rows = refl
+kept_granted weight (freed_by_failure t w) u v q rows = refl
 kept_granted weight (placing t) u v q rows = refl
 kept_granted weight (returning t) u v q rows = refl
 kept_granted weight (ending t) u v q rows = refl
@@ -189,20 +189,20 @@ module _ (weight : Grant → ℕ) (setup : Setup) (s : State) where
       by_entry (placing t) (Joined u q) none is may then = omega (arith, put_books t (placing t) (Joined u q) (scene setup s) s.cursor _ None is then refl may)
       by_entry (placing t) (Left u NoServer) none is may then =
           omega (arith, put_books t (placing t) (Left u NoServer) (scene setup s) s.cursor _ None is then refl may)
-      by_entry (leaving t w) (Direct u v) none is may then =
-          omega (arith, put_books t (leaving t w) (Direct u v) (scene setup s) s.cursor None (Some w) is then refl may.put)
-      by_entry (leaving t w) (Joined u q) none is may then =
-          omega (arith, put_books t (leaving t w) (Joined u q) (scene setup s) s.cursor None (Some w) is then refl may.put)
-      by_entry (leaving t w) (Left u NoServer) none is may then =
-          omega (arith, put_books t (leaving t w) (Left u NoServer) (scene setup s) s.cursor None (Some w) is then refl may.put)
-      by_entry (leaving t w) (Left u Retries) none is may then =
+      by_entry (freed_by_failure t w) (Direct u v) none is may then =
+          omega (arith, put_books t (freed_by_failure t w) (Direct u v) (scene setup s) s.cursor None (Some w) is then refl may.put)
+      by_entry (freed_by_failure t w) (Joined u q) none is may then =
+          omega (arith, put_books t (freed_by_failure t w) (Joined u q) (scene setup s) s.cursor None (Some w) is then refl may.put)
+      by_entry (freed_by_failure t w) (Left u NoServer) none is may then =
+          omega (arith, put_books t (freed_by_failure t w) (Left u NoServer) (scene setup s) s.cursor None (Some w) is then refl may.put)
+      by_entry (freed_by_failure t w) (Left u Retries) none is may then =
           let it = is.owed t refl in
           omega (
             arith,
             gives u it.place it.row (Told Retries) (verdict.Told Retries) is.tickets then it.stands (it.named
                 ∙ sym may.0) (ap verdict_at it.loose) refl,
           )
-      by_entry (leaving t w) e none is may then = absurd may.put
+      by_entry (freed_by_failure t w) e none is may then = absurd may.put
       by_entry (returning t) (Freed u v) none is may then =
           let slot = may.1 in
           omega (

@@ -20,7 +20,7 @@ use Rattle.dispatch_log.specs.declared.queue.Queue.TheVariants.{Backend}
 use Rattle.dispatch_log.specs.declared.row.Row.{Row}
 use Rattle.dispatch_log.specs.declared.setup.Setup.{Setup}
 use Rattle.dispatch_log.specs.Histories.{begins_event}
-use Rattle.dispatch_log.specs.Judgement.{Stage, placing, returning, ending, failing, leaving, aborting, telling, checking}
+use Rattle.dispatch_log.specs.Judgement.{Stage, placing, returning, ending, failing, freed_by_failure, aborting, telling, checking}
 use Rattle.dispatch_log.specs.Judgement.{falling, granting, MayGrant, MayBegin, MayCome, AllMayCome, IsOver, next_stage, stage_after}
 use Rattle.dispatch_log.specs.Retries.{failed}
 use Rattle.dispatch_log.specs.Rows.{Rows, StandsAt, with_change, changed, in_phase, in_backend_since, has_ticket}
@@ -38,7 +38,7 @@ may_end (returning ticket) = true
 may_end (ending ticket) = true
 may_end (placing ticket) = false
 may_end (failing ticket) = false
-may_end (leaving ticket server) = false
+may_end (freed_by_failure ticket server) = false
 may_end (aborting ticket) = false
 may_end telling = false
 may_end (checking server) = false
@@ -87,7 +87,7 @@ places_after setup s n t (Left u c) ticket quiet none may = place_kept ticket u 
 places_after setup s n t (Health v up) ticket quiet none may = refl
 places_after setup s n (returning t) (Ended u) ticket quiet none may = false_true (sym quiet)
 places_after setup s n (ending t) (Ended u) ticket quiet none may = false_true (sym quiet)
-places_after setup s n (leaving t w) (Ended u) ticket quiet none may = absurd may.put
+places_after setup s n (freed_by_failure t w) (Ended u) ticket quiet none may = absurd may.put
 places_after setup s n t (Ended u) ticket quiet none may = absurd may
 
 -- and leads where none may end
@@ -103,12 +103,12 @@ quiet_next setup s n t (Limit m v k) quiet none may = false_true (sym none)
 quiet_next setup s n (placing t) (Direct u v) quiet none may = refl
 quiet_next setup s n (placing t) (Joined u q) quiet none may = refl
 quiet_next setup s n (placing t) (Left u NoServer) quiet none may = refl
-quiet_next setup s n (leaving t w) (Direct u v) quiet none may = refl
-quiet_next setup s n (leaving t w) (Joined u q) quiet none may = refl
-quiet_next setup s n (leaving t w) (Left u NoServer) quiet none may = refl
-quiet_next setup s n (leaving t w) (Left u Retries) quiet none may = refl
-quiet_next setup s n (leaving t w) (Granted u q v) quiet none may = refl
-quiet_next setup s n (leaving t w) e quiet none may = absurd may.put
+quiet_next setup s n (freed_by_failure t w) (Direct u v) quiet none may = refl
+quiet_next setup s n (freed_by_failure t w) (Joined u q) quiet none may = refl
+quiet_next setup s n (freed_by_failure t w) (Left u NoServer) quiet none may = refl
+quiet_next setup s n (freed_by_failure t w) (Left u Retries) quiet none may = refl
+quiet_next setup s n (freed_by_failure t w) (Granted u q v) quiet none may = refl
+quiet_next setup s n (freed_by_failure t w) e quiet none may = absurd may.put
 quiet_next setup s n granting (Granted u q v) quiet none may = refl
 quiet_next setup s n telling (Granted u q v) quiet none may = refl
 quiet_next setup s n (checking w) (Granted u q v) quiet none may = refl

@@ -3,4 +3,4 @@ pub mod Inserted
 pub mod Without
 pub mod Merged
 mod Falling
-mod Rows
+mod WorkedRows

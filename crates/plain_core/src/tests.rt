@@ -2,8 +2,8 @@ mod calls;
 mod chance;
 mod decisions;
 mod events;
+mod servers;
 mod state;
-mod words;
 
 use self::calls::{Call, ask, made};
 use self::chance::Chance;

@@ -1,3 +1,3 @@
 pub mod Folding
 pub mod Orders
-pub mod Rows
+pub mod WorkedRows

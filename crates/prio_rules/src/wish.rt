@@ -1,5 +1,5 @@
 ghost use Rattle.std.specs.Prelude.{◌≡◌, ◌<◌, length, IfSome};
-ghost use Rattle.proxy_config.specs.Sound.{IsSound};
+ghost use Rattle.proxy_config.specs.Sound.{IsSoundConfig};
 ghost use Rattle.prio_rules.specs.Wishes as rules;
 
 use crate::conditions::{applies, guard_holds};
@@ -27,7 +27,7 @@ pub struct Wish {
 pub fn decide(config: &Config, view: &View) -> Wish
     ensures exact { result ≡ rules.wish config.now view.now }
     // A pin is a server of the configuration.
-    ensures known { IsSound config.now → IfSome result.pin (λ server. server < length config.now.servers) }
+    ensures known { IsSoundConfig config.now → IfSome result.pin (λ server. server < length config.now.servers) }
 {
     Wish {
         class: Class::clamp(standing(Action::SetPriorityClass, config, view)),

@@ -1,11 +1,11 @@
 -- Where the causes that the lines before a line decide can stand.
-use Rattle.std.proofs.Common.{◌≡◌, ◌∙◌, ◌⊎◌, inl, inr, ◌||◌, ℕ, Bool, true, false, cond, not, List}
-use Rattle.std.proofs.Common.{[], ◌∷◌, Option, Some, None, Result, Ok, Err, refl, sym, ap, subst}
+use Rattle.std.proofs.Common.{◌≡◌, ◌∙◌, ◌⊎◌, inl, inr, ◌||◌, ℕ, Bool, true, false, not, List}
+use Rattle.std.proofs.Common.{[], ◌∷◌, length, Option, Some, None, Result, Err, refl, sym, ap, subst}
 use Rattle.std.specs.Option.{is_some}
 use Rattle.std.specs.List.{list_any}
 use Rattle.proxy_words.specs.Text.{uncommented}
-use Rattle.proxy_config.specs.declared.faults.Cause.{Cause}
-use Rattle.proxy_config.specs.declared.faults.Cause.TheVariants as causes
+use Rattle.proxy_config.specs.declared.faults.FaultCause.{FaultCause}
+use Rattle.proxy_config.specs.declared.faults.FaultCause.TheVariants as causes
 use Rattle.proxy_config.specs.declared.draft.Draft.{Draft}
 use Rattle.proxy_config.specs.declared.draft.Section.{Section}
 use Rattle.proxy_config.specs.declared.draft.Section.TheVariants as sections
@@ -13,51 +13,53 @@ use Rattle.proxy_config.specs.declared.keywords.Keyword.{Keyword}
 use Rattle.proxy_config.specs.declared.keywords.Keyword.TheVariants as keywords
 use Rattle.proxy_config.specs.declared.parts.Server.{Server}
 use Rattle.proxy_config.specs.declared.values.Shared.{Shared}
-use Rattle.proxy_config.specs.Outcomes.{◌>>=◌, unless}
 use Rattle.proxy_words.specs.Names.{is_name}
 use Rattle.proxy_config.specs.Addresses.{address_of}
 use Rattle.proxy_config.specs.Rules.{server_index}
 use Rattle.proxy_config.specs.Keywords.{keyword_of}
 use Rattle.proxy_config.specs.Settings as server
 use Rattle.proxy_config.specs.Draft as draft
-use Rattle.proxy_config.specs.Rows.{words_of, in_values, takes, IsMisplaced, BeginsRefused, IsRead, EachInItsRow}
+use Rattle.proxy_config.specs.Resolved.{Resolved, resolved_line}
+use Rattle.proxy_config.proofs.Resolving.{pinned_line, placed, line_of, line_by, stepped, line_stepped}
+use Rattle.proxy_config.specs.CauseTable.{words_of, in_values, takes, IsMisplaced, BeginsRefused, IsRead, EachInItsRow}
 use Rattle.proxy_config.proofs.Causes.{is_of_words, Within, within_ok, within_err, within_bind, within_or, within_unless}
 use Rattle.proxy_config.proofs.Causes.{within_word, within_end, within_shared, within_settings, within_acl, within_rule, within_pin}
 
-abbrev is_count : Cause → Bool
+abbrev is_count : FaultCause → Bool
 is_count causes.Limit = true
 is_count causes.Twice = true
 is_count other = false
 
-abbrev is_place : Cause → Bool
+abbrev is_place : FaultCause → Bool
 is_place causes.Place = true
 is_place other = false
 
-abbrev is_section : Cause → Bool
+abbrev is_section : FaultCause → Bool
 is_section causes.Section = true
 is_section other = false
 
 -- what can stand once the section takes the line
-abbrev is_placed : Cause → Bool
+abbrev is_placed : FaultCause → Bool
 is_placed cause = is_of_words cause || is_count cause
 
 -- what can stand in a line that begins no section
-abbrev is_of_keywords : Cause → Bool
+abbrev is_of_keywords : FaultCause → Bool
 is_of_keywords cause = is_placed cause || is_place cause
 
 -- what can stand in a line that is read by its words
-abbrev is_of_lines : Cause → Bool
+abbrev is_of_lines : FaultCause → Bool
 is_of_lines cause = is_of_keywords cause || is_section cause
 
 more : (a b : Bool) → a ≡ true → (a || b) ≡ true
 more true b is = refl
 more false b is = cc
 
-pub weaker : {A : Type 0} {may : Cause → Bool} {r : Result A Cause} (also : Cause → Bool) → Within may r → Within (λ cause. may cause || also cause) r
+pub weaker : {A : Type 0} {may : FaultCause → Bool} {r : Result A FaultCause} (also : FaultCause → Bool) → Within may r
+    → Within (λ cause. may cause || also cause) r
 weaker {A} {may} also within = record { fault = λ cause is. more (may cause) (also cause) (within.fault cause is) }
 
 -- where a cause can't stand, it doesn't
-pub never : {A : Type 0} {may : Cause → Bool} {r : Result A Cause} (cause : Cause) → Within may r → may cause ≡ false → r ≡ Err cause → ⊥
+pub never : {A : Type 0} {may : FaultCause → Bool} {r : Result A FaultCause} (cause : FaultCause) → Within may r → may cause ≡ false → r ≡ Err cause → ⊥
 never cause within holds is = let both : true ≡ false = sym (within.fault cause is) ∙ holds in absurd (let none = both in cc)
 
 -- lines of words alone
@@ -105,15 +107,15 @@ unfolding draft.test_line
 test_in d words inside = rw inside (within_bind _ _ (within_unless _ causes.Limit refl)
     (λ limit. within_bind _ _ (weaker is_count (within_acl d.acls words)) (λ acls. within_ok _)))
 
-request_in : (d : Draft) (words : List (List ℕ)) → draft.in_listen d.section ≡ true → Within is_placed (draft.request_line d words)
+request_in : (pins : ℕ) (d : Draft) (words : List (List ℕ)) → draft.in_listen d.section ≡ true → Within is_placed (draft.request_line pins d words)
 unfolding draft.request_line
-request_in d words inside = rw inside (within_bind _ _ (within_unless _ causes.Limit refl)
+request_in pins d words inside = rw inside (within_bind _ _ (within_unless _ causes.Limit refl)
     (λ limit. within_bind _ _ (weaker is_count (within_rule d.acls words)) (λ rule. within_ok _)))
 
-use_in : (servers : List Server) (d : Draft) (words : List (List ℕ)) → draft.in_listen d.section ≡ true → Within is_placed (draft.use_line servers d words)
-unfolding draft.use_line
-use_in servers d words inside = rw inside
-    (within_bind _ _ (within_unless _ causes.Limit refl) (λ limit. within_bind _ _ (weaker is_count (within_pin servers d.acls words)) (λ pin. within_ok _)))
+use_in : (servers : List Server) (r : Resolved) (words : List (List ℕ)) → draft.in_listen r.draft.section ≡ true → Within is_placed (pinned_line servers r words)
+unfolding pinned_line
+use_in servers r words inside = rw inside (within_bind _ _ (within_unless _ causes.Limit refl)
+    (λ limit. within_bind _ _ (weaker is_count (within_pin servers r.draft.acls words)) (λ pin. within_ok _)))
 
 -- and outside it
 bind_out : (d : Draft) (words : List (List ℕ)) → draft.in_listen d.section ≡ false → draft.bind_line d words ≡ Err causes.Place
@@ -128,13 +130,14 @@ test_out : (d : Draft) (words : List (List ℕ)) → draft.in_listen d.section �
 unfolding draft.test_line
 test_out d words outside = rw outside refl
 
-request_out : (d : Draft) (words : List (List ℕ)) → draft.in_listen d.section ≡ false → draft.request_line d words ≡ Err causes.Place
+request_out : (pins : ℕ) (d : Draft) (words : List (List ℕ)) → draft.in_listen d.section ≡ false → draft.request_line pins d words ≡ Err causes.Place
 unfolding draft.request_line
-request_out d words outside = rw outside refl
+request_out pins d words outside = rw outside refl
 
-use_out : (servers : List Server) (d : Draft) (words : List (List ℕ)) → draft.in_listen d.section ≡ false → draft.use_line servers d words ≡ Err causes.Place
-unfolding draft.use_line
-use_out servers d words outside = rw outside refl
+use_out : (servers : List Server) (r : Resolved) (words : List (List ℕ)) → draft.in_listen r.draft.section ≡ false
+    → pinned_line servers r words ≡ Err causes.Place
+unfolding pinned_line
+use_out servers r words outside = rw outside refl
 
 value_out : (d : Draft) (kind : Shared) (words : List (List ℕ)) (section : Section) → d.section ≡ section → in_values section ≡ false
     → draft.value_line d kind words ≡ Err causes.Place
@@ -152,19 +155,26 @@ value_in d kind words sections.Global is inside = absurd (let none = inside in c
 value_in d kind words sections.Defaults is inside = rw is (within_bind _ _ (within_shared kind d.defaults words) (λ v. within_ok _))
 value_in d kind words sections.Listen is inside = rw is (within_bind _ _ (within_shared kind d.values words) (λ v. within_ok _))
 
+-- a draft behind pins has the faults that it has
+within_placed : {may : FaultCause → Bool} (r : Resolved) (read : Result Draft FaultCause) → Within may read → Within may (placed r.pins read)
+within_placed r read within = within_bind _ _ within (λ d. within_ok _)
+
+out_placed : {cause : FaultCause} (r : Resolved) (read : Result Draft FaultCause) → read ≡ Err cause → placed r.pins read ≡ Err cause
+out_placed r read is = ap (placed r.pins) is
+
 -- a line whose section doesn't take it
-pub line_out : (servers : List Server) (d : Draft) (n : ℕ) (keyword : Keyword) (words : List (List ℕ)) → takes d.section keyword ≡ false
-    → draft.keyword_line servers d n keyword words ≡ Err causes.Place
-line_out servers d n keywords.Global words outside = absurd (let none = outside in cc)
-line_out servers d n keywords.Defaults words outside = absurd (let none = outside in cc)
-line_out servers d n keywords.Listen words outside = absurd (let none = outside in cc)
-line_out servers d n keywords.Refused words outside = absurd (let none = outside in cc)
-line_out servers d n (keywords.Shared kind) words outside = value_out d kind words d.section refl outside
-line_out servers d n keywords.Bind words outside = bind_out d words outside
-line_out servers d n keywords.Server words outside = server_out d words outside
-line_out servers d n keywords.Acl words outside = test_out d words outside
-line_out servers d n keywords.HttpRequest words outside = request_out d words outside
-line_out servers d n keywords.UseServer words outside = use_out servers d words outside
+pub line_out : (servers : List Server) (r : Resolved) (n : ℕ) (keyword : Keyword) (words : List (List ℕ)) → takes r.draft.section keyword ≡ false
+    → line_of servers r n keyword words ≡ Err causes.Place
+line_out servers r n keywords.Global words outside = absurd (let none = outside in cc)
+line_out servers r n keywords.Defaults words outside = absurd (let none = outside in cc)
+line_out servers r n keywords.Listen words outside = absurd (let none = outside in cc)
+line_out servers r n keywords.Refused words outside = absurd (let none = outside in cc)
+line_out servers r n (keywords.Shared kind) words outside = out_placed r _ (value_out r.draft kind words r.draft.section refl outside)
+line_out servers r n keywords.Bind words outside = out_placed r _ (bind_out r.draft words outside)
+line_out servers r n keywords.Server words outside = out_placed r _ (server_out r.draft words outside)
+line_out servers r n keywords.Acl words outside = out_placed r _ (test_out r.draft words outside)
+line_out servers r n keywords.HttpRequest words outside = out_placed r _ (request_out (length r.pins) r.draft words outside)
+line_out servers r n keywords.UseServer words outside = use_out servers r words outside
 
 -- a keyword that begins a section
 abbrev begins : Keyword → Bool
@@ -175,46 +185,46 @@ begins keywords.Refused = true
 begins other = false
 
 -- a line that its section takes and that begins none
-line_in : (servers : List Server) (d : Draft) (n : ℕ) (keyword : Keyword) (words : List (List ℕ)) → begins keyword ≡ false → takes d.section keyword ≡ true
-    → Within is_placed (draft.keyword_line servers d n keyword words)
-line_in servers d n keywords.Global words other inside = absurd (let none = other in cc)
-line_in servers d n keywords.Defaults words other inside = absurd (let none = other in cc)
-line_in servers d n keywords.Listen words other inside = absurd (let none = other in cc)
-line_in servers d n keywords.Refused words other inside = absurd (let none = other in cc)
-line_in servers d n (keywords.Shared kind) words other inside = weaker is_count (value_in d kind words d.section refl inside)
-line_in servers d n keywords.Bind words other inside = bind_in d words inside
-line_in servers d n keywords.Server words other inside = server_in d words inside
-line_in servers d n keywords.Acl words other inside = test_in d words inside
-line_in servers d n keywords.HttpRequest words other inside = request_in d words inside
-line_in servers d n keywords.UseServer words other inside = use_in servers d words inside
+line_in : (servers : List Server) (r : Resolved) (n : ℕ) (keyword : Keyword) (words : List (List ℕ)) → begins keyword ≡ false → takes r.draft.section keyword ≡ true
+    → Within is_placed (line_of servers r n keyword words)
+line_in servers r n keywords.Global words other inside = absurd (let none = other in cc)
+line_in servers r n keywords.Defaults words other inside = absurd (let none = other in cc)
+line_in servers r n keywords.Listen words other inside = absurd (let none = other in cc)
+line_in servers r n keywords.Refused words other inside = absurd (let none = other in cc)
+line_in servers r n (keywords.Shared kind) words other inside = within_placed r _ (weaker is_count (value_in r.draft kind words r.draft.section refl inside))
+line_in servers r n keywords.Bind words other inside = within_placed r _ (bind_in r.draft words inside)
+line_in servers r n keywords.Server words other inside = within_placed r _ (server_in r.draft words inside)
+line_in servers r n keywords.Acl words other inside = within_placed r _ (test_in r.draft words inside)
+line_in servers r n keywords.HttpRequest words other inside = within_placed r _ (request_in (length r.pins) r.draft words inside)
+line_in servers r n keywords.UseServer words other inside = use_in servers r words inside
 
 -- a line that begins a section, taken or refused
 listen_row : (d : Draft) (n : ℕ) (words : List (List ℕ)) (b : Bool) → is_some d.listen ≡ b
     → Within (λ cause. is_of_words cause || is_section cause) (draft.listen_line d n words)
-listen_row d n words true second = subst (λ (r : Result Draft Cause). Within (λ cause. is_of_words cause || is_section cause) r)
+listen_row d n words true second = subst (λ (r : Result Draft FaultCause). Within (λ cause. is_of_words cause || is_section cause) r)
     (sym (second_listen d n words second)) (within_err causes.Section refl)
 listen_row d n words false first = weaker is_section (first_listen d n words first)
 
-section_row : (servers : List Server) (d : Draft) (n : ℕ) (keyword : Keyword) (words : List (List ℕ)) → begins keyword ≡ true
-    → Within (λ cause. is_of_words cause || is_section cause) (draft.keyword_line servers d n keyword words)
-section_row servers d n keywords.Global words one = weaker is_section (global_line d words)
-section_row servers d n keywords.Defaults words one = weaker is_section (defaults_line d words)
-section_row servers d n keywords.Listen words one = listen_row d n words (is_some d.listen) refl
-section_row servers d n keywords.Refused words one = within_err causes.Section refl
-section_row servers d n other words one = absurd (let none = one in cc)
+section_row : (servers : List Server) (r : Resolved) (n : ℕ) (keyword : Keyword) (words : List (List ℕ)) → begins keyword ≡ true
+    → Within (λ cause. is_of_words cause || is_section cause) (line_of servers r n keyword words)
+section_row servers r n keywords.Global words one = within_placed r _ (weaker is_section (global_line r.draft words))
+section_row servers r n keywords.Defaults words one = within_placed r _ (weaker is_section (defaults_line r.draft words))
+section_row servers r n keywords.Listen words one = within_placed r _ (listen_row r.draft n words (is_some r.draft.listen) refl)
+section_row servers r n keywords.Refused words one = within_err causes.Section refl
+section_row servers r n other words one = absurd (let none = one in cc)
 
 -- a fault in the place of a line is that of a keyword that its section doesn't take
-place_only : (servers : List Server) (d : Draft) (n : ℕ) (keyword : Keyword) (words : List (List ℕ)) (b t : Bool) → begins keyword ≡ b
-    → takes d.section keyword ≡ t
-    → draft.keyword_line servers d n keyword words ≡ Err causes.Place → takes d.section keyword ≡ false
-place_only servers d n keyword words true t one taken is = absurd (never causes.Place (section_row servers d n keyword words one) refl is)
-place_only servers d n keyword words false true other taken is = absurd (never causes.Place (line_in servers d n keyword words other taken) refl is)
-place_only servers d n keyword words false false other taken is = taken
+place_only : (servers : List Server) (r : Resolved) (n : ℕ) (keyword : Keyword) (words : List (List ℕ)) (b t : Bool) → begins keyword ≡ b
+    → takes r.draft.section keyword ≡ t
+    → line_of servers r n keyword words ≡ Err causes.Place → takes r.draft.section keyword ≡ false
+place_only servers r n keyword words true t one taken is = absurd (never causes.Place (section_row servers r n keyword words one) refl is)
+place_only servers r n keyword words false true other taken is = absurd (never causes.Place (line_in servers r n keyword words other taken) refl is)
+place_only servers r n keyword words false false other taken is = taken
 
-all_lines : {r : Result Draft Cause} → Within (λ cause. is_of_words cause || is_section cause) r → Within is_of_lines r
+all_lines : {r : Result Resolved FaultCause} → Within (λ cause. is_of_words cause || is_section cause) r → Within is_of_lines r
 all_lines within = record { fault = λ cause is. wider cause (within.fault cause is) }
   where
-    wider : (cause : Cause) → (is_of_words cause || is_section cause) ≡ true → is_of_lines cause ≡ true
+    wider : (cause : FaultCause) → (is_of_words cause || is_section cause) ≡ true → is_of_lines cause ≡ true
     wider causes.Quoting holds = holds
     wider causes.Missing holds = holds
     wider causes.Place holds = refl
@@ -230,151 +240,138 @@ all_lines within = record { fault = λ cause is. wider cause (within.fault cause
     wider causes.Condition holds = refl
 
 -- neither of the other two causes stands in a line of a keyword
-line_causes : (servers : List Server) (d : Draft) (n : ℕ) (keyword : Keyword) (words : List (List ℕ)) (b t : Bool) → begins keyword ≡ b
-    → takes d.section keyword ≡ t
-    → Within is_of_lines (draft.keyword_line servers d n keyword words)
-line_causes servers d n keyword words true t one taken = all_lines (section_row servers d n keyword words one)
-line_causes servers d n keyword words false true other taken = weaker is_section (weaker is_place (line_in servers d n keyword words other taken))
-line_causes servers d n keyword words false false other taken =
-    subst (λ (r : Result Draft Cause). Within is_of_lines r) (sym (line_out servers d n keyword words taken)) (within_err causes.Place refl)
+line_causes : (servers : List Server) (r : Resolved) (n : ℕ) (keyword : Keyword) (words : List (List ℕ)) (b t : Bool) → begins keyword ≡ b
+    → takes r.draft.section keyword ≡ t
+    → Within is_of_lines (line_of servers r n keyword words)
+line_causes servers r n keyword words true t one taken = all_lines (section_row servers r n keyword words one)
+line_causes servers r n keyword words false true other taken = weaker is_section (weaker is_place (line_in servers r n keyword words other taken))
+line_causes servers r n keyword words false false other taken =
+    subst (λ (r : Result Resolved FaultCause). Within is_of_lines r) (sym (line_out servers r n keyword words taken)) (within_err causes.Place refl)
 
-not_of_section : (servers : List Server) (d : Draft) (n : ℕ) (keyword : Keyword) (words : List (List ℕ)) (t : Bool) → begins keyword ≡ false
-    → takes d.section keyword ≡ t
-    → draft.keyword_line servers d n keyword words ≡ Err causes.Section → ⊥
-not_of_section servers d n keyword words true other taken is = never causes.Section (line_in servers d n keyword words other taken) refl is
-not_of_section servers d n keyword words false other taken is =
-    let both : (let one : Result Draft Cause = Err causes.Section in one ≡ Err causes.Place) = sym is ∙ line_out servers d n keyword words taken in
+not_of_section : (servers : List Server) (r : Resolved) (n : ℕ) (keyword : Keyword) (words : List (List ℕ)) (t : Bool) → begins keyword ≡ false
+    → takes r.draft.section keyword ≡ t
+    → line_of servers r n keyword words ≡ Err causes.Section → ⊥
+not_of_section servers r n keyword words true other taken is = never causes.Section (line_in servers r n keyword words other taken) refl is
+not_of_section servers r n keyword words false other taken is =
+    let both : (let one : Result Resolved FaultCause = Err causes.Section in one ≡ Err causes.Place) = sym is ∙ line_out servers r n keyword words taken in
     absurd (let none = both in cc)
 
 -- a fault of a section is that of one that is refused
-section_only : (servers : List Server) (d : Draft) (n : ℕ) (keyword : Keyword) (words : List (List ℕ))
-    → draft.keyword_line servers d n keyword words ≡ Err causes.Section
-    → (keyword ≡ keywords.Refused) ⊎ ((keyword ≡ keywords.Listen) × (is_some d.listen ≡ true))
-section_only servers d n keywords.Global words is = absurd (never causes.Section (global_line d words) refl is)
-section_only servers d n keywords.Defaults words is = absurd (never causes.Section (defaults_line d words) refl is)
-section_only servers d n keywords.Listen words is = inr (refl, again (is_some d.listen) refl)
+section_only : (servers : List Server) (r : Resolved) (n : ℕ) (keyword : Keyword) (words : List (List ℕ))
+    → line_of servers r n keyword words ≡ Err causes.Section
+    → (keyword ≡ keywords.Refused) ⊎ ((keyword ≡ keywords.Listen) × (is_some r.draft.listen ≡ true))
+section_only servers r n keywords.Global words is = absurd (never causes.Section (within_placed r _ (global_line r.draft words)) refl is)
+section_only servers r n keywords.Defaults words is = absurd (never causes.Section (within_placed r _ (defaults_line r.draft words)) refl is)
+section_only servers r n keywords.Listen words is = inr (refl, again (is_some r.draft.listen) refl)
   where
-    again : (b : Bool) → is_some d.listen ≡ b → is_some d.listen ≡ true
+    again : (b : Bool) → is_some r.draft.listen ≡ b → is_some r.draft.listen ≡ true
     again true second = second
-    again false first = absurd (never causes.Section (first_listen d n words first) refl is)
-section_only servers d n keywords.Refused words is = inl refl
-section_only servers d n (keywords.Shared kind) words is =
-    absurd (not_of_section servers d n (keywords.Shared kind) words (takes d.section (keywords.Shared kind)) refl refl is)
-section_only servers d n keywords.Bind words is = absurd (not_of_section servers d n keywords.Bind words (takes d.section keywords.Bind) refl refl is)
-section_only servers d n keywords.Server words is = absurd (not_of_section servers d n keywords.Server words (takes d.section keywords.Server) refl refl is)
-section_only servers d n keywords.Acl words is = absurd (not_of_section servers d n keywords.Acl words (takes d.section keywords.Acl) refl refl is)
-section_only servers d n keywords.HttpRequest words is =
-    absurd (not_of_section servers d n keywords.HttpRequest words (takes d.section keywords.HttpRequest) refl refl is)
-section_only servers d n keywords.UseServer words is =
-    absurd (not_of_section servers d n keywords.UseServer words (takes d.section keywords.UseServer) refl refl is)
+    again false first = absurd (never causes.Section (within_placed r _ (first_listen r.draft n words first)) refl is)
+section_only servers r n keywords.Refused words is = inl refl
+section_only servers r n (keywords.Shared kind) words is =
+    absurd (not_of_section servers r n (keywords.Shared kind) words (takes r.draft.section (keywords.Shared kind)) refl refl is)
+section_only servers r n keywords.Bind words is = absurd (not_of_section servers r n keywords.Bind words (takes r.draft.section keywords.Bind) refl refl is)
+section_only servers r n keywords.Server words is = absurd (not_of_section servers r n keywords.Server words (takes r.draft.section keywords.Server) refl refl is)
+section_only servers r n keywords.Acl words is = absurd (not_of_section servers r n keywords.Acl words (takes r.draft.section keywords.Acl) refl refl is)
+section_only servers r n keywords.HttpRequest words is =
+    absurd (not_of_section servers r n keywords.HttpRequest words (takes r.draft.section keywords.HttpRequest) refl refl is)
+section_only servers r n keywords.UseServer words is =
+    absurd (not_of_section servers r n keywords.UseServer words (takes r.draft.section keywords.UseServer) refl refl is)
 
 -- the same of a line by its words
-words_causes : (servers : List Server) (d : Draft) (n : ℕ) (words : List (List ℕ)) → Within is_of_lines (draft.words_line servers d n words)
-unfolding draft.words_line
-words_causes servers d n [] = within_ok d
-words_causes servers d n (word ∷ words) =
+words_causes : (servers : List Server) (r : Resolved) (n : ℕ) (words : List (List ℕ)) → Within is_of_lines (line_by servers r n words)
+words_causes servers r n [] = within_ok r
+words_causes servers r n (word ∷ words) =
     within_bind _ _ (within_or (keyword_of word) causes.Keyword refl)
-    (λ keyword. line_causes servers d n keyword words (begins keyword) (takes d.section keyword) refl refl)
+    (λ keyword. line_causes servers r n keyword words (begins keyword) (takes r.draft.section keyword) refl refl)
 
-words_place : (servers : List Server) (d : Draft) (n : ℕ) (words : List (List ℕ)) → draft.words_line servers d n words ≡ Err causes.Place → IsMisplaced d words
-unfolding draft.words_line
-words_place servers d n [] is = absurd (let none = is in cc)
-words_place servers d n (word ∷ words) is = of (keyword_of word) refl
+words_place : (servers : List Server) (r : Resolved) (n : ℕ) (words : List (List ℕ)) → line_by servers r n words ≡ Err causes.Place → IsMisplaced r.draft words
+words_place servers r n [] is = absurd (let none = is in cc)
+words_place servers r n (word ∷ words) is = of (keyword_of word) refl
   where
-    of : (o : Option Keyword) → keyword_of word ≡ o → (keyword : Keyword) × (keyword_of word ≡ Some keyword) × (takes d.section keyword ≡ false)
-    of None known = absurd (let fault : (let one : Result Draft Cause = Err causes.Keyword in one ≡ Err causes.Place) = (rw known at is) in let none = fault in
+    of : (o : Option Keyword) → keyword_of word ≡ o → (keyword : Keyword) × (keyword_of word ≡ Some keyword) × (takes r.draft.section keyword ≡ false)
+    of None known = absurd (let fault : (let one : Result Resolved FaultCause = Err causes.Keyword in one ≡ Err causes.Place) = (rw known at is) in
+        let none = fault in
         cc)
-    of (Some keyword) known = (keyword, known, place_only servers d n keyword words (begins keyword) (takes d.section keyword) refl refl (rw known at is))
+    of (Some keyword) known = (keyword, known, place_only servers r n keyword words (begins keyword) (takes r.draft.section keyword) refl refl (rw known at is))
 
-words_misplaced : (servers : List Server) (d : Draft) (n : ℕ) (words : List (List ℕ)) → IsMisplaced d words
-    → draft.words_line servers d n words ≡ Err causes.Place
-unfolding draft.words_line
-words_misplaced servers d n [] is = absurd is
-words_misplaced servers d n (word ∷ words) is = rw is.1 (line_out servers d n is.0 words is.2)
+words_misplaced : (servers : List Server) (r : Resolved) (n : ℕ) (words : List (List ℕ)) → IsMisplaced r.draft words
+    → line_by servers r n words ≡ Err causes.Place
+words_misplaced servers r n [] is = absurd is
+words_misplaced servers r n (word ∷ words) is = rw is.1 (line_out servers r n is.0 words is.2)
 
-words_section : (servers : List Server) (d : Draft) (n : ℕ) (words : List (List ℕ)) → draft.words_line servers d n words ≡ Err causes.Section
-    → BeginsRefused d words
-unfolding draft.words_line
-words_section servers d n [] is = absurd (let none = is in cc)
-words_section servers d n (word ∷ words) is = of (keyword_of word) refl
+words_section : (servers : List Server) (r : Resolved) (n : ℕ) (words : List (List ℕ)) → line_by servers r n words ≡ Err causes.Section
+    → BeginsRefused r.draft words
+words_section servers r n [] is = absurd (let none = is in cc)
+words_section servers r n (word ∷ words) is = of (keyword_of word) refl
   where
     of : (o : Option Keyword) → keyword_of word ≡ o
-        → (keyword_of word ≡ Some keywords.Refused) ⊎ ((keyword_of word ≡ Some keywords.Listen) × (is_some d.listen ≡ true))
-    of None known = absurd (let fault : (let one : Result Draft Cause = Err causes.Keyword in one ≡ Err causes.Section) = (rw known at is) in
+        → (keyword_of word ≡ Some keywords.Refused) ⊎ ((keyword_of word ≡ Some keywords.Listen) × (is_some r.draft.listen ≡ true))
+    of None known = absurd (let fault : (let one : Result Resolved FaultCause = Err causes.Keyword in one ≡ Err causes.Section) = (rw known at is) in
         let none = fault in cc)
-    of (Some keyword) known = elim (section_only servers d n keyword words (rw known at is)) [
+    of (Some keyword) known = elim (section_only servers r n keyword words (rw known at is)) [
       | inl refused ↦ inl (known ∙ ap Some refused)
       | inr again ↦ inr (known ∙ ap Some again.0, again.1)
     ]
 
-words_refused : (servers : List Server) (d : Draft) (n : ℕ) (words : List (List ℕ)) → BeginsRefused d words
-    → draft.words_line servers d n words ≡ Err causes.Section
-unfolding draft.words_line
-words_refused servers d n [] is = absurd is
-words_refused servers d n (word ∷ words) (inl refused) = rw refused refl
-words_refused servers d n (word ∷ words) (inr again) = rw again.0 (second_listen d n words again.1)
+words_refused : (servers : List Server) (r : Resolved) (n : ℕ) (words : List (List ℕ)) → BeginsRefused r.draft words
+    → line_by servers r n words ≡ Err causes.Section
+words_refused servers r n [] is = absurd is
+words_refused servers r n (word ∷ words) (inl refused) = rw refused refl
+words_refused servers r n (word ∷ words) (inr again) = rw again.0 (out_placed r _ (second_listen r.draft n words again.1))
 
--- what a line makes of the draft, by three tests and its words
-abbrev stepped : Bool → Bool → Bool → Draft → Result Draft Cause → Result Draft Cause
-stepped ignored quoted too_long d read = cond ignored (unless too_long causes.Limit >>= λ short. Ok d)
-    (unless quoted causes.Quoting >>= λ plain. unless too_long causes.Limit >>= λ short. read)
-
-step_is : (servers : List Server) (too_long : Bool) (d : Draft) (n : ℕ) (line : List ℕ) → draft.step servers too_long d n line
-    ≡ stepped (draft.is_ignored d.section (words_of line)) (list_any draft.is_quoting (uncommented line)) too_long d
-    (draft.words_line servers d n (words_of line))
-unfolding draft.step
-step_is servers too_long d n line = refl
-
-abbrev is_of_step : Cause → Bool
+abbrev is_of_step : FaultCause → Bool
 is_of_step causes.Quoting = true
 is_of_step causes.Limit = true
 is_of_step other = false
 
-no_other : (one cause : Cause) → is_of_step one ≡ true → (let fault : Result Draft Cause = Err one in fault ≡ Err cause) → is_of_step cause ≡ false → ⊥
+no_other : (one cause : FaultCause) → is_of_step one ≡ true → (let fault : Result Resolved FaultCause = Err one in fault ≡ Err cause) → is_of_step cause ≡ false
+    → ⊥
 no_other one cause holds is fails = let same : one ≡ cause = same_cause is in
     let both : true ≡ false = sym holds ∙ ap is_of_step same ∙ fails in absurd (let none = both in cc)
   where
-    same_cause : {a b : Cause} → (let fault : Result Draft Cause = Err a in fault ≡ Err b) → a ≡ b
+    same_cause : {a b : FaultCause} → (let fault : Result Resolved FaultCause = Err a in fault ≡ Err b) → a ≡ b
     same_cause is = cc
 
 -- where a cause that words alone can give is given, they were read
-read_only : (ignored quoted too_long : Bool) (d : Draft) (read : Result Draft Cause) (cause : Cause) → stepped ignored quoted too_long d read ≡ Err cause
+read_only : (ignored quoted too_long : Bool) (r : Resolved) (read : Result Resolved FaultCause) (cause : FaultCause)
+    → stepped ignored quoted too_long r read ≡ Err cause
     → is_of_step cause ≡ false → (ignored ≡ false) × (quoted ≡ false) × (too_long ≡ false) × (read ≡ Err cause)
-read_only true quoted true d read cause is other = absurd (no_other causes.Limit cause refl is other)
-read_only true quoted false d read cause is other = absurd (let none = is in cc)
-read_only false true too_long d read cause is other = absurd (no_other causes.Quoting cause refl is other)
-read_only false false true d read cause is other = absurd (no_other causes.Limit cause refl is other)
-read_only false false false d read cause is other = (refl, refl, refl, is)
+read_only true quoted true r read cause is other = absurd (no_other causes.Limit cause refl is other)
+read_only true quoted false r read cause is other = absurd (let none = is in cc)
+read_only false true too_long r read cause is other = absurd (no_other causes.Quoting cause refl is other)
+read_only false false true r read cause is other = absurd (no_other causes.Limit cause refl is other)
+read_only false false false r read cause is other = (refl, refl, refl, is)
 
-quoting_only : (ignored quoted too_long : Bool) (d : Draft) (read : Result Draft Cause) → Within is_of_lines read
-    → stepped ignored quoted too_long d read ≡ Err causes.Quoting
+quoting_only : (ignored quoted too_long : Bool) (r : Resolved) (read : Result Resolved FaultCause) → Within is_of_lines read
+    → stepped ignored quoted too_long r read ≡ Err causes.Quoting
     → (ignored ≡ false) × (quoted ≡ true)
-quoting_only true quoted true d read within is = absurd (let none = is in cc)
-quoting_only true quoted false d read within is = absurd (let none = is in cc)
-quoting_only false true too_long d read within is = (refl, refl)
-quoting_only false false true d read within is = absurd (let none = is in cc)
-quoting_only false false false d read within is = absurd (never causes.Quoting within refl is)
+quoting_only true quoted true r read within is = absurd (let none = is in cc)
+quoting_only true quoted false r read within is = absurd (let none = is in cc)
+quoting_only false true too_long r read within is = (refl, refl)
+quoting_only false false true r read within is = absurd (let none = is in cc)
+quoting_only false false false r read within is = absurd (never causes.Quoting within refl is)
 
 -- each of these causes stands in its row, and nowhere else
-pub each_in_its_row : (servers : List Server) (too_long : Bool) (d : Draft) (n : ℕ) (line : List ℕ) → EachInItsRow servers too_long d n line
-each_in_its_row servers too_long d n line =
-    let ignored = draft.is_ignored d.section (words_of line) in
+pub each_in_its_row : (servers : List Server) (too_long : Bool) (r : Resolved) (n : ℕ) (line : List ℕ) → EachInItsRow servers too_long r n line
+each_in_its_row servers too_long r n line =
+    let ignored = draft.is_ignored r.draft.section (words_of line) in
     let quoted = list_any draft.is_quoting (uncommented line) in
-    let read = draft.words_line servers d n (words_of line) in
-    let causes_of = words_causes servers d n (words_of line) in
-    let step : draft.step servers too_long d n line ≡ stepped ignored quoted too_long d read = step_is servers too_long d n line in
-    let to_read : (r : IsRead d too_long line) → draft.step servers too_long d n line ≡ read = λ r. step ∙ rw (r.heeded, r.unquoted, r.short) refl in
+    let read = line_by servers r n (words_of line) in
+    let causes_of = words_causes servers r n (words_of line) in
+    let step : resolved_line servers too_long r n line ≡ stepped ignored quoted too_long r read = line_stepped servers too_long r n line in
+    let to_read : (read_is : IsRead r.draft too_long line) → resolved_line servers too_long r n line ≡ read = λ it. step ∙ rw (it.heeded, it.unquoted, it.short) refl in
     record {
-      quoting = (λ is. quoting_only ignored quoted too_long d read causes_of (sym step ∙ is), λ is. step ∙ rw (is.0, is.1) refl);
+      quoting = (λ is. quoting_only ignored quoted too_long r read causes_of (sym step ∙ is), λ is. step ∙ rw (is.0, is.1) refl);
       place = (
-        λ is. let parts = read_only ignored quoted too_long d read causes.Place (sym step ∙ is) refl in
-            (record { heeded = parts.0; unquoted = parts.1; short = parts.2 }, words_place servers d n (words_of line) parts.3),
-        λ is. to_read is.0 ∙ words_misplaced servers d n (words_of line) is.1,
+        λ is. let parts = read_only ignored quoted too_long r read causes.Place (sym step ∙ is) refl in
+            (record { heeded = parts.0; unquoted = parts.1; short = parts.2 }, words_place servers r n (words_of line) parts.3),
+        λ is. to_read is.0 ∙ words_misplaced servers r n (words_of line) is.1,
       );
       section = (
-        λ is. let parts = read_only ignored quoted too_long d read causes.Section (sym step ∙ is) refl in
-            (record { heeded = parts.0; unquoted = parts.1; short = parts.2 }, words_section servers d n (words_of line) parts.3),
-        λ is. to_read is.0 ∙ words_refused servers d n (words_of line) is.1,
+        λ is. let parts = read_only ignored quoted too_long r read causes.Section (sym step ∙ is) refl in
+            (record { heeded = parts.0; unquoted = parts.1; short = parts.2 }, words_section servers r n (words_of line) parts.3),
+        λ is. to_read is.0 ∙ words_refused servers r n (words_of line) is.1,
       );
-      missing = λ is. never causes.Missing causes_of refl (read_only ignored quoted too_long d read causes.Missing (sym step ∙ is) refl).3;
+      missing = λ is. never causes.Missing causes_of refl (read_only ignored quoted too_long r read causes.Missing (sym step ∙ is) refl).3;
     }

@@ -2,8 +2,8 @@
 use Rattle.std.proofs.Common.{◌≡◌, ℕ, zero, suc, Bool, true, false, cond, not, List, [], ◌∷◌, length, Option, Some, None, Result, Ok, Err, refl, subst, codes}
 use Rattle.std.specs.Option.{ok_or}
 use Rattle.std.specs.Str.{bytes_eq}
-use Rattle.proxy_config.specs.declared.faults.Cause.{Cause}
-use Rattle.proxy_config.specs.declared.faults.Cause.TheVariants as causes
+use Rattle.proxy_config.specs.declared.faults.FaultCause.{FaultCause}
+use Rattle.proxy_config.specs.declared.faults.FaultCause.TheVariants as causes
 use Rattle.proxy_config.specs.declared.parts.Acl.{Acl}
 use Rattle.proxy_config.specs.declared.parts.Server.{Server}
 use Rattle.proxy_config.specs.declared.settings.Settings.{Settings}
@@ -19,11 +19,12 @@ use Rattle.proxy_config.specs.Names.{is_acl_name}
 use Rattle.proxy_config.specs.Samples as tests
 use Rattle.proxy_config.specs.Conditions as conditions
 use Rattle.proxy_config.specs.Rules as rules
+use Rattle.proxy_config.proofs.Resolving.{pin_line}
 use Rattle.proxy_config.specs.Settings as settings
 use Rattle.proxy_config.specs.Values as values
 
 -- a cause that the words of a line can have, whatever the lines before it say
-abbrev pub is_of_words : Cause → Bool
+abbrev pub is_of_words : FaultCause → Bool
 is_of_words causes.Keyword = true
 is_of_words causes.Words = true
 is_of_words causes.Number = true
@@ -34,32 +35,35 @@ is_of_words causes.Condition = true
 is_of_words other = false
 
 -- a fault is one of the causes that pass
-pub record Within {A : Type 0} (may : Cause → Bool) (r : Result A Cause) : Type 0 where
-  pub fault : (cause : Cause) → r ≡ Err cause → may cause ≡ true
+pub record Within {A : Type 0} (may : FaultCause → Bool) (r : Result A FaultCause) : Type 0 where
+  pub fault : (cause : FaultCause) → r ≡ Err cause → may cause ≡ true
 
-pub within_ok : {A : Type 0} {may : Cause → Bool} (x : A) → Within may (Ok x)
+pub within_ok : {A : Type 0} {may : FaultCause → Bool} (x : A) → Within may (Ok x)
 within_ok x = record { fault = λ cause is. absurd (let none = is in cc) }
 
-pub within_err : {A : Type 0} {may : Cause → Bool} (cause : Cause) → may cause ≡ true → Within {A = A} may (Err cause)
-within_err {A} {may} cause holds = record { fault = λ other is. let same : cause ≡ other = same_cause is in subst (λ (c : Cause). may c ≡ true) same holds }
+pub within_err : {A : Type 0} {may : FaultCause → Bool} (cause : FaultCause) → may cause ≡ true → Within {A = A} may (Err cause)
+within_err {A} {may} cause holds = record {
+  fault = λ other is. let same : cause ≡ other = same_cause is in
+      subst (λ (c : FaultCause). may c ≡ true) same holds;
+}
   where
-    same_cause : {a b : Cause} → (let one : Result A Cause = Err a in one ≡ Err b) → a ≡ b
+    same_cause : {a b : FaultCause} → (let one : Result A FaultCause = Err a in one ≡ Err b) → a ≡ b
     same_cause is = cc
 
-pub within_bind : {A B : Type 0} {may : Cause → Bool} (r : Result A Cause) (f : A → Result B Cause) → Within may r → ((x : A) → Within may (f x))
+pub within_bind : {A B : Type 0} {may : FaultCause → Bool} (r : Result A FaultCause) (f : A → Result B FaultCause) → Within may r → ((x : A) → Within may (f x))
     → Within may (r >>= f)
 within_bind (Ok x) f first next = next x
 within_bind (Err cause) f first next = within_err cause (first.fault cause refl)
 
-pub within_or : {A : Type 0} {may : Cause → Bool} (o : Option A) (cause : Cause) → may cause ≡ true → Within may (ok_or o cause)
+pub within_or : {A : Type 0} {may : FaultCause → Bool} (o : Option A) (cause : FaultCause) → may cause ≡ true → Within may (ok_or o cause)
 within_or (Some x) cause holds = within_ok x
 within_or None cause holds = within_err cause holds
 
-pub within_unless : {may : Cause → Bool} (fault : Bool) (cause : Cause) → may cause ≡ true → Within may (unless fault cause)
+pub within_unless : {may : FaultCause → Bool} (fault : Bool) (cause : FaultCause) → may cause ≡ true → Within may (unless fault cause)
 within_unless true cause holds = within_err cause holds
 within_unless false cause holds = within_ok tt
 
-pub within_if : {A : Type 0} {may : Cause → Bool} (b : Bool) (r s : Result A Cause) → Within may r → Within may s → Within may (cond b r s)
+pub within_if : {A : Type 0} {may : FaultCause → Bool} (b : Bool) (r s : Result A FaultCause) → Within may r → Within may s → Within may (cond b r s)
 within_if true r s one other = one
 within_if false r s one other = other
 
@@ -189,8 +193,8 @@ within_rule acls words = within_bind _ _ (within_word words) (λ first. within_b
     within_bind _ _ (within_word first.1) (λ second.
     within_bind _ _ (within_or _ causes.Condition refl) (λ value. within_bind _ _ (optional_guard acls second.1) (λ guard. within_ok _)))))
 
-pub within_pin : (servers : List Server) (acls : List Acl) (words : List (List ℕ)) → Within is_of_words (rules.pin_line servers acls words)
-unfolding rules.pin_line
+pub within_pin : (servers : List Server) (acls : List Acl) (words : List (List ℕ)) → Within is_of_words (pin_line servers acls words)
+unfolding pin_line
 within_pin servers acls words = within_bind _ _ (within_word words) (λ name. within_bind _ _ (within_unless (not (is_name name.0)) causes.Name refl) (λ named.
     within_bind _ _ (within_or (rules.server_index name.0 servers) causes.Unknown refl)
     (λ server. within_bind _ _ (within_word name.1) (λ first. within_bind _ _ (guard_at acls first.0 first.1) (λ guard. within_ok _)))))

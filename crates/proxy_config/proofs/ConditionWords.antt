@@ -5,8 +5,8 @@ use Rattle.std.specs.List.{list_all, onto_first}
 use Rattle.std.specs.Option.{ok_or}
 use Rattle.std.specs.Str.{bytes_eq}
 use Rattle.std.proofs.lemmas.Bool.{eqb-true, and_parts}
-use Rattle.proxy_config.specs.declared.faults.Cause.{Cause}
-use Rattle.proxy_config.specs.declared.faults.Cause.TheVariants as causes
+use Rattle.proxy_config.specs.declared.faults.FaultCause.{FaultCause}
+use Rattle.proxy_config.specs.declared.faults.FaultCause.TheVariants as causes
 use Rattle.proxy_config.specs.declared.parts.Acl.{Acl}
 use Rattle.proxy_config.specs.declared.parts.Condition.{Condition}
 use Rattle.proxy_config.specs.declared.parts.Operand.{Operand}
@@ -149,7 +149,7 @@ none_empty-first true term (row ∷ rows) some = (omega arith, some)
 none_empty-first false term [] some = tt
 none_empty-first false term (row ∷ rows) some = some
 
-no_words : (acls : List Acl) (rows : List (List Term)) → (let one : Result (List (List Term)) Cause = Ok ([] ∷ []) in one ≡ Ok rows)
+no_words : (acls : List Acl) (rows : List (List Term)) → (let one : Result (List (List Term)) FaultCause = Ok ([] ∷ []) in one ≡ Ok rows)
     → AreSeparated acls [] rows × NoneEmpty (rows_after false rows)
 no_words acls rows is = subst (λ (all : List (List Term)). AreSeparated acls [] all × NoneEmpty (rows_after false all)) (from_ok _ rows is) (refl, tt)
 

@@ -6,7 +6,7 @@ use Rattle.std.specs.List.{All, AllByRecursion, position}
 use Rattle.std.specs.Str.{bytes_eq}
 use Rattle.std.proofs.lemmas.List.Elements.{All-from_recursion, All-weaker}
 use Rattle.std.proofs.lemmas.List.Quantifiers.{position-Some}
-use Rattle.proxy_config.specs.declared.faults.Cause.TheVariants as causes
+use Rattle.proxy_config.specs.declared.faults.FaultCause.TheVariants as causes
 use Rattle.proxy_config.specs.declared.parts.Acl.{Acl}
 use Rattle.proxy_config.specs.declared.parts.Condition.{Condition}
 use Rattle.proxy_config.specs.declared.parts.Guard.{Guard}
@@ -25,7 +25,8 @@ use Rattle.proxy_config.specs.Names.{is_acl_name}
 use Rattle.proxy_config.specs.Samples.{test_to_end, expression_of}
 use Rattle.proxy_config.specs.Conditions.{condition, guard_at, optional_guard}
 use Rattle.proxy_config.specs.ConditionGrammar.{IsOperand, IsSigned, AreTerms, AreSeparated}
-use Rattle.proxy_config.specs.Rules.{acl_line, action_of, pin_line, rule_line, server_index, with_test}
+use Rattle.proxy_config.specs.Rules.{acl_line, action_of, rule_line, server_index, with_test}
+use Rattle.proxy_config.proofs.Resolving.{pin_line}
 use Rattle.proxy_config.specs.Sound.{IsSoundOperand, IsSoundCondition, IsSoundGuard}
 use Rattle.proxy_config.proofs.Outcomes.{bind_ok, chosen, from_ok, ok_or_ok}
 use Rattle.proxy_config.proofs.ConditionWords.{condition-found}

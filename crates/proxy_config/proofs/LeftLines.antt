@@ -1,12 +1,12 @@
 -- Each line is read from the left.
-use Rattle.std.proofs.Common.{◌≡◌, ◌⊎◌, inl, inr, ◌+◌, ℕ, zero, suc, true, cond, not, List, [], ◌∷◌, length, Some, Result, Ok, Err, refl, arith, codes}
+use Rattle.std.proofs.Common.{◌≡◌, ◌⊎◌, inl, inr, ◌+◌, ℕ, zero, suc, true, cond, not, List, [], ◌∷◌, length, Some, Result, Ok, Err, refl, sym, ◌∙◌, arith, codes}
 use Rattle.std.specs.Option.{ok_or, is_some}
 use Rattle.std.specs.Prelude.{nat_le}
 use Rattle.std.specs.Str.{bytes_eq}
 use Rattle.proxy_words.specs.Numerals.{numeral}
 use Rattle.proxy_words.specs.Times.{time}
-use Rattle.proxy_config.specs.declared.faults.Cause.{Cause}
-use Rattle.proxy_config.specs.declared.faults.Cause.TheVariants as causes
+use Rattle.proxy_config.specs.declared.faults.FaultCause.{FaultCause}
+use Rattle.proxy_config.specs.declared.faults.FaultCause.TheVariants as causes
 use Rattle.proxy_config.specs.declared.draft.Draft.{Draft}
 use Rattle.proxy_config.specs.declared.draft.Section.{Section}
 use Rattle.proxy_config.specs.declared.draft.Section.TheVariants as sections
@@ -27,7 +27,9 @@ use Rattle.proxy_config.specs.Addresses.{bind_of, address_of}
 use Rattle.proxy_config.specs.Keywords.{keyword_of}
 use Rattle.proxy_config.specs.Samples.{test_to_end, expression_of}
 use Rattle.proxy_config.specs.Conditions.{guard_at, optional_guard}
-use Rattle.proxy_config.specs.Rules.{acl_line, action_of, pin_line, rule_line, server_index, with_test}
+use Rattle.proxy_config.specs.Rules.{acl_line, action_of, rule_line, server_index, with_test}
+use Rattle.proxy_config.specs.Resolved.{Resolved, resolved_words}
+use Rattle.proxy_config.proofs.Resolving.{pin_line, pinned_line, placed, line_of, line_by, words_resolved}
 use Rattle.proxy_config.specs.Settings as server
 use Rattle.proxy_config.specs.Values as values
 use Rattle.proxy_config.specs.Draft as draft
@@ -62,16 +64,16 @@ left_shared n shared.Timeout v = left_timeout n v
 left_shared n shared.Note v = left_ok (λ words. v)
 
 -- a setting's value, and then what reads on
-left_set : {n : ℕ} (setting : Setting) (word : List ℕ) (s : Settings) (next : List (List ℕ) → Settings → Result Settings Cause)
+left_set : {n : ℕ} (setting : Setting) (word : List ℕ) (s : Settings) (next : List (List ℕ) → Settings → Result Settings FaultCause)
     → ((t : Settings) → LeftReader n (λ words. next words t)) → LeftReader n (λ words. server.set setting word s >>= next words)
 left_set {n} setting word s next left = by_value (server.set setting word s) refl
   where
-    by_value : (r : Result Settings Cause) → server.set setting word s ≡ r → LeftReader n (λ words. server.set setting word s >>= next words)
+    by_value : (r : Result Settings FaultCause) → server.set setting word s ≡ r → LeftReader n (λ words. server.set setting word s >>= next words)
     by_value (Ok t) is = same _ (λ words. next words t) (λ words. rw is refl) (left t)
     by_value (Err cause) is = same _ (λ words. Err cause) (λ words. rw is refl) (left_err cause)
 
 -- what reads on behind a word of the settings
-setting_behind : Settings → List ℕ → List (List ℕ) → Result Settings Cause
+setting_behind : Settings → List ℕ → List (List ℕ) → Result Settings FaultCause
 setting_behind s word words = cond (server.is_check word) (server.settings (record s { check = true }) words)
     (ok_or (server.setting_of word) causes.Keyword >>= λ setting. word_at words >>= λ value. server.set setting value.0 s >>= λ next.
     server.settings next value.1)
@@ -146,15 +148,16 @@ unfolding draft.test_line
 left_test_line n d = left_unless (not (draft.in_listen d.section)) causes.Place _
     (left_unless (nat_le draft.most_acl_lines d.acl_lines) causes.Limit _ (left_made (acl_line d.acls) _ (left_acl n d.acls)))
 
-left_request : (n : ℕ) (d : Draft) → LeftReader n (draft.request_line d)
+left_request : (n : ℕ) (pins : ℕ) (d : Draft) → LeftReader n (draft.request_line pins d)
 unfolding draft.request_line
-left_request n d = left_unless (not (draft.in_listen d.section)) causes.Place _
-    (left_unless (nat_le draft.most_rules (length d.rules + length d.pins)) causes.Limit _ (left_made (rule_line d.acls) _ (left_rule n d.acls)))
+left_request n pins d = left_unless (not (draft.in_listen d.section)) causes.Place _
+    (left_unless (nat_le draft.most_rules (length d.rules + pins)) causes.Limit _ (left_made (rule_line d.acls) _ (left_rule n d.acls)))
 
-left_use : (n : ℕ) (servers : List Server) (d : Draft) → LeftReader n (draft.use_line servers d)
-unfolding draft.use_line
-left_use n servers d = left_unless (not (draft.in_listen d.section)) causes.Place _
-    (left_unless (nat_le draft.most_rules (length d.rules + length d.pins)) causes.Limit _ (left_made (pin_line servers d.acls) _ (left_pin n servers d.acls)))
+left_use : (n : ℕ) (servers : List Server) (r : Resolved) → LeftReader n (pinned_line servers r)
+unfolding pinned_line
+left_use n servers r = left_unless (not (draft.in_listen r.draft.section)) causes.Place _
+    (left_unless (nat_le draft.most_rules (length r.draft.rules + length r.pins)) causes.Limit _
+    (left_made (pin_line servers r.draft.acls) _ (left_pin n servers r.draft.acls)))
 
 left_value_line : (n : ℕ) (d : Draft) (kind : Shared) (section : Section) → d.section ≡ section → LeftReader n (draft.value_line d kind)
 unfolding draft.value_line
@@ -167,32 +170,37 @@ left_value_line n d kind sections.Listen is =
     same (draft.value_line d kind) (λ words. values.shared_line kind d.values words >>= λ v. Ok (record d { values = v })) (λ words. rw is refl)
     (left_made (values.shared_line kind d.values) _ (left_shared n kind d.values))
 
-left_keyword : (n : ℕ) (servers : List Server) (d : Draft) (line : ℕ) (keyword : Keyword) → LeftReader n (draft.keyword_line servers d line keyword)
-left_keyword n servers d line keywords.Global = left_global n d
-left_keyword n servers d line keywords.Defaults = left_defaults n d
-left_keyword n servers d line keywords.Listen = left_listen n d line
-left_keyword n servers d line keywords.Refused = left_err causes.Section
-left_keyword n servers d line (keywords.Shared kind) = left_value_line n d kind d.section refl
-left_keyword n servers d line keywords.Bind = left_bind n d
-left_keyword n servers d line keywords.Server = left_server n d
-left_keyword n servers d line keywords.Acl = left_test_line n d
-left_keyword n servers d line keywords.HttpRequest = left_request n d
-left_keyword n servers d line keywords.UseServer = left_use n servers d
+left_placed : (n : ℕ) (r : Resolved) (read : List (List ℕ) → Result Draft FaultCause) → LeftReader n read → LeftReader n (λ words. placed r.pins (read words))
+left_placed n r read left = left_made read (λ d. record { draft = d; pins = r.pins }) left
 
-left_line : (n : ℕ) (servers : List Server) (d : Draft) (line : ℕ) → LeftReader n (draft.words_line servers d line)
-unfolding draft.words_line
-left_line zero servers d line = left_none (draft.words_line servers d line) (λ other is. absurd (let none = is in cc))
-left_line (suc n) servers d line = left_cons (draft.words_line servers d line)
-    (λ word others. ok_or (keyword_of word) causes.Keyword >>= λ keyword. draft.keyword_line servers d line keyword others)
+left_keyword : (n : ℕ) (servers : List Server) (r : Resolved) (line : ℕ) (keyword : Keyword) → LeftReader n (line_of servers r line keyword)
+left_keyword n servers r line keywords.Global = left_placed n r _ (left_global n r.draft)
+left_keyword n servers r line keywords.Defaults = left_placed n r _ (left_defaults n r.draft)
+left_keyword n servers r line keywords.Listen = left_placed n r _ (left_listen n r.draft line)
+left_keyword n servers r line keywords.Refused = left_err causes.Section
+left_keyword n servers r line (keywords.Shared kind) = left_placed n r _ (left_value_line n r.draft kind r.draft.section refl)
+left_keyword n servers r line keywords.Bind = left_placed n r _ (left_bind n r.draft)
+left_keyword n servers r line keywords.Server = left_placed n r _ (left_server n r.draft)
+left_keyword n servers r line keywords.Acl = left_placed n r _ (left_test_line n r.draft)
+left_keyword n servers r line keywords.HttpRequest = left_placed n r _ (left_request n (length r.pins) r.draft)
+left_keyword n servers r line keywords.UseServer = left_use n servers r
+
+left_by : (n : ℕ) (servers : List Server) (r : Resolved) (line : ℕ) → LeftReader n (line_by servers r line)
+left_by zero servers r line = left_none (line_by servers r line) (λ other is. absurd (let none = is in cc))
+left_by (suc n) servers r line = left_cons (line_by servers r line)
+    (λ word others. ok_or (keyword_of word) causes.Keyword >>= λ keyword. line_of servers r line keyword others)
     (λ word others. refl) (λ other is. absurd (let none = is in cc))
-    (λ word. left_or (keyword_of word) causes.Keyword _ (λ keyword. left_keyword n servers d line keyword))
+    (λ word. left_or (keyword_of word) causes.Keyword _ (λ keyword. left_keyword n servers r line keyword))
+
+left_line : (n : ℕ) (servers : List Server) (r : Resolved) (line : ℕ) → LeftReader n (resolved_words servers r line)
+left_line n servers r line = same (resolved_words servers r line) (line_by servers r line) (words_resolved servers r line) (left_by n servers r line)
 
 -- each line is read from the left
-pub words_line-left : (servers : List Server) (d : Draft) (line : ℕ) → IsLeftToRight (draft.words_line servers d line)
-unfolding draft.words_line
-words_line-left servers d line words cause fault = of ((left_line (length words) servers d line).blame words cause (omega arith) fault)
+pub words-left : (servers : List Server) (r : Resolved) (line : ℕ) → IsLeftToRight (resolved_words servers r line)
+words-left servers r line words cause fault = of ((left_line (length words) servers r line).blame words cause (omega arith) fault)
   where
-    of : Blame (draft.words_line servers d line) words cause → (cause ≡ causes.Words) ⊎ CannotStand (draft.words_line servers d line) words cause
+    of : Blame (resolved_words servers r line) words cause → (cause ≡ causes.Words) ⊎ CannotStand (resolved_words servers r line) words cause
     of (count few) = inl few
     of (stands s) = inr s
-    of (always whatever) = absurd (let none = whatever [] in cc)
+    of (always whatever) = absurd
+        (let none : (let one : Result Resolved FaultCause = Ok r in one ≡ Err cause) = sym (words_resolved servers r line []) ∙ whatever [] in cc)

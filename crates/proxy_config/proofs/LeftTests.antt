@@ -4,8 +4,8 @@ use Rattle.std.proofs.Common.{◌∷◌, length, Some, None, Result, Ok, Err, re
 use Rattle.std.specs.Option.{ok_or}
 use Rattle.std.specs.List.{onto_first}
 use Rattle.std.specs.Str.{bytes_eq}
-use Rattle.proxy_config.specs.declared.faults.Cause.{Cause}
-use Rattle.proxy_config.specs.declared.faults.Cause.TheVariants as causes
+use Rattle.proxy_config.specs.declared.faults.FaultCause.{FaultCause}
+use Rattle.proxy_config.specs.declared.faults.FaultCause.TheVariants as causes
 use Rattle.proxy_config.specs.declared.parts.Acl.{Acl}
 use Rattle.proxy_config.specs.declared.parts.Subject.{Subject}
 use Rattle.proxy_config.specs.declared.parts.Test.{Test}
@@ -23,10 +23,10 @@ use Rattle.proxy_config.proofs.LeftReaders.{LeftReader, same, left_err, left_unl
 use Rattle.proxy_config.proofs.LeftReaders.{left_made, left_cons, left_none, fewer, assoc, cond_bind, from_err}
 
 -- the values to the end of the line
-no_fault : {A : Type 0} (x : A) (other : Cause) → (let read : Result A Cause = Ok x in read ≡ Err other) → other ≡ causes.Words
+no_fault : {A : Type 0} (x : A) (other : FaultCause) → (let read : Result A FaultCause = Ok x in read ≡ Err other) → other ≡ causes.Words
 no_fault x other is = absurd (let none = is in cc)
 
-words_fault : {A : Type 0} (other : Cause) → (let read : Result A Cause = Err causes.Words in read ≡ Err other) → other ≡ causes.Words
+words_fault : {A : Type 0} (other : FaultCause) → (let read : Result A FaultCause = Err causes.Words in read ≡ Err other) → other ≡ causes.Words
 words_fault other is = sym (from_err causes.Words other is)
 
 left_values : (n : ℕ) → LeftReader n values_to_end
@@ -36,7 +36,7 @@ left_values (suc n) = left_cons values_to_end (λ word others. value_of word >>=
     (λ word. left_value word (λ words value. values_to_end words >>= λ more. Ok (value ∷ more)) (left_made values_to_end (λ more. word ∷ more) (left_values n)))
 
 -- the values up to the brace, and then what reads on
-left_brace : {B : Type 0} (n : ℕ) (next : List (List ℕ) × List (List ℕ) → Result B Cause)
+left_brace : {B : Type 0} (n : ℕ) (next : List (List ℕ) × List (List ℕ) → Result B FaultCause)
     → ((values : List (List ℕ)) → LeftReader n (λ words. next (values, words)))
     → LeftReader n (λ words. values_to_brace words >>= next)
 left_brace zero next left = left_none (λ words. values_to_brace words >>= next) words_fault
@@ -50,7 +50,7 @@ left_brace (suc n) next left = left_cons (λ words. values_to_brace words >>= ne
     (left_brace n (λ more. next (word ∷ more.0, more.1)) (λ values. fewer (left (word ∷ values))))))
 
 -- a test's beginning, and then what reads on
-left_head : {B : Type 0} {n : ℕ} (next : Subject × Bool × List ℕ × List (List ℕ) → Result B Cause)
+left_head : {B : Type 0} {n : ℕ} (next : Subject × Bool × List ℕ × List (List ℕ) → Result B FaultCause)
     → ((subject : Subject) (ignore_case : Bool) (value : List ℕ) → LeftReader n (λ words. next (subject, ignore_case, value, words)))
     → LeftReader n (λ words. head_at words >>= next)
 unfolding head_at
@@ -71,7 +71,7 @@ left_test n = left_head _ (λ subject ignore_case value.
     left_value value _ (left_made values_to_end (λ more. record { subject = subject; ignore_case = ignore_case; values = value ∷ more }) (left_values n)))
 
 -- a test in braces, and then what reads on
-left_braces : {B : Type 0} {n : ℕ} (next : Test × List (List ℕ) → Result B Cause) → ((test : Test) → LeftReader n (λ words. next (test, words)))
+left_braces : {B : Type 0} {n : ℕ} (next : Test × List (List ℕ) → Result B FaultCause) → ((test : Test) → LeftReader n (λ words. next (test, words)))
     → LeftReader n (λ words. test_in_braces words >>= next)
 unfolding test_in_braces
 left_braces {B} {n} next left = same _
@@ -84,7 +84,7 @@ left_braces {B} {n} next left = same _
     (left_brace n _ (λ values. left (record { subject = subject; ignore_case = ignore_case; values = value ∷ values }))))))
 
 -- a term's operand, and then what reads on
-left_operand : {B : Type 0} {n : ℕ} (acls : List Acl) (negated : Bool) (word : List ℕ) (next : Term × List (List ℕ) → Result B Cause)
+left_operand : {B : Type 0} {n : ℕ} (acls : List Acl) (negated : Bool) (word : List ℕ) (next : Term × List (List ℕ) → Result B FaultCause)
     → ((term : Term) → LeftReader n (λ words. next (term, words)))
     → LeftReader n (λ words. operand_at acls negated word words >>= next)
 unfolding operand_at
@@ -104,7 +104,7 @@ left_operand acls negated word next left = same _
     (left_or (acl_index word acls) causes.Unknown _ (λ index. left (record { negated = negated; operand = operands.Acl index })))))
 
 -- a term, and then what reads on
-left_term : {B : Type 0} {n : ℕ} (acls : List Acl) (word : List ℕ) (next : Term × List (List ℕ) → Result B Cause)
+left_term : {B : Type 0} {n : ℕ} (acls : List Acl) (word : List ℕ) (next : Term × List (List ℕ) → Result B FaultCause)
     → ((term : Term) → LeftReader n (λ words. next (term, words)))
     → LeftReader n (λ words. term_at acls word words >>= next)
 unfolding term_at
@@ -120,10 +120,10 @@ left_term acls (byte ∷ second ∷ rest) next left = same _
     (left_if (byte == 33) _ _ (left_operand acls true (second ∷ rest) next left) (left_operand acls false (byte ∷ second ∷ rest) next left))
 
 -- the alternatives to the end of the line, without a count
-whole_rows : List Acl → Bool → List (List ℕ) → Result (List (List Term)) Cause
+whole_rows : List Acl → Bool → List (List ℕ) → Result (List (List Term)) FaultCause
 whole_rows acls begins words = alternatives (length words) acls begins words
 
-row_behind : List Acl → Bool → List ℕ → List (List ℕ) → Result (List (List Term)) Cause
+row_behind : List Acl → Bool → List ℕ → List (List ℕ) → Result (List (List Term)) FaultCause
 row_behind acls begins word words = cond (is_or word) (cond begins (Err causes.Condition) (whole_rows acls true words >>= λ more. Ok ([] ∷ more)))
     (term_at acls word words >>= λ term. whole_rows acls false term.1 >>= λ more. Ok (onto_first term.0 more))
 
@@ -132,10 +132,10 @@ unfolding whole_rows row_behind alternatives
 row_step acls begins word words = ap (cond (is_or word)
     (cond begins (Err causes.Condition) (alternatives (length words) acls true words >>= λ more. Ok ([] ∷ more))))
     (same_next (term_at acls word words) _ _ (λ term is. let shorter = term_at-shorter acls word words term is in
-    ap (λ (r : Result (List (List Term)) Cause). r >>= λ more. Ok (onto_first term.0 more))
+    ap (λ (r : Result (List (List Term)) FaultCause). r >>= λ more. Ok (onto_first term.0 more))
     (alternatives-enough (length words) (length term.1) acls false term.1 shorter (omega arith))))
 
-rows_none : (acls : List Acl) (begins : Bool) (other : Cause) → whole_rows acls begins [] ≡ Err other → other ≡ causes.Words
+rows_none : (acls : List Acl) (begins : Bool) (other : FaultCause) → whole_rows acls begins [] ≡ Err other → other ≡ causes.Words
 unfolding whole_rows alternatives
 rows_none acls true other is = words_fault other is
 rows_none acls false other is = no_fault ([] ∷ []) other is

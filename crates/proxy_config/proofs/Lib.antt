@@ -14,7 +14,8 @@ pub mod Soundness
 pub mod LeftReaders
 pub mod LeftTests
 pub mod LeftLines
-pub mod Granted
+pub mod Refits
+pub mod Resolving
 pub mod Wished
 pub mod OnePass
 pub mod Surveys

@@ -1,6 +1,6 @@
 -- What one pass has so far, and the lines that are left, come to what all lines come to.
 use Rattle.std.proofs.Common.{◌≡◌, ◌∙◌, ◌+◌, ◌++◌, ℕ, suc, List, [], ◌∷◌, length, Option, Some, None, Result, Ok, Err, refl, sym, ap}
-use Rattle.proxy_config.specs.declared.faults.Cause.{Cause}
+use Rattle.proxy_config.specs.declared.faults.FaultCause.{FaultCause}
 use Rattle.proxy_config.specs.declared.faults.ConfigFault.{ConfigFault}
 use Rattle.proxy_config.specs.declared.draft.Draft.{Draft}
 use Rattle.proxy_config.specs.declared.keywords.Keyword.{Keyword}
@@ -10,14 +10,18 @@ use Rattle.proxy_config.specs.declared.progress.Progress.{Progress}
 use Rattle.proxy_config.specs.declared.wishes.Wish.{Wish}
 use Rattle.proxy_config.specs.Outcomes.{◌>>=◌}
 use Rattle.proxy_config.specs.Wishes as wished
-use Rattle.proxy_config.specs.Wishes.{with_pins}
-use Rattle.proxy_config.specs.Progress.{settled, took, take_line, unless_known}
+use Rattle.proxy_config.specs.Draft as draft
+use Rattle.proxy_config.specs.Resolved.{Resolved, resolve}
+use Rattle.proxy_config.specs.Progress.{with_pins, settled, took, take_line, unless_known}
 use Rattle.proxy_config.specs.File.{is_line, keyword_in, run, then_lines}
-use Rattle.proxy_config.proofs.Granted.{fit, granted, step_granted}
 use Rattle.proxy_config.proofs.Wished.{of_line}
 
+-- a draft with these pins
+abbrev pub fit : List Pin → Draft → Resolved
+fit ps d = record { draft = d; pins = ps }
+
 -- what comes after a line may be another thing that is the same
-same_then : {A B : Type 0} (n : ℕ) (r : Result B Cause) (f g : B → Result A ConfigFault) → ((x : B) → f x ≡ g x) → then_lines n r f ≡ then_lines n r g
+same_then : {A B : Type 0} (n : ℕ) (r : Result B FaultCause) (f g : B → Result A ConfigFault) → ((x : B) → f x ≡ g x) → then_lines n r f ≡ then_lines n r g
 same_then n (Ok x) f g same = same x
 same_then n (Err cause) f g same = refl
 
@@ -38,7 +42,8 @@ chained : {A B : Type 0} → Result A ConfigFault → (A → Result B ConfigFaul
 chained (Ok x) f = f x
 chained (Err fault) f = Err fault
 
-first_pin : {A B : Type 0} (n : ℕ) (r : Result Pin Cause) (more : Pin → Result B ConfigFault) (f : Pin → Result A ConfigFault) (g : A → Result B ConfigFault)
+first_pin : {A B : Type 0} (n : ℕ) (r : Result Pin FaultCause) (more : Pin → Result B ConfigFault) (f : Pin → Result A ConfigFault) (g : A
+    → Result B ConfigFault)
     → ((pin : Pin) → more pin ≡ chained (f pin) g) → then_lines n r more ≡ chained (then_lines n r f) g
 unfolding chained
 first_pin n (Ok pin) more f g same = same pin
@@ -73,26 +78,27 @@ unfolding chained
 settled_whole servers p ps is known = settled_first servers p (Ok ps) is ∙ ap (λ (k : Option ConfigFault). unless_known k (Ok (fit ps p.draft))) known
 
 -- what is known and the lines from this number on come to this, by the servers of the whole file
-abbrev pub coming : List Server → Option ℕ → Progress → ℕ → List (List ℕ) → Result Draft ConfigFault
+abbrev pub coming : List Server → Option ℕ → Progress → ℕ → List (List ℕ) → Result Resolved ConfigFault
 coming servers long p n lines = with_pins servers p.wishes (λ ps. unless_known p.fault (run servers long (fit ps p.draft) n lines))
 
-then_granted : (servers : List Server) (ps : List Pin) (n : ℕ) (d : Draft) (wish : Wish) (k : Draft → Result Draft ConfigFault) → wish.line ≡ n
-    → then_lines n (granted servers ps (d, Some wish)) k ≡ then_lines wish.line (wished.pin_of servers wish) (λ pin. k (fit (ps ++ pin ∷ []) d))
-then_granted servers ps n d wish k line = by_pin (wished.pin_of servers wish)
+then_resolved : (servers : List Server) (ps : List Pin) (n : ℕ) (d : Draft) (wish : Wish) (k : Resolved → Result Resolved ConfigFault) → wish.line ≡ n
+    → then_lines n (resolve servers ps (d, Some wish)) k ≡ then_lines wish.line (wished.pin_of servers wish) (λ pin. k (fit (ps ++ pin ∷ []) d))
+then_resolved servers ps n d wish k line = by_pin (wished.pin_of servers wish)
   where
-    by_pin : (r : Result Pin Cause) → then_lines n (r >>= λ pin. Ok (fit (ps ++ pin ∷ []) d)) k ≡ then_lines wish.line r (λ pin. k (fit (ps ++ pin ∷ []) d))
+    by_pin : (r : Result Pin FaultCause) → then_lines n (r >>= λ pin. Ok (fit (ps ++ pin ∷ []) d)) k
+        ≡ then_lines wish.line r (λ pin. k (fit (ps ++ pin ∷ []) d))
     by_pin (Ok pin) = refl
     by_pin (Err cause) = ap (λ (m : ℕ). Err (record { line = m; cause = cause })) (sym line)
 
 -- a line that is read makes no difference
 after_line : (servers : List Server) (long : Option ℕ) (p : Progress) (n : ℕ) (lines : List (List ℕ)) (keyword : Option Keyword) (known : Option ConfigFault)
-    (r : Result (Draft × Option Wish) Cause)
+    (r : Result (Draft × Option Wish) FaultCause)
     → p.fault ≡ known → ((d : Draft) (wish : Wish) → r ≡ Ok (d, Some wish) → wish.line ≡ n)
-    → with_pins servers p.wishes (λ ps. unless_known known (then_lines n (r >>= granted servers ps) (λ next. run servers long next (n + 1) lines)))
+    → with_pins servers p.wishes (λ ps. unless_known known (then_lines n (r >>= resolve servers ps) (λ next. run servers long next (n + 1) lines)))
     ≡ coming servers long (took known p n keyword r) (n + 1) lines
 after_line servers long p n lines keyword None (Ok (d, None)) known line = rw known refl
 after_line servers long p n lines keyword None (Ok (d, Some wish)) known line =
-    rw known (same_pins servers p.wishes _ _ (λ ps count. then_granted servers ps n d wish (λ next. run servers long next (n + 1) lines) (line d wish refl))
+    rw known (same_pins servers p.wishes _ _ (λ ps count. then_resolved servers ps n d wish (λ next. run servers long next (n + 1) lines) (line d wish refl))
     ∙ sym (one_more servers p.wishes wish (λ ps. run servers long (fit ps d) (n + 1) lines)))
 after_line servers long p n lines keyword None (Err cause) known line = refl
 after_line servers long p n lines keyword (Some fault) (Ok (d, wish)) known line = rw known refl
@@ -102,7 +108,7 @@ pub coming-take : (servers : List Server) (long : Option ℕ) (p : Progress) (n 
     → coming servers long p n (line ∷ lines) ≡ coming servers long (take_line (is_line long n) p n line) (n + 1) lines
 coming-take servers long p n line lines =
     same_pins servers p.wishes _ _ (λ ps count.
-    ap (λ (r : Result Draft Cause). unless_known p.fault (then_lines n r (λ next. run servers long next (n + 1) lines)))
-    (step_granted servers ps (is_line long n) p.draft n line ∙ ap (λ (m : ℕ). wished.step m (is_line long n) p.draft n line >>= granted servers ps) count))
-    ∙ after_line servers long p n lines (keyword_in line) p.fault (wished.step (length p.wishes) (is_line long n) p.draft n line) refl
+    ap (λ (m : ℕ). unless_known p.fault (then_lines n (draft.step m (is_line long n) p.draft n line >>= resolve servers ps)
+    (λ next. run servers long next (n + 1) lines))) count)
+    ∙ after_line servers long p n lines (keyword_in line) p.fault (draft.step (length p.wishes) (is_line long n) p.draft n line) refl
     (λ d wish is. (of_line (length p.wishes) (is_line long n) p.draft d n line wish is).0)

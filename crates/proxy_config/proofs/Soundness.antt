@@ -1,6 +1,6 @@
 -- Each line that is taken in keeps what holds of accepted configurations.
 use Rattle.std.proofs.Common.{◌≡◌, inl, inr, ◌+◌, ◌<◌, ◌≤◌, ◌^◌, ◌==◌, ℕ, Bool, true, false, cond, not, List}
-use Rattle.std.proofs.Common.{[], ◌∷◌, length, Option, Some, None, Result, Ok, Err, refl, sym, subst, arith, length-append}
+use Rattle.std.proofs.Common.{[], ◌∷◌, length, Option, Some, None, Result, Ok, Err, refl, sym, ◌∙◌, subst, arith, length-append}
 use Rattle.std.specs.Option.{ok_or, is_some, option_and_then, IfSome}
 use Rattle.std.specs.List.{AllByRecursion, list_any}
 use Rattle.std.specs.Str.Lines.{lines}
@@ -16,8 +16,8 @@ use borrow.Author.Tests.{ltb-false, ltb-true}
 use Rattle.proxy_words.specs.Numerals.{numeral}
 use Rattle.proxy_words.specs.Times.{time}
 use Rattle.proxy_words.specs.Text.{uncommented, words}
-use Rattle.proxy_config.specs.declared.faults.Cause.{Cause}
-use Rattle.proxy_config.specs.declared.faults.Cause.TheVariants as causes
+use Rattle.proxy_config.specs.declared.faults.FaultCause.{FaultCause}
+use Rattle.proxy_config.specs.declared.faults.FaultCause.TheVariants as causes
 use Rattle.proxy_config.specs.declared.faults.ConfigFault.{ConfigFault}
 use Rattle.proxy_config.specs.declared.faults.ReadError.{ReadError}
 use Rattle.proxy_config.specs.declared.parts.Bind.{Bind}
@@ -47,11 +47,14 @@ use Rattle.proxy_config.specs.Addresses.{bind_of, address_of}
 use Rattle.proxy_config.specs.Keywords.{keyword_of}
 use Rattle.proxy_config.specs.Settings as server
 use Rattle.proxy_config.specs.Values as values
-use Rattle.proxy_config.specs.Rules.{acl_line, rule_line, pin_line, server_index}
+use Rattle.proxy_config.specs.Rules.{acl_line, rule_line, server_index}
+use Rattle.proxy_config.specs.Resolved.{Resolved, start, resolved_line}
+use Rattle.proxy_config.specs.declared.parts.Pin.{Pin}
+use Rattle.proxy_config.proofs.Resolving.{pin_line, pinned_line, placed, line_of, line_by, line_stepped}
 use Rattle.proxy_config.specs.Draft as draft
 use Rattle.proxy_config.specs.File.{Answers, declared_servers, is_line, long_line, reading, whole}
 use Rattle.proxy_config.specs.Laws.{TakenIn, Says}
-use Rattle.proxy_config.specs.Sound.{IsSoundCheck, IsSoundGuard, IsSoundServer, IsSoundTime, IsSound}
+use Rattle.proxy_config.specs.Sound.{IsSoundCheck, IsSoundGuard, IsSoundServer, IsSoundTime, IsSoundConfig}
 use Rattle.proxy_config.proofs.Outcomes.{bind_ok, chosen, from_ok, ok_or_ok, unless_ok}
 use Rattle.proxy_config.proofs.FirstFaults.{reading-ok}
 use Rattle.proxy_config.proofs.GuardRanges.{acls_longer, more_pins, more_rules, pin_sound, rule_sound}
@@ -238,22 +241,25 @@ shared_sound shared.Option v w words is sound = option_sound v w words is sound
 shared_sound shared.Timeout v w words is sound = timeout_line_sound v w words is sound
 shared_sound shared.Note v w words is sound = subst SoundValues (from_ok v w is) sound
 
--- what holds of each draft
-record SoundDraft (known : List Server) (d : Draft) : Type 0 where
+-- what holds of each draft behind pins
+record SoundDraft (known : List Server) (pins_are : List Pin) (d : Draft) : Type 0 where
   most : length d.servers ≤ 64
   servers : AllByRecursion IsSoundServer d.servers
-  rules : length d.rules + length d.pins ≤ 256
-  pins : AllByRecursion (λ pin. pin.server < length known) d.pins
+  rules : length d.rules + length pins_are ≤ 256
+  pins : AllByRecursion (λ pin. pin.server < length known) pins_are
   rule_guards : AllByRecursion (λ rule. IfSome rule.guard (IsSoundGuard (length d.acls))) d.rules
-  pin_guards : AllByRecursion (λ pin. IsSoundGuard (length d.acls) pin.guard) d.pins
+  pin_guards : AllByRecursion (λ pin. IsSoundGuard (length d.acls) pin.guard) pins_are
   defaults : SoundValues d.defaults
   values : SoundValues d.values
 
-global_keeps : (known : List Server) (d e : Draft) (words : List (List ℕ)) → draft.global_line d words ≡ Ok e → SoundDraft known d → SoundDraft known e
+abbrev SoundResolved : List Server → Resolved → Type 0
+SoundResolved known r = SoundDraft known r.pins r.draft
+
+global_keeps : (known : List Server) (ps : List Pin) (d e : Draft) (words : List (List ℕ)) → draft.global_line d words ≡ Ok e → SoundDraft known ps d → SoundDraft known ps e
 unfolding draft.global_line
-global_keeps known d e words is sound =
+global_keeps known ps d e words is sound =
     let end = bind_ok (end_at words) _ e is in
-    subst (SoundDraft known) (from_ok _ e end.2)
+    subst (SoundDraft known ps) (from_ok _ e end.2)
     (record {
       most = sound.most;
       servers = sound.servers;
@@ -265,11 +271,11 @@ global_keeps known d e words is sound =
       values = sound.values;
     })
 
-defaults_keep : (known : List Server) (d e : Draft) (words : List (List ℕ)) → draft.defaults_line d words ≡ Ok e → SoundDraft known d → SoundDraft known e
+defaults_keep : (known : List Server) (ps : List Pin) (d e : Draft) (words : List (List ℕ)) → draft.defaults_line d words ≡ Ok e → SoundDraft known ps d → SoundDraft known ps e
 unfolding draft.defaults_line
-defaults_keep known d e words is sound =
+defaults_keep known ps d e words is sound =
     let name = bind_ok (draft.optional_name words) _ e is in
-    subst (SoundDraft known) (from_ok _ e name.2)
+    subst (SoundDraft known ps) (from_ok _ e name.2)
     (record {
       most = sound.most;
       servers = sound.servers;
@@ -281,15 +287,15 @@ defaults_keep known d e words is sound =
       values = sound.values;
     })
 
-listen_keeps : (known : List Server) (d e : Draft) (n : ℕ) (words : List (List ℕ)) → draft.listen_line d n words ≡ Ok e → SoundDraft known d
-    → SoundDraft known e
+listen_keeps : (known : List Server) (ps : List Pin) (d e : Draft) (n : ℕ) (words : List (List ℕ)) → draft.listen_line d n words ≡ Ok e → SoundDraft known ps d
+    → SoundDraft known ps e
 unfolding draft.listen_line
-listen_keeps known d e n words is sound =
+listen_keeps known ps d e n words is sound =
     let again = bind_ok (unless (is_some d.listen) causes.Section) _ e is in
     let name = bind_ok (word_at words) _ e again.2 in
     let named = bind_ok (unless (not (is_name name.0.0)) causes.Name) _ e name.2 in
     let end = bind_ok (end_at name.0.1) _ e named.2 in
-    subst (SoundDraft known) (from_ok _ e end.2)
+    subst (SoundDraft known ps) (from_ok _ e end.2)
     (record {
       most = sound.most;
       servers = sound.servers;
@@ -301,16 +307,18 @@ listen_keeps known d e n words is sound =
       values = sound.defaults;
     })
 
-value_keeps : (known : List Server) (d e : Draft) (kind : Shared) (words : List (List ℕ)) (section : Section) → d.section ≡ section
-    → draft.value_line d kind words ≡ Ok e → SoundDraft known d → SoundDraft known e
+value_keeps : (known : List Server) (ps : List Pin) (d e : Draft) (kind : Shared) (words : List (List ℕ)) (section : Section) → d.section ≡ section
+    → draft.value_line d kind words ≡ Ok e → SoundDraft known ps d → SoundDraft known ps e
 unfolding draft.value_line
-value_keeps known d e kind words sections.Outside at_ is sound = let fault : (let one : Result Draft Cause = Err causes.Place in one ≡ Ok e) = (rw at_ at is) in
+value_keeps known ps d e kind words sections.Outside at_ is sound = let fault : (let one : Result Draft FaultCause = Err causes.Place in one ≡ Ok e) =
+    (rw at_ at is) in
     absurd (let none = fault in cc)
-value_keeps known d e kind words sections.Global at_ is sound = let fault : (let one : Result Draft Cause = Err causes.Place in one ≡ Ok e) = (rw at_ at is) in
+value_keeps known ps d e kind words sections.Global at_ is sound = let fault : (let one : Result Draft FaultCause = Err causes.Place in one ≡ Ok e) =
+    (rw at_ at is) in
     absurd (let none = fault in cc)
-value_keeps known d e kind words sections.Defaults at_ is sound =
+value_keeps known ps d e kind words sections.Defaults at_ is sound =
     let v = bind_ok (values.shared_line kind d.defaults words) _ e (rw at_ at is) in
-    subst (SoundDraft known) (from_ok _ e v.2)
+    subst (SoundDraft known ps) (from_ok _ e v.2)
     (record {
       most = sound.most;
       servers = sound.servers;
@@ -321,9 +329,9 @@ value_keeps known d e kind words sections.Defaults at_ is sound =
       defaults = shared_sound kind d.defaults v.0 words v.1 sound.defaults;
       values = sound.values;
     })
-value_keeps known d e kind words sections.Listen at_ is sound =
+value_keeps known ps d e kind words sections.Listen at_ is sound =
     let v = bind_ok (values.shared_line kind d.values words) _ e (rw at_ at is) in
-    subst (SoundDraft known) (from_ok _ e v.2)
+    subst (SoundDraft known ps) (from_ok _ e v.2)
     (record {
       most = sound.most;
       servers = sound.servers;
@@ -335,15 +343,15 @@ value_keeps known d e kind words sections.Listen at_ is sound =
       values = shared_sound kind d.values v.0 words v.1 sound.values;
     })
 
-bind_keeps : (known : List Server) (d e : Draft) (words : List (List ℕ)) → draft.bind_line d words ≡ Ok e → SoundDraft known d → SoundDraft known e
+bind_keeps : (known : List Server) (ps : List Pin) (d e : Draft) (words : List (List ℕ)) → draft.bind_line d words ≡ Ok e → SoundDraft known ps d → SoundDraft known ps e
 unfolding draft.bind_line
-bind_keeps known d e words is sound =
+bind_keeps known ps d e words is sound =
     let place = bind_ok (unless (not (draft.in_listen d.section)) causes.Place) _ e is in
     let again = bind_ok (unless (is_some d.bind) causes.Twice) _ e place.2 in
     let word = bind_ok (word_at words) _ e again.2 in
     let bind = bind_ok (ok_or (bind_of word.0.0) causes.Address) _ e word.2 in
     let end = bind_ok (end_at word.0.1) _ e bind.2 in
-    subst (SoundDraft known) (from_ok _ e end.2)
+    subst (SoundDraft known ps) (from_ok _ e end.2)
     (record {
       most = sound.most;
       servers = sound.servers;
@@ -355,32 +363,32 @@ bind_keeps known d e words is sound =
       values = sound.values;
     })
 
-test_keeps : (known : List Server) (d e : Draft) (words : List (List ℕ)) → draft.test_line d words ≡ Ok e → SoundDraft known d → SoundDraft known e
+test_keeps : (known : List Server) (ps : List Pin) (d e : Draft) (words : List (List ℕ)) → draft.test_line d words ≡ Ok e → SoundDraft known ps d → SoundDraft known ps e
 unfolding draft.test_line
-test_keeps known d e words is sound =
+test_keeps known ps d e words is sound =
     let place = bind_ok (unless (not (draft.in_listen d.section)) causes.Place) _ e is in
     let limit = bind_ok (unless (nat_le draft.most_acl_lines d.acl_lines) causes.Limit) _ e place.2 in
     let acls = bind_ok (acl_line d.acls words) _ e limit.2 in
     let longer : length d.acls ≤ length acls.0 = acls_longer d.acls acls.0 words acls.1 in
-    subst (SoundDraft known) (from_ok _ e acls.2) (record {
+    subst (SoundDraft known ps) (from_ok _ e acls.2) (record {
       most = sound.most;
       servers = sound.servers;
       rules = sound.rules;
       pins = sound.pins;
       rule_guards = more_rules (length d.acls) (length acls.0) longer d.rules sound.rule_guards;
-      pin_guards = more_pins (length d.acls) (length acls.0) longer d.pins sound.pin_guards;
+      pin_guards = more_pins (length d.acls) (length acls.0) longer ps sound.pin_guards;
       defaults = sound.defaults;
       values = sound.values;
     })
 
-request_keeps : (known : List Server) (d e : Draft) (words : List (List ℕ)) → draft.request_line d words ≡ Ok e → SoundDraft known d → SoundDraft known e
+request_keeps : (known : List Server) (ps : List Pin) (d e : Draft) (words : List (List ℕ)) → draft.request_line (length ps) d words ≡ Ok e → SoundDraft known ps d → SoundDraft known ps e
 unfolding draft.request_line
-request_keeps known d e words is sound =
+request_keeps known ps d e words is sound =
     let place = bind_ok (unless (not (draft.in_listen d.section)) causes.Place) _ e is in
-    let limit = bind_ok (draft.has_room d) _ e place.2 in
+    let limit = bind_ok (draft.has_room (length ps) d) _ e place.2 in
     let rule = bind_ok (rule_line d.acls words) _ e limit.2 in
-    let room : length d.rules + length d.pins < 256 = leb-false 256 _ (unless_ok _ causes.Limit limit.0 limit.1) in
-    subst (SoundDraft known) (from_ok _ e rule.2) (record {
+    let room : length d.rules + length ps < 256 = leb-false 256 _ (unless_ok _ causes.Limit limit.0 limit.1) in
+    subst (SoundDraft known ps) (from_ok _ e rule.2) (record {
       most = sound.most;
       servers = sound.servers;
       rules = omega (arith, length-append d.rules (rule.0 ∷ []));
@@ -392,28 +400,30 @@ request_keeps known d e words is sound =
       values = sound.values;
     })
 
-use_keeps : (known : List Server) (d e : Draft) (words : List (List ℕ)) → draft.use_line known d words ≡ Ok e → SoundDraft known d → SoundDraft known e
-unfolding draft.use_line
-use_keeps known d e words is sound =
+use_keeps : (known : List Server) (r e : Resolved) (words : List (List ℕ)) → pinned_line known r words ≡ Ok e → SoundResolved known r → SoundResolved known e
+unfolding pinned_line
+use_keeps known r e words is sound =
+    let d = r.draft in
+    let ps = r.pins in
     let place = bind_ok (unless (not (draft.in_listen d.section)) causes.Place) _ e is in
-    let limit = bind_ok (draft.has_room d) _ e place.2 in
+    let limit = bind_ok (draft.has_room (length ps) d) _ e place.2 in
     let pin = bind_ok (pin_line known d.acls words) _ e limit.2 in
-    let room : length d.rules + length d.pins < 256 = leb-false 256 _ (unless_ok _ causes.Limit limit.0 limit.1) in
+    let room : length d.rules + length ps < 256 = leb-false 256 _ (unless_ok _ causes.Limit limit.0 limit.1) in
     let one = pin_sound known d.acls words pin.0 pin.1 in
-    subst (SoundDraft known) (from_ok _ e pin.2) (record {
+    subst (SoundResolved known) (from_ok _ e pin.2) (record {
       most = sound.most;
       servers = sound.servers;
-      rules = omega (arith, length-append d.pins (pin.0 ∷ []));
-      pins = all_push (λ pin. pin.server < length known) d.pins pin.0 sound.pins one.0;
+      rules = omega (arith, length-append ps (pin.0 ∷ []));
+      pins = all_push (λ pin. pin.server < length known) ps pin.0 sound.pins one.0;
       rule_guards = sound.rule_guards;
-      pin_guards = all_push (λ pin. IsSoundGuard (length d.acls) pin.guard) d.pins pin.0 sound.pin_guards one.1;
+      pin_guards = all_push (λ pin. IsSoundGuard (length d.acls) pin.guard) ps pin.0 sound.pin_guards one.1;
       defaults = sound.defaults;
       values = sound.values;
     })
 
-server_keeps : (known : List Server) (d e : Draft) (words : List (List ℕ)) → draft.server_line d words ≡ Ok e → SoundDraft known d → SoundDraft known e
+server_keeps : (known : List Server) (ps : List Pin) (d e : Draft) (words : List (List ℕ)) → draft.server_line d words ≡ Ok e → SoundDraft known ps d → SoundDraft known ps e
 unfolding draft.server_line
-server_keeps known d e words is sound =
+server_keeps known ps d e words is sound =
     let place = bind_ok (unless (not (draft.in_listen d.section)) causes.Place) _ e is in
     let limit = bind_ok (unless (nat_le draft.most_servers (length d.servers)) causes.Limit) _ e place.2 in
     let name = bind_ok (word_at words) _ e limit.2 in
@@ -426,7 +436,7 @@ server_keeps known d e words is sound =
     let built_in : SoundSettings server.built_in = record { weight = omega arith; inter = omega arith; rise = omega arith; fall = omega arith } in
     let one : IsSoundServer (draft.server_of name.0.0 address.0 s.0) =
     server_sound name.0.0 address.0 s.0 (settings_keep server.built_in second.0.1 s.0 s.1 built_in) in
-    subst (SoundDraft known) (from_ok _ e s.2) (record {
+    subst (SoundDraft known ps) (from_ok _ e s.2) (record {
       most = omega (arith, length-append d.servers (draft.server_of name.0.0 address.0 s.0 ∷ []));
       servers = all_push IsSoundServer d.servers (draft.server_of name.0.0 address.0 s.0) sound.servers one;
       rules = sound.rules;
@@ -437,43 +447,51 @@ server_keeps known d e words is sound =
       values = sound.values;
     })
 
-line_keeps : (known : List Server) (d e : Draft) (n : ℕ) (keyword : Keyword) (words : List (List ℕ)) → draft.keyword_line known d n keyword words ≡ Ok e
-    → SoundDraft known d → SoundDraft known e
-line_keeps known d e n keywords.Global words is sound = global_keeps known d e words is sound
-line_keeps known d e n keywords.Defaults words is sound = defaults_keep known d e words is sound
-line_keeps known d e n keywords.Listen words is sound = listen_keeps known d e n words is sound
-line_keeps known d e n keywords.Refused words is sound = absurd (let none = is in cc)
-line_keeps known d e n (keywords.Shared kind) words is sound = value_keeps known d e kind words d.section refl is sound
-line_keeps known d e n keywords.Bind words is sound = bind_keeps known d e words is sound
-line_keeps known d e n keywords.Server words is sound = server_keeps known d e words is sound
-line_keeps known d e n keywords.Acl words is sound = test_keeps known d e words is sound
-line_keeps known d e n keywords.HttpRequest words is sound = request_keeps known d e words is sound
-line_keeps known d e n keywords.UseServer words is sound = use_keeps known d e words is sound
+placed_keeps : (known : List Server) (r e : Resolved) (read : Result Draft FaultCause) → placed r.pins read ≡ Ok e
+    → ((d : Draft) → read ≡ Ok d → SoundDraft known r.pins d) → SoundResolved known e
+placed_keeps known r e read is keeps = let it = bind_ok read _ e is in subst (SoundResolved known) (from_ok _ e it.2) (keeps it.0 it.1)
 
-words_keep : (known : List Server) (d e : Draft) (n : ℕ) (words : List (List ℕ)) → draft.words_line known d n words ≡ Ok e → SoundDraft known d
-    → SoundDraft known e
-unfolding draft.words_line
-words_keep known d e n [] is sound = subst (SoundDraft known) (from_ok d e is) sound
-words_keep known d e n (word ∷ words) is sound =
+line_keeps : (known : List Server) (r e : Resolved) (n : ℕ) (keyword : Keyword) (words : List (List ℕ)) → line_of known r n keyword words ≡ Ok e
+    → SoundResolved known r → SoundResolved known e
+line_keeps known r e n keywords.Global words is sound =
+    placed_keeps known r e _ is (λ d read. global_keeps known r.pins r.draft d words read sound)
+line_keeps known r e n keywords.Defaults words is sound =
+    placed_keeps known r e _ is (λ d read. defaults_keep known r.pins r.draft d words read sound)
+line_keeps known r e n keywords.Listen words is sound =
+    placed_keeps known r e _ is (λ d read. listen_keeps known r.pins r.draft d n words read sound)
+line_keeps known r e n keywords.Refused words is sound = absurd (let none = is in cc)
+line_keeps known r e n (keywords.Shared kind) words is sound =
+    placed_keeps known r e _ is (λ d read. value_keeps known r.pins r.draft d kind words r.draft.section refl read sound)
+line_keeps known r e n keywords.Bind words is sound = placed_keeps known r e _ is (λ d read. bind_keeps known r.pins r.draft d words read sound)
+line_keeps known r e n keywords.Server words is sound = placed_keeps known r e _ is (λ d read. server_keeps known r.pins r.draft d words read sound)
+line_keeps known r e n keywords.Acl words is sound = placed_keeps known r e _ is (λ d read. test_keeps known r.pins r.draft d words read sound)
+line_keeps known r e n keywords.HttpRequest words is sound =
+    placed_keeps known r e _ is (λ d read. request_keeps known r.pins r.draft d words read sound)
+line_keeps known r e n keywords.UseServer words is sound = use_keeps known r e words is sound
+
+words_keep : (known : List Server) (r e : Resolved) (n : ℕ) (words : List (List ℕ)) → line_by known r n words ≡ Ok e → SoundResolved known r
+    → SoundResolved known e
+words_keep known r e n [] is sound = subst (SoundResolved known) (from_ok r e is) sound
+words_keep known r e n (word ∷ words) is sound =
     let keyword = bind_ok (ok_or (keyword_of word) causes.Keyword) _ e is in
-    line_keeps known d e n keyword.0 words keyword.2 sound
+    line_keeps known r e n keyword.0 words keyword.2 sound
 
-step_keeps : (known : List Server) (too_long : Bool) (d e : Draft) (n : ℕ) (line : List ℕ) → draft.step known too_long d n line ≡ Ok e → SoundDraft known d
-    → SoundDraft known e
-unfolding draft.step
-step_keeps known too_long d e n line is sound = elim (chosen (draft.is_ignored d.section (words (uncommented line))) _ _ _ is) [
-  | inl ignored ↦ let short = bind_ok (unless too_long causes.Limit) _ e ignored.1 in subst (SoundDraft known) (from_ok d e short.2) sound
-  | inr heeded ↦
-      let plain = bind_ok (unless (list_any draft.is_quoting (uncommented line)) causes.Quoting) _ e heeded.1 in
-      let short = bind_ok (unless too_long causes.Limit) _ e plain.2 in
-      words_keep known d e n (words (uncommented line)) short.2 sound
-]
+step_keeps : (known : List Server) (too_long : Bool) (r e : Resolved) (n : ℕ) (line : List ℕ) → resolved_line known too_long r n line ≡ Ok e
+    → SoundResolved known r → SoundResolved known e
+step_keeps known too_long r e n line is sound =
+    elim (chosen (draft.is_ignored r.draft.section (words (uncommented line))) _ _ _ (sym (line_stepped known too_long r n line) ∙ is)) [
+      | inl ignored ↦ let short = bind_ok (unless too_long causes.Limit) _ e ignored.1 in subst (SoundResolved known) (from_ok r e short.2) sound
+      | inr heeded ↦
+          let plain = bind_ok (unless (list_any draft.is_quoting (uncommented line)) causes.Quoting) _ e heeded.1 in
+          let short = bind_ok (unless too_long causes.Limit) _ e plain.2 in
+          words_keep known r e n (words (uncommented line)) short.2 sound
+    ]
 
-taken_keep : (known : List Server) (long : Option ℕ) (d e : Draft) (n : ℕ) (lines : List (List ℕ)) → TakenIn known long d n lines e → SoundDraft known d
-    → SoundDraft known e
-taken_keep known long d e n [] taken sound = subst (SoundDraft known) (sym taken) sound
-taken_keep known long d e n (line ∷ lines) taken sound =
-    taken_keep known long taken.0 e (n + 1) lines taken.2 (step_keeps known (is_line long n) d taken.0 n line taken.1 sound)
+taken_keep : (known : List Server) (long : Option ℕ) (r e : Resolved) (n : ℕ) (lines : List (List ℕ)) → TakenIn known long r n lines e
+    → SoundResolved known r → SoundResolved known e
+taken_keep known long r e n [] taken sound = subst (SoundResolved known) (sym taken) sound
+taken_keep known long r e n (line ∷ lines) taken sound =
+    taken_keep known long taken.0 e (n + 1) lines taken.2 (step_keeps known (is_line long n) r taken.0 n line taken.1 sound)
 
 time_sound : (t : ℕ) → t < 2 ^ 62 → IfSome (values.set_time t) IsSoundTime
 time_sound t small = by_test (nat_lt 0 t) refl
@@ -489,26 +507,28 @@ timeout_sound v sound = of_queue (nat_lt 0 v.queue) refl
     of_queue true above = record { some = ltb-true 0 v.queue above; within = sound.queue }
     of_queue false above = time_sound v.connect sound.connect
 
-whole_sound : (listen : Option ℕ) (bind : Option Bind) (d : Draft) (config : Config) → whole listen bind d ≡ Ok config → SoundDraft d.servers d → IsSound config
-whole_sound None bind d config is sound = absurd (let none = is in cc)
-whole_sound (Some line) None d config is sound = absurd (let none = is in cc)
-whole_sound (Some line) (Some bind) d config is sound = elim (chosen (length d.servers == 0) _ _ _ is) [
+whole_sound : (listen : Option ℕ) (bind : Option Bind) (r : Resolved) (config : Config) → whole listen bind r ≡ Ok config
+    → SoundResolved r.draft.servers r
+    → IsSoundConfig config
+whole_sound None bind r config is sound = absurd (let none = is in cc)
+whole_sound (Some line) None r config is sound = absurd (let none = is in cc)
+whole_sound (Some line) (Some bind) r config is sound = elim (chosen (length r.draft.servers == 0) _ _ _ is) [
   | inl none ↦ absurd (let fault = none.1 in cc)
   | inr some ↦
-      let filled : 0 < length d.servers = above_zero (length d.servers) some.0 in
-      subst IsSound (config_same _ config some.1) (record {
+      let filled : 0 < length r.draft.servers = above_zero (length r.draft.servers) some.0 in
+      subst IsSoundConfig (config_same _ config some.1) (record {
         some = filled;
         most = sound.most;
-        servers = All-from_recursion IsSoundServer d.servers sound.servers;
+        servers = All-from_recursion IsSoundServer r.draft.servers sound.servers;
         rules = sound.rules;
-        pins = All-from_recursion (λ pin. pin.server < length d.servers) d.pins sound.pins;
-        rule_guards = All-from_recursion (λ rule. IfSome rule.guard (IsSoundGuard (length d.acls))) d.rules sound.rule_guards;
-        pin_guards = All-from_recursion (λ pin. IsSoundGuard (length d.acls) pin.guard) d.pins sound.pin_guards;
+        pins = All-from_recursion (λ pin. pin.server < length r.draft.servers) r.pins sound.pins;
+        rule_guards = All-from_recursion (λ rule. IfSome rule.guard (IsSoundGuard (length r.draft.acls))) r.draft.rules sound.rule_guards;
+        pin_guards = All-from_recursion (λ pin. IsSoundGuard (length r.draft.acls) pin.guard) r.pins sound.pin_guards;
         retries = sound.values.retries;
-        queue_timeout = timeout_sound d.values sound.values;
-        connect_timeout = time_sound d.values.connect sound.values.connect;
-        client_timeout = time_sound d.values.client sound.values.client;
-        server_timeout = time_sound d.values.server sound.values.server;
+        queue_timeout = timeout_sound r.draft.values sound.values;
+        connect_timeout = time_sound r.draft.values.connect sound.values.connect;
+        client_timeout = time_sound r.draft.values.client sound.values.client;
+        server_timeout = time_sound r.draft.values.server sound.values.server;
       })
 ]
   where
@@ -519,10 +539,10 @@ whole_sound (Some line) (Some bind) d config is sound = elim (chosen (length d.s
     config_same x y same = cc
 
 -- what is accepted is sound
-pub says-sound : (bytes : List ℕ) (config : Config) → Says bytes config → IsSound config
+pub says-sound : (bytes : List ℕ) (config : Config) → Says bytes config → IsSoundConfig config
 says-sound bytes config says =
     let known = declared_servers bytes in
-    let start : SoundDraft known draft.start = record {
+    let begun : SoundResolved known start = record {
       most = omega arith;
       servers = tt;
       rules = omega arith;
@@ -532,11 +552,11 @@ says-sound bytes config says =
       defaults = built_in_sound;
       values = built_in_sound;
     } in
-    let same : known ≡ says.draft.servers = survey-taken known (long_line bytes) draft.start says.draft 1 (lines bytes) says.taken_in in
-    whole_sound says.draft.listen says.draft.bind says.draft config says.whole
-    (subst (λ (servers : List Server). SoundDraft servers says.draft) same
-    (taken_keep known (long_line bytes) draft.start says.draft 1 (lines bytes) says.taken_in start))
+    let same : known ≡ says.read.draft.servers = survey-taken known (long_line bytes) start says.read 1 (lines bytes) says.taken_in in
+    whole_sound says.read.draft.listen says.read.draft.bind says.read config says.whole
+    (subst (λ (servers : List Server). SoundResolved servers says.read) same
+    (taken_keep known (long_line bytes) start says.read 1 (lines bytes) says.taken_in begun))
 
-pub answers-sound : (result : Result Config ReadError) (bytes : List ℕ) → Answers result (reading bytes) → IfOk result IsSound
+pub answers-sound : (result : Result Config ReadError) (bytes : List ℕ) → Answers result (reading bytes) → IfOk result IsSoundConfig
 answers-sound (Ok config) bytes is = says-sound bytes config (reading-ok bytes config is)
 answers-sound (Err e) bytes is = tt

@@ -3,8 +3,8 @@ use Rattle.std.proofs.Common.{◌≡◌, ℕ, Bool, not, List, [], ◌∷◌, Op
 use Rattle.std.specs.Option.{ok_or}
 use Rattle.std.specs.List.{list_any}
 use Rattle.proxy_words.specs.Text.{uncommented, words}
-use Rattle.proxy_config.specs.declared.faults.Cause.{Cause}
-use Rattle.proxy_config.specs.declared.faults.Cause.TheVariants as causes
+use Rattle.proxy_config.specs.declared.faults.FaultCause.{FaultCause}
+use Rattle.proxy_config.specs.declared.faults.FaultCause.TheVariants as causes
 use Rattle.proxy_config.specs.declared.draft.Draft.{Draft}
 use Rattle.proxy_config.specs.declared.keywords.Keyword.{Keyword}
 use Rattle.proxy_config.specs.declared.keywords.Keyword.TheVariants as keywords
@@ -20,15 +20,15 @@ use Rattle.proxy_config.specs.Wishes as wished
 use Rattle.proxy_config.proofs.Outcomes.{bind_ok, chosen, from_ok}
 
 -- two lines that were read alike leave one draft, and ask alike
-same_read : (x y : Draft × Option Wish) → (let one : Result (Draft × Option Wish) Cause = Ok x in one ≡ Ok y) → x ≡ y
+same_read : (x y : Draft × Option Wish) → (let one : Result (Draft × Option Wish) FaultCause = Ok x in one ≡ Ok y) → x ≡ y
 same_read x y is = cc
 
-no_wish : (d e : Draft) (wish : Wish) → (let one : Result (Draft × Option Wish) Cause = Ok (d, None) in one ≡ Ok (e, Some wish)) → ⊥
+no_wish : (d e : Draft) (wish : Wish) → (let one : Result (Draft × Option Wish) FaultCause = Ok (d, None) in one ≡ Ok (e, Some wish)) → ⊥
 no_wish d e wish is =
     let none : (let one : Option Wish = None in one ≡ Some wish) = ap (λ (x : Draft × Option Wish). x.1) (same_read (d, None) (e, Some wish) is) in
     cc
 
-plain_none : (r : Result Draft Cause) (e : Draft) (wish : Wish) → wished.plain r ≡ Ok (e, Some wish) → ⊥
+plain_none : (r : Result Draft FaultCause) (e : Draft) (wish : Wish) → draft.plain r ≡ Ok (e, Some wish) → ⊥
 plain_none (Ok d) e wish is = no_wish d e wish is
 plain_none (Err cause) e wish is = cc
 
@@ -39,25 +39,25 @@ wish_numbered n acls ws wish is =
     let named = bind_ok (unless (not (is_name name.0.0)) causes.Name) _ wish name.2 in
     ap (λ (w : Wish). w.line) (sym (from_ok _ wish named.2))
 
-use_numbered : (pins : ℕ) (d : Draft) (n : ℕ) (ws : List (List ℕ)) (wish : Wish) → wished.use_line pins d n ws ≡ Ok wish → wish.line ≡ n
-unfolding wished.use_line
+use_numbered : (pins : ℕ) (d : Draft) (n : ℕ) (ws : List (List ℕ)) (wish : Wish) → draft.use_line pins d n ws ≡ Ok wish → wish.line ≡ n
+unfolding draft.use_line
 use_numbered pins d n ws wish is =
     let place = bind_ok (unless (not (draft.in_listen d.section)) causes.Place) _ wish is in
-    let limit = bind_ok (wished.has_room pins d) _ wish place.2 in
+    let limit = bind_ok (draft.has_room pins d) _ wish place.2 in
     wish_numbered n d.acls ws wish limit.2
 
 -- its number, and the draft
 abbrev Own : Draft → Draft → ℕ → Wish → Type 0
 Own d e n wish = (wish.line ≡ n) × (e ≡ d)
 
-from_both : (d e : Draft) (v w : Wish) → (let one : Result (Draft × Option Wish) Cause = Ok (d, Some v) in one ≡ Ok (e, Some w)) → (v ≡ w) × (e ≡ d)
+from_both : (d e : Draft) (v w : Wish) → (let one : Result (Draft × Option Wish) FaultCause = Ok (d, Some v) in one ≡ Ok (e, Some w)) → (v ≡ w) × (e ≡ d)
 from_both d e v w is =
     let same = same_read (d, Some v) (e, Some w) is in
     let wish : (let one : Option Wish = Some v in one ≡ Some w) = ap (λ (x : Draft × Option Wish). x.1) same in
     (let v_is = wish in cc, ap (λ (x : Draft × Option Wish). x.0) (sym same))
 
 of_keyword : (pins : ℕ) (d e : Draft) (n : ℕ) (keyword : Keyword) (ws : List (List ℕ)) (wish : Wish)
-    → wished.keyword_line pins d n keyword ws ≡ Ok (e, Some wish) → Own d e n wish
+    → draft.keyword_line pins d n keyword ws ≡ Ok (e, Some wish) → Own d e n wish
 of_keyword pins d e n keywords.Global ws wish is = absurd (plain_none _ e wish is)
 of_keyword pins d e n keywords.Defaults ws wish is = absurd (plain_none _ e wish is)
 of_keyword pins d e n keywords.Listen ws wish is = absurd (plain_none _ e wish is)
@@ -68,20 +68,20 @@ of_keyword pins d e n keywords.Server ws wish is = absurd (plain_none _ e wish i
 of_keyword pins d e n keywords.Acl ws wish is = absurd (plain_none _ e wish is)
 of_keyword pins d e n keywords.HttpRequest ws wish is = absurd (plain_none _ e wish is)
 of_keyword pins d e n keywords.UseServer ws wish is =
-    let one = bind_ok (wished.use_line pins d n ws) _ (e, Some wish) is in
+    let one = bind_ok (draft.use_line pins d n ws) _ (e, Some wish) is in
     let both = from_both d e one.0 wish one.2 in
     (subst (λ (w : Wish). w.line ≡ n) both.0 (use_numbered pins d n ws one.0 one.1), both.1)
 
-of_words : (pins : ℕ) (d e : Draft) (n : ℕ) (ws : List (List ℕ)) (wish : Wish) → wished.words_line pins d n ws ≡ Ok (e, Some wish) → Own d e n wish
-unfolding wished.words_line
+of_words : (pins : ℕ) (d e : Draft) (n : ℕ) (ws : List (List ℕ)) (wish : Wish) → draft.words_line pins d n ws ≡ Ok (e, Some wish) → Own d e n wish
+unfolding draft.words_line
 of_words pins d e n [] wish is = absurd (no_wish d e wish is)
 of_words pins d e n (word ∷ ws) wish is =
     let keyword = bind_ok (ok_or (keyword_of word) causes.Keyword) _ (e, Some wish) is in
     of_keyword pins d e n keyword.0 ws wish keyword.2
 
-pub of_line : (pins : ℕ) (too_long : Bool) (d e : Draft) (n : ℕ) (line : List ℕ) (wish : Wish) → wished.step pins too_long d n line ≡ Ok (e, Some wish)
+pub of_line : (pins : ℕ) (too_long : Bool) (d e : Draft) (n : ℕ) (line : List ℕ) (wish : Wish) → draft.step pins too_long d n line ≡ Ok (e, Some wish)
     → (wish.line ≡ n) × (e ≡ d)
-unfolding wished.step
+unfolding draft.step
 of_line pins too_long d e n line wish is = elim (chosen (draft.is_ignored d.section (words (uncommented line))) _ _ _ is) [
   | inl ignored ↦ let short = bind_ok (unless too_long causes.Limit) _ (e, Some wish) ignored.1 in absurd (no_wish d e wish short.2)
   | inr heeded ↦
@@ -92,25 +92,25 @@ of_line pins too_long d e n line wish is = elim (chosen (draft.is_ignored d.sect
 
 -- and ends no section
 keyword_ends_none : (pins : ℕ) (d e : Draft) (n : ℕ) (keyword : Keyword) (ws : List (List ℕ)) (wish : Wish)
-    → wished.keyword_line pins d n keyword ws ≡ Ok (e, Some wish) → ends_listen d (Some keyword) ≡ false
+    → draft.keyword_line pins d n keyword ws ≡ Ok (e, Some wish) → ends_listen d (Some keyword) ≡ false
 keyword_ends_none pins d e n keywords.Refused ws wish is = absurd (let none = is in cc)
 keyword_ends_none pins d e n keywords.Listen ws wish is = absurd (plain_none _ e wish is)
 keyword_ends_none pins d e n keyword ws wish is = refl
 
-words_end_none : (pins : ℕ) (d e : Draft) (n : ℕ) (ws : List (List ℕ)) (wish : Wish) → wished.words_line pins d n ws ≡ Ok (e, Some wish)
+words_end_none : (pins : ℕ) (d e : Draft) (n : ℕ) (ws : List (List ℕ)) (wish : Wish) → draft.words_line pins d n ws ≡ Ok (e, Some wish)
     → ends_listen d (first_keyword ws) ≡ false
-unfolding wished.words_line
+unfolding draft.words_line
 words_end_none pins d e n [] wish is = refl
 words_end_none pins d e n (word ∷ ws) wish is = by_keyword (keyword_of word) is
   where
-    by_keyword : (known : Option Keyword) → (ok_or known causes.Keyword >>= λ keyword. wished.keyword_line pins d n keyword ws) ≡ Ok (e, Some wish)
+    by_keyword : (known : Option Keyword) → (ok_or known causes.Keyword >>= λ keyword. draft.keyword_line pins d n keyword ws) ≡ Ok (e, Some wish)
         → ends_listen d known ≡ false
     by_keyword None is = refl
     by_keyword (Some keyword) is = keyword_ends_none pins d e n keyword ws wish is
 
-pub asks_ends_none : (pins : ℕ) (too_long : Bool) (d e : Draft) (n : ℕ) (line : List ℕ) (wish : Wish) → wished.step pins too_long d n line ≡ Ok (e, Some wish)
+pub asks_ends_none : (pins : ℕ) (too_long : Bool) (d e : Draft) (n : ℕ) (line : List ℕ) (wish : Wish) → draft.step pins too_long d n line ≡ Ok (e, Some wish)
     → ends_listen d (keyword_in line) ≡ false
-unfolding wished.step
+unfolding draft.step
 asks_ends_none pins too_long d e n line wish is = elim (chosen (draft.is_ignored d.section (words (uncommented line))) _ _ _ is) [
   | inl ignored ↦ let short = bind_ok (unless too_long causes.Limit) _ (e, Some wish) ignored.1 in absurd (no_wish d e wish short.2)
   | inr heeded ↦

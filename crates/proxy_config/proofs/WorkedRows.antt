@@ -1,7 +1,7 @@
 -- The definitions at worked examples: what must hold, and wrong words that must not be taken.
 use Rattle.std.proofs.Common.{◌≡◌, ◌++◌, ℕ, true, false, List, [], ◌∷◌, Some, None, Ok, Err, negsuc, codes, refl}
 use Rattle.proxy_words.specs.Text.{words}
-use Rattle.proxy_config.specs.declared.faults.Cause.TheVariants as causes
+use Rattle.proxy_config.specs.declared.faults.FaultCause.TheVariants as causes
 use Rattle.proxy_config.specs.declared.parts.Expression.TheVariants.{Int, HeaderValue}
 use Rattle.proxy_words.specs.Names.{is_name}
 use Rattle.proxy_config.specs.Names.{is_acl_name}
@@ -11,7 +11,8 @@ use Rattle.proxy_config.specs.Conditions.{alternatives, condition, operand_at, t
 use Rattle.proxy_config.specs.Settings.{built_in, settings}
 use Rattle.proxy_config.specs.Draft.{step, words_line, optional_name, defaults_line, listen_line, bind_line, server_of}
 use Rattle.proxy_config.specs.File.{reading}
-use Rattle.proxy_config.specs.Wishes.{pin_of, with_pins, wish_line}
+use Rattle.proxy_config.specs.Wishes.{pin_of, wish_line}
+use Rattle.proxy_config.specs.Progress.{with_pins}
 use Rattle.proxy_config.specs.declared.parts.Host.TheVariants as hosts
 use Rattle.proxy_config.specs.declared.parts.Server.{Server}
 use Rattle.proxy_config.specs.declared.wishes.Wish.{Wish}

@@ -1,10 +1,10 @@
 -- What one line of the file does.
-use Rattle.std.specs.Prelude.{ℕ, ◌+◌, Bool, true, false, ◌&&◌, nat_le, if◌then◌else◌, not, is_some, List, [], ◌∷◌, ◌++◌, length, Some, None, Result, Ok, Err}
+use Rattle.std.specs.Prelude.{ℕ, ◌+◌, Bool, true, false, ◌&&◌, nat_le, if◌then◌else◌, not, is_some, List, [], ◌∷◌, ◌++◌, length, Option, Some, None, Result, Ok, Err}
 use Rattle.std.specs.Option.{ok_or}
 use Rattle.std.specs.List.{list_any}
 use Rattle.proxy_words.specs.Text.{words, uncommented}
-use Rattle.proxy_config.specs.declared.faults.Cause.{Cause}
-use Rattle.proxy_config.specs.declared.faults.Cause.TheVariants as causes
+use Rattle.proxy_config.specs.declared.faults.FaultCause.{FaultCause}
+use Rattle.proxy_config.specs.declared.faults.FaultCause.TheVariants as causes
 use Rattle.proxy_config.specs.declared.draft.Draft.{Draft}
 use Rattle.proxy_config.specs.declared.draft.Section.{Section}
 use Rattle.proxy_config.specs.declared.draft.Section.TheVariants as sections
@@ -14,6 +14,7 @@ use Rattle.proxy_config.specs.declared.parts.Address.{Address}
 use Rattle.proxy_config.specs.declared.parts.Server.{Server}
 use Rattle.proxy_config.specs.declared.settings.Settings.{Settings}
 use Rattle.proxy_config.specs.declared.values.Shared.{Shared}
+use Rattle.proxy_config.specs.declared.wishes.Wish.{Wish}
 use Rattle.proxy_config.specs.Outcomes.{◌>>=◌, unless}
 use Rattle.proxy_config.specs.Keywords.{keyword_of, section_of}
 use Rattle.proxy_config.specs.Pieces.{word_at, end_at}
@@ -21,7 +22,8 @@ use Rattle.proxy_words.specs.Names.{is_name, is_in}
 use Rattle.proxy_config.specs.Addresses.{bind_of, address_of}
 use Rattle.proxy_config.specs.Settings as server
 use Rattle.proxy_config.specs.Values as values
-use Rattle.proxy_config.specs.Rules.{acl_line, rule_line, pin_line, server_index}
+use Rattle.proxy_config.specs.Rules.{acl_line, rule_line, server_index}
+use Rattle.proxy_config.specs.Wishes.{wish_line}
 
 -- before the first line
 abbrev pub start : Draft
@@ -35,7 +37,6 @@ start = record {
   acls = [];
   acl_lines = 0;
   rules = [];
-  pins = [];
 }
 
 -- how many servers, ACL lines and rules there may be
@@ -49,24 +50,24 @@ abbrev pub most_rules : ℕ
 most_rules = 256
 
 -- `global`
-unfoldable pub global_line : Draft → List (List ℕ) → Result Draft Cause
+unfoldable pub global_line : Draft → List (List ℕ) → Result Draft FaultCause
 global_line d words = do
   end ← end_at words
   Ok (record d { section = sections.Global })
 
 -- a name, or none
-unfoldable pub optional_name : List (List ℕ) → Result (Unit {0}) Cause
+unfoldable pub optional_name : List (List ℕ) → Result (Unit {0}) FaultCause
 optional_name [] = Ok tt
 optional_name (name ∷ words) = unless (not (is_name name)) causes.Name >>= λ named. end_at words
 
 -- `defaults`, and a name or none: all values are built in again
-unfoldable pub defaults_line : Draft → List (List ℕ) → Result Draft Cause
+unfoldable pub defaults_line : Draft → List (List ℕ) → Result Draft FaultCause
 defaults_line d words = do
   name ← optional_name words
   Ok (record d { section = sections.Defaults; defaults = values.built_in })
 
 -- `listen NAME`, once: it begins with the values of `defaults`
-unfoldable pub listen_line : Draft → ℕ → List (List ℕ) → Result Draft Cause
+unfoldable pub listen_line : Draft → ℕ → List (List ℕ) → Result Draft FaultCause
 listen_line d n words = do
   again ← unless (is_some d.listen) causes.Section
   name ← word_at words
@@ -75,7 +76,7 @@ listen_line d n words = do
   Ok (record d { section = sections.Listen; listen = Some n; values = d.defaults })
 
 -- a line that `defaults` and `listen` take
-unfoldable pub value_line : Draft → Shared → List (List ℕ) → Result Draft Cause
+unfoldable pub value_line : Draft → Shared → List (List ℕ) → Result Draft FaultCause
 value_line d shared words = elim d.section [
   | sections.Outside ↦ Err causes.Place
   | sections.Global ↦ Err causes.Place
@@ -89,7 +90,7 @@ in_listen sections.Listen = true
 in_listen other = false
 
 -- `bind A:PORT`, once
-unfoldable pub bind_line : Draft → List (List ℕ) → Result Draft Cause
+unfoldable pub bind_line : Draft → List (List ℕ) → Result Draft FaultCause
 bind_line d words = do
   place ← unless (not (in_listen d.section)) causes.Place
   again ← unless (is_some d.bind) causes.Twice
@@ -102,7 +103,7 @@ abbrev pub server_of : List ℕ → Address → Settings → Server
 server_of name address s = record { name = name; address = address; maxconn = s.maxconn; maxqueue = s.maxqueue; weight = s.weight; check = server.checks s }
 
 -- `server NAME A:PORT`, and settings
-unfoldable pub server_line : Draft → List (List ℕ) → Result Draft Cause
+unfoldable pub server_line : Draft → List (List ℕ) → Result Draft FaultCause
 server_line d words = do
   place ← unless (not (in_listen d.section)) causes.Place
   limit ← unless (nat_le most_servers (length d.servers)) causes.Limit
@@ -115,49 +116,53 @@ server_line d words = do
   Ok (record d { servers = d.servers ++ server_of name.0 address s ∷ [] })
 
 -- `acl ..`
-unfoldable pub test_line : Draft → List (List ℕ) → Result Draft Cause
+unfoldable pub test_line : Draft → List (List ℕ) → Result Draft FaultCause
 test_line d words = do
   place ← unless (not (in_listen d.section)) causes.Place
   limit ← unless (nat_le most_acl_lines d.acl_lines) causes.Limit
   acls ← acl_line d.acls words
   Ok (record d { acls = acls; acl_lines = d.acl_lines + 1 })
 
-abbrev pub has_room : Draft → Result (Unit {0}) Cause
-has_room d = unless (nat_le most_rules (length d.rules + length d.pins)) causes.Limit
+-- room for a rule beside those of the draft and so many pins
+abbrev pub has_room : ℕ → Draft → Result (Unit {0}) FaultCause
+has_room pins d = unless (nat_le most_rules (length d.rules + pins)) causes.Limit
 
--- `http-request ..`
-unfoldable pub request_line : Draft → List (List ℕ) → Result Draft Cause
-request_line d words = do
+-- `http-request ..`, behind so many pins
+unfoldable pub request_line : ℕ → Draft → List (List ℕ) → Result Draft FaultCause
+request_line pins d words = do
   place ← unless (not (in_listen d.section)) causes.Place
-  limit ← has_room d
+  limit ← has_room pins d
   rule ← rule_line d.acls words
   Ok (record d { rules = d.rules ++ rule ∷ [] })
 
--- `use-server ..`, of the servers of the whole file
-unfoldable pub use_line : List Server → Draft → List (List ℕ) → Result Draft Cause
-use_line servers d words = do
+-- `use-server ..`, behind so many pins: it asks for one more
+unfoldable pub use_line : ℕ → Draft → ℕ → List (List ℕ) → Result Wish FaultCause
+use_line pins d n words = do
   place ← unless (not (in_listen d.section)) causes.Place
-  limit ← has_room d
-  pin ← pin_line servers d.acls words
-  Ok (record d { pins = d.pins ++ pin ∷ [] })
+  limit ← has_room pins d
+  wish_line n d.acls words
 
--- a line by its keyword, its number and its other words
-abbrev pub keyword_line : List Server → Draft → ℕ → Keyword → List (List ℕ) → Result Draft Cause
-keyword_line servers d n keywords.Global words = global_line d words
-keyword_line servers d n keywords.Defaults words = defaults_line d words
-keyword_line servers d n keywords.Listen words = listen_line d n words
-keyword_line servers d n keywords.Refused words = Err causes.Section
-keyword_line servers d n (keywords.Shared shared) words = value_line d shared words
-keyword_line servers d n keywords.Bind words = bind_line d words
-keyword_line servers d n keywords.Server words = server_line d words
-keyword_line servers d n keywords.Acl words = test_line d words
-keyword_line servers d n keywords.HttpRequest words = request_line d words
-keyword_line servers d n keywords.UseServer words = use_line servers d words
+-- a line that asks for no pin
+abbrev pub plain : Result Draft FaultCause → Result (Draft × Option Wish) FaultCause
+plain read = read >>= λ d. Ok (d, None)
+
+-- a line by its keyword, its number and its other words: the draft that it leaves, and the pin that it asks for
+abbrev pub keyword_line : ℕ → Draft → ℕ → Keyword → List (List ℕ) → Result (Draft × Option Wish) FaultCause
+keyword_line pins d n keywords.Global words = plain (global_line d words)
+keyword_line pins d n keywords.Defaults words = plain (defaults_line d words)
+keyword_line pins d n keywords.Listen words = plain (listen_line d n words)
+keyword_line pins d n keywords.Refused words = Err causes.Section
+keyword_line pins d n (keywords.Shared shared) words = plain (value_line d shared words)
+keyword_line pins d n keywords.Bind words = plain (bind_line d words)
+keyword_line pins d n keywords.Server words = plain (server_line d words)
+keyword_line pins d n keywords.Acl words = plain (test_line d words)
+keyword_line pins d n keywords.HttpRequest words = plain (request_line pins d words)
+keyword_line pins d n keywords.UseServer words = use_line pins d n words >>= λ wish. Ok (d, Some wish)
 
 -- a line by its words
-unfoldable pub words_line : List Server → Draft → ℕ → List (List ℕ) → Result Draft Cause
-words_line servers d n [] = Ok d
-words_line servers d n (word ∷ words) = ok_or (keyword_of word) causes.Keyword >>= λ keyword. keyword_line servers d n keyword words
+unfoldable pub words_line : ℕ → Draft → ℕ → List (List ℕ) → Result (Draft × Option Wish) FaultCause
+words_line pins d n [] = Ok (d, None)
+words_line pins d n (word ∷ words) = ok_or (keyword_of word) causes.Keyword >>= λ keyword. keyword_line pins d n keyword words
 
 abbrev pub in_global : Section → Bool
 in_global sections.Global = true
@@ -172,11 +177,11 @@ is_ignored section (word ∷ words) = in_global section && not (is_some (section
 abbrev pub is_quoting : ℕ → Bool
 is_quoting byte = is_in (34 ∷ 39 ∷ 92 ∷ []) byte
 
--- what a line makes of the draft, by its number, and whether the file is too long in it
-unfoldable pub step : List Server → Bool → Draft → ℕ → List ℕ → Result Draft Cause
-step servers too_long d n line =
-    if is_ignored d.section (words (uncommented line)) then (unless too_long causes.Limit >>= λ short. Ok d)
+-- what a line makes of the draft, by its number and whether the file is too long in it, behind so many pins
+unfoldable pub step : ℕ → Bool → Draft → ℕ → List ℕ → Result (Draft × Option Wish) FaultCause
+step pins too_long d n line =
+    if is_ignored d.section (words (uncommented line)) then (unless too_long causes.Limit >>= λ short. Ok (d, None))
     else do
       plain ← unless (list_any is_quoting (uncommented line)) causes.Quoting
       short ← unless too_long causes.Limit
-      words_line servers d n (words (uncommented line))
+      words_line pins d n (words (uncommented line))

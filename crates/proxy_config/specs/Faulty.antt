@@ -5,8 +5,8 @@ use Rattle.proxy_words.specs.Names.{is_name}
 use Rattle.proxy_words.specs.Numerals.{numeral}
 use Rattle.proxy_words.specs.Times.{time}
 use Rattle.proxy_config.specs.declared.draft.Draft.{Draft}
-use Rattle.proxy_config.specs.declared.faults.Cause.{Cause}
-use Rattle.proxy_config.specs.declared.faults.Cause.TheVariants as causes
+use Rattle.proxy_config.specs.declared.faults.FaultCause.{FaultCause}
+use Rattle.proxy_config.specs.declared.faults.FaultCause.TheVariants as causes
 use Rattle.proxy_config.specs.declared.keywords.Keyword.TheVariants as keywords
 use Rattle.proxy_config.specs.declared.parts.Server.{Server}
 use Rattle.proxy_config.specs.declared.parts.Address.{Address}
@@ -17,19 +17,20 @@ use Rattle.proxy_config.specs.declared.values.Shared.TheVariants as shared
 use Rattle.proxy_config.specs.declared.values.Timeout.{Timeout}
 use Rattle.proxy_config.specs.Addresses.{bind_of, address_of}
 use Rattle.proxy_config.specs.Draft.{in_listen, most_servers, most_acl_lines, most_rules}
+use Rattle.proxy_config.specs.Resolved.{Resolved}
 use Rattle.proxy_config.specs.Keywords.{keyword_of}
 use Rattle.proxy_config.specs.Names.{is_acl_name}
 use Rattle.proxy_config.specs.Pieces.{number_in, number_from, time_from}
-use Rattle.proxy_config.specs.Rows.{in_values}
+use Rattle.proxy_config.specs.CauseTable.{in_values}
 use Rattle.proxy_config.specs.Rules.{action_of, server_index}
 use Rattle.proxy_config.specs.Samples.{expression_of}
 use Rattle.proxy_config.specs.Settings.{is_check, setting_of}
 use Rattle.proxy_config.specs.Values.{switch_of, timeout_of}
 
 -- a line of rules may stand here: in the `listen`, and there is room for one more
-pub record TakesRule (d : Draft) : Type 0 where
-  pub place : in_listen d.section ≡ true
-  pub room : nat_le most_rules (length d.rules + length d.pins) ≡ false
+pub record TakesRule (r : Resolved) : Type 0 where
+  pub place : in_listen r.draft.section ≡ true
+  pub room : nat_le most_rules (length r.draft.rules + length r.pins) ≡ false
 
 -- a server of this name may stand here: in the `listen`, and there is room for it and no other of its name
 pub record TakesServer (d : Draft) (name : List ℕ) : Type 0 where
@@ -47,91 +48,91 @@ value_in Inter word = time_from 1 word
 value_in Rise word = number_from 1 word
 value_in Fall word = number_from 1 word
 
-pub data HasFault (servers : List Server) (d : Draft) : List (List ℕ) → Cause → Type 0 where
+pub data HasFault (servers : List Server) (r : Resolved) : List (List ℕ) → FaultCause → Type 0 where
   -- `keyword`: a first word that is none; another mode or balance; an option, a timeout, an action or a setting that isn't one
-  no_keyword : (word : List ℕ) (more : List (List ℕ)) → keyword_of word ≡ None → HasFault servers d (word ∷ more) causes.Keyword
-  another_mode : (word mode : List ℕ) (more : List (List ℕ)) → keyword_of word ≡ Some (keywords.Shared shared.Mode) → in_values d.section ≡ true
+  no_keyword : (word : List ℕ) (more : List (List ℕ)) → keyword_of word ≡ None → HasFault servers r (word ∷ more) causes.Keyword
+  another_mode : (word mode : List ℕ) (more : List (List ℕ)) → keyword_of word ≡ Some (keywords.Shared shared.Mode) → in_values r.draft.section ≡ true
       → bytes_eq mode (codes "http") ≡ false
-      → HasFault servers d (word ∷ mode ∷ more) causes.Keyword
-  another_balance : (word balance : List ℕ) (more : List (List ℕ)) → keyword_of word ≡ Some (keywords.Shared shared.Balance) → in_values d.section ≡ true
+      → HasFault servers r (word ∷ mode ∷ more) causes.Keyword
+  another_balance : (word balance : List ℕ) (more : List (List ℕ)) → keyword_of word ≡ Some (keywords.Shared shared.Balance) → in_values r.draft.section ≡ true
       → bytes_eq balance (codes "leastconn") ≡ false
-      → HasFault servers d (word ∷ balance ∷ more) causes.Keyword
-  no_option : (word option : List ℕ) (more : List (List ℕ)) → keyword_of word ≡ Some (keywords.Shared shared.Option) → in_values d.section ≡ true
+      → HasFault servers r (word ∷ balance ∷ more) causes.Keyword
+  no_option : (word option : List ℕ) (more : List (List ℕ)) → keyword_of word ≡ Some (keywords.Shared shared.Option) → in_values r.draft.section ≡ true
       → switch_of option ≡ None
-      → HasFault servers d (word ∷ option ∷ more) causes.Keyword
-  no_timeout : (word timeout : List ℕ) (more : List (List ℕ)) → keyword_of word ≡ Some (keywords.Shared shared.Timeout) → in_values d.section ≡ true
+      → HasFault servers r (word ∷ option ∷ more) causes.Keyword
+  no_timeout : (word timeout : List ℕ) (more : List (List ℕ)) → keyword_of word ≡ Some (keywords.Shared shared.Timeout) → in_values r.draft.section ≡ true
       → timeout_of timeout ≡ None
-      → HasFault servers d (word ∷ timeout ∷ more) causes.Keyword
-  no_action : (word action : List ℕ) (more : List (List ℕ)) → keyword_of word ≡ Some keywords.HttpRequest → TakesRule d → action_of action ≡ None
-      → HasFault servers d (word ∷ action ∷ more) causes.Keyword
+      → HasFault servers r (word ∷ timeout ∷ more) causes.Keyword
+  no_action : (word action : List ℕ) (more : List (List ℕ)) → keyword_of word ≡ Some keywords.HttpRequest → TakesRule r → action_of action ≡ None
+      → HasFault servers r (word ∷ action ∷ more) causes.Keyword
   no_setting : (word name at : List ℕ) (address : Address) (setting value : List ℕ) (more : List (List ℕ)) → keyword_of word ≡ Some keywords.Server
-      → TakesServer d name → address_of at ≡ Some address
-      → is_check setting ≡ false → setting_of setting ≡ None → HasFault servers d (word ∷ name ∷ at ∷ setting ∷ value ∷ more) causes.Keyword
+      → TakesServer r.draft name → address_of at ≡ Some address
+      → is_check setting ≡ false → setting_of setting ≡ None → HasFault servers r (word ∷ name ∷ at ∷ setting ∷ value ∷ more) causes.Keyword
   -- `words`: one too few at the end, or one too many
-  no_number : (word : List ℕ) → keyword_of word ≡ Some (keywords.Shared shared.Retries) → in_values d.section ≡ true
-      → HasFault servers d (word ∷ []) causes.Words
-  no_time : (word timeout : List ℕ) (which : Timeout) → keyword_of word ≡ Some (keywords.Shared shared.Timeout) → in_values d.section ≡ true
+  no_number : (word : List ℕ) → keyword_of word ≡ Some (keywords.Shared shared.Retries) → in_values r.draft.section ≡ true
+      → HasFault servers r (word ∷ []) causes.Words
+  no_time : (word timeout : List ℕ) (which : Timeout) → keyword_of word ≡ Some (keywords.Shared shared.Timeout) → in_values r.draft.section ≡ true
       → timeout_of timeout ≡ Some which
-      → HasFault servers d (word ∷ timeout ∷ []) causes.Words
-  no_address : (word name : List ℕ) → keyword_of word ≡ Some keywords.Server → TakesServer d name → HasFault servers d (word ∷ name ∷ []) causes.Words
+      → HasFault servers r (word ∷ timeout ∷ []) causes.Words
+  no_address : (word name : List ℕ) → keyword_of word ≡ Some keywords.Server → TakesServer r.draft name → HasFault servers r (word ∷ name ∷ []) causes.Words
   behind_global : (word surplus : List ℕ) (more : List (List ℕ)) → keyword_of word ≡ Some keywords.Global
-      → HasFault servers d (word ∷ surplus ∷ more) causes.Words
+      → HasFault servers r (word ∷ surplus ∷ more) causes.Words
   behind_a_number : (word digits surplus : List ℕ) (number : ℕ) (more : List (List ℕ)) → keyword_of word ≡ Some (keywords.Shared shared.Retries)
-      → in_values d.section ≡ true → numeral 9 digits ≡ Some number
-      → HasFault servers d (word ∷ digits ∷ surplus ∷ more) causes.Words
+      → in_values r.draft.section ≡ true → numeral 9 digits ≡ Some number
+      → HasFault servers r (word ∷ digits ∷ surplus ∷ more) causes.Words
   -- `number`: a number or a time that isn't one, or is out of its range
-  no_retries : (word digits : List ℕ) (more : List (List ℕ)) → keyword_of word ≡ Some (keywords.Shared shared.Retries) → in_values d.section ≡ true
+  no_retries : (word digits : List ℕ) (more : List (List ℕ)) → keyword_of word ≡ Some (keywords.Shared shared.Retries) → in_values r.draft.section ≡ true
       → numeral 9 digits ≡ None
-      → HasFault servers d (word ∷ digits ∷ more) causes.Number
+      → HasFault servers r (word ∷ digits ∷ more) causes.Number
   no_milliseconds : (word timeout digits : List ℕ) (which : Timeout) (more : List (List ℕ)) → keyword_of word ≡ Some (keywords.Shared shared.Timeout)
-      → in_values d.section ≡ true → timeout_of timeout ≡ Some which → time digits ≡ None
-      → HasFault servers d (word ∷ timeout ∷ digits ∷ more) causes.Number
+      → in_values r.draft.section ≡ true → timeout_of timeout ≡ Some which → time digits ≡ None
+      → HasFault servers r (word ∷ timeout ∷ digits ∷ more) causes.Number
   no_value : (word name at : List ℕ) (address : Address) (setting value : List ℕ) (which : Setting) (more : List (List ℕ))
-      → keyword_of word ≡ Some keywords.Server → TakesServer d name → address_of at ≡ Some address
+      → keyword_of word ≡ Some keywords.Server → TakesServer r.draft name → address_of at ≡ Some address
       → is_check setting ≡ false → setting_of setting ≡ Some which → value_in which value ≡ None
-      → HasFault servers d (word ∷ name ∷ at ∷ setting ∷ value ∷ more) causes.Number
+      → HasFault servers r (word ∷ name ∷ at ∷ setting ∷ value ∷ more) causes.Number
   -- `address`: one that isn't one
-  no_bind_address : (word at : List ℕ) (more : List (List ℕ)) → keyword_of word ≡ Some keywords.Bind → in_listen d.section ≡ true → is_some d.bind ≡ false
+  no_bind_address : (word at : List ℕ) (more : List (List ℕ)) → keyword_of word ≡ Some keywords.Bind → in_listen r.draft.section ≡ true → is_some r.draft.bind ≡ false
       → bind_of at ≡ None
-      → HasFault servers d (word ∷ at ∷ more) causes.Address
-  no_server_address : (word name at : List ℕ) (more : List (List ℕ)) → keyword_of word ≡ Some keywords.Server → TakesServer d name → address_of at ≡ None
-      → HasFault servers d (word ∷ name ∷ at ∷ more) causes.Address
+      → HasFault servers r (word ∷ at ∷ more) causes.Address
+  no_server_address : (word name at : List ℕ) (more : List (List ℕ)) → keyword_of word ≡ Some keywords.Server → TakesServer r.draft name → address_of at ≡ None
+      → HasFault servers r (word ∷ name ∷ at ∷ more) causes.Address
   -- `name`: one that isn't one
   no_defaults_name : (word name : List ℕ) (more : List (List ℕ)) → keyword_of word ≡ Some keywords.Defaults → is_name name ≡ false
-      → HasFault servers d (word ∷ name ∷ more) causes.Name
-  no_listen_name : (word name : List ℕ) (more : List (List ℕ)) → keyword_of word ≡ Some keywords.Listen → is_some d.listen ≡ false → is_name name ≡ false
-      → HasFault servers d (word ∷ name ∷ more) causes.Name
-  no_server_name : (word name : List ℕ) (more : List (List ℕ)) → keyword_of word ≡ Some keywords.Server → in_listen d.section ≡ true
-      → nat_le most_servers (length d.servers) ≡ false → is_name name ≡ false
-      → HasFault servers d (word ∷ name ∷ more) causes.Name
-  no_acl_name : (word name : List ℕ) (more : List (List ℕ)) → keyword_of word ≡ Some keywords.Acl → in_listen d.section ≡ true
-      → nat_le most_acl_lines d.acl_lines ≡ false → is_acl_name name ≡ false
-      → HasFault servers d (word ∷ name ∷ more) causes.Name
-  no_pin_name : (word name : List ℕ) (more : List (List ℕ)) → keyword_of word ≡ Some keywords.UseServer → TakesRule d → is_name name ≡ false
-      → HasFault servers d (word ∷ name ∷ more) causes.Name
+      → HasFault servers r (word ∷ name ∷ more) causes.Name
+  no_listen_name : (word name : List ℕ) (more : List (List ℕ)) → keyword_of word ≡ Some keywords.Listen → is_some r.draft.listen ≡ false → is_name name ≡ false
+      → HasFault servers r (word ∷ name ∷ more) causes.Name
+  no_server_name : (word name : List ℕ) (more : List (List ℕ)) → keyword_of word ≡ Some keywords.Server → in_listen r.draft.section ≡ true
+      → nat_le most_servers (length r.draft.servers) ≡ false → is_name name ≡ false
+      → HasFault servers r (word ∷ name ∷ more) causes.Name
+  no_acl_name : (word name : List ℕ) (more : List (List ℕ)) → keyword_of word ≡ Some keywords.Acl → in_listen r.draft.section ≡ true
+      → nat_le most_acl_lines r.draft.acl_lines ≡ false → is_acl_name name ≡ false
+      → HasFault servers r (word ∷ name ∷ more) causes.Name
+  no_pin_name : (word name : List ℕ) (more : List (List ℕ)) → keyword_of word ≡ Some keywords.UseServer → TakesRule r → is_name name ≡ false
+      → HasFault servers r (word ∷ name ∷ more) causes.Name
   -- `twice`: a second `bind`, or a server's name again
-  bind_again : (word : List ℕ) (more : List (List ℕ)) → keyword_of word ≡ Some keywords.Bind → in_listen d.section ≡ true → is_some d.bind ≡ true
-      → HasFault servers d (word ∷ more) causes.Twice
-  server_again : (word name : List ℕ) (more : List (List ℕ)) → keyword_of word ≡ Some keywords.Server → in_listen d.section ≡ true
-      → nat_le most_servers (length d.servers) ≡ false → is_name name ≡ true
-      → is_some (server_index name d.servers) ≡ true → HasFault servers d (word ∷ name ∷ more) causes.Twice
+  bind_again : (word : List ℕ) (more : List (List ℕ)) → keyword_of word ≡ Some keywords.Bind → in_listen r.draft.section ≡ true → is_some r.draft.bind ≡ true
+      → HasFault servers r (word ∷ more) causes.Twice
+  server_again : (word name : List ℕ) (more : List (List ℕ)) → keyword_of word ≡ Some keywords.Server → in_listen r.draft.section ≡ true
+      → nat_le most_servers (length r.draft.servers) ≡ false → is_name name ≡ true
+      → is_some (server_index name r.draft.servers) ≡ true → HasFault servers r (word ∷ name ∷ more) causes.Twice
   -- `unknown`: a server that none of the file's is
-  no_server : (word name : List ℕ) (more : List (List ℕ)) → keyword_of word ≡ Some keywords.UseServer → TakesRule d → is_name name ≡ true
+  no_server : (word name : List ℕ) (more : List (List ℕ)) → keyword_of word ≡ Some keywords.UseServer → TakesRule r → is_name name ≡ true
       → server_index name servers ≡ None
-      → HasFault servers d (word ∷ name ∷ more) causes.Unknown
+      → HasFault servers r (word ∷ name ∷ more) causes.Unknown
   -- `condition`: an expression that isn't one; another word than `if` or `unless`
-  no_expression : (word action value : List ℕ) (which : Action) (more : List (List ℕ)) → keyword_of word ≡ Some keywords.HttpRequest → TakesRule d
+  no_expression : (word action value : List ℕ) (which : Action) (more : List (List ℕ)) → keyword_of word ≡ Some keywords.HttpRequest → TakesRule r
       → action_of action ≡ Some which → expression_of value ≡ None
-      → HasFault servers d (word ∷ action ∷ value ∷ more) causes.Condition
-  no_guard : (word name other : List ℕ) (index : ℕ) (more : List (List ℕ)) → keyword_of word ≡ Some keywords.UseServer → TakesRule d → is_name name ≡ true
+      → HasFault servers r (word ∷ action ∷ value ∷ more) causes.Condition
+  no_guard : (word name other : List ℕ) (index : ℕ) (more : List (List ℕ)) → keyword_of word ≡ Some keywords.UseServer → TakesRule r → is_name name ≡ true
       → server_index name servers ≡ Some index
-      → bytes_eq other (codes "if") ≡ false → bytes_eq other (codes "unless") ≡ false → HasFault servers d (word ∷ name ∷ other ∷ more) causes.Condition
+      → bytes_eq other (codes "if") ≡ false → bytes_eq other (codes "unless") ≡ false → HasFault servers r (word ∷ name ∷ other ∷ more) causes.Condition
   -- `limit`: one server, ACL line or rule too many
-  servers_full : (word : List ℕ) (more : List (List ℕ)) → keyword_of word ≡ Some keywords.Server → in_listen d.section ≡ true
-      → nat_le most_servers (length d.servers) ≡ true → HasFault servers d (word ∷ more) causes.Limit
-  acl_lines_full : (word : List ℕ) (more : List (List ℕ)) → keyword_of word ≡ Some keywords.Acl → in_listen d.section ≡ true
-      → nat_le most_acl_lines d.acl_lines ≡ true → HasFault servers d (word ∷ more) causes.Limit
-  rules_full : (word : List ℕ) (more : List (List ℕ)) → keyword_of word ≡ Some keywords.HttpRequest → in_listen d.section ≡ true
-      → nat_le most_rules (length d.rules + length d.pins) ≡ true → HasFault servers d (word ∷ more) causes.Limit
-  pins_full : (word : List ℕ) (more : List (List ℕ)) → keyword_of word ≡ Some keywords.UseServer → in_listen d.section ≡ true
-      → nat_le most_rules (length d.rules + length d.pins) ≡ true → HasFault servers d (word ∷ more) causes.Limit
+  servers_full : (word : List ℕ) (more : List (List ℕ)) → keyword_of word ≡ Some keywords.Server → in_listen r.draft.section ≡ true
+      → nat_le most_servers (length r.draft.servers) ≡ true → HasFault servers r (word ∷ more) causes.Limit
+  acl_lines_full : (word : List ℕ) (more : List (List ℕ)) → keyword_of word ≡ Some keywords.Acl → in_listen r.draft.section ≡ true
+      → nat_le most_acl_lines r.draft.acl_lines ≡ true → HasFault servers r (word ∷ more) causes.Limit
+  rules_full : (word : List ℕ) (more : List (List ℕ)) → keyword_of word ≡ Some keywords.HttpRequest → in_listen r.draft.section ≡ true
+      → nat_le most_rules (length r.draft.rules + length r.pins) ≡ true → HasFault servers r (word ∷ more) causes.Limit
+  pins_full : (word : List ℕ) (more : List (List ℕ)) → keyword_of word ≡ Some keywords.UseServer → in_listen r.draft.section ≡ true
+      → nat_le most_rules (length r.draft.rules + length r.pins) ≡ true → HasFault servers r (word ∷ more) causes.Limit

@@ -3,8 +3,8 @@ use Rattle.std.specs.Prelude.{◌≡◌, ℕ, ◌+◌, ◌==◌, Bool, true, fal
 use Rattle.std.specs.Prelude.{[], ◌∷◌, length, take, count_by, Option, Some, None, Result, Ok, Err}
 use Rattle.std.specs.Str.Lines.{lines}
 use Rattle.proxy_words.specs.Text.{is_line_feed, words, uncommented}
-use Rattle.proxy_config.specs.declared.faults.Cause.{Cause}
-use Rattle.proxy_config.specs.declared.faults.Cause.TheVariants as causes
+use Rattle.proxy_config.specs.declared.faults.FaultCause.{FaultCause}
+use Rattle.proxy_config.specs.declared.faults.FaultCause.TheVariants as causes
 use Rattle.proxy_config.specs.declared.faults.ConfigFault.{ConfigFault}
 use Rattle.proxy_config.specs.declared.faults.ReadError.{ReadError}
 use Rattle.proxy_config.specs.declared.faults.ReadError.TheVariants as errors
@@ -15,7 +15,9 @@ use Rattle.proxy_config.specs.declared.keywords.Keyword.TheVariants as keywords
 use Rattle.proxy_config.specs.declared.parts.Bind.{Bind}
 use Rattle.proxy_config.specs.declared.parts.Config.{Config}
 use Rattle.proxy_config.specs.declared.parts.Server.{Server}
-use Rattle.proxy_config.specs.Draft.{start, step}
+use Rattle.proxy_config.specs.Draft as draft
+use Rattle.proxy_config.specs.Resolved.{Resolved, start, resolved_line}
+use Rattle.proxy_config.specs.declared.wishes.Wish.{Wish}
 use Rattle.proxy_config.specs.Keywords.{keyword_of}
 use Rattle.proxy_config.specs.Values.{queue_timeout, set_time}
 
@@ -32,14 +34,15 @@ is_line None n = false
 is_line (Some line) n = line == n
 
 -- a line's outcome, with its number beside the cause, and what comes after it
-abbrev pub then_lines : {A B : Type 0} → ℕ → Result B Cause → (B → Result A ConfigFault) → Result A ConfigFault
+abbrev pub then_lines : {A B : Type 0} → ℕ → Result B FaultCause → (B → Result A ConfigFault) → Result A ConfigFault
 then_lines n (Ok made) more = more made
 then_lines n (Err cause) more = Err (record { line = n; cause = cause })
 
--- the lines from this number on, each by the draft that those before it left: the first faulty one is named
-abbrev pub run : List Server → Option ℕ → Draft → ℕ → List (List ℕ) → Result Draft ConfigFault
-run servers long d n [] = Ok d
-run servers long d n (line ∷ lines) = then_lines n (step servers (is_line long n) d n line) (λ next. run servers long next (n + 1) lines)
+-- the lines from this number on, each behind what those before it came to: the first faulty one is named
+abbrev pub run : List Server → Option ℕ → Resolved → ℕ → List (List ℕ) → Result Resolved ConfigFault
+run servers long r n [] = Ok r
+run servers long r n (line ∷ lines) =
+    then_lines n (resolved_line servers (is_line long n) r n line) (λ next. run servers long next (n + 1) lines)
 
 -- the keyword that a line begins with
 abbrev pub first_keyword : List (List ℕ) → Option Keyword
@@ -60,42 +63,42 @@ ends_listen d other = false
 abbrev pub after_fault : Draft → Option Keyword → Draft
 after_fault d keyword = if ends_listen d keyword then record d { section = sections.Outside } else d
 
-abbrev pub unless_faulty : Draft → Option Keyword → Result Draft Cause → Draft
-unless_faulty d keyword (Ok next) = next
+abbrev pub unless_faulty : Draft → Option Keyword → Result (Draft × Option Wish) FaultCause → Draft
+unless_faulty d keyword (Ok (next, wish)) = next
 unless_faulty d keyword (Err cause) = after_fault d keyword
 
--- the draft after all lines, faulty ones aside: its servers may be named anywhere in the file
+-- the draft after all lines, faulty ones aside: its servers may be named anywhere in the file, and no pin changes them
 abbrev pub survey : Option ℕ → Draft → ℕ → List (List ℕ) → Draft
 survey long d n [] = d
-survey long d n (line ∷ lines) = survey long (unless_faulty d (keyword_in line) (step [] (is_line long n) d n line)) (n + 1) lines
+survey long d n (line ∷ lines) = survey long (unless_faulty d (keyword_in line) (draft.step 0 (is_line long n) d n line)) (n + 1) lines
 
 abbrev pub declared_servers : List ℕ → List Server
-declared_servers bytes = (survey (long_line bytes) start 1 (lines bytes)).servers
+declared_servers bytes = (survey (long_line bytes) draft.start 1 (lines bytes)).servers
 
 abbrev pub missing : {A : Type 0} → ℕ → Result A ConfigFault
 missing line = Err (record { line = line; cause = causes.Missing })
 
 -- what the lines come to: a `listen`, with a `bind` and one server or more
-abbrev pub whole : Option ℕ → Option Bind → Draft → Result Config ConfigFault
-whole None bind d = missing 0
-whole (Some line) None d = missing line
-whole (Some line) (Some bind) d = if length d.servers == 0 then missing line else Ok (record {
+abbrev pub whole : Option ℕ → Option Bind → Resolved → Result Config ConfigFault
+whole None bind r = missing 0
+whole (Some line) None r = missing line
+whole (Some line) (Some bind) r = if length r.draft.servers == 0 then missing line else Ok (record {
   bind = bind;
-  servers = d.servers;
-  retries = d.values.retries;
-  redispatch = d.values.redispatch;
-  abortonclose = d.values.abortonclose;
-  queue_timeout = queue_timeout d.values;
-  connect_timeout = set_time d.values.connect;
-  client_timeout = set_time d.values.client;
-  server_timeout = set_time d.values.server;
-  acls = d.acls;
-  rules = d.rules;
-  pins = d.pins;
+  servers = r.draft.servers;
+  retries = r.draft.values.retries;
+  redispatch = r.draft.values.redispatch;
+  abortonclose = r.draft.values.abortonclose;
+  queue_timeout = queue_timeout r.draft.values;
+  connect_timeout = set_time r.draft.values.connect;
+  client_timeout = set_time r.draft.values.client;
+  server_timeout = set_time r.draft.values.server;
+  acls = r.draft.acls;
+  rules = r.draft.rules;
+  pins = r.pins;
 })
 
-abbrev pub finished : Result Draft ConfigFault → Result Config ConfigFault
-finished (Ok d) = whole d.listen d.bind d
+abbrev pub finished : Result Resolved ConfigFault → Result Config ConfigFault
+finished (Ok r) = whole r.draft.listen r.draft.bind r
 finished (Err fault) = Err fault
 
 -- what a file says, or its first fault

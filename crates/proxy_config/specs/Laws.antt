@@ -1,44 +1,43 @@
 -- What reading means, said of whole files: no law here follows a word or a state.
 use Rattle.std.specs.Prelude.{◌≡◌, ◌⊎◌, ℕ, ◌+◌, List, [], ◌∷◌, ◌++◌, length, Option, Ok, Err}
 use Rattle.std.specs.Str.Lines.{lines}
-use Rattle.proxy_config.specs.declared.faults.Cause.TheVariants as causes
+use Rattle.proxy_config.specs.declared.faults.FaultCause.TheVariants as causes
 use Rattle.proxy_config.specs.declared.faults.ConfigFault.{ConfigFault}
 use Rattle.proxy_config.specs.declared.faults.ReadError.{ReadError}
 use Rattle.proxy_config.specs.declared.faults.ReadError.TheVariants as errors
-use Rattle.proxy_config.specs.declared.draft.Draft.{Draft}
 use Rattle.proxy_config.specs.declared.parts.Config.{Config}
 use Rattle.proxy_config.specs.declared.parts.Server.{Server}
-use Rattle.proxy_config.specs.Draft.{start, step}
+use Rattle.proxy_config.specs.Resolved.{Resolved, start, resolved_line}
 use Rattle.proxy_config.specs.File.{declared_servers, is_line, long_line, whole}
 
--- The lines, the first of which has this number, are all taken in: they lead from one draft to the other.
-abbrev pub TakenIn : List Server → Option ℕ → Draft → ℕ → List (List ℕ) → Draft → Type 0
-TakenIn servers long d n [] e = e ≡ d
-TakenIn servers long d n (line ∷ lines) e =
-    (next : Draft) × (step servers (is_line long n) d n line ≡ Ok next) × TakenIn servers long next (n + 1) lines e
+-- The lines, the first of which has this number, are all taken in: they lead from what those before them came to, to this.
+abbrev pub TakenIn : List Server → Option ℕ → Resolved → ℕ → List (List ℕ) → Resolved → Type 0
+TakenIn servers long r n [] e = e ≡ r
+TakenIn servers long r n (line ∷ lines) e =
+    (next : Resolved) × (resolved_line servers (is_line long n) r n line ≡ Ok next) × TakenIn servers long next (n + 1) lines e
 
 -- A line is faulty, and all before it are taken in. Nothing is said of the lines after it.
 pub record FirstFault (servers : List Server) (long : Option ℕ) (lines : List (List ℕ)) (fault : ConfigFault) : Type 0 where
   pub before : List (List ℕ)
   pub line : List ℕ
   pub after : List (List ℕ)
-  pub draft : Draft
+  pub so_far : Resolved
   pub is : lines ≡ before ++ line ∷ after
-  pub taken_in : TakenIn servers long start 1 before draft
+  pub taken_in : TakenIn servers long start 1 before so_far
   pub number : fault.line ≡ length before + 1
-  pub cause : step servers (is_line long fault.line) draft fault.line line ≡ Err fault.cause
+  pub cause : resolved_line servers (is_line long fault.line) so_far fault.line line ≡ Err fault.cause
 
 -- All lines are taken in, and make this configuration.
 pub record Says (bytes : List ℕ) (config : Config) : Type 0 where
-  pub draft : Draft
-  pub taken_in : TakenIn (declared_servers bytes) (long_line bytes) start 1 (lines bytes) draft
-  pub whole : whole draft.listen draft.bind draft ≡ Ok config
+  pub read : Resolved
+  pub taken_in : TakenIn (declared_servers bytes) (long_line bytes) start 1 (lines bytes) read
+  pub whole : whole read.draft.listen read.draft.bind read ≡ Ok config
 
 -- All lines are taken in, and no `listen` stands there, or one without a `bind` or a server: its line is named.
 pub record Lacks (bytes : List ℕ) (fault : ConfigFault) : Type 0 where
-  pub draft : Draft
-  pub taken_in : TakenIn (declared_servers bytes) (long_line bytes) start 1 (lines bytes) draft
-  pub whole : whole draft.listen draft.bind draft ≡ Err fault
+  pub read : Resolved
+  pub taken_in : TakenIn (declared_servers bytes) (long_line bytes) start 1 (lines bytes) read
+  pub whole : whole read.draft.listen read.draft.bind read ≡ Err fault
   pub cause : fault.cause ≡ causes.Missing
 
 -- The fault is that of the first faulty line, or where there is none, something is missing.

@@ -11,10 +11,11 @@ pub mod Keywords
 pub mod Draft
 pub mod File
 pub mod Wishes
+pub mod Resolved
 pub mod Progress
 pub mod Laws
 pub mod ConditionGrammar
-pub mod Rows
+pub mod CauseTable
 pub mod Faulty
 pub mod Sound
 pub mod LeftToRight

@@ -3,16 +3,16 @@ use Rattle.std.specs.Prelude.{ℕ, List, [], ◌∷◌, Result, Ok, Err, nat_lt,
 use Rattle.std.specs.Option.{option_and_then}
 use Rattle.proxy_words.specs.Numerals.{numeral}
 use Rattle.proxy_words.specs.Times.{time}
-use Rattle.proxy_config.specs.declared.faults.Cause.{Cause}
-use Rattle.proxy_config.specs.declared.faults.Cause.TheVariants as causes
+use Rattle.proxy_config.specs.declared.faults.FaultCause.{FaultCause}
+use Rattle.proxy_config.specs.declared.faults.FaultCause.TheVariants as causes
 
 -- a word, and the words after it
-abbrev pub word_at : List (List ℕ) → Result (List ℕ × List (List ℕ)) Cause
+abbrev pub word_at : List (List ℕ) → Result (List ℕ × List (List ℕ)) FaultCause
 word_at [] = Err causes.Words
 word_at (word ∷ words) = Ok (word, words)
 
 -- no word more
-abbrev pub end_at : List (List ℕ) → Result (Unit {0}) Cause
+abbrev pub end_at : List (List ℕ) → Result (Unit {0}) FaultCause
 end_at [] = Ok tt
 end_at (word ∷ words) = Err causes.Words
 

@@ -2,21 +2,19 @@
 use Rattle.std.specs.Prelude.{ℕ, if◌then◌else◌, List, [], ◌∷◌, ◌++◌, not, position, Option, Some, None, Result, Ok, codes}
 use Rattle.std.specs.Option.{ok_or}
 use Rattle.std.specs.Str.{bytes_eq}
-use Rattle.proxy_config.specs.declared.faults.Cause.{Cause}
-use Rattle.proxy_config.specs.declared.faults.Cause.TheVariants as causes
+use Rattle.proxy_config.specs.declared.faults.FaultCause.{FaultCause}
+use Rattle.proxy_config.specs.declared.faults.FaultCause.TheVariants as causes
 use Rattle.proxy_config.specs.declared.parts.Acl.{Acl}
 use Rattle.proxy_config.specs.declared.parts.Action.{Action}
 use Rattle.proxy_config.specs.declared.parts.Action.TheVariants.{SetPriorityClass, SetPriorityOffset}
-use Rattle.proxy_config.specs.declared.parts.Pin.{Pin}
 use Rattle.proxy_config.specs.declared.parts.Rule.{Rule}
 use Rattle.proxy_config.specs.declared.parts.Server.{Server}
 use Rattle.proxy_config.specs.declared.parts.Test.{Test}
 use Rattle.proxy_config.specs.Outcomes.{◌>>=◌, unless}
-use Rattle.proxy_words.specs.Names.{is_name}
 use Rattle.proxy_config.specs.Names.{is_acl_name}
 use Rattle.proxy_config.specs.Pieces.{word_at}
 use Rattle.proxy_config.specs.Samples.{test_to_end, expression_of}
-use Rattle.proxy_config.specs.Conditions.{guard_at, optional_guard}
+use Rattle.proxy_config.specs.Conditions.{optional_guard}
 
 -- the ACLs with one alternative more of this name
 abbrev pub with_test : List ℕ → Test → List Acl → List Acl
@@ -25,7 +23,7 @@ with_test name test (acl ∷ acls) = if bytes_eq acl.name name then record acl {
     else acl ∷ with_test name test acls
 
 -- `acl NAME TEST`
-unfoldable pub acl_line : List Acl → List (List ℕ) → Result (List Acl) Cause
+unfoldable pub acl_line : List Acl → List (List ℕ) → Result (List Acl) FaultCause
 acl_line acls words = do
   name ← word_at words
   named ← unless (not (is_acl_name name.0)) causes.Name
@@ -39,7 +37,7 @@ action_of word =
     else None
 
 -- `http-request ACTION EXPRESSION`, and a guard or none
-unfoldable pub rule_line : List Acl → List (List ℕ) → Result Rule Cause
+unfoldable pub rule_line : List Acl → List (List ℕ) → Result Rule FaultCause
 rule_line acls words = do
   first ← word_at words
   action ← ok_or (action_of first.0) causes.Keyword
@@ -51,13 +49,3 @@ rule_line acls words = do
 -- which of the servers has the name
 abbrev pub server_index : List ℕ → List Server → Option ℕ
 server_index name servers = position (λ server. bytes_eq server.name name) servers
-
--- `use-server NAME` and a guard
-unfoldable pub pin_line : List Server → List Acl → List (List ℕ) → Result Pin Cause
-pin_line servers acls words = do
-  name ← word_at words
-  named ← unless (not (is_name name.0)) causes.Name
-  server ← ok_or (server_index name.0 servers) causes.Unknown
-  first ← word_at name.1
-  guard ← guard_at acls first.0 first.1
-  Ok (record { server = server; guard = guard })

@@ -4,8 +4,8 @@ use Rattle.std.specs.Prelude.{take, drop, slice_index, Option, Some, None, optio
 use Rattle.std.specs.Option.{ok_or, option_and_then}
 use Rattle.std.specs.Str.{bytes_eq}
 use Rattle.proxy_words.specs.Numerals.{signed_numeral}
-use Rattle.proxy_config.specs.declared.faults.Cause.{Cause}
-use Rattle.proxy_config.specs.declared.faults.Cause.TheVariants as causes
+use Rattle.proxy_config.specs.declared.faults.FaultCause.{FaultCause}
+use Rattle.proxy_config.specs.declared.faults.FaultCause.TheVariants as causes
 use Rattle.proxy_config.specs.declared.parts.Subject.{Subject}
 use Rattle.proxy_config.specs.declared.parts.Subject.TheVariants.{Path, PathBegin, PathEnd, Method, Header}
 use Rattle.proxy_config.specs.declared.parts.Test.{Test}
@@ -52,7 +52,7 @@ is_dashed [] = false
 is_dashed (byte ∷ word) = byte == 45
 
 -- What a test looks at, and whether it ignores case; its first value, and the words after that.
-unfoldable pub head_at : List (List ℕ) → Result (Subject × Bool × List ℕ × List (List ℕ)) Cause
+unfoldable pub head_at : List (List ℕ) → Result (Subject × Bool × List ℕ × List (List ℕ)) FaultCause
 head_at words = do
   first ← word_at words
   subject ← ok_or (subject_of first.0) causes.Condition
@@ -60,16 +60,16 @@ head_at words = do
   if bytes_eq second.0 (codes "-i") then (word_at second.1 >>= λ third. Ok (subject, true, third.0, third.1))
       else Ok (subject, false, second.0, second.1)
 
-abbrev pub value_of : List ℕ → Result (List ℕ) Cause
+abbrev pub value_of : List ℕ → Result (List ℕ) FaultCause
 value_of word = if is_dashed word then Err causes.Condition else Ok word
 
 -- the values to the end of the line
-abbrev pub values_to_end : List (List ℕ) → Result (List (List ℕ)) Cause
+abbrev pub values_to_end : List (List ℕ) → Result (List (List ℕ)) FaultCause
 values_to_end [] = Ok []
 values_to_end (word ∷ words) = value_of word >>= λ value. values_to_end words >>= λ more. Ok (value ∷ more)
 
 -- a test that goes to the end of the line
-unfoldable pub test_to_end : List (List ℕ) → Result Test Cause
+unfoldable pub test_to_end : List (List ℕ) → Result Test FaultCause
 test_to_end words = do
   head ← head_at words
   first ← value_of head.2
@@ -80,13 +80,13 @@ abbrev pub is_brace : List ℕ → Bool
 is_brace word = bytes_eq word (codes "}")
 
 -- the values up to the closing brace, and the words after that
-abbrev pub values_to_brace : List (List ℕ) → Result (List (List ℕ) × List (List ℕ)) Cause
+abbrev pub values_to_brace : List (List ℕ) → Result (List (List ℕ) × List (List ℕ)) FaultCause
 values_to_brace [] = Err causes.Words
 values_to_brace (word ∷ words) = if is_brace word then Ok ([], words)
     else value_of word >>= λ value. values_to_brace words >>= λ more. Ok (value ∷ more.0, more.1)
 
 -- a test in braces, behind the opening one, and the words after the closing one: its first value is no brace
-unfoldable pub test_in_braces : List (List ℕ) → Result (Test × List (List ℕ)) Cause
+unfoldable pub test_in_braces : List (List ℕ) → Result (Test × List (List ℕ)) FaultCause
 test_in_braces words = do
   head ← head_at words
   brace ← unless (is_brace head.2) causes.Condition
@@ -95,8 +95,8 @@ test_in_braces words = do
   Ok (record { subject = head.0; ignore_case = head.1; values = first ∷ more.0 }, more.1)
 
 -- what was read before, and what is still read
-abbrev pub onto : List (List ℕ) → Result (List (List ℕ)) Cause → Result (List (List ℕ)) Cause
+abbrev pub onto : List (List ℕ) → Result (List (List ℕ)) FaultCause → Result (List (List ℕ)) FaultCause
 onto front read = read >>= λ more. Ok (front ++ more)
 
-abbrev pub onto_values : List (List ℕ) → Result (List (List ℕ) × List (List ℕ)) Cause → Result (List (List ℕ) × List (List ℕ)) Cause
+abbrev pub onto_values : List (List ℕ) → Result (List (List ℕ) × List (List ℕ)) FaultCause → Result (List (List ℕ) × List (List ℕ)) FaultCause
 onto_values front read = read >>= λ more. Ok (front ++ more.0, more.1)

@@ -3,8 +3,8 @@ use Rattle.std.specs.Prelude.{ℕ, Bool, true, false, if◌then◌else◌, List,
 use Rattle.std.specs.Option.{ok_or}
 use Rattle.std.specs.Str.{bytes_eq}
 use Rattle.proxy_words.specs.Numerals.{numeral}
-use Rattle.proxy_config.specs.declared.faults.Cause.{Cause}
-use Rattle.proxy_config.specs.declared.faults.Cause.TheVariants as causes
+use Rattle.proxy_config.specs.declared.faults.FaultCause.{FaultCause}
+use Rattle.proxy_config.specs.declared.faults.FaultCause.TheVariants as causes
 use Rattle.proxy_config.specs.declared.settings.Settings.{Settings}
 use Rattle.proxy_config.specs.declared.settings.Setting.{Setting}
 use Rattle.proxy_config.specs.declared.settings.Setting.TheVariants.{Weight, Maxconn, Maxqueue, Inter, Rise, Fall}
@@ -30,7 +30,7 @@ setting_of word =
     else None
 
 -- the settings with this one set to the word's value
-abbrev pub set : Setting → List ℕ → Settings → Result Settings Cause
+abbrev pub set : Setting → List ℕ → Settings → Result Settings FaultCause
 set Weight word s = ok_or (number_in 0 256 word) causes.Number >>= λ n. Ok (record s { weight = n })
 set Maxconn word s = ok_or (numeral 9 word) causes.Number >>= λ n. Ok (record s { maxconn = n })
 set Maxqueue word s = ok_or (numeral 9 word) causes.Number >>= λ n. Ok (record s { maxqueue = n })
@@ -39,7 +39,7 @@ set Rise word s = ok_or (number_from 1 word) causes.Number >>= λ n. Ok (record 
 set Fall word s = ok_or (number_from 1 word) causes.Number >>= λ n. Ok (record s { fall = n })
 
 -- the settings on a line, one after the other: of one that is repeated, the last stands
-abbrev pub settings : Settings → List (List ℕ) → Result Settings Cause
+abbrev pub settings : Settings → List (List ℕ) → Result Settings FaultCause
 settings s [] = Ok s
 settings s (word ∷ []) = if is_check word then Ok (record s { check = true })
     else ok_or (setting_of word) causes.Keyword >>= λ setting. Err causes.Words

@@ -36,7 +36,7 @@ pub record IsSoundTime (milliseconds : ℕ) : Type 0 where
   pub some : 0 < milliseconds
   pub within : milliseconds < 2 ^ 62
 
-pub record IsSound (config : Config) : Type 0 where
+pub record IsSoundConfig (config : Config) : Type 0 where
   pub some : 0 < length config.servers
   pub most : length config.servers ≤ 64
   pub servers : All IsSoundServer config.servers

@@ -4,8 +4,8 @@ use Rattle.std.specs.Option.{ok_or}
 use Rattle.std.specs.Str.{bytes_eq}
 use Rattle.proxy_words.specs.Numerals.{numeral}
 use Rattle.proxy_words.specs.Times.{time}
-use Rattle.proxy_config.specs.declared.faults.Cause.{Cause}
-use Rattle.proxy_config.specs.declared.faults.Cause.TheVariants as causes
+use Rattle.proxy_config.specs.declared.faults.FaultCause.{FaultCause}
+use Rattle.proxy_config.specs.declared.faults.FaultCause.TheVariants as causes
 use Rattle.proxy_config.specs.declared.values.Values.{Values}
 use Rattle.proxy_config.specs.declared.values.Shared.{Shared}
 use Rattle.proxy_config.specs.declared.values.Shared.TheVariants as shared
@@ -21,7 +21,7 @@ abbrev pub built_in : Values
 built_in = record { retries = 3; redispatch = false; abortonclose = false; queue = 0; connect = 0; client = 0; server = 0 }
 
 -- a line whose only word after the first is this one
-unfoldable pub fixed_line : List ℕ → Values → List (List ℕ) → Result Values Cause
+unfoldable pub fixed_line : List ℕ → Values → List (List ℕ) → Result Values FaultCause
 fixed_line only v words = do
   word ← word_at words
   other ← unless (not (bytes_eq word.0 only)) causes.Keyword
@@ -29,7 +29,7 @@ fixed_line only v words = do
   Ok v
 
 -- `retries N`
-unfoldable pub retries_line : Values → List (List ℕ) → Result Values Cause
+unfoldable pub retries_line : Values → List (List ℕ) → Result Values FaultCause
 retries_line v words = do
   word ← word_at words
   n ← ok_or (numeral 9 word.0) causes.Number
@@ -50,7 +50,7 @@ switched switches.Abortonclose v = record v { abortonclose = true }
 switched switches.Unused v = v
 
 -- `option NAME`
-unfoldable pub option_line : Values → List (List ℕ) → Result Values Cause
+unfoldable pub option_line : Values → List (List ℕ) → Result Values FaultCause
 option_line v words = do
   word ← word_at words
   switch ← ok_or (switch_of word.0) causes.Keyword
@@ -72,7 +72,7 @@ with_timeout timeouts.Client t v = record v { client = t }
 with_timeout timeouts.Server t v = record v { server = t }
 
 -- `timeout NAME T`
-unfoldable pub timeout_line : Values → List (List ℕ) → Result Values Cause
+unfoldable pub timeout_line : Values → List (List ℕ) → Result Values FaultCause
 timeout_line v words = do
   first ← word_at words
   timeout ← ok_or (timeout_of first.0) causes.Keyword
@@ -82,7 +82,7 @@ timeout_line v words = do
   Ok (with_timeout timeout t v)
 
 -- the values after a line, by its first word and the others
-abbrev pub shared_line : Shared → Values → List (List ℕ) → Result Values Cause
+abbrev pub shared_line : Shared → Values → List (List ℕ) → Result Values FaultCause
 shared_line shared.Mode v words = fixed_line (codes "http") v words
 shared_line shared.Balance v words = fixed_line (codes "leastconn") v words
 shared_line shared.Retries v words = retries_line v words

@@ -5,9 +5,9 @@ ghost use Rattle.std.specs.List.{slice_split};
 ghost use Rattle.proxy_words.specs.Numerals.{value_of};
 ghost use Rattle.proxy_config.specs.Outcomes.{Gives};
 ghost use Rattle.proxy_config.specs.Addresses as addresses;
-ghost use Rattle.proxy_config.specs.declared.faults.Cause.TheVariants as causes;
+ghost use Rattle.proxy_config.specs.declared.faults.FaultCause.TheVariants as causes;
 
-use crate::faults::{Cause, LineError};
+use crate::faults::{FaultCause, LineError};
 use crate::names::is_host;
 use crate::parts::{Address, Bind, Host};
 use crate::pieces::{is, number_in};
@@ -28,12 +28,12 @@ pub(crate) fn bind(word: &[u8]) -> Option<Bind>
 pub(crate) fn address(alloc: Global, word: &[u8]) -> Result<Address, LineError>
     ensures { Gives (λ x. x) result (ok_or (addresses.address_of word.now) causes.Address) }
 {
-    let (host, port) = around_colon(word).ok_or(Cause::Address)?;
+    let (host, port) = around_colon(word).ok_or(FaultCause::Address)?;
     let ip = ip(host);
     if ip.is_none() && !is_host(host) {
-        return Err(Cause::Address.into());
+        return Err(FaultCause::Address.into());
     }
-    let port = port_of(port).ok_or(Cause::Address)?;
+    let port = port_of(port).ok_or(FaultCause::Address)?;
     let host = match ip {
         Some(ip) => Host::Ip(ip),
         None => Host::Name(Items::copied(alloc, host)?),

@@ -5,7 +5,7 @@ ghost use Rattle.std.specs.Str.{bytes_eq};
 ghost use Rattle.proxy_config.specs.Outcomes.{Gives};
 ghost use Rattle.proxy_config.specs.Conditions as grammar;
 
-use crate::faults::{Cause, LineError};
+use crate::faults::{FaultCause, LineError};
 use crate::names::is_acl_name;
 use crate::parts::{Acl, Condition, Guard, Operand, Term};
 use crate::pieces::{is, word};
@@ -46,7 +46,7 @@ pub(crate) fn guard(
     if is(word, "unless") {
         return Ok(Guard::Unless(condition(alloc, acls, words)?));
     }
-    Err(Cause::Condition.into())
+    Err(FaultCause::Condition.into())
 }
 
 fn condition(alloc: Global, acls: &Items<Acl>, words: Words) -> Result<Condition, LineError>
@@ -69,7 +69,7 @@ fn alternatives(
     'terms: while let Some(word) = words.next() {
         if is_or(word) {
             if terms.is_empty() {
-                return Err(Cause::Condition.into());
+                return Err(FaultCause::Condition.into());
             }
             alternatives.push(mem::replace(&mut terms, Items::new(alloc)))?;
             continue;
@@ -79,7 +79,7 @@ fn alternatives(
         words = rest;
     }
     if terms.is_empty() {
-        return Err(Cause::Words.into());
+        return Err(FaultCause::Words.into());
     }
     alternatives.push(terms)?;
     Ok(alternatives)
@@ -121,9 +121,9 @@ fn operand<'a>(
         return Ok((Term { negated, operand }, words));
     }
     if !is_acl_name(word) {
-        return Err(Cause::Condition.into());
+        return Err(FaultCause::Condition.into());
     }
-    let index = acl_index(word, acls).ok_or(Cause::Unknown)?;
+    let index = acl_index(word, acls).ok_or(FaultCause::Unknown)?;
     let operand = Operand::Acl(index);
     Ok((Term { negated, operand }, words))
 }

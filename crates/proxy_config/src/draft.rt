@@ -5,13 +5,12 @@ ghost use Rattle.std.specs.List.{list_any};
 ghost use Rattle.proxy_words.specs.Text.{words as words_of, uncommented};
 ghost use Rattle.proxy_config.specs.Outcomes.{Becomes, Gives, Leaves, Sees};
 ghost use Rattle.proxy_config.specs.Draft as grammar;
-ghost use Rattle.proxy_config.specs.Wishes as wished;
 ghost use Rattle.proxy_config.specs.File as file;
 
 use crate::addresses::{address, bind};
-use crate::faults::{Cause, LineError};
+use crate::faults::{FaultCause, LineError};
 use crate::keywords::{Keyword, keyword_of, section_of};
-use crate::parts::{Acl, Bind, Pin, Rule, Server};
+use crate::parts::{Acl, Bind, Rule, Server};
 use crate::pieces::{end, word};
 use crate::rules::{acl_line, rule_line, server_index};
 use crate::settings::{Settings, settings_to_end};
@@ -51,7 +50,6 @@ pub(crate) struct Draft {
     pub acls: Items<Acl>,
     pub acl_lines: usize,
     pub rules: Items<Rule>,
-    pub pins: Items<Pin>,
 }
 
 impl Draft {
@@ -68,13 +66,12 @@ impl Draft {
             acls: Items::new(alloc),
             acl_lines: 0,
             rules: Items::new(alloc),
-            pins: Items::new(alloc),
         }
     }
 
     /// Takes a line in, by its number and whether the file is too long in it, behind so many pins. The pin of a
     /// `use-server` line is returned as its wish. An error changes nothing.
-    #[tactic(auto, unfolding(crate::specs::Wishes::step))]
+    #[tactic(auto, unfolding(crate::specs::Draft::step))]
     pub(crate) fn step(
         &mut self,
         alloc: Global,
@@ -84,15 +81,15 @@ impl Draft {
         line: &[u8],
     ) -> Result<Option<Wish>, LineError>
         ensures { Leaves result self.old self.new
-            (wished.step pins too_long self.old number line.now) }
+            (grammar.step pins too_long self.old number line.now) }
     {
         let text = without_comment(line);
         let ignored = is_ignored(self.section, Words::new(text));
         if !ignored && has_quoting(text) {
-            return Err(Cause::Quoting.into());
+            return Err(FaultCause::Quoting.into());
         }
         if too_long {
-            return Err(Cause::Limit.into());
+            return Err(FaultCause::Limit.into());
         }
         if ignored {
             return Ok(None);
@@ -120,7 +117,7 @@ impl Draft {
         }
     }
 
-    #[tactic(auto, unfolding(crate::specs::Wishes::words_line))]
+    #[tactic(auto, unfolding(crate::specs::Draft::words_line))]
     fn take_words(
         &mut self,
         alloc: Global,
@@ -129,18 +126,18 @@ impl Draft {
         words: Words,
     ) -> Result<Option<Wish>, LineError>
         ensures { Leaves result self.old self.new
-            (wished.words_line pins self.old number words.entry) }
+            (grammar.words_line pins self.old number words.entry) }
     {
         let mut words = words;
         let Some(word) = words.next() else {
             return Ok(None);
         };
-        let keyword = keyword_of(word).ok_or(Cause::Keyword)?;
+        let keyword = keyword_of(word).ok_or(FaultCause::Keyword)?;
         match keyword {
             Keyword::Global => self.global(words)?,
             Keyword::Defaults => self.defaults(words)?,
             Keyword::Listen => self.listen(number, words)?,
-            Keyword::Refused => return Err(Cause::Section.into()),
+            Keyword::Refused => return Err(FaultCause::Section.into()),
             Keyword::Shared(shared) => self.value(shared, words)?,
             Keyword::Bind => self.bind(words)?,
             Keyword::Server => self.server(alloc, words)?,
@@ -175,11 +172,11 @@ impl Draft {
         ensures { Becomes result self.old self.new (grammar.listen_line self.old number words.entry) }
     {
         if self.listen.is_some() {
-            return Err(Cause::Section.into());
+            return Err(FaultCause::Section.into());
         }
         let (name, words) = word(words)?;
         if !is_name(name) {
-            return Err(Cause::Name.into());
+            return Err(FaultCause::Name.into());
         }
         end(words)?;
         self.section = Section::Listen;
@@ -193,7 +190,7 @@ impl Draft {
         ensures { Becomes result self.old self.new (grammar.value_line self.old shared words.entry) }
     {
         match self.section {
-            Section::Outside | Section::Global => Err(Cause::Place.into()),
+            Section::Outside | Section::Global => Err(FaultCause::Place.into()),
             Section::Defaults => {
                 self.defaults = shared_line(shared, self.defaults, words)?;
                 Ok(())
@@ -210,13 +207,13 @@ impl Draft {
         ensures { Becomes result self.old self.new (grammar.bind_line self.old words.entry) }
     {
         if !in_listen(self.section) {
-            return Err(Cause::Place.into());
+            return Err(FaultCause::Place.into());
         }
         if self.bind.is_some() {
-            return Err(Cause::Twice.into());
+            return Err(FaultCause::Twice.into());
         }
         let (word, words) = word(words)?;
-        let bind = bind(word).ok_or(Cause::Address)?;
+        let bind = bind(word).ok_or(FaultCause::Address)?;
         end(words)?;
         self.bind = Some(bind);
         Ok(())
@@ -227,17 +224,17 @@ impl Draft {
         ensures { Becomes result self.old self.new (grammar.server_line self.old words.entry) }
     {
         if !in_listen(self.section) {
-            return Err(Cause::Place.into());
+            return Err(FaultCause::Place.into());
         }
         if self.servers.len() >= MOST_SERVERS {
-            return Err(Cause::Limit.into());
+            return Err(FaultCause::Limit.into());
         }
         let (name, words) = word(words)?;
         if !is_name(name) {
-            return Err(Cause::Name.into());
+            return Err(FaultCause::Name.into());
         }
         if server_index(name, &self.servers).is_some() {
-            return Err(Cause::Twice.into());
+            return Err(FaultCause::Twice.into());
         }
         let (second, words) = word(words)?;
         let address = address(alloc, second)?;
@@ -259,22 +256,22 @@ impl Draft {
         ensures { Becomes result self.old self.new (grammar.test_line self.old words.entry) }
     {
         if !in_listen(self.section) {
-            return Err(Cause::Place.into());
+            return Err(FaultCause::Place.into());
         }
         if self.acl_lines >= MOST_ACL_LINES {
-            return Err(Cause::Limit.into());
+            return Err(FaultCause::Limit.into());
         }
         acl_line(alloc, &mut self.acls, words)?;
         self.acl_lines += 1;
         Ok(())
     }
 
-    #[tactic(auto, unfolding(crate::specs::Wishes::request_line))]
+    #[tactic(auto, unfolding(crate::specs::Draft::request_line))]
     fn request(&mut self, alloc: Global, pins: usize, words: Words) -> Result<(), LineError>
-        ensures { Becomes result self.old self.new (wished.request_line pins self.old words.entry) }
+        ensures { Becomes result self.old self.new (grammar.request_line pins self.old words.entry) }
     {
         if !in_listen(self.section) {
-            return Err(Cause::Place.into());
+            return Err(FaultCause::Place.into());
         }
         self.has_room(pins)?;
         let rule = rule_line(alloc, &self.acls, words)?;
@@ -282,7 +279,7 @@ impl Draft {
         Ok(())
     }
 
-    #[tactic(auto, unfolding(crate::specs::Wishes::use_line))]
+    #[tactic(auto, unfolding(crate::specs::Draft::use_line))]
     fn use_server(
         &self,
         alloc: Global,
@@ -290,21 +287,21 @@ impl Draft {
         number: u64,
         words: Words,
     ) -> Result<Wish, LineError>
-        ensures { Gives (λ x. x) result (wished.use_line pins self.now number words.entry) }
+        ensures { Gives (λ x. x) result (grammar.use_line pins self.now number words.entry) }
     {
         if !in_listen(self.section) {
-            return Err(Cause::Place.into());
+            return Err(FaultCause::Place.into());
         }
         self.has_room(pins)?;
         wish_line(alloc, number, &self.acls, words)
     }
 
-    fn has_room(&self, pins: usize) -> Result<(), Cause>
-        ensures { Sees (λ x. x) result (wished.has_room pins self.now) }
+    fn has_room(&self, pins: usize) -> Result<(), FaultCause>
+        ensures { Sees (λ x. x) result (grammar.has_room pins self.now) }
     {
         let rules = self.rules.len();
         if rules >= MOST_RULES || pins >= MOST_RULES - rules {
-            return Err(Cause::Limit);
+            return Err(FaultCause::Limit);
         }
         Ok(())
     }
@@ -359,14 +356,14 @@ fn is_quoting(byte: u8) -> bool
 }
 
 #[tactic(auto, unfolding(crate::specs::Draft::optional_name))]
-fn optional_name(mut words: Words) -> Result<(), Cause>
+fn optional_name(mut words: Words) -> Result<(), FaultCause>
     ensures { Sees (λ x. x) result (grammar.optional_name words.entry) }
 {
     match words.next() {
         None => Ok(()),
         Some(name) => {
             if !is_name(name) {
-                return Err(Cause::Name);
+                return Err(FaultCause::Name);
             }
             end(words)
         }

@@ -7,7 +7,7 @@ use thiserror::Error;
 
 /// What is wrong with a line.
 #[derive(Clone, Copy, Debug, PartialEq, Eq, Error)]
-pub enum Cause {
+pub enum FaultCause {
     /// A quote or a backslash before the comment.
     #[error("quoting")]
     Quoting,
@@ -55,7 +55,7 @@ pub enum Cause {
 #[error("line {line}: {cause}")]
 pub struct ConfigFault {
     pub line: u64,
-    pub cause: Cause,
+    pub cause: FaultCause,
 }
 
 /// Why a configuration wasn't read.
@@ -72,7 +72,7 @@ pub enum ReadError {
 #[derive(Clone, Copy)]
 pub(crate) enum LineError {
     NoMemory,
-    Fault(Cause),
+    Fault(FaultCause),
 }
 
 impl From<AllocError> for ReadError {
@@ -85,12 +85,12 @@ impl From<AllocError> for ReadError {
     }
 }
 
-impl From<Cause> for LineError {
+impl From<FaultCause> for LineError {
     ghost use Rattle.proxy_config.specs.declared.faults.LineError.TheVariants.{Fault};
 
     ghost from_gives = { λ cause e. e ≡ Fault cause };
 
-    fn from(cause: Cause) -> LineError {
+    fn from(cause: FaultCause) -> LineError {
         LineError::Fault(cause)
     }
 }

@@ -3,14 +3,13 @@
 ghost use Rattle.std.specs.Prelude.{◌≡◌, ℕ, Bool, List, Option, Ok, Err};
 ghost use Rattle.proxy_config.specs.Conditions.{condition};
 ghost use Rattle.proxy_config.specs.ConditionGrammar.{IsCondition};
-ghost use Rattle.proxy_config.specs.Draft.{start, words_line};
+ghost use Rattle.proxy_config.specs.Resolved.{Resolved, start, resolved_words};
 ghost use Rattle.proxy_config.specs.Faulty.{HasFault};
 ghost use Rattle.proxy_config.specs.File.{run};
 ghost use Rattle.proxy_config.specs.Laws.{FirstFault};
 ghost use Rattle.proxy_config.specs.LeftToRight.{IsLeftToRight};
-ghost use Rattle.proxy_config.specs.Rows.{EachInItsRow};
-ghost use Rattle.proxy_config.specs.declared.draft.Draft.{Draft};
-ghost use Rattle.proxy_config.specs.declared.faults.Cause.{Cause};
+ghost use Rattle.proxy_config.specs.CauseTable.{EachInItsRow};
+ghost use Rattle.proxy_config.specs.declared.faults.FaultCause.{FaultCause};
 ghost use Rattle.proxy_config.specs.declared.faults.ConfigFault.{ConfigFault};
 ghost use Rattle.proxy_config.specs.declared.parts.Acl.{Acl};
 ghost use Rattle.proxy_config.specs.declared.parts.Condition.{Condition};
@@ -34,20 +33,20 @@ pub fn a_faulty_line_names_itself()
 /// `quoting`, `place` and `section` stand exactly where their rows of `docs/FORMATS.md` say, and no line is
 /// `missing`.
 pub fn each_cause_stands_in_its_row()
-    ensures { (servers : List Server) (too_long : Bool) (draft : Draft) (n : ℕ) (line : List ℕ) →
-        EachInItsRow servers too_long draft n line }
+    ensures { (servers : List Server) (too_long : Bool) (so_far : Resolved) (n : ℕ) (line : List ℕ) →
+        EachInItsRow servers too_long so_far n line }
 {}
 
 /// The other causes stand where their rows say: `keyword`, `words`, `number`, `address`, `name`, `twice`, `unknown`,
 /// `condition` and `limit`, each for the words that have it, whatever words follow them.
 pub fn each_cause_has_its_words()
-    ensures { (servers : List Server) (draft : Draft) (n : ℕ) (words : List (List ℕ)) (cause : Cause) →
-        HasFault servers draft words cause → words_line servers draft n words ≡ Err cause }
+    ensures { (servers : List Server) (so_far : Resolved) (n : ℕ) (words : List (List ℕ)) (cause : FaultCause) →
+        HasFault servers so_far words cause → resolved_words servers so_far n words ≡ Err cause }
 {}
 
 /// The words of a line are read from the left: a fault other than `words` is that of a word that can't stand
 /// where it does, whatever follows it, and behind words that are at most too few.
 pub fn words_are_read_from_the_left()
-    ensures { (servers : List Server) (draft : Draft) (n : ℕ) →
-        IsLeftToRight (words_line servers draft n) }
+    ensures { (servers : List Server) (so_far : Resolved) (n : ℕ) →
+        IsLeftToRight (resolved_words servers so_far n) }
 {}

@@ -20,7 +20,7 @@ mod tests;
 mod values;
 mod wishes;
 
-pub use faults::{Cause, ConfigFault, ReadError};
+pub use faults::{ConfigFault, FaultCause, ReadError};
 pub use list_facts::Items;
 pub use parts::{
     Acl, Action, Address, Bind, Checks, Condition, Config, Expression, Guard, Host, Operand, Pin,

@@ -5,24 +5,24 @@ ghost use Rattle.std.specs.Str.{bytes_eq};
 ghost use Rattle.proxy_config.specs.Outcomes.{Sees};
 ghost use Rattle.proxy_config.specs.Pieces.{word_at, end_at, number_in as number_within, number_from as number_at_least, time_from as time_at_least};
 
-use crate::faults::Cause;
+use crate::faults::FaultCause;
 use proxy_words::{Words, milliseconds, number};
 
-pub(crate) fn word<'a>(mut words: Words<'a>) -> Result<(&'a [u8], Words<'a>), Cause>
+pub(crate) fn word<'a>(mut words: Words<'a>) -> Result<(&'a [u8], Words<'a>), FaultCause>
     ensures { Sees (λ x. (x.0.now, x.1)) result (word_at words.entry) }
 {
     match words.next() {
-        None => Err(Cause::Words),
+        None => Err(FaultCause::Words),
         Some(word) => Ok((word, words)),
     }
 }
 
-pub(crate) fn end(mut words: Words) -> Result<(), Cause>
+pub(crate) fn end(mut words: Words) -> Result<(), FaultCause>
     ensures { Sees (λ x. x) result (end_at words.entry) }
 {
     match words.next() {
         None => Ok(()),
-        Some(_) => Err(Cause::Words),
+        Some(_) => Err(FaultCause::Words),
     }
 }
 

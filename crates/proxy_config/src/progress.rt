@@ -6,8 +6,8 @@ ghost use Rattle.proxy_config.specs.File.{Answers};
 ghost use Rattle.proxy_config.specs.Progress as grammar;
 
 use crate::draft::Draft;
-use crate::faults::{Cause, ConfigFault, LineError, ReadError};
-use crate::parts::Config;
+use crate::faults::{ConfigFault, FaultCause, LineError, ReadError};
+use crate::parts::{Config, Pin};
 use crate::values::set_time;
 use crate::wishes::{Wish, pins_of};
 use list_facts::Items;
@@ -15,7 +15,6 @@ use std::alloc::Global;
 
 #[derive(Drop)]
 pub(crate) struct Progress {
-    /// Without its pins.
     pub draft: Draft,
     /// The pins, their servers by name.
     pub wishes: Items<Wish>,
@@ -80,21 +79,21 @@ impl Progress {
         ensures { Answers result (file.finished (grammar.settled self.draft.servers self)) }
     {
         let Progress {
-            mut draft,
+            draft,
             wishes,
             fault,
         } = self;
-        draft.pins = pins_of(alloc, &draft.servers, wishes)?;
+        let pins = pins_of(alloc, &draft.servers, wishes)?;
         match fault {
             Some(fault) => Err(ReadError::Fault(fault)),
-            None => whole(draft),
+            None => whole(draft, pins),
         }
     }
 }
 
 // The configuration, if the lines have all that it needs.
-fn whole(draft: Draft) -> Result<Config, ReadError>
-    ensures { Answers result (file.whole draft.listen draft.bind draft) }
+fn whole(draft: Draft, pins: Items<Pin>) -> Result<Config, ReadError>
+    ensures { Answers result (file.whole draft.listen draft.bind (record { draft = draft; pins = pins })) }
 {
     let Draft {
         section: _,
@@ -106,7 +105,6 @@ fn whole(draft: Draft) -> Result<Config, ReadError>
         acls,
         acl_lines: _,
         rules,
-        pins,
     } = draft;
     let Some(line) = listen else {
         return Err(missing(0));
@@ -134,10 +132,10 @@ fn whole(draft: Draft) -> Result<Config, ReadError>
 }
 
 fn missing(line: u64) -> ReadError
-    ensures { result ≡ ReadError.Fault (record { line = line; cause = Cause.Missing }) }
+    ensures { result ≡ ReadError.Fault (record { line = line; cause = FaultCause.Missing }) }
 {
     ReadError::Fault(ConfigFault {
         line,
-        cause: Cause::Missing,
+        cause: FaultCause::Missing,
     })
 }

@@ -4,7 +4,7 @@ ghost use Rattle.std.specs.Prelude.{◌≡◌, ◌≤◌, length, count_by, IfOk
 ghost use Rattle.proxy_words.specs.Text.{is_line_feed};
 ghost use Rattle.proxy_config.specs.File as grammar;
 ghost use Rattle.proxy_config.specs.Laws.{Says, Blames};
-ghost use Rattle.proxy_config.specs.Sound.{IsSound};
+ghost use Rattle.proxy_config.specs.Sound.{IsSoundConfig};
 
 use crate::faults::ReadError;
 use crate::parts::Config;
@@ -25,7 +25,7 @@ pub fn read(alloc: Global, bytes: &[u8]) -> Result<Config, ReadError>
     // An accepted file has no faulty line.
     ensures says { IfOk result (Says bytes.now) }
     // What is accepted is within the limits: callers need no test of their own.
-    ensures sound { IfOk result IsSound }
+    ensures sound { IfOk result IsSoundConfig }
     // A fault is that of the first faulty line, whatever follows it; only where there is none, something
     // is missing.
     ensures blames { IfErr result (Blames bytes.now) }

@@ -6,7 +6,7 @@ ghost use Rattle.proxy_config.specs.Outcomes.{Gives, Becomes};
 ghost use Rattle.proxy_config.specs.Rules as grammar;
 
 use crate::conditions::{acl_index, optional_guard};
-use crate::faults::{Cause, LineError};
+use crate::faults::{FaultCause, LineError};
 use crate::names::is_acl_name;
 use crate::parts::{Acl, Action, Rule, Server, Test};
 use crate::pieces::{is, word};
@@ -22,7 +22,7 @@ pub(crate) fn acl_line(alloc: Global, acls: &mut Items<Acl>, words: Words) -> Re
 {
     let (name, words) = word(words)?;
     if !is_acl_name(name) {
-        return Err(Cause::Name.into());
+        return Err(FaultCause::Name.into());
     }
     let test = test_to_end(alloc, words)?;
     add_test(alloc, acls, name, test)
@@ -34,7 +34,7 @@ pub(crate) fn rule_line(alloc: Global, acls: &Items<Acl>, words: Words) -> Resul
     ensures { Gives (λ x. x) result (grammar.rule_line acls.now words.entry) }
 {
     let (first, words) = word(words)?;
-    let action = action_of(first).ok_or(Cause::Keyword)?;
+    let action = action_of(first).ok_or(FaultCause::Keyword)?;
     let (second, words) = word(words)?;
     let value = expression(alloc, second)?;
     let guard = optional_guard(alloc, acls, words)?;

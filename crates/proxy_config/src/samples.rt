@@ -4,9 +4,9 @@ ghost use Rattle.std.specs.Prelude.{◌≡◌, ◌∷◌, [], Ok};
 ghost use Rattle.std.specs.Option.{ok_or, option_copied};
 ghost use Rattle.proxy_config.specs.Outcomes.{Gives};
 ghost use Rattle.proxy_config.specs.Samples as grammar;
-ghost use Rattle.proxy_config.specs.declared.faults.Cause.TheVariants as causes;
+ghost use Rattle.proxy_config.specs.declared.faults.FaultCause.TheVariants as causes;
 
-use crate::faults::{Cause, LineError};
+use crate::faults::{FaultCause, LineError};
 use crate::names::is_token;
 use crate::parts::{Expression, Subject, Test, Text};
 use crate::pieces::{is, word};
@@ -39,7 +39,7 @@ pub(crate) fn test_in_braces(
 {
     let (subject, ignore_case, first, words) = head(alloc, words)?;
     if is(first, "}") {
-        return Err(Cause::Condition.into());
+        return Err(FaultCause::Condition.into());
     }
     let first = value(alloc, first)?;
     let (values, words) = values_to_brace(alloc, only(alloc, first)?, words)?;
@@ -58,10 +58,10 @@ pub(crate) fn expression(alloc: Global, word: &[u8]) -> Result<Expression, LineE
     ensures { Gives (λ x. x) result (ok_or (grammar.expression_of word.now) causes.Condition) }
 {
     if let Some(number) = enclosed("int(", word) {
-        let number = signed_long_number(number).ok_or(Cause::Condition)?;
+        let number = signed_long_number(number).ok_or(FaultCause::Condition)?;
         return Ok(Expression::Int(number));
     }
-    let name = field_in("req.hdr_val(", word).ok_or(Cause::Condition)?;
+    let name = field_in("req.hdr_val(", word).ok_or(FaultCause::Condition)?;
     Ok(Expression::HeaderValue(Items::copied(alloc, name)?))
 }
 
@@ -98,7 +98,7 @@ fn subject(alloc: Global, word: &[u8]) -> Result<Subject, LineError>
     if is(word, "method") {
         return Ok(Subject::Method);
     }
-    let name = field_in("hdr(", word).ok_or(Cause::Condition)?;
+    let name = field_in("hdr(", word).ok_or(FaultCause::Condition)?;
     Ok(Subject::Header(Items::copied(alloc, name)?))
 }
 
@@ -141,7 +141,7 @@ fn value(alloc: Global, word: &[u8]) -> Result<Text, LineError>
     ensures { Gives (λ x. x) result (grammar.value_of word.now) }
 {
     if is_dashed(word) {
-        return Err(Cause::Condition.into());
+        return Err(FaultCause::Condition.into());
     }
     Ok(Items::copied(alloc, word)?)
 }
@@ -184,5 +184,5 @@ fn values_to_brace<'a>(
         let next = value(alloc, word)?;
         values.push(next)?;
     }
-    Err(Cause::Words.into())
+    Err(FaultCause::Words.into())
 }

@@ -5,7 +5,7 @@ ghost use Rattle.std.specs.Str.{bytes_eq};
 ghost use Rattle.proxy_config.specs.Outcomes.{Sees};
 ghost use Rattle.proxy_config.specs.Settings as grammar;
 
-use crate::faults::Cause;
+use crate::faults::FaultCause;
 use crate::parts::Checks;
 use crate::pieces::{is, number_from, number_in, time_from};
 use proxy_words::{Words, number};
@@ -62,7 +62,7 @@ impl Settings {
 }
 
 /// The settings to the end of a line.
-pub(crate) fn settings_to_end(start: Settings, words: Words) -> Result<Settings, Cause>
+pub(crate) fn settings_to_end(start: Settings, words: Words) -> Result<Settings, FaultCause>
     ensures { Sees (λ x. x) result (grammar.settings start words.entry) }
 {
     let mut so_far = start;
@@ -72,8 +72,8 @@ pub(crate) fn settings_to_end(start: Settings, words: Words) -> Result<Settings,
             so_far.check = true;
             continue;
         }
-        let setting = setting_of(first).ok_or(Cause::Keyword)?;
-        let value = words.next().ok_or(Cause::Words)?;
+        let setting = setting_of(first).ok_or(FaultCause::Keyword)?;
+        let value = words.next().ok_or(FaultCause::Words)?;
         so_far = with_setting(setting, value, so_far)?;
     }
     Ok(so_far)
@@ -99,17 +99,17 @@ fn setting_of(word: &[u8]) -> Option<Setting>
     }
 }
 
-fn with_setting(setting: Setting, value: &[u8], settings: Settings) -> Result<Settings, Cause>
+fn with_setting(setting: Setting, value: &[u8], settings: Settings) -> Result<Settings, FaultCause>
     ensures { Sees (λ x. x) result (grammar.set setting value.now settings) }
 {
     let mut next = settings;
     match setting {
-        Setting::Weight => next.weight = number_in(0, 256, value).ok_or(Cause::Number)?,
-        Setting::Maxconn => next.maxconn = number(value).ok_or(Cause::Number)?,
-        Setting::Maxqueue => next.maxqueue = number(value).ok_or(Cause::Number)?,
-        Setting::Inter => next.inter = time_from(1, value).ok_or(Cause::Number)?,
-        Setting::Rise => next.rise = number_from(1, value).ok_or(Cause::Number)?,
-        Setting::Fall => next.fall = number_from(1, value).ok_or(Cause::Number)?,
+        Setting::Weight => next.weight = number_in(0, 256, value).ok_or(FaultCause::Number)?,
+        Setting::Maxconn => next.maxconn = number(value).ok_or(FaultCause::Number)?,
+        Setting::Maxqueue => next.maxqueue = number(value).ok_or(FaultCause::Number)?,
+        Setting::Inter => next.inter = time_from(1, value).ok_or(FaultCause::Number)?,
+        Setting::Rise => next.rise = number_from(1, value).ok_or(FaultCause::Number)?,
+        Setting::Fall => next.fall = number_from(1, value).ok_or(FaultCause::Number)?,
     }
     Ok(next)
 }

@@ -12,7 +12,7 @@ use std::alloc::Global;
 use std::process::Abort;
 
 /// The file has this first fault.
-fn faulty(rt: &impl Abort, alloc: Global, text: &str, line: u64, cause: Cause) {
+fn faulty(rt: &impl Abort, alloc: Global, text: &str, line: u64, cause: FaultCause) {
     let read = read(alloc, text.as_bytes());
     assert_eq!(rt;
         read.err(),
@@ -22,7 +22,7 @@ fn faulty(rt: &impl Abort, alloc: Global, text: &str, line: u64, cause: Cause) {
 }
 
 /// The line stands in a `listen` behind a `bind` and a server, and has this fault.
-fn faulty_line(rt: &impl Abort, alloc: Global, line: &str, cause: Cause) {
+fn faulty_line(rt: &impl Abort, alloc: Global, line: &str, cause: FaultCause) {
     let text = format!(in alloc; "listen w\nbind :80\nserver a h:80\nacl known path /\n{line}\n");
     faulty(rt, alloc, text.expect(rt, "memory").as_str(), 5, cause);
 }

@@ -4,7 +4,7 @@ ghost use Rattle.std.specs.Prelude.{◌≡◌};
 ghost use Rattle.proxy_config.specs.Outcomes.{Sees};
 ghost use Rattle.proxy_config.specs.Values as grammar;
 
-use crate::faults::Cause;
+use crate::faults::FaultCause;
 use crate::pieces::{end, is, word};
 use proxy_words::{Words, milliseconds, number};
 
@@ -86,7 +86,11 @@ pub(crate) fn set_time(time: u64) -> Option<u64>
 }
 
 /// The values after a line, by its first word and the others.
-pub(crate) fn shared_line(shared: Shared, values: Values, words: Words) -> Result<Values, Cause>
+pub(crate) fn shared_line(
+    shared: Shared,
+    values: Values,
+    words: Words,
+) -> Result<Values, FaultCause>
     ensures { Sees (λ x. x) result (grammar.shared_line shared values words.entry) }
 {
     match shared {
@@ -100,45 +104,45 @@ pub(crate) fn shared_line(shared: Shared, values: Values, words: Words) -> Resul
 }
 
 #[tactic(auto, unfolding(crate::specs::Values::fixed_line))]
-fn fixed_line(only: &str, values: Values, words: Words) -> Result<Values, Cause>
+fn fixed_line(only: &str, values: Values, words: Words) -> Result<Values, FaultCause>
     ensures { Sees (λ x. x) result (grammar.fixed_line only.now values words.entry) }
 {
     let (word, words) = word(words)?;
     if !is(word, only) {
-        return Err(Cause::Keyword);
+        return Err(FaultCause::Keyword);
     }
     end(words)?;
     Ok(values)
 }
 
 #[tactic(auto, unfolding(crate::specs::Values::retries_line))]
-fn retries_line(values: Values, words: Words) -> Result<Values, Cause>
+fn retries_line(values: Values, words: Words) -> Result<Values, FaultCause>
     ensures { Sees (λ x. x) result (grammar.retries_line values words.entry) }
 {
     let (word, words) = word(words)?;
-    let retries = number(word).ok_or(Cause::Number)?;
+    let retries = number(word).ok_or(FaultCause::Number)?;
     end(words)?;
     Ok(Values { retries, ..values })
 }
 
 #[tactic(auto, unfolding(crate::specs::Values::option_line))]
-fn option_line(values: Values, words: Words) -> Result<Values, Cause>
+fn option_line(values: Values, words: Words) -> Result<Values, FaultCause>
     ensures { Sees (λ x. x) result (grammar.option_line values words.entry) }
 {
     let (word, words) = word(words)?;
-    let switch = switch_of(word).ok_or(Cause::Keyword)?;
+    let switch = switch_of(word).ok_or(FaultCause::Keyword)?;
     end(words)?;
     Ok(switched(switch, values))
 }
 
 #[tactic(auto, unfolding(crate::specs::Values::timeout_line))]
-fn timeout_line(values: Values, words: Words) -> Result<Values, Cause>
+fn timeout_line(values: Values, words: Words) -> Result<Values, FaultCause>
     ensures { Sees (λ x. x) result (grammar.timeout_line values words.entry) }
 {
     let (first, words) = word(words)?;
-    let timeout = timeout_of(first).ok_or(Cause::Keyword)?;
+    let timeout = timeout_of(first).ok_or(FaultCause::Keyword)?;
     let (second, words) = word(words)?;
-    let time = milliseconds(second).ok_or(Cause::Number)?;
+    let time = milliseconds(second).ok_or(FaultCause::Number)?;
     end(words)?;
     Ok(with_timeout(timeout, time, values))
 }

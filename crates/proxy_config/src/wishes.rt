@@ -3,10 +3,11 @@
 ghost use Rattle.std.specs.Prelude.{◌≡◌, Ok, IfOk, IfErr};
 ghost use Rattle.proxy_config.specs.File.{Answers};
 ghost use Rattle.proxy_config.specs.Outcomes.{Gives, Sees};
+ghost use Rattle.proxy_config.specs.Progress.{with_pins};
 ghost use Rattle.proxy_config.specs.Wishes as grammar;
 
 use crate::conditions::guard;
-use crate::faults::{Cause, ConfigFault, LineError, ReadError};
+use crate::faults::{ConfigFault, FaultCause, LineError, ReadError};
 use crate::parts::{Acl, Guard, Pin, Server, Text};
 use crate::pieces::word;
 use crate::rules::server_index;
@@ -21,7 +22,7 @@ pub(crate) struct Wish {
     /// The server's name.
     pub server: Text,
     /// The fault of a guard counts where the server is declared.
-    pub guard: Result<Guard, Cause>,
+    pub guard: Result<Guard, FaultCause>,
 }
 
 /// `use-server NAME` and a guard, in the line of this number.
@@ -36,7 +37,7 @@ pub(crate) fn wish_line(
 {
     let (name, words) = word(words)?;
     if !is_name(name) {
-        return Err(Cause::Name.into());
+        return Err(FaultCause::Name.into());
     }
     let guard = guard_or_fault(alloc, acls, words)?;
     let server = Items::copied(alloc, name)?;
@@ -51,7 +52,7 @@ fn guard_or_fault(
     alloc: Global,
     acls: &Items<Acl>,
     words: Words,
-) -> Result<Result<Guard, Cause>, LineError>
+) -> Result<Result<Guard, FaultCause>, LineError>
     ensures ok { IfOk result (λ guard. guard ≡ grammar.guard_of acls.now words.entry) }
     ensures err { IfErr result (λ e. e ≡ LineError.NoMemory) }
 {
@@ -75,7 +76,7 @@ pub(crate) fn pins_of(
     servers: &Items<Server>,
     wishes: Items<Wish>,
 ) -> Result<Items<Pin>, ReadError>
-    ensures { Answers result (grammar.with_pins servers.now wishes Ok) }
+    ensures { Answers result (with_pins servers.now wishes Ok) }
 {
     let mut pins = Items::new(alloc);
     'wishes: for wish in wishes.into_vec() {
@@ -88,7 +89,7 @@ pub(crate) fn pins_of(
     Ok(pins)
 }
 
-fn pin_of(servers: &Items<Server>, wish: Wish) -> Result<Pin, Cause>
+fn pin_of(servers: &Items<Server>, wish: Wish) -> Result<Pin, FaultCause>
     ensures { Sees (λ x. x) result (grammar.pin_of servers.now wish) }
 {
     let Wish {
@@ -96,7 +97,7 @@ fn pin_of(servers: &Items<Server>, wish: Wish) -> Result<Pin, Cause>
         server,
         guard,
     } = wish;
-    let server = server_index(server.as_slice(), servers).ok_or(Cause::Unknown)?;
+    let server = server_index(server.as_slice(), servers).ok_or(FaultCause::Unknown)?;
     let guard = guard?;
     Ok(Pin { server, guard })
 }

@@ -1,4 +1,4 @@
 pub mod Cuts
-pub mod Rows
+pub mod WorkedRows
 pub mod Values
 pub mod Limits

@@ -5,7 +5,10 @@ use Rattle.std.specs.declared.alloc.AllocError.{AllocError}
 use Rattle.std.specs.BTreeMap.{get}
 use Rattle.std.specs.Option.{unwrap_or, option_map_or}
 use Rattle.std.proofs.lemmas.List.{append-nil}
-use Rattle.std.specs.Ordering.{nat_cmp}
+use Rattle.std.specs.Ordering.{nat_cmp, ordering_then}
+use Rattle.std.specs.declared.cmp.Ordering.{Ordering}
+use Rattle.dispatch_log.specs.contracts.queue.QueueOrd.TheImpl as derived
+use Rattle.dispatch_log.proofs.QueueOrder.{queue_order}
 use Rattle.std.proofs.lemmas.Bool.Decides.{nat_tests}
 use Rattle.dispatch_log.specs.declared.entry.Arrival.{Arrival}
 use Rattle.dispatch_log.specs.declared.entry.Entry.{Entry}
@@ -13,7 +16,7 @@ use Rattle.dispatch_log.specs.declared.entry.Entry.TheVariants.{Arrive, Joined, 
 use Rattle.dispatch_log.specs.declared.queue.Queue.{Queue}
 use Rattle.dispatch_log.specs.declared.queue.Queue.TheVariants.{Backend, Server}
 use Rattle.dispatch_log.specs.Rows.{same_queue}
-use Rattle.readable_log.specs.Grants.{Wait, arrival_in, joining_in, key_known, joining_of, has_joined, server_of}
+use Rattle.readable_log.specs.Grants.{Wait, arrival_in, joining_in, key_known, joining_of, has_joined}
 use Rattle.readable_log.specs.Windows.{waited, newer_base_key}
 use Rattle.readable_log.specs.declared.base.BaseRow.{BaseRow}
 use Rattle.due_key.specs.declared.key.Key.{Key}
@@ -25,10 +28,18 @@ use Rattle.readable_log.specs.Readable.{MayFollow, AllFollow}
 use Rattle.readable_log.proofs.Back.{known-push}
 use Rattle.readable_log.proofs.Joinings.{joining_of-push, joined-push}
 
+-- what code compares tickets in queues by is their order
+pub wait_order : (λ (a b : ℕ × Queue). ordering_then (nat_cmp a.0 b.0) (derived.ghosts.cmp a.1 b.1)) ≡ wait_cmp
+wait_order = λ i a b. ordering_then (nat_cmp a.0 b.0) (queue_order i a.1 b.1)
+
+-- where a ticket was put into a queue at a position, and nothing else was, by an order
+abbrev pub IsPutAt : (ℕ × Queue → ℕ × Queue → Ordering) → Index → Index → ℕ → Queue → ℕ → Type 0
+IsPutAt cmp old new t q n = (w : ℕ × Queue) → get cmp new.joinings w ≡ cond (is_eq (cmp (t, q) w)) (Some n) (get cmp old.joinings w)
+
 same_number : (x y : ℕ) → is_eq (nat_cmp x y) ≡ (x == y)
 same_number x y = grind (arith, nat_tests)
 
-same_wait : (t u : ℕ) (q p : Queue) → is_eq (wait_cmp (u, server_of p) (t, server_of q)) ≡ ((u == t) && same_queue q p)
+same_wait : (t u : ℕ) (q p : Queue) → is_eq (wait_cmp (u, p) (t, q)) ≡ ((u == t) && same_queue q p)
 same_wait t u Backend Backend = grind (arith, nat_tests)
 same_wait t u Backend (Server m) = grind (arith, nat_tests)
 same_wait t u (Server n) Backend = grind (arith, nat_tests)
@@ -60,13 +71,13 @@ index_arrival base log m a old new is same updates = record {
       updates t ∙ ap (λ b. cond b (Some (key_of a)) (get nat_cmp old.keys t)) (same_number a.ticket t)
       ∙ ap (λ o. cond (a.ticket == t) (Some (key_of a)) o) (is.keys t)
       ∙ sym (known_after base t log (Arrive m a) (Some a) refl);
-  joined = λ t q. ap (λ j. is_some (get wait_cmp j (t, server_of q))) same ∙ is.joined t q ∙ sym (joined_after base t q log (Arrive m a) None refl);
-  joinings = λ t q. ap (λ j. unwrap_or (get wait_cmp j (t, server_of q)) 0) same ∙ is.joinings t q ∙ sym (joining_after t q log (Arrive m a) None refl);
+  joined = λ t q. ap (λ j. is_some (get wait_cmp j (t, q))) same ∙ is.joined t q ∙ sym (joined_after base t q log (Arrive m a) None refl);
+  joinings = λ t q. ap (λ j. unwrap_or (get wait_cmp j (t, q)) 0) same ∙ is.joinings t q ∙ sym (joining_after t q log (Arrive m a) None refl);
 }
 
 pub index_joined : (base : List BaseRow) (log : List Entry) (e : Entry) (u : ℕ) (p : Queue) (old new : Index) → IsIndexOf base log old → arrival_in e ≡ None
     → joining_in e ≡ Some (record { ticket = u; queue = p }) → new.keys ≡ old.keys
-    → ((w : ℕ × Option ℕ) → get wait_cmp new.joinings w ≡ cond (is_eq (wait_cmp (u, server_of p) w)) (Some (length log + 1)) (get wait_cmp old.joinings w))
+    → ((w : ℕ × Queue) → get wait_cmp new.joinings w ≡ cond (is_eq (wait_cmp (u, p) w)) (Some (length log + 1)) (get wait_cmp old.joinings w))
     → IsIndexOf base (log ++ e ∷ []) new
 index_joined base log e u p old new is no_arrival begins same updates = record {
   keys = λ t. ap (λ m. get nat_cmp m t) same ∙ is.keys t ∙ sym (known_after base t log e None no_arrival);
@@ -77,16 +88,16 @@ index_joined base log e u p old new is no_arrival begins same updates = record {
       ∙ sym (joining_after t q log e (Some (record { ticket = u; queue = p })) begins);
 }
   where
-    updated : (t : ℕ) (q : Queue) → get wait_cmp new.joinings (t, server_of q)
-        ≡ cond ((u == t) && same_queue q p) (Some (length log + 1)) (get wait_cmp old.joinings (t, server_of q))
-    updated t q = updates (t, server_of q) ∙ ap (λ b. cond b (Some (length log + 1)) (get wait_cmp old.joinings (t, server_of q))) (same_wait t u q p)
+    updated : (t : ℕ) (q : Queue) → get wait_cmp new.joinings (t, q)
+        ≡ cond ((u == t) && same_queue q p) (Some (length log + 1)) (get wait_cmp old.joinings (t, q))
+    updated t q = updates (t, q) ∙ ap (λ b. cond b (Some (length log + 1)) (get wait_cmp old.joinings (t, q))) (same_wait t u q p)
 
-    pushed : (t : ℕ) (q : Queue) (b : Bool) → unwrap_or (cond b (Some (length log + 1)) (get wait_cmp old.joinings (t, server_of q))) 0
+    pushed : (t : ℕ) (q : Queue) (b : Bool) → unwrap_or (cond b (Some (length log + 1)) (get wait_cmp old.joinings (t, q))) 0
         ≡ cond b (length log + 1) (joining_of t q log)
     pushed t q true = refl
     pushed t q false = is.joinings t q
 
-    found : (t : ℕ) (q : Queue) (b : Bool) → is_some (cond b (Some (length log + 1)) (get wait_cmp old.joinings (t, server_of q)))
+    found : (t : ℕ) (q : Queue) (b : Bool) → is_some (cond b (Some (length log + 1)) (get wait_cmp old.joinings (t, q)))
         ≡ b || has_joined base t q log
     found t q true = refl
     found t q false = is.joined t q
@@ -124,8 +135,8 @@ known_at_base base row t = fold_push (newer_base_key t) None base row
 pub index_row : (base : List BaseRow) (row : BaseRow) (old new : Index) → IsIndexOf base [] old
     → ((t : ℕ) → get nat_cmp new.keys t ≡ cond (is_eq (nat_cmp row.ticket t)) (Some (key_in row)) (get nat_cmp old.keys t))
     → (row.queue ≡ None → new.joinings ≡ old.joinings)
-    → ((p : Queue) → row.queue ≡ Some p → (w : ℕ × Option ℕ)
-    → get wait_cmp new.joinings w ≡ cond (is_eq (wait_cmp (row.ticket, server_of p) w)) (Some 0) (get wait_cmp old.joinings w))
+    → ((p : Queue) → row.queue ≡ Some p → (w : ℕ × Queue)
+    → get wait_cmp new.joinings w ≡ cond (is_eq (wait_cmp (row.ticket, p) w)) (Some 0) (get wait_cmp old.joinings w))
     → IsIndexOf (base ++ row ∷ []) [] new
 index_row base row old new is keys none some = record {
   keys = λ t. keys t ∙ ap (λ b. cond b (Some (key_in row)) (get nat_cmp old.keys t)) (same_number row.ticket t)
@@ -141,10 +152,10 @@ index_row base row old new is keys none some = record {
     or_none false b = refl
 
     updated : (t : ℕ) (q p : Queue) → row.queue ≡ Some p
-        → get wait_cmp new.joinings (t, server_of q) ≡ cond ((row.ticket == t) && same_queue q p) (Some 0) (get wait_cmp old.joinings (t, server_of q))
-    updated t q p at = some p at (t, server_of q) ∙ ap (λ b. cond b (Some 0) (get wait_cmp old.joinings (t, server_of q))) (same_wait t row.ticket q p)
+        → get wait_cmp new.joinings (t, q) ≡ cond ((row.ticket == t) && same_queue q p) (Some 0) (get wait_cmp old.joinings (t, q))
+    updated t q p at = some p at (t, q) ∙ ap (λ b. cond b (Some 0) (get wait_cmp old.joinings (t, q))) (same_wait t row.ticket q p)
 
-    found : (t : ℕ) (q : Queue) (b : Bool) → is_some (cond b (Some 0) (get wait_cmp old.joinings (t, server_of q))) ≡ b || has_joined base t q []
+    found : (t : ℕ) (q : Queue) (b : Bool) → is_some (cond b (Some 0) (get wait_cmp old.joinings (t, q))) ≡ b || has_joined base t q []
     found t q true = refl
     found t q false = is.joined t q
 
@@ -153,17 +164,17 @@ index_row base row old new is keys none some = record {
     not_there false c = refl
 
     by_queue : (t : ℕ) (q : Queue) (o : Option Queue) → row.queue ≡ o
-        → is_some (get wait_cmp new.joinings (t, server_of q)) ≡ ((row.ticket == t) && option_map_or (same_queue q) o false) || has_joined base t q []
-    by_queue t q None at = ap (λ j. is_some (get wait_cmp j (t, server_of q))) (none at) ∙ is.joined t q
+        → is_some (get wait_cmp new.joinings (t, q)) ≡ ((row.ticket == t) && option_map_or (same_queue q) o false) || has_joined base t q []
+    by_queue t q None at = ap (λ j. is_some (get wait_cmp j (t, q))) (none at) ∙ is.joined t q
         ∙ sym (not_there (row.ticket == t) (has_joined base t q []))
     by_queue t q (Some p) at = ap is_some (updated t q p at) ∙ found t q ((row.ticket == t) && same_queue q p)
 
-    zeroed : (t : ℕ) (q : Queue) (b : Bool) → unwrap_or (cond b (Some 0) (get wait_cmp old.joinings (t, server_of q))) 0 ≡ joining_of t q []
+    zeroed : (t : ℕ) (q : Queue) (b : Bool) → unwrap_or (cond b (Some 0) (get wait_cmp old.joinings (t, q))) 0 ≡ joining_of t q []
     zeroed t q true = refl
     zeroed t q false = is.joinings t q
 
-    number : (t : ℕ) (q : Queue) (o : Option Queue) → row.queue ≡ o → unwrap_or (get wait_cmp new.joinings (t, server_of q)) 0 ≡ joining_of t q []
-    number t q None at = ap (λ j. unwrap_or (get wait_cmp j (t, server_of q)) 0) (none at) ∙ is.joinings t q
+    number : (t : ℕ) (q : Queue) (o : Option Queue) → row.queue ≡ o → unwrap_or (get wait_cmp new.joinings (t, q)) 0 ≡ joining_of t q []
+    number t q None at = ap (λ j. unwrap_or (get wait_cmp j (t, q)) 0) (none at) ∙ is.joinings t q
     number t q (Some p) at = ap (λ o. unwrap_or o 0) (updated t q p at) ∙ zeroed t q ((row.ticket == t) && same_queue q p)
 
 pub not_arrival : (e : Entry) → ((m : ℕ) (a : Arrival) → e ≡ Arrive m a → ⊥) → arrival_in e ≡ None

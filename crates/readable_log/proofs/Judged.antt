@@ -21,7 +21,7 @@ use Rattle.dispatch_log.specs.Grants.{IsSettled, IsLawfulGrant}
 use Rattle.dispatch_log.specs.Rows.{IsRow, phase_waits_in}
 use Rattle.dispatch_log.specs.Legal.{IsBase}
 use Rattle.dispatch_log.specs.States.{State, scene, after}
-use Rattle.dispatch_log.specs.Words.{Scene, may_take, may_go_to}
+use Rattle.dispatch_log.specs.Scenes.{Scene, may_take, may_go_to}
 use Rattle.dispatch_log.proofs.Dispatched.{base_consistent}
 use Rattle.readable_log.specs.Grants.{Wait, arrival_in, moment_in, grant_in, moment_of, key_known, has_joined}
 use Rattle.readable_log.specs.Windows.{base_rows}
@@ -31,7 +31,7 @@ use Rattle.readable_log.specs.Ordered.{TakesLeast, KeepsOrder, AllKeepOrder, Hav
 use Rattle.readable_log.specs.Readable.{MayFollow, AllFollow, IsReadable, HasArrived}
 use Rattle.readable_log.proofs.Back.{origin, have_arrived_after}
 use Rattle.readable_log.proofs.Moments.{moment_of-push}
-use Rattle.readable_log.proofs.Rows.{have_joined_after}
+use Rattle.readable_log.proofs.RowsLeft.{have_joined_after}
 
 -- no row has a ticket past the last one
 abbrev pub AreBelow : State → Type 0

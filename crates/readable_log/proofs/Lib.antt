@@ -3,7 +3,7 @@ pub mod Joinings
 pub mod Timely
 pub mod Pushes
 pub mod Back
-pub mod Rows
+pub mod RowsLeft
 pub mod Bases
 pub mod Based
 pub mod Judged

@@ -18,7 +18,7 @@ use Rattle.dispatch_log.proofs.Dispatched.{base_consistent}
 use Rattle.dispatch_log.proofs.RowLemmas.{HaveOwnTickets, row_of_at}
 use Rattle.dispatch_log.proofs.SameRows.{row_of-same}
 use Rattle.readable_log.specs.declared.base.BaseRow.{BaseRow}
-use Rattle.readable_log.specs.declared.grant.Grant.{Grant}
+use Rattle.readable_log.specs.declared.grant.SlotGrant.{SlotGrant}
 use Rattle.readable_log.specs.Grants.{Wait, moment_in, grant_in, moment_of, moment_at, newer_key, key_known}
 use Rattle.readable_log.specs.Grants.{last_from, joins, joining_of, grant_of, grant_after, grants_after, grants}
 use Rattle.readable_log.specs.Windows.{base_rows, base_key, window_in}
@@ -56,8 +56,8 @@ module _ (base other : List BaseRow) (same : (t : ℕ) → base_key t base ≡ b
   grants-same : (past es : List Entry) → grants_after base past es ≡ grants_after other past es
   grants-same past [] = refl
   grants-same past (e ∷ es) =
-      ap (λ (o : Option Grant). option_map_or (λ grant. grant ∷ []) o [] ++ grants_after base (past ++ e ∷ []) es) (grant-same past e)
-      ∙ ap (λ (l : List Grant). option_map_or (λ grant. grant ∷ []) (grant_after other past e) [] ++ l) (grants-same (past ++ e ∷ []) es)
+      ap (λ (o : Option SlotGrant). option_map_or (λ grant. grant ∷ []) o [] ++ grants_after base (past ++ e ∷ []) es) (grant-same past e)
+      ∙ ap (λ (l : List SlotGrant). option_map_or (λ grant. grant ∷ []) (grant_after other past e) [] ++ l) (grants-same (past ++ e ∷ []) es)
 
 -- what is read of entries one by one
 fold_unplaced : {A : Type 0} (f : A → Entry → A) → ((a : A) (e : Entry) → f a (unplaced e) ≡ f a e) → (a : A) (es : List Entry)
@@ -140,9 +140,9 @@ grant_unplaced base past e =
 grants_unplaced : (base : List BaseRow) (past es : List Entry) → grants_after base (map unplaced past) (map unplaced es) ≡ grants_after base past es
 grants_unplaced base past [] = refl
 grants_unplaced base past (e ∷ es) =
-    ap (λ (o : Option Grant). option_map_or (λ grant. grant ∷ []) o [] ++ grants_after base (map unplaced past ++ unplaced e ∷ []) (map unplaced es))
+    ap (λ (o : Option SlotGrant). option_map_or (λ grant. grant ∷ []) o [] ++ grants_after base (map unplaced past ++ unplaced e ∷ []) (map unplaced es))
     (grant_unplaced base past e)
-    ∙ ap (λ (l : List Grant). option_map_or (λ grant. grant ∷ []) (grant_after base past e) [] ++ l)
+    ∙ ap (λ (l : List SlotGrant). option_map_or (λ grant. grant ∷ []) (grant_after base past e) [] ++ l)
     (ap (λ (l : List Entry). grants_after base l (map unplaced es)) (sym (map-append unplaced past (e ∷ []))) ∙ grants_unplaced base (past ++ e ∷ []) es)
 
 pub same_grants : (h other : History) → IsLegal h → IsLegal other → AreSameHistories h other → grants (window_in other) ≡ grants (window_in h)

@@ -7,20 +7,20 @@ use Rattle.due_key.specs.declared.key.Key.{Key}
 use Rattle.dispatch_log.specs.declared.entry.Entry.{Entry}
 use Rattle.dispatch_log.specs.declared.entry.Entry.TheVariants.{Granted}
 use Rattle.dispatch_log.specs.declared.queue.Queue.{Queue}
-use Rattle.readable_log.specs.declared.grant.Grant.{Grant}
+use Rattle.readable_log.specs.declared.grant.SlotGrant.{SlotGrant}
 use Rattle.readable_log.specs.Grants.{Wait, moment_in, grant_in, moment_of, key_known, joining_of, has_joined, grant_of, grant_after, grants_after, grants}
-use Rattle.readable_log.specs.Kept.{IsKept}
+use Rattle.readable_log.specs.LogParts.{IsKept}
 use Rattle.readable_log.specs.Windows.{Window}
 use Rattle.readable_log.specs.declared.base.BaseRow.{BaseRow}
 use Rattle.readable_log.specs.Readable.{MayFollow, AllFollow, IsReadable, HasArrived}
 use Rattle.readable_log.proofs.Moments.{moment_of-push, moment_of_none}
 
 -- the grants of a list of one grant or none
-abbrev pub listed : Option Grant → List Grant
+abbrev pub listed : Option SlotGrant → List SlotGrant
 listed o = option_map_or (λ grant. grant ∷ []) o []
 
 -- a grant by its parts
-abbrev pub granted_by : Queue → ℤ → ℕ → ℕ → ℕ → ℕ → ℤ → Grant
+abbrev pub granted_by : Queue → ℤ → ℕ → ℕ → ℕ → ℕ → ℤ → SlotGrant
 granted_by queue class moment ticket joined slot due = record {
   queue = queue;
   class = class;
@@ -57,7 +57,7 @@ module _ (base : List BaseRow) where
   grants_after-length past [] = omega arith
   grants_after-length past (e ∷ es) = go (grant_after base past e) (grants_after-length (past ++ e ∷ []) es)
     where
-      go : (o : Option Grant) → length (grants_after base (past ++ e ∷ []) es) ≤ length es
+      go : (o : Option SlotGrant) → length (grants_after base (past ++ e ∷ []) es) ≤ length es
           → length (listed o ++ grants_after base (past ++ e ∷ []) es) ≤ length (e ∷ es)
       go None h = omega arith
       go (Some g) h = omega arith
@@ -66,7 +66,7 @@ module _ (base : List BaseRow) where
   grants-length log = grants_after-length [] log
 
   -- what is kept with an entry more that is no grant
-  pub kept_push : (list : List Entry) (granted : List Grant) (moment most : ℕ) (e : Entry) → IsKept base list granted moment most → length list < most
+  pub kept_push : (list : List Entry) (granted : List SlotGrant) (moment most : ℕ) (e : Entry) → IsKept base list granted moment most → length list < most
       → MayFollow base list e → grant_in e ≡ None
       → IsKept base (list ++ e ∷ []) granted (unwrap_or (moment_in e) moment) most
   kept_push list granted moment most e kept short may none = record {
@@ -119,7 +119,7 @@ module _ (base : List BaseRow) where
       ∙ ap (λ j. Some (granted_by queue class (moment_of list) ticket j (length list + 1) due)) is_joined
 
   -- what is kept with a grant more
-  pub kept_grant : (list : List Entry) (granted : List Grant) (moment most ticket server joined : ℕ) (queue : Queue) (class due : ℤ)
+  pub kept_grant : (list : List Entry) (granted : List SlotGrant) (moment most ticket server joined : ℕ) (queue : Queue) (class due : ℤ)
       → IsKept base list granted moment most → length list < most → 0 < length list
       → HasArrived base list ticket class due → joining_of ticket queue list ≡ joined → IsTrue (has_joined base ticket queue list)
       → IsKept base (list ++ Granted ticket queue server ∷ []) (granted ++ granted_by queue class moment ticket joined (length list + 1) due ∷ []) moment most

@@ -8,7 +8,7 @@ use Rattle.std.proofs.lemmas.Option.{same_Some}
 use Rattle.due_key.specs.declared.key.Key.{Key}
 use Rattle.dispatch_log.specs.declared.entry.Entry.{Entry}
 use Rattle.dispatch_log.specs.declared.entry.Entry.TheVariants.{Granted}
-use Rattle.readable_log.specs.declared.grant.Grant.{Grant}
+use Rattle.readable_log.specs.declared.grant.SlotGrant.{SlotGrant}
 use Rattle.readable_log.specs.Grants.{Wait, moment_in, grant_in, moment_of, moment_at, key_known}
 use Rattle.readable_log.specs.Grants.{joins, joining_of, grant_of, grant_after, grants_after, grants}
 use Rattle.readable_log.specs.Readable.{MayFollow, AllFollow, IsReadable}
@@ -24,14 +24,14 @@ grants_no_event (Granted t q v) w h = refl
 grants_no_event e w h = cc
 
 -- the parts of a grant that follows a log
-pub record Follows (base : List BaseRow) (past : List Entry) (entry : Entry) (grant : Grant) : Type 0 where
+pub record Follows (base : List BaseRow) (past : List Entry) (entry : Entry) (grant : SlotGrant) : Type 0 where
   pub wait : Wait
   pub key : Key
   pub is : grant_in entry ≡ Some wait
   pub known : key_known base wait.ticket past ≡ Some key
   pub made : grant ≡ grant_of past wait key
 
-pub follows : (base : List BaseRow) (past : List Entry) (e : Entry) (g : Grant) → grant_after base past e ≡ Some g → Follows base past e g
+pub follows : (base : List BaseRow) (past : List Entry) (e : Entry) (g : SlotGrant) → grant_after base past e ≡ Some g → Follows base past e g
 follows base past e g h = by_wait (grant_in e) refl h
   where
     by_key : (w : Wait) → grant_in e ≡ Some w → (o : Option Key) → key_known base w.ticket past ≡ o
@@ -45,14 +45,14 @@ follows base past e g h = by_wait (grant_in e) refl h
     by_wait None is made = cc
     by_wait (Some w) is made = by_key w is (key_known base w.ticket past) refl made
 
-timely_one : (base : List BaseRow) (past es : List Entry) (e : Entry) (g : Grant) → MayFollow base past e → grant_after base past e ≡ Some g
+timely_one : (base : List BaseRow) (past es : List Entry) (e : Entry) (g : SlotGrant) → MayFollow base past e → grant_after base past e ≡ Some g
     → IsTimely (record { base = base; entries = past ++ e ∷ es }) g
 timely_one base past es e g may h =
     let f = follows base past e g h in
     let w = f.wait in
-    let slot : g.stay.slot ≡ length past + 1 = ap (λ (x : Grant). x.stay.slot) f.made in
-    let joined : g.stay.joined ≡ joining_of w.ticket w.queue past = ap (λ (x : Grant). x.stay.joined) f.made in
-    let moment : g.moment ≡ moment_of past = ap (λ (x : Grant). x.moment) f.made in
+    let slot : g.stay.slot ≡ length past + 1 = ap (λ (x : SlotGrant). x.stay.slot) f.made in
+    let joined : g.stay.joined ≡ joining_of w.ticket w.queue past = ap (λ (x : SlotGrant). x.stay.joined) f.made in
+    let moment : g.moment ≡ moment_of past = ap (λ (x : SlotGrant). x.moment) f.made in
     let low : joining_of w.ticket w.queue past ≤ 0 + length past = last_from-le (joins w.ticket w.queue) 0 0 past (omega arith) in
     let long : length (past ++ e ∷ []) ≡ length past + 1 = omega (arith, length-append past (e ∷ [])) in
     let split : past ++ e ∷ es ≡ (past ++ e ∷ []) ++ es = rw append_assoc refl in
@@ -74,8 +74,8 @@ timely_after base past (e ∷ es) all =
     window : Window
     window = record { base = base; entries = past ++ e ∷ es }
 
-    by_grant : (o : Option Grant) → grant_after base past e ≡ o → AllByRecursion (IsTimely window) (grants_after base (past ++ e ∷ []) es)
-        → AllByRecursion (IsTimely window) (option_map_or (λ (g : Grant). g ∷ []) o [] ++ grants_after base (past ++ e ∷ []) es)
+    by_grant : (o : Option SlotGrant) → grant_after base past e ≡ o → AllByRecursion (IsTimely window) (grants_after base (past ++ e ∷ []) es)
+        → AllByRecursion (IsTimely window) (option_map_or (λ (g : SlotGrant). g ∷ []) o [] ++ grants_after base (past ++ e ∷ []) es)
     by_grant None is rest = rest
     by_grant (Some g) is rest = (timely_one base past es e g all.0 is, rest)
 

@@ -13,7 +13,7 @@ use Rattle.dispatch_log.specs.Rows.{same_queue}
 use Rattle.dispatch_log.specs.States.{key_of}
 use Rattle.readable_log.specs.Windows.{Window, base_key, waited}
 use Rattle.readable_log.specs.declared.base.BaseRow.{BaseRow}
-use Rattle.readable_log.specs.declared.grant.Grant.{Grant}
+use Rattle.readable_log.specs.declared.grant.SlotGrant.{SlotGrant}
 use Rattle.readable_log.specs.declared.grant.Stay.{Stay}
 
 -- a ticket in a queue
@@ -83,7 +83,7 @@ abbrev pub has_joined : List BaseRow → ℕ → Queue → List Entry → Bool
 has_joined base ticket queue log = waited ticket queue base || nat_lt 0 (joining_of ticket queue log)
 
 -- the grant of a ticket that has this key, which follows the entries of a log; one that waited since the base joined at 0
-abbrev pub grant_of : List Entry → Wait → Key → Grant
+abbrev pub grant_of : List Entry → Wait → Key → SlotGrant
 grant_of past wait key = record {
   queue = wait.queue;
   class = key.class;
@@ -92,29 +92,24 @@ grant_of past wait key = record {
 }
 
 -- the grant that an entry is, where it follows the entries of a log; none where the ticket isn't known
-abbrev pub grant_after : List BaseRow → List Entry → Entry → Option Grant
+abbrev pub grant_after : List BaseRow → List Entry → Entry → Option SlotGrant
 grant_after base past entry =
     option_map_or (λ wait. option_map_or (λ key. Some (grant_of past wait key)) (key_known base wait.ticket past) None) (grant_in entry) None
 
 -- the grants of entries that follow the entries of a log
-abbrev pub grants_after : List BaseRow → List Entry → List Entry → List Grant
+abbrev pub grants_after : List BaseRow → List Entry → List Entry → List SlotGrant
 grants_after base past [] = []
 grants_after base past (entry ∷ entries) =
     option_map_or (λ grant. grant ∷ []) (grant_after base past entry) [] ++ grants_after base (past ++ entry ∷ []) entries
 
 -- the grants of a window, in order
-abbrev pub grants : Window → List Grant
+abbrev pub grants : Window → List SlotGrant
 grants window = grants_after window.base [] window.entries
 
 -- whether a grant is from a queue and of a class
-abbrev pub is_of : Queue → ℤ → Grant → Bool
+abbrev pub is_of : Queue → ℤ → SlotGrant → Bool
 is_of queue class grant = same_queue queue grant.queue && int_eq class grant.class
 
 -- the stays of a queue and class that ended with the grant of a slot, in order
 abbrev pub stays : Window → Queue → ℤ → List Stay
 stays window queue class = map (λ grant. grant.stay) (filter (is_of queue class) (grants window))
-
--- the server whose queue it is; None for the backend's
-abbrev pub server_of : Queue → Option ℕ
-server_of Backend = None
-server_of (Server server) = Some server

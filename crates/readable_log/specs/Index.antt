@@ -1,21 +1,22 @@
 -- What a reader of a log keeps of the entries that it has read.
 use Rattle.std.specs.Prelude.{◌≡◌, ℕ, List, Option, is_some}
 use Rattle.std.specs.BTreeMap.{get}
-use Rattle.std.specs.Option.{option_cmp, unwrap_or}
+use Rattle.std.specs.Option.{unwrap_or}
 use Rattle.std.specs.Ordering.{nat_cmp, ordering_then}
 use Rattle.std.specs.declared.cmp.Ordering.{Ordering}
 use Rattle.dispatch_log.specs.declared.entry.Entry.{Entry}
 use Rattle.dispatch_log.specs.declared.queue.Queue.{Queue}
+use Rattle.dispatch_log.specs.Rows.{queue_cmp}
 use Rattle.readable_log.specs.declared.base.BaseRow.{BaseRow}
-use Rattle.readable_log.specs.Grants.{key_known, joining_of, has_joined, server_of}
+use Rattle.readable_log.specs.Grants.{key_known, joining_of, has_joined}
 use Rattle.readable_log.specs.declared.read.Index.{Index}
 
--- how a ticket in a server's or the backend's queue compares with another
-abbrev pub wait_cmp : ℕ × Option ℕ → ℕ × Option ℕ → Ordering
-wait_cmp a b = ordering_then (nat_cmp a.0 b.0) (option_cmp nat_cmp a.1 b.1)
+-- how a ticket in a queue compares with another
+abbrev pub wait_cmp : ℕ × Queue → ℕ × Queue → Ordering
+wait_cmp a b = ordering_then (nat_cmp a.0 b.0) (queue_cmp a.1 b.1)
 
 -- each ticket's key, whether it joined each queue, and where it last did
 pub record IsIndexOf (base : List BaseRow) (log : List Entry) (index : Index) : Type 0 where
   pub keys : (ticket : ℕ) → get nat_cmp index.keys ticket ≡ key_known base ticket log
-  pub joined : (ticket : ℕ) (queue : Queue) → is_some (get wait_cmp index.joinings (ticket, server_of queue)) ≡ has_joined base ticket queue log
-  pub joinings : (ticket : ℕ) (queue : Queue) → unwrap_or (get wait_cmp index.joinings (ticket, server_of queue)) 0 ≡ joining_of ticket queue log
+  pub joined : (ticket : ℕ) (queue : Queue) → is_some (get wait_cmp index.joinings (ticket, queue)) ≡ has_joined base ticket queue log
+  pub joinings : (ticket : ℕ) (queue : Queue) → unwrap_or (get wait_cmp index.joinings (ticket, queue)) 0 ≡ joining_of ticket queue log

@@ -3,7 +3,7 @@ pub mod Bases
 pub mod Grants
 pub mod Readable
 pub mod Timely
-pub mod Kept
+pub mod LogParts
 pub mod Ordered
 pub mod Index
 pub mod Worked

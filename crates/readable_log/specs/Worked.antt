@@ -4,7 +4,7 @@ use Rattle.dispatch_log.specs.declared.entry.Arrival.{Arrival}
 use Rattle.dispatch_log.specs.declared.entry.Entry.TheVariants.{Arrive, Done, Tick, Joined, Granted}
 use Rattle.dispatch_log.specs.declared.queue.Queue.TheVariants.{Backend, Server}
 use Rattle.readable_log.specs.declared.base.BaseRow.{BaseRow}
-use Rattle.readable_log.specs.declared.grant.Grant.{Grant}
+use Rattle.readable_log.specs.declared.grant.SlotGrant.{SlotGrant}
 use Rattle.readable_log.specs.Windows.{Window}
 
 -- ticket 1 arrives at moment 3, and is due at 5
@@ -15,7 +15,7 @@ abbrev pub granted_once : Window
 granted_once = record { base = []; entries = Arrive 3 first ∷ Joined 1 Backend ∷ Done 9 7 ∷ Granted 1 Backend 0 ∷ [] }
 
 -- its one grant
-abbrev pub its_grant : Grant
+abbrev pub its_grant : SlotGrant
 its_grant = record { queue = Backend; class = pos 0; moment = 9; stay = record { ticket = 1; joined = 2; slot = 4; due = pos 5 } }
 
 abbrev pub begins_inside_an_event : Window
@@ -38,7 +38,7 @@ abbrev pub granted_from_the_base : Window
 granted_from_the_base = record { base = waits_in_the_base; entries = Tick 9 ∷ Granted 7 Backend 0 ∷ [] }
 
 -- it joined at position 0
-abbrev pub grant_from_the_base : Grant
+abbrev pub grant_from_the_base : SlotGrant
 grant_from_the_base = record { queue = Backend; class = pos 0; moment = 9; stay = record { ticket = 7; joined = 0; slot = 2; due = pos 5 } }
 
 -- it is granted a slot from a queue in which it didn't wait

@@ -16,7 +16,7 @@ pub struct Stay {
 
 /// A grant of a slot to a waiting request.
 #[derive(Clone, Copy, Debug, PartialEq, Eq)]
-pub struct Grant {
+pub struct SlotGrant {
     /// The queue that the request left.
     pub queue: Queue,
     /// The class of the ticket's last arrival.

@@ -9,13 +9,13 @@ mod log;
 mod read;
 
 pub use base::{Base, BaseRow};
-pub use grant::{Grant, Stay};
+pub use grant::{SlotGrant, Stay};
 pub use laws::{
     entries_add_up, grants_tell_no_place, judged_logs_are_readable, readable_logs_are_timely,
     rows_have_arrived, worked_logs,
 };
 pub use log::Log;
-pub use read::{ReadError, server_of};
+pub use read::Unreadable;
 
 #[cfg(test)]
 mod tests;

@@ -5,7 +5,7 @@ ghost use Rattle.readable_log.specs.Readable.{MayFollow, HasArrived, IsReadable}
 ghost use Rattle.readable_log.specs.Windows.{base_rows, window_of};
 
 use crate::base::{Base, BaseRow};
-use crate::grant::{Grant, Stay};
+use crate::grant::{SlotGrant, Stay};
 use dispatch_log::{Entry, Queue, Row};
 use due_key::{Key, Moment};
 use std::alloc::{AllocError, Global};
@@ -22,7 +22,7 @@ pub struct Log {
     // The live requests of the base.
     listed: Vec<BaseRow>,
     list: Vec<Entry>,
-    granted: Vec<Grant>,
+    granted: Vec<SlotGrant>,
     moment: Moment,
     most: usize,
 }
@@ -30,7 +30,7 @@ pub struct Log {
 impl Model for Log {
     ghost use Rattle.std.specs.Prelude.{◌≤◌, vec_capacity};
     ghost use Rattle.dispatch_log.specs.Logs.{Recorded};
-    ghost use Rattle.readable_log.specs.Kept.{IsKept, IsLog};
+    ghost use Rattle.readable_log.specs.LogParts.{IsKept, IsLog};
     ghost use Rattle.readable_log.specs.Windows.{base_rows};
 
     ghost Value = { Recorded };
@@ -88,7 +88,7 @@ impl Log {
     }
 
     /// The grants that the entries tell of, in order.
-    pub fn grants(&self) -> &[Grant]
+    pub fn grants(&self) -> &[SlotGrant]
         ensures grants { result.now ≡ grants (window_of self.now) }
         ensures readable { IsReadable (window_of self.now) }
     {
@@ -154,7 +154,7 @@ impl Log {
             slot,
             due: key.due,
         };
-        let grant = Grant {
+        let grant = SlotGrant {
             queue,
             class: key.class,
             moment: self.moment,

@@ -1,12 +1,12 @@
 ghost use Rattle.std.specs.Prelude.{◌≡◌, ◌<◌, ◌+◌, [], ◌∷◌, ◌++◌, IfOk, IfErr, OnOk, None, Some, length, IsTrue, ◌↔◌, List, take};
 ghost use Rattle.dispatch_log.specs.declared.entry.Entry.{Entry};
 ghost use Rattle.dispatch_log.specs.declared.entry.Entry.TheVariants.{Granted};
-ghost use Rattle.readable_log.specs.Grants.{arrival_in, joining_in, grant_in, server_of};
+ghost use Rattle.readable_log.specs.Grants.{arrival_in, joining_in, grant_in};
 ghost use Rattle.readable_log.specs.Windows.{base_rows};
 ghost use Rattle.readable_log.specs.declared.base.BaseRow.{BaseRow};
 ghost use Rattle.readable_log.specs.Index.{IsIndexOf};
 ghost use Rattle.readable_log.specs.Readable.{MayFollow, IsReadable};
-ghost use Rattle.readable_log.specs.declared.read.ReadError.TheVariants.{NotReadable};
+ghost use Rattle.readable_log.specs.declared.read.Unreadable.TheVariants.{NotReadable};
 
 use crate::base::{Base, BaseRow};
 use crate::log::Log;
@@ -18,7 +18,7 @@ use thiserror::Error;
 
 /// Why entries were not read.
 #[derive(Clone, Copy, Debug, PartialEq, Eq, Error)]
-pub enum ReadError {
+pub enum Unreadable {
     /// A growth found no memory.
     #[error("no memory")]
     NoMemory,
@@ -32,22 +32,22 @@ pub enum ReadError {
 #[derive(Drop)]
 struct Index {
     keys: BTreeMap<u64, Key>,
-    joinings: BTreeMap<(u64, Option<usize>), usize>,
+    joinings: BTreeMap<(u64, Queue), usize>,
 }
 
 impl Log {
     /// The window of these entries after this base, whoever made them, with no more room. `O(n log n)`.
     /// Refused where memory is, or else exactly where they aren't readable.
-    pub fn read(alloc: Global, base: Base, entries: &[Entry]) -> Result<Log, ReadError>
+    pub fn read(alloc: Global, base: Base, entries: &[Entry]) -> Result<Log, Unreadable>
         ensures ok { IfOk result (λ log. log ≡ record { base = base; entries = entries.now; room = length entries.now }) }
         ensures readable { OnOk result (IsReadable (record { base = base_rows base.rows; entries = entries.now })) }
         ensures unreadable { IfErr result (λ error. error ≡ NotReadable → IsReadable (record { base = base_rows base.rows; entries = entries.now }) → ⊥) }
     {
         let Ok(mut log) = Log::with_room(alloc, base, entries.len()) else {
-            return Err(ReadError::NoMemory);
+            return Err(Unreadable::NoMemory);
         };
         let Ok(mut index) = index_of(alloc, log.base()) else {
-            return Err(ReadError::NoMemory);
+            return Err(Unreadable::NoMemory);
         };
         for entry in entries {
             follow(&mut log, &mut index, *entry)?;
@@ -81,13 +81,13 @@ fn note_row(index: &mut Index, row: BaseRow) -> Result<(), AllocError>
     };
     index.keys.insert(row.ticket, key)?;
     if let Some(queue) = row.queue {
-        index.joinings.insert((row.ticket, server_of(queue)), 0)?;
+        index.joinings.insert((row.ticket, queue), 0)?;
     }
     Ok(())
 }
 
 /// Adds an entry if it may follow.
-fn follow(log: &mut Log, index: &mut Index, entry: Entry) -> Result<(), ReadError>
+fn follow(log: &mut Log, index: &mut Index, entry: Entry) -> Result<(), Unreadable>
     requires room { length log.old.entries < log.old.room }
     requires indexed { IsIndexOf (base_rows log.old.base.rows) log.old.entries index.old }
     ensures follows { OnOk result (MayFollow (base_rows log.old.base.rows) log.old.entries entry) }
@@ -99,11 +99,11 @@ fn follow(log: &mut Log, index: &mut Index, entry: Entry) -> Result<(), ReadErro
         return follow_grant(log, index, ticket, queue, server);
     }
     if !log.may_note(&entry) {
-        return Err(ReadError::NotReadable);
+        return Err(Unreadable::NotReadable);
     }
     log.note(entry);
     let Ok(()) = note(index, &entry, log.len()) else {
-        return Err(ReadError::NoMemory);
+        return Err(Unreadable::NoMemory);
     };
     Ok(())
 }
@@ -115,7 +115,7 @@ fn follow_grant(
     ticket: u64,
     queue: Queue,
     server: usize,
-) -> Result<(), ReadError>
+) -> Result<(), Unreadable>
     requires room { length log.old.entries < log.old.room }
     requires indexed { IsIndexOf (base_rows log.old.base.rows) log.old.entries index.now }
     ensures follows { OnOk result (MayFollow (base_rows log.old.base.rows) log.old.entries (Granted ticket queue server)) }
@@ -123,14 +123,13 @@ fn follow_grant(
     ensures unreadable { IfErr result (λ error. MayFollow (base_rows log.old.base.rows) log.old.entries (Granted ticket queue server) → ⊥) }
 {
     if log.is_empty() {
-        return Err(ReadError::NotReadable);
+        return Err(Unreadable::NotReadable);
     }
     let Some(known) = index.keys.get(&ticket) else {
-        return Err(ReadError::NotReadable);
+        return Err(Unreadable::NotReadable);
     };
-    let wait = (ticket, server_of(queue));
-    let Some(joined) = index.joinings.get(&wait).copied() else {
-        return Err(ReadError::NotReadable);
+    let Some(joined) = index.joinings.get(&(ticket, queue)).copied() else {
+        return Err(Unreadable::NotReadable);
     };
     let key = Key { ticket, ..*known };
     log.note_grant(key, queue, server, joined);
@@ -161,16 +160,6 @@ fn note_joining(
 ) -> Result<(), AllocError>
     ensures { OnOk result ((base : List BaseRow) (log : List Entry) (entry : Entry) → position ≡ length log + 1 → arrival_in entry ≡ None → joining_in entry ≡ Some (record { ticket = ticket; queue = queue }) → IsIndexOf base log index.old → IsIndexOf base (log ++ entry ∷ []) index.new) }
 {
-    index.joinings.insert((ticket, server_of(queue)), position)?;
+    index.joinings.insert((ticket, queue), position)?;
     Ok(())
-}
-
-/// The server whose queue it is; None for the backend's.
-pub fn server_of(queue: Queue) -> Option<usize>
-    ensures { result ≡ server_of queue }
-{
-    match queue {
-        Queue::Backend => None,
-        Queue::Server(server) => Some(server),
-    }
 }

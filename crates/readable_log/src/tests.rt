@@ -1,7 +1,7 @@
 ghost use Rattle.std.specs.Prelude.{◌≡◌, ◌<◌, IfOk, None, length, replicate};
 ghost use Rattle.dispatch_log.specs.Setups.{IsSound};
 
-use crate::{Base, BaseRow, Grant, Log, ReadError, Stay, server_of};
+use crate::{Base, BaseRow, Log, SlotGrant, Stay, Unreadable};
 use check_state::Health;
 use dispatch_log::{Allowance, Arrival, Entry, Phase, Queue, Row, ServerSet, Servers, Setup};
 use due_key::{Class, Due, Key, Moment, Offset};
@@ -103,7 +103,7 @@ fn a_log_keeps_its_grants(rt: HostRuntime) -> Result<(), Fail> {
         slot: 4,
         due,
     };
-    let grant = Grant {
+    let grant = SlotGrant {
         queue: Queue::Server(5),
         class,
         moment: at,
@@ -151,7 +151,7 @@ fn arrive(at: u64, ticket: u64) -> Result<Entry, Fail> {
 
 fn is_refused(alloc: Global, entries: &[Entry]) -> Result<bool, Fail> {
     let log = Log::read(alloc, opening(alloc)?, entries);
-    Ok(matches!(log, Err(ReadError::NotReadable)))
+    Ok(matches!(log, Err(Unreadable::NotReadable)))
 }
 
 #[test]
@@ -217,12 +217,6 @@ fn who_waits_elsewhere_in_the_base_is_refused(rt: HostRuntime) -> Result<(), Fai
         Entry::Granted(7, Queue::Server(0), 0),
     ];
     let log = Log::read(alloc, with_seven(alloc)?, entries.as_slice());
-    assert!(rt; matches!(log, Err(ReadError::NotReadable)));
+    assert!(rt; matches!(log, Err(Unreadable::NotReadable)));
     Ok(())
-}
-
-#[test]
-fn queues_have_their_servers(rt: HostRuntime) {
-    assert_eq!(rt; server_of(Queue::Server(3)), Some(3));
-    assert_eq!(rt; server_of(Queue::Backend), None);
 }

@@ -5,7 +5,7 @@ pub mod Emitting
 pub mod Exits
 pub mod Fronts
 pub mod Lines
-pub mod Rows
+pub mod WorkedRows
 pub mod Stepping
 pub mod Wholes
 pub mod Writing

@@ -6,7 +6,7 @@ use Rattle.std.proofs.lemmas.Bool.Decides.{nat_tests}
 use Rattle.std.proofs.lemmas.List.{length-map}
 use Rattle.std.proofs.lemmas.List.Folds.{list_all-append}
 use Rattle.std.proofs.lemmas.List.Splits.{length-slice_split}
-use Rattle.list_facts.proofs.Kept.{list_all_flat_map}
+use Rattle.list_facts.proofs.Filtered.{list_all_flat_map}
 use Rattle.proxy_words.specs.Numerals.{is_numeral, value_of, numeral}
 use Rattle.proxy_words.specs.Parts.{parts, trimmed, is_comma}
 use Rattle.relay_body.specs.declared.framing.Framing.{Framing}

@@ -6,7 +6,7 @@ pub mod Marking
 pub mod Passing
 pub mod Planning
 pub mod Putting
-pub mod Rows
+pub mod WorkedRows
 pub mod Standing
 pub mod Thinning
 pub mod Turning

@@ -10,7 +10,7 @@ use Rattle.relay_body.specs.Chunks.PartOfChunk.{nothing}
 use Rattle.relay_body.specs.Framings.{IsBody, PartOfBody}
 use Rattle.relay_body.specs.declared.framing.Framing as Framed
 use Rattle.relay_body.specs.declared.framing.Framing.TheVariants.{Empty, Length, Chunked, ToEnd}
-use Rattle.list_facts.proofs.Kept.{flat_last}
+use Rattle.list_facts.proofs.Filtered.{flat_last}
 use Rattle.list_facts.proofs.Members.{all_append}
 use Rattle.relay_http.specs.Framings.{answer_plan, is_interim}
 use Rattle.relay_http.specs.Heads.{IsAnswer, NoAnswer}

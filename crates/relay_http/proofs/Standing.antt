@@ -14,8 +14,8 @@ use Rattle.relay_http.specs.declared.fault.Fault.TheVariants as Faulty
 use Rattle.relay_http.proofs.Failing.{fails_head, fails_memory}
 use Rattle.req_view.specs.AnswerHeads.{HasAnswer, NeverHasAnswer, TellsAnswer}
 use Rattle.req_view.specs.Heads.{HasHead, NeverHasHead, Tells}
-use Rattle.req_view.specs.declared.refusal.Refusal.{Refusal}
-use Rattle.req_view.specs.declared.refusal.Refusal.TheVariants.{HeadFault, NoMemory}
+use Rattle.req_view.specs.declared.refusal.HeadRefusal.{HeadRefusal}
+use Rattle.req_view.specs.declared.refusal.HeadRefusal.TheVariants.{HeadFault, NoMemory}
 use Rattle.req_view.specs.declared.viewing.Viewed.TheVariants.{Refused}
 
 pub request_alone : {bytes rest : List ℕ} (h : RequestHead) → HasHead bytes h rest → IsRequest h
@@ -36,14 +36,14 @@ moves_front p q s w held front rest n so_far same is len left waiting turns =
     moves_trans so_far (moves_use p q s w front (rw rests whole) waiting turns)
 
 -- what a refusal says
-pub request_refused : {a : Ends} (p : Pipe) (s w : Stream) (held : List ℕ) (why : Refusal) (fault : Fault) → Moves a (ends p s w) [] [] → held ≡ p.inbox
+pub request_refused : {a : Ends} (p : Pipe) (s w : Stream) (held : List ℕ) (why : HeadRefusal) (fault : Fault) → Moves a (ends p s w) [] [] → held ≡ p.inbox
     → Tells held (Refused why) → fault ≡ of_refusal why → Fails a (ends p s w) [] [] NoRequest fault
 request_refused {a} p s w held HeadFault fault so_far same told is =
     subst (λ (f : Fault). Fails a (ends p s w) [] [] NoRequest f) (sym is) (fails_head NoRequest so_far (subst (λ (l : List ℕ). NeverHasHead l) same told))
 request_refused {a} p s w held NoMemory fault so_far same told is =
     subst (λ (f : Fault). Fails a (ends p s w) [] [] NoRequest f) (sym is) (fails_memory NoRequest so_far tt)
 
-pub answer_refused : {a : Ends} (p : Pipe) (s w : Stream) (held : List ℕ) (why : Refusal) (fault : Fault) → Moves a (ends p s w) [] [] → held ≡ p.inbox
+pub answer_refused : {a : Ends} (p : Pipe) (s w : Stream) (held : List ℕ) (why : HeadRefusal) (fault : Fault) → Moves a (ends p s w) [] [] → held ≡ p.inbox
     → TellsAnswer held (Refused why) → fault ≡ of_refusal why → Fails a (ends p s w) [] [] NoAnswer fault
 answer_refused {a} p s w held HeadFault fault so_far same told is =
     subst (λ (f : Fault). Fails a (ends p s w) [] [] NoAnswer f) (sym is) (fails_head NoAnswer so_far (subst (λ (l : List ℕ). NeverHasAnswer l) same told))

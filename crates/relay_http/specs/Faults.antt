@@ -3,8 +3,8 @@ use Rattle.relay_body.specs.declared.fault.Fault as Body
 use Rattle.relay_body.specs.declared.fault.Fault.TheVariants as OfBody
 use Rattle.relay_http.specs.declared.fault.Fault.{Fault}
 use Rattle.relay_http.specs.declared.fault.Fault.TheVariants as Faulty
-use Rattle.req_view.specs.declared.refusal.Refusal.{Refusal}
-use Rattle.req_view.specs.declared.refusal.Refusal.TheVariants.{HeadFault, NoMemory}
+use Rattle.req_view.specs.declared.refusal.HeadRefusal.{HeadRefusal}
+use Rattle.req_view.specs.declared.refusal.HeadRefusal.TheVariants.{HeadFault, NoMemory}
 
 abbrev pub relayed : Body.Fault → Fault
 relayed OfBody.Framing = Faulty.Framing
@@ -12,6 +12,6 @@ relayed OfBody.Read = Faulty.Read
 relayed OfBody.Write = Faulty.Write
 relayed OfBody.Turns = Faulty.Turns
 
-abbrev pub of_refusal : Refusal → Fault
+abbrev pub of_refusal : HeadRefusal → Fault
 of_refusal HeadFault = Faulty.Head
 of_refusal NoMemory = Faulty.NoMemory

@@ -13,7 +13,7 @@ use crate::fault::Fault;
 use crate::framings::request_framing;
 use counted_io::Source;
 use relay_body::Pipe;
-use req_view::{AnswerHead, Refusal, View, Viewed, answer_head, view};
+use req_view::{AnswerHead, HeadRefusal, View, Viewed, answer_head, view};
 use std::alloc::Global;
 
 /// Reads a request's head. `O(n)` a read.
@@ -93,11 +93,11 @@ pub(crate) fn read_answer_head<S: Source>(
     }
 }
 
-fn fault_of(refusal: Refusal) -> Fault
+fn fault_of(refusal: HeadRefusal) -> Fault
     ensures { result ≡ of_refusal refusal }
 {
     match refusal {
-        Refusal::HeadFault => Fault::Head,
-        Refusal::NoMemory => Fault::NoMemory,
+        HeadRefusal::HeadFault => Fault::Head,
+        HeadRefusal::NoMemory => Fault::NoMemory,
     }
 }

@@ -1,5 +1,5 @@
 mod Fronts
 mod Runs
 mod Certified
-mod Rows
+mod WorkedRows
 mod OneTrace

@@ -16,7 +16,7 @@ use dispatch_log::Refusal;
 use due_key::Key;
 use pend_queue::PendQueue;
 use proxy_words::Lines;
-use script::{Names, Step, is_faulty, push_entries, push_refusal, step_of};
+use script::{Line, Names, Step, is_faulty, push_entries, push_refusal, step_in};
 use std::alloc::{AllocError, Global};
 
 /// Runs the steps of a script in order, and answers their lines. Behind its header lines, of which there are so many, the
@@ -39,10 +39,12 @@ pub(crate) fn run<Q: PendQueue<Key, usize>>(
     let mut lines = Lines::new(script);
     'lines: while let Some(line) = lines.next() {
         number += 1;
-        match step_of(line) {
+        let kind = Line::of(line);
+        let faulty = is_faulty(&kind);
+        match step_in(kind) {
             Some(step) => take_step(alloc, core, names, step, &mut text)?,
             None => {
-                if header < number && is_faulty(line) {
+                if header < number && faulty {
                     return Err(Fault::Script { line: number });
                 }
             }

@@ -1,12 +1,12 @@
-mod ends;
+mod broken_streams;
 mod failures;
 mod health;
 mod limits;
 mod reports;
-mod rows;
 mod servers;
 mod waiting;
 mod windows;
+mod worked;
 
 use crate::{Fault, replay, streams};
 use due_key::Key;

@@ -10,7 +10,7 @@ use Rattle.httparse.specs.Outcome.{IfComplete}
 use Rattle.httparse.specs.Grammar.{RequestHead, print_request, IsRequestHead, HasNoRequest}
 use Rattle.httparse.specs.Spans.{header_bytes, name_and_value, IsRequestAt, IsRequestOf, IsRequestWithin, RequestOverflows}
 use Rattle.httparse.proofs.GrammarLemmas.{request_prefix_free}
-use Rattle.req_view.specs.Heads.{Fits, NeverHasHead, Says}
+use Rattle.req_view.specs.Heads.{Fits, NeverHasHead, BeginsWith}
 use Rattle.req_view.specs.Request.{Request, request_of, version_of, IsWelcome}
 use Rattle.req_view.specs.Spans.{request_at}
 use Rattle.req_view.proofs.Parts.{reads-whole, late, of_complete, beyond}
@@ -64,7 +64,7 @@ unwelcome-never bytes r len stands unwelcome more k after has =
     unwelcome (subst IsWelcome (sym (stands.3 ∙ ap request_of same)) has.1)
 
 -- a welcome one is the answer
-pub welcome-says : (bytes : List ℕ) (r : Request) (len : ℕ) → Stands bytes r len → IsWelcome r → Says bytes r len
+pub welcome-says : (bytes : List ℕ) (r : Request) (len : ℕ) → Stands bytes r len → IsWelcome r → BeginsWith bytes r len
 welcome-says bytes r len stands welcome = record {
   head = stands.0;
   rest = stands.1;

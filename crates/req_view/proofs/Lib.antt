@@ -4,4 +4,4 @@ pub mod Fronts
 pub mod Lookups
 pub mod Names
 pub mod Parts
-pub mod Rows
+pub mod WorkedRows

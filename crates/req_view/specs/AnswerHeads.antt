@@ -2,7 +2,7 @@
 use Rattle.std.specs.Prelude.{◌≡◌, ℕ, ◌<◌, ◌≤◌, List, ◌++◌, length}
 use Rattle.httparse.specs.Grammar.{ResponseHead, print_response, ReadsResponse, MayBecomeResponse}
 use Rattle.req_view.specs.Answer.{Answer, answer_of}
-use Rattle.req_view.specs.declared.refusal.Refusal.TheVariants.{HeadFault, NoMemory}
+use Rattle.req_view.specs.declared.refusal.HeadRefusal.TheVariants.{HeadFault, NoMemory}
 use Rattle.req_view.specs.declared.viewing.Viewed.{Viewed}
 use Rattle.req_view.specs.declared.viewing.Viewed.TheVariants.{Whole, More, Refused}
 

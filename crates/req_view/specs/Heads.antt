@@ -2,7 +2,7 @@
 use Rattle.std.specs.Prelude.{◌≡◌, ℕ, ◌<◌, ◌≤◌, List, ◌++◌, length}
 use Rattle.httparse.specs.Grammar.{RequestHead, print_request, ReadsRequest, MayBecomeRequest}
 use Rattle.req_view.specs.Request.{Request, request_of, IsWelcome}
-use Rattle.req_view.specs.declared.refusal.Refusal.TheVariants.{HeadFault, NoMemory}
+use Rattle.req_view.specs.declared.refusal.HeadRefusal.TheVariants.{HeadFault, NoMemory}
 use Rattle.req_view.specs.declared.viewing.Viewed.{Viewed}
 use Rattle.req_view.specs.declared.viewing.Viewed.TheVariants.{Whole, More, Refused}
 
@@ -25,7 +25,7 @@ abbrev pub NeverHasHead : List ℕ → Type 0
 NeverHasHead bytes = (more : List ℕ) → HasNoHead (bytes ++ more)
 
 -- a prefix of the bytes is a head that says r, and it has so many bytes
-pub record Says (bytes : List ℕ) (r : Request) (count : ℕ) : Type 0 where
+pub record BeginsWith (bytes : List ℕ) (r : Request) (count : ℕ) : Type 0 where
   pub head : RequestHead
   pub rest : List ℕ
   pub stands : HasHead bytes head rest
@@ -40,7 +40,7 @@ pub record Waits (bytes : List ℕ) : Type 0 where
 
 -- what an answer about the bytes means, want of memory aside
 abbrev pub Tells : List ℕ → Viewed Request → Type 0
-Tells bytes (Whole r len) = Says bytes r len
+Tells bytes (Whole r len) = BeginsWith bytes r len
 Tells bytes More = Waits bytes
 Tells bytes (Refused HeadFault) = NeverHasHead bytes
 Tells bytes (Refused NoMemory) = Unit {0}

@@ -1,7 +1,7 @@
 ghost use Rattle.req_view.specs.AnswerHeads.{TellsAnswer};
 
 use crate::answer::AnswerHead;
-use crate::refusal::Refusal;
+use crate::refusal::HeadRefusal;
 use crate::viewing::{HEAD_BYTES, HEAD_FIELDS, Viewed};
 use httparse::Status;
 use httparse::spans::{EMPTY_HEADER_SPAN, parse_response};
@@ -19,15 +19,15 @@ pub fn answer_head(alloc: Global, bytes: &[u8]) -> Viewed<AnswerHead>
     match parse_response(front, &mut places) {
         Ok(Status::Complete(spans)) => match AnswerHead::copied(alloc, front, &places, spans) {
             Ok(head) => Viewed::Whole(head, spans.len),
-            Err(_) => Viewed::Refused(Refusal::NoMemory),
+            Err(_) => Viewed::Refused(HeadRefusal::NoMemory),
         },
         Ok(Status::Partial) => {
             if bytes.len() < HEAD_BYTES {
                 Viewed::More
             } else {
-                Viewed::Refused(Refusal::HeadFault)
+                Viewed::Refused(HeadRefusal::HeadFault)
             }
         }
-        Err(_) => Viewed::Refused(Refusal::HeadFault),
+        Err(_) => Viewed::Refused(HeadRefusal::HeadFault),
     }
 }

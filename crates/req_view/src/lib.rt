@@ -19,7 +19,7 @@ mod viewing;
 
 pub use answer::AnswerHead;
 pub use answering::answer_head;
-pub use refusal::Refusal;
+pub use refusal::HeadRefusal;
 pub use request::View;
 pub use section::{Field, Section};
 pub use values::Values;

@@ -2,7 +2,7 @@ use thiserror::Error;
 
 /// Why bytes give no view.
 #[derive(Clone, Copy, Debug, PartialEq, Eq, Error)]
-pub enum Refusal {
+pub enum HeadRefusal {
     /// No head that the proxy takes stands there, and none can.
     #[error("not a head")]
     HeadFault,

@@ -1,12 +1,12 @@
 use crate::{
-    AnswerHead, HEAD_BYTES, HEAD_FIELDS, Refusal, Version, View, Viewed, answer_head, view,
+    AnswerHead, HEAD_BYTES, HEAD_FIELDS, HeadRefusal, Version, View, Viewed, answer_head, view,
 };
 use std::alloc::{AllocError, Global};
 
 const PLAIN: &[u8] = b"GET / HTTP/1.1\r\nHost: h\r\n\r\n";
 
 fn is_fault<H>(viewed: &Viewed<H>) -> bool {
-    matches!(viewed, Viewed::Refused(Refusal::HeadFault))
+    matches!(viewed, Viewed::Refused(HeadRefusal::HeadFault))
 }
 
 fn is_more<H>(viewed: &Viewed<H>) -> bool {
@@ -196,7 +196,7 @@ fn values_by_name(rt: HostRuntime) {
 fn a_refused_growth_is_want_of_memory(rt: HostRuntime) {
     let text = b"GET / HTTP/1.1\r\nHost: h\r\nX-Due: 5\r\nX-Due: 6\r\nX-T: a\r\n\r\n";
     let seen = view(rt.alloc(), text);
-    let refused = matches!(&seen, Viewed::Refused(Refusal::NoMemory));
+    let refused = matches!(&seen, Viewed::Refused(HeadRefusal::NoMemory));
     assert!(rt; refused || whole_len(&seen) == Some(text.len()));
 }
 

@@ -1,6 +1,6 @@
 ghost use Rattle.req_view.specs.Heads.{Tells};
 
-use crate::refusal::Refusal;
+use crate::refusal::HeadRefusal;
 use crate::request::View;
 use httparse::Status;
 use httparse::spans::{EMPTY_HEADER_SPAN, parse_request};
@@ -20,7 +20,7 @@ pub enum Viewed<H> {
     /// They are no head yet, may become one, and are fewer than a head may have.
     More,
     /// They never become a head that the proxy takes, or memory is wanting.
-    Refused(Refusal),
+    Refused(HeadRefusal),
 }
 
 /// Looks for a request's head at the front of the bytes, of which it reads 16,384 at most.
@@ -36,16 +36,16 @@ pub fn view(alloc: Global, bytes: &[u8]) -> Viewed<View>
     match parse_request(front, &mut places) {
         Ok(Status::Complete(spans)) => match View::copied(alloc, front, &places, spans) {
             Ok(view) if view.is_welcome() => Viewed::Whole(view, spans.len),
-            Ok(_) => Viewed::Refused(Refusal::HeadFault),
-            Err(_) => Viewed::Refused(Refusal::NoMemory),
+            Ok(_) => Viewed::Refused(HeadRefusal::HeadFault),
+            Err(_) => Viewed::Refused(HeadRefusal::NoMemory),
         },
         Ok(Status::Partial) => {
             if bytes.len() < HEAD_BYTES {
                 Viewed::More
             } else {
-                Viewed::Refused(Refusal::HeadFault)
+                Viewed::Refused(HeadRefusal::HeadFault)
             }
         }
-        Err(_) => Viewed::Refused(Refusal::HeadFault),
+        Err(_) => Viewed::Refused(HeadRefusal::HeadFault),
     }
 }

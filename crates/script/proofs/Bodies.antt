@@ -15,9 +15,10 @@ use Rattle.proxy_words.specs.Text.{words}
 use Rattle.script.specs.declared.setting.Setting.{Setting}
 use Rattle.script.specs.declared.step.Step.{Step}
 use Rattle.script.specs.declared.step.Step.TheVariants.{Tick, Roll}
-use Rattle.script.specs.Steps.{is_skipped, named, ticketed, arrival_line, tick_of, check_of, limit_of, asked_by}
+use Rattle.script.specs.Steps.{step_of, is_skipped, named, ticketed, arrival_line, tick_of, check_of, limit_of, asked_by}
 use Rattle.script.specs.Headers.{Settings, all_of, settings_of, setting_of, set_by}
-use Rattle.script.specs.Faults.{clashes, is_step, is_faulty, fault_behind}
+use Rattle.script.specs.Lines.{kind_by, is_fault}
+use Rattle.script.specs.Faults.{is_step, is_faulty, fault_behind}
 use Rattle.script.specs.Reading.{IsHeader}
 use Rattle.script.proofs.Headers.{parted}
 
@@ -117,23 +118,27 @@ step_sets_nothing line step = asked_sets_nothing (words line) step
 
 -- so it is not faulty, and what isn't faulty behind a step sets nothing
 step_is_fine : (settings : Settings) (begun : Bool) (line : List ℕ) → is_step line ≡ true → is_faulty settings begun line ≡ false
-step_is_fine settings begun line step = by_setting (setting_of line) refl
+step_is_fine settings begun line step = by_step (step_of line) refl
   where
-    by_setting : (o : Option Setting) → setting_of line ≡ o → is_faulty settings begun line ≡ false
-    by_setting None e = ap (λ o. option_map_or (λ setting. begun || clashes settings setting) o (not (is_step line || is_skipped line))) e
-        ∙ ap (λ b. not (b || is_skipped line)) step
-    by_setting (Some setting) e = let none = step_sets_nothing line step in cc
+    by_step : (o : Option Step) → step_of line ≡ o → is_faulty settings begun line ≡ false
+    by_step (Some s) e = ap (λ o. is_fault settings begun (kind_by o (setting_of line) (is_skipped line))) e
+    by_step None e = let none : true ≡ false = sym step ∙ ap is_some e in cc
 
 fine_sets_nothing : (settings : Settings) (line : List ℕ) → is_faulty settings true line ≡ false → setting_of line ≡ None
-fine_sets_nothing settings line fine = by_setting (setting_of line) refl
+fine_sets_nothing settings line fine = by_step (step_of line) refl
   where
-    by_setting : (o : Option Setting) → setting_of line ≡ o → setting_of line ≡ None
-    by_setting None e = e
-    by_setting (Some setting) e =
+    by_setting : step_of line ≡ None → (o : Option Setting) → setting_of line ≡ o → setting_of line ≡ None
+    by_setting none None e = e
+    by_setting none (Some setting) e =
         let bad : is_faulty settings true line ≡ true =
-        ap (λ o. option_map_or (λ its. true || clashes settings its) o (not (is_step line || is_skipped line))) e in
+        ap (λ o. is_fault settings true (kind_by o (setting_of line) (is_skipped line))) none
+        ∙ ap (λ o. is_fault settings true (kind_by None o (is_skipped line))) e in
         let no : true ≡ false = sym bad ∙ fine in
         cc
+
+    by_step : (o : Option Step) → step_of line ≡ o → setting_of line ≡ None
+    by_step (Some s) e = step_sets_nothing line (ap is_some e)
+    by_step None e = by_setting e (setting_of line) refl
 
 -- behind a step
 begun_more : (before : List (List ℕ)) (line : List ℕ) → list_any is_step before ≡ true → list_any is_step (before ++ line ∷ []) ≡ true

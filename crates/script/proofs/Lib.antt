@@ -1,4 +1,5 @@
 mod NameBytes
 mod Headers
-mod Rows
+mod WorkedRows
 pub mod Bodies
+pub mod KindsOfLines

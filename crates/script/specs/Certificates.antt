@@ -4,7 +4,7 @@ use Rattle.std.specs.List.{AllByRecursion}
 use Rattle.dispatch_log.specs.Dispatch.{IsDispatched}
 use Rattle.dispatch_log.specs.Histories.{History}
 use Rattle.dispatch_log.specs.Legal.{IsLegal}
-use Rattle.late_cert.specs.Reports.{AreReports, IsSound, IsLeast}
+use Rattle.late_cert.specs.Reports.{AreReports, IsSoundReport, IsLeast}
 use Rattle.late_cert.specs.declared.report.Report.{Report}
 use Rattle.readable_log.specs.Windows.{window_in}
 
@@ -15,5 +15,5 @@ pub record IsCertified (history : History) (reports : List Report) : Type 0 wher
   pub legal : IsLegal history
   pub dispatched : IsDispatched history
   pub chosen : AreReports (window_in history) reports
-  pub sound : AllByRecursion (IsSound (window_in history)) reports
+  pub sound : AllByRecursion (IsSoundReport (window_in history)) reports
   pub least : AllByRecursion (IsLeast (window_in history)) reports

@@ -1,5 +1,6 @@
 pub mod Steps
 pub mod Headers
+pub mod Lines
 pub mod Faults
 pub mod Reading
 pub mod Traces

@@ -2,6 +2,8 @@
 use Rattle.std.specs.Prelude.{◌≡◌, take, drop, ℕ, ◌<◌, ◌≤◌, ◌^◌, ◌||◌, IsTrue, List, [], ◌∷◌, ◌++◌, Option, None, Some}
 use Rattle.std.specs.Option.{option_map_or, option_or}
 use Rattle.dispatch_log.specs.Setups.{is_within}
+use Rattle.script.specs.declared.line.Line.{Line}
+use Rattle.script.specs.declared.line.Line.TheVariants as lines
 use Rattle.script.specs.declared.setting.Setting.{Setting}
 use Rattle.script.specs.declared.setting.Setting.TheVariants.{Places, LogRoom, Retries, QueueTimeout, Server}
 use Rattle.script.specs.Faults.{is_step, fault_behind}
@@ -15,6 +17,10 @@ IsWithin (Retries retries) = retries ≤ 999999999
 IsWithin (QueueTimeout timeout) = timeout < 2 ^ 62
 IsWithin (Server name server) = IsTrue (is_within server)
 IsWithin other = Unit
+
+abbrev pub IsWithinLine : Line → Type 0
+IsWithinLine (lines.Setting setting) = IsWithin setting
+IsWithinLine other = Unit
 
 -- items, and one more where there is one
 abbrev pub with_last : {X : Type 0} → List X → Option X → List X
@@ -36,6 +42,11 @@ with_setting settings setting = record {
 -- settings, and what a line sets
 abbrev pub with_line : Settings → List ℕ → Settings
 with_line settings line = option_map_or (with_setting settings) (setting_of line) settings
+
+-- settings, and what a line is
+abbrev pub with_kind : Settings → Option Line → Settings
+with_kind settings (Some (lines.Setting setting)) = with_setting settings setting
+with_kind settings other = settings
 
 -- so many lines stand before the first step of all: behind them comes a step or nothing, and none of them is the first faulty line
 pub record IsHeader (all : List (List ℕ)) (count : ℕ) : Type 0 where

@@ -1,17 +1,17 @@
-ghost use Rattle.std.specs.Prelude.{◌≡◌, ◌<◌, ◌≤◌, ℕ, Some, true, false, [], length, take, IfOk, IfErr, OnOk, IsTrue};
+ghost use Rattle.std.specs.Prelude.{◌≡◌, ◌<◌, ◌≤◌, ℕ, Some, true, false, [], length, take, IfOk, IfErr, IfSome, OnOk, IsTrue};
 ghost use Rattle.dispatch_log.specs.Setups.{is_within};
 ghost use Rattle.std.specs.Str.Lines.{lines};
-ghost use Rattle.script.specs.Steps.{is_skipped};
 ghost use Rattle.script.specs.Headers.{Settings, settings_of, all_of, AreWithin};
-ghost use Rattle.script.specs.Faults.{fault_of, fault_behind, clashes, is_step, is_faulty};
-ghost use Rattle.script.specs.Reading.{IsWithin, IsHeader, with_setting, with_line};
+ghost use Rattle.script.specs.Faults.{fault_of, fault_behind};
+ghost use Rattle.script.specs.Lines.{clashes, is_fault, is_step_line};
+ghost use Rattle.script.specs.Reading.{IsWithin, IsWithinLine, IsHeader, with_setting, with_kind};
 
+use crate::line::Line;
 use crate::name::Name;
 use crate::names::Names;
-use crate::setting::{Setting, setting_of};
-use crate::step::step_of;
+use crate::setting::Setting;
 use dispatch_log::{ServerSet, Servers};
-use proxy_words::{Lines, Words};
+use proxy_words::Lines;
 use std::alloc::{AllocError, Global};
 use std::marker::Model;
 use thiserror::Error;
@@ -87,11 +87,12 @@ fn read_lines(alloc: Global, script: &[u8]) -> Result<(Header, usize), ScriptErr
     let mut number = 0;
     let mut lines = Lines::new(script);
     'lines: while let Some(line) = lines.next() {
-        if is_step(line) {
+        let kind = Line::of(line);
+        if is_step(&kind) {
             return Ok((header, number));
         }
         number += 1;
-        match header.take(alloc, line) {
+        match header.take(alloc, kind) {
             Ok(()) => {}
             Err(LineError::NoMemory) => return Err(ScriptError::NoMemory),
             Err(LineError::Faulty) => return Err(ScriptError::Fault { line: number }),
@@ -100,13 +101,13 @@ fn read_lines(alloc: Global, script: &[u8]) -> Result<(Header, usize), ScriptErr
     Ok((header, number))
 }
 
-/// Whether a line is faulty behind the first step of a script: it asks for no step, and isn't skipped.
-pub fn is_faulty(line: &[u8]) -> bool
-    ensures { (settings : Settings) → result ≡ is_faulty settings true line.now }
+/// Whether such a line is faulty behind the first step of a script: it is a header line, or none of those that may stand there.
+pub fn is_faulty(kind: &Option<Line>) -> bool
+    ensures { (settings : Settings) → result ≡ is_fault settings true kind.now }
 {
-    match setting_of(line) {
-        Some(_) => true,
-        None => !is_step(line) && !is_skipped(line),
+    match kind {
+        None | Some(Line::Setting(_)) => true,
+        Some(_) => false,
     }
 }
 
@@ -181,21 +182,16 @@ impl Header {
         (names, Servers::from_vec(servers))
     }
 
-    // Takes a line in that isn't a step.
-    fn take(&mut self, alloc: Global, line: &[u8]) -> Result<(), LineError>
-        requires { is_step line.now ≡ false }
-        ensures ok { OnOk result ((is_faulty self.old false line.now ≡ false) × (self.new ≡ with_line self.old line.now)) }
-        ensures err { IfErr result (λ error. error ≡ LineError.Faulty → is_faulty self.old false line.now ≡ true) }
+    // Takes a line in that isn't a step, by what it is.
+    fn take(&mut self, alloc: Global, kind: Option<Line>) -> Result<(), LineError>
+        requires { IfSome kind IsWithinLine }
+        ensures ok { OnOk result ((is_fault self.old false kind.entry ≡ false) × (self.new ≡ with_kind self.old kind.entry)) }
+        ensures err { IfErr result (λ error. error ≡ LineError.Faulty → is_fault self.old false kind.entry ≡ true) }
     {
-        match setting_of(line) {
-            Some(setting) => self.set(alloc, setting),
-            None => {
-                if is_skipped(line) {
-                    Ok(())
-                } else {
-                    Err(LineError::Faulty)
-                }
-            }
+        match kind {
+            Some(Line::Setting(setting)) => self.set(alloc, setting),
+            Some(_) => Ok(()),
+            None => Err(LineError::Faulty),
         }
     }
 
@@ -255,14 +251,8 @@ impl Header {
     }
 }
 
-fn is_step(line: &[u8]) -> bool
-    ensures { result ≡ is_step line.now }
+fn is_step(kind: &Option<Line>) -> bool
+    ensures { result ≡ is_step_line kind.now }
 {
-    step_of(line).is_some()
-}
-
-fn is_skipped(line: &[u8]) -> bool
-    ensures { result ≡ is_skipped line.now }
-{
-    Words::new(line).next().is_none() || line[0] == b'#'
+    matches!(kind, Some(Line::Step(_)))
 }

@@ -2,6 +2,7 @@
 #![tactic(auto)]
 
 mod header;
+mod line;
 mod name;
 mod names;
 mod report;
@@ -10,10 +11,12 @@ mod step;
 mod trace;
 
 pub use header::{Header, MOST_BYTES, ScriptError, is_faulty, read};
+pub use line::{Line, step_in};
 pub use name::Name;
 pub use names::Names;
 pub use report::{push_reports, push_roll};
-pub use step::{Step, step_of};
+pub use setting::Setting;
+pub use step::Step;
 pub use trace::{push_entries, push_refusal};
 
 #[cfg(test)]

@@ -1,7 +1,7 @@
 ghost use Rattle.std.specs.Prelude.{◌≡◌, [], ◌∷◌, ◌++◌, map, position, string_bytes, length, IfOk, OnOk, OnErr};
 ghost use Rattle.std.specs.Str.{bytes_eq};
 ghost use Rattle.script.specs.ScriptTexts.{number_of};
-ghost use Rattle.script.specs.Faults.{has_name};
+ghost use Rattle.script.specs.Lines.{has_name};
 ghost use Rattle.script.specs.Traces.{name_of};
 
 use crate::name::Name;

@@ -1,5 +1,5 @@
 ghost use Rattle.std.specs.Prelude.{◌≡◌, ◌<◌, ◌≤◌, IfSome, IsTrue};
-ghost use Rattle.dispatch_log.specs.Setups.{checks_count};
+ghost use Rattle.dispatch_log.specs.Setups.{has_rise_and_fall};
 ghost use Rattle.script.specs.Headers.{places_line, log_line, retries_line, redispatch_line, timeout_line, server_line, server_of, checks_of, set_by, setting_of, number_in};
 ghost use Rattle.script.specs.Reading.{IsWithin};
 
@@ -10,7 +10,7 @@ use proxy_words::{Words, number};
 
 /// What a header line of a script sets.
 #[derive(Debug, Drop)]
-pub(crate) enum Setting<'a> {
+pub enum Setting<'a> {
     /// `places N`: the greatest number of live requests.
     Places(usize),
     /// `log N`: the greatest number of log entries.
@@ -119,7 +119,7 @@ fn server<'a>(mut words: Words<'a>) -> Option<Setting<'a>>
 // `RISE FALL`, behind a server's weight.
 fn checks_of(rise: &[u8], fall: &[u8]) -> Option<(u32, u32)>
     ensures value { result ≡ checks_of rise.now fall.now }
-    ensures within { IsTrue (checks_count result) }
+    ensures within { IsTrue (has_rise_and_fall result) }
 {
     let rise = number_in(1, 999_999_999, rise)?;
     let fall = number_in(1, 999_999_999, fall)?;
@@ -133,7 +133,7 @@ fn server_of<'a>(
     weight: &[u8],
     rise_fall: Option<(u32, u32)>,
 ) -> Option<Setting<'a>>
-    requires { IsTrue (checks_count rise_fall) }
+    requires { IsTrue (has_rise_and_fall rise_fall) }
     ensures value { result ≡ server_of name.now limit.now maxqueue.now weight.now rise_fall }
     ensures within { IfSome result IsWithin }
 {

@@ -54,7 +54,7 @@ pub enum Step<'a> {
 }
 
 /// The step that a line asks for.
-pub fn step_of(line: &[u8]) -> Option<Step>
+pub(crate) fn step_of(line: &[u8]) -> Option<Step>
     ensures { result ≡ step_of_line line.now }
 {
     let mut words = Words::new(line);

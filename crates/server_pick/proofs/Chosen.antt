@@ -9,8 +9,8 @@ use Rattle.dispatch_log.specs.declared.setup.ServerSet.{ServerSet}
 use Rattle.dispatch_log.specs.Picks.{IsPick}
 use Rattle.dispatch_log.specs.Placement.{IsCandidate, IsChosen}
 use Rattle.dispatch_log.specs.Rows.{served, queued}
-use Rattle.dispatch_log.specs.States.{put_on}
-use Rattle.dispatch_log.specs.Words.{Scene, of_server, is_up, is_usable, is_free, has_room, takes_pinned, working_pin, limit_of}
+use Rattle.dispatch_log.specs.States.{cursor_after_placing}
+use Rattle.dispatch_log.specs.Scenes.{Scene, of_server, is_up, is_usable, is_free, has_room, takes_pinned, working_pin, limit_of}
 use Rattle.list_facts.proofs.Places.{same_or_other}
 use Rattle.server_pick.specs.Order.{HasRoomBut}
 use Rattle.server_pick.specs.Picked.{IsPlacement, cursor_placed, placed_on}
@@ -119,11 +119,11 @@ pub cursor_picked : (scene : Scene) (cursor now : ℕ) (pin : Option ℕ) (serve
     → now ≡ cursor_placed pin (placed_on scene server) cursor
 cursor_picked scene cursor now pin server none room moved = moved ∙ by_free (is_free scene server) refl
   where
-    by_pin : (p : Option ℕ) → working_pin scene p ≡ None → server ≡ put_on server p cursor
+    by_pin : (p : Option ℕ) → working_pin scene p ≡ None → server ≡ cursor_after_placing server p cursor
     by_pin None e = refl
     by_pin (Some own) e = by_same (own == server) refl
       where
-        by_same : (b : Bool) → (own == server) ≡ b → server ≡ put_on server (Some own) cursor
+        by_same : (b : Bool) → (own == server) ≡ b → server ≡ cursor_after_placing server (Some own) cursor
         by_same false t = rw t refl
         by_same true t =
             let same : own ≡ server = (Decides-eqb own server).0 t in

@@ -5,7 +5,7 @@ use Rattle.std.specs.Option.{option_map_or}
 use Rattle.std.proofs.lemmas.Option.{slice_get_within}
 use Rattle.dispatch_log.specs.declared.setup.ServerSet.{ServerSet}
 use Rattle.dispatch_log.specs.declared.setup.Setup.{Setup}
-use Rattle.dispatch_log.specs.Words.{Scene, of_server, is_free, limit_of}
+use Rattle.dispatch_log.specs.Scenes.{Scene, of_server, is_free, limit_of}
 use Rattle.dispatch_log.specs.Rows.{served}
 use Rattle.server_pick.specs.Sets.{IsIn, IsMore}
 use Rattle.server_pick.proofs.Preferred.{below_cases}

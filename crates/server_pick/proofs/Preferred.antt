@@ -6,7 +6,7 @@ use Rattle.std.proofs.Math.Nat.{mul_right_comm, mul-lt-mul_of_pos_right, lt_of_m
 use Rattle.std.proofs.lemmas.Bool.Decides.{nat_tests}
 use Rattle.dispatch_log.specs.declared.setup.ServerSet.{ServerSet}
 use Rattle.dispatch_log.specs.Picks.{weight_of, load, steps_after, IsPick}
-use Rattle.dispatch_log.specs.Words.{Scene, is_up, is_usable}
+use Rattle.dispatch_log.specs.Scenes.{Scene, is_up, is_usable}
 use Rattle.list_facts.proofs.Both.{and_second}
 use Rattle.server_pick.specs.Order.{goes_before, beats, better_of}
 

@@ -15,7 +15,7 @@ use Rattle.dispatch_log.specs.declared.row.Row.{Row}
 use Rattle.dispatch_log.specs.Grants.{CanTake, IsSettled, IsNextTaker}
 use Rattle.dispatch_log.specs.Picks.{weight_of, IsPick}
 use Rattle.dispatch_log.specs.Rows.{Rows, IsRow, same_queue, phase_waits_in, waits_in, queued}
-use Rattle.dispatch_log.specs.Words.{Scene, is_up, is_usable, may_take, may_go_to}
+use Rattle.dispatch_log.specs.Scenes.{Scene, is_up, is_usable, may_take, may_go_to}
 use Rattle.server_pick.specs.declared.heads.Heads.{Heads}
 use Rattle.server_pick.specs.Heads.{head_at, IsLeastIn, IsHead, IsLawfulTake, has_stay, goes_first, queue_of}
 use Rattle.server_pick.specs.Picked.{IsFirstWeightless}

@@ -8,7 +8,7 @@ use Rattle.dispatch_log.specs.declared.queue.Queue.TheVariants.{Backend, Server}
 use Rattle.dispatch_log.specs.declared.row.Row.{Row}
 use Rattle.dispatch_log.specs.Grants.{IsLeastOf, IsLawfulGrant}
 use Rattle.dispatch_log.specs.Rows.{Rows, IsRow, phase_waits_in, queued}
-use Rattle.dispatch_log.specs.Words.{Scene, is_up, is_usable}
+use Rattle.dispatch_log.specs.Scenes.{Scene, is_up, is_usable}
 use Rattle.server_pick.specs.declared.heads.Heads.{Heads}
 
 -- the head of a server's own queue, or of the backend's

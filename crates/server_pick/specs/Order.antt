@@ -1,7 +1,7 @@
 -- Which servers balancing looks at, and in which order it prefers them.
 use Rattle.std.specs.Prelude.{◌≢◌, ℕ, IsTrue, ◌*◌, nat_lt, ◌==◌, ◌&&◌, ◌||◌, Bool, true, Option, None, Some, if◌then◌else◌}
 use Rattle.dispatch_log.specs.Picks.{weight_of, load, steps_after}
-use Rattle.dispatch_log.specs.Words.{Scene, has_room}
+use Rattle.dispatch_log.specs.Scenes.{Scene, has_room}
 
 -- a usable server with room, and not the avoided one
 abbrev pub HasRoomBut : Scene → Option ℕ → ℕ → Type 0

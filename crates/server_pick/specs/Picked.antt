@@ -3,8 +3,8 @@ use Rattle.std.specs.Prelude.{◌≡◌, ℕ, ◌<◌, ◌≤◌, Option, MatchO
 use Rattle.dispatch_log.specs.declared.queue.Queue.TheVariants.{Server, Backend}
 use Rattle.dispatch_log.specs.Placement.{IsDirect, IsJoining, IsTurnedAway}
 use Rattle.dispatch_log.specs.Picks.{weight_of}
-use Rattle.dispatch_log.specs.States.{put_on}
-use Rattle.dispatch_log.specs.Words.{Scene, is_free}
+use Rattle.dispatch_log.specs.States.{cursor_after_placing}
+use Rattle.dispatch_log.specs.Scenes.{Scene, is_free}
 use Rattle.server_pick.specs.declared.placement.Placement.{Placement}
 use Rattle.server_pick.specs.declared.placement.Placement.TheVariants.{Slot, OwnQueue, BackendQueue, Nowhere}
 
@@ -17,8 +17,8 @@ IsPlacement scene cursor pin avoid Nowhere = IsTurnedAway scene pin
 
 -- the cursor after it: a server that was put on by its pin is no pick
 abbrev pub cursor_placed : Option ℕ → Placement → ℕ → ℕ
-cursor_placed pin (Slot server) cursor = put_on server pin cursor
-cursor_placed pin (OwnQueue server) cursor = put_on server pin cursor
+cursor_placed pin (Slot server) cursor = cursor_after_placing server pin cursor
+cursor_placed pin (OwnQueue server) cursor = cursor_after_placing server pin cursor
 cursor_placed pin BackendQueue cursor = cursor
 cursor_placed pin Nowhere cursor = cursor
 

@@ -1,7 +1,7 @@
 ghost use Rattle.std.specs.Prelude.{◌≡◌, ℕ, ◌<◌, ◌↔◌, IsTrue, IfSome, MatchOption, length};
 ghost use Rattle.dispatch_log.specs.Picks.{IsPick};
 ghost use Rattle.dispatch_log.specs.Placement.{IsCandidate};
-ghost use Rattle.dispatch_log.specs.Words.{is_usable};
+ghost use Rattle.dispatch_log.specs.Scenes.{is_usable};
 ghost use Rattle.slot_ledger.specs.Ledgers.{scene_of};
 ghost use Rattle.server_pick.specs.Order.{HasRoomBut, better_of, beats, goes_before};
 ghost use Rattle.server_pick.specs.Picked.{IsMoved};
@@ -9,7 +9,7 @@ ghost use Rattle.server_pick.specs.Sets.{has, IsIn};
 
 use crate::cursor::Cursor;
 use crate::server_set::Set64;
-use crate::words::{has_room, load, weight};
+use crate::servers::{has_room, load, weight};
 use slot_ledger::Ledger;
 
 /// The servers that balancing may choose from: the usable ones with room, without the avoided one

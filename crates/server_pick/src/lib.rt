@@ -8,8 +8,8 @@ mod cursor;
 mod heads;
 mod placement;
 mod server_set;
+mod servers;
 mod takers;
-mod words;
 
 pub use balance::{candidates, pick};
 pub use cursor::Cursor;

@@ -1,11 +1,11 @@
 ghost use Rattle.std.specs.Prelude.{◌≡◌, ℕ, ◌↔◌, IsTrue, true, false};
-ghost use Rattle.dispatch_log.specs.Words.{working_pin, is_usable, is_free};
+ghost use Rattle.dispatch_log.specs.Scenes.{working_pin, is_usable, is_free};
 ghost use Rattle.slot_ledger.specs.Ledgers.{scene_of};
 ghost use Rattle.server_pick.specs.Picked.{IsPlacement, cursor_placed, placed_on};
 
 use crate::balance::{candidates, pick};
 use crate::cursor::Cursor;
-use crate::words::{is_free, is_usable, takes_pinned};
+use crate::servers::{is_free, is_usable, takes_pinned};
 use slot_ledger::Ledger;
 
 /// Where a request goes that is in no place yet.

@@ -1,7 +1,7 @@
 ghost use Rattle.std.specs.Prelude.{◌≡◌, ℕ, ◌<◌, ◌↔◌, IsTrue, MatchOption, length};
 ghost use Rattle.dispatch_log.specs.Grants.{CanTake, IsSettled, IsNextTaker};
 ghost use Rattle.dispatch_log.specs.Picks.{weight_of};
-ghost use Rattle.dispatch_log.specs.States.{granted_by};
+ghost use Rattle.dispatch_log.specs.States.{cursor_after_granting};
 ghost use Rattle.slot_ledger.specs.Ledgers.{scene_of};
 ghost use Rattle.slot_ledger.specs.Slots.{rows_in};
 ghost use Rattle.server_pick.specs.Heads.{AreHeads, IsLawfulTake, has_stay, queue_of, goes_first};
@@ -12,7 +12,7 @@ use crate::balance::pick;
 use crate::cursor::Cursor;
 use crate::heads::Heads;
 use crate::server_set::Set64;
-use crate::words::{is_free, is_usable, weight};
+use crate::servers::{is_free, is_usable, weight};
 use dispatch_log::Queue;
 use due_key::Key;
 use slot_ledger::Ledger;
@@ -21,7 +21,7 @@ use slot_ledger::Ledger;
 /// only where all is settled.
 pub fn next_taker<H: Drop>(ledger: &Ledger<H>, cursor: &mut Cursor) -> Option<usize>
     ensures next { MatchOption result (IsSettled (scene_of ledger.now)) (IsNextTaker (scene_of ledger.now) cursor.old) }
-    ensures cursor { MatchOption result (cursor.new ≡ cursor.old) (λ server. cursor.new ≡ granted_by ledger.now.setup server cursor.old) }
+    ensures cursor { MatchOption result (cursor.new ≡ cursor.old) (λ server. cursor.new ≡ cursor_after_granting ledger.now.setup server cursor.old) }
 {
     let takers = takers(ledger);
     if takers.is_empty() {

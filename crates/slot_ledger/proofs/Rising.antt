@@ -5,7 +5,7 @@ use Rattle.std.specs.List.{cons_option}
 use Rattle.std.proofs.lemmas.List.{get_or_append_left, get_or-append-add}
 use Rattle.std.proofs.lemmas.List.Elements.{All-append, All-cons, All-contains, All-filter, All-head}
 use Rattle.std.proofs.lemmas.List.Elements.{All-nil, All-tail, All-weaker, filter_map-append, Contains-append_right}
-use Rattle.slot_ledger.specs.declared.tickets.Entry.{Entry}
+use Rattle.slot_ledger.specs.declared.tickets.TicketPlace.{TicketPlace}
 use Rattle.slot_ledger.specs.Tickets.{IsAbsent, IsBelowAll, IsRising, Removes, has_place, pair_of, pairs_in}
 
 module _ {X : Type 0} (P : X → Type 0) where
@@ -17,12 +17,12 @@ module _ {X : Type 0} (P : X → Type 0) where
   all_back xs ys all k d within = subst P (get_or-append-add xs ys k d) (all (length xs + k) d (let long = length-append xs ys in omega arith))
 
 -- what two parts are that rise together
-pub record AreRisingParts (front back : List Entry) : Type 0 where
+pub record AreRisingParts (front back : List TicketPlace) : Type 0 where
   pub first : IsRising front
   pub second : IsRising back
   pub across : All (λ entry. IsBelowAll entry back) front
 
-pub rising_parts : (front back : List Entry) → IsRising (front ++ back) → AreRisingParts front back
+pub rising_parts : (front back : List TicketPlace) → IsRising (front ++ back) → AreRisingParts front back
 rising_parts [] back up = record { first = tt; second = up; across = All-nil (λ entry. IsBelowAll entry back) }
 rising_parts (e ∷ front) back up =
     let parts = rising_parts front back up.1 in
@@ -32,7 +32,7 @@ rising_parts (e ∷ front) back up =
       across = All-cons (λ entry. IsBelowAll entry back) e front (all_back (λ other. e.ticket < other.ticket) front back up.0) parts.across;
     }
 
-pub rising_joined : (front back : List Entry) → AreRisingParts front back → IsRising (front ++ back)
+pub rising_joined : (front back : List TicketPlace) → AreRisingParts front back → IsRising (front ++ back)
 rising_joined [] back parts = parts.second
 rising_joined (e ∷ front) back parts = (
   All-append (λ other. e.ticket < other.ticket) front back parts.first.0 (All-head (λ entry. IsBelowAll entry back) e front parts.across),
@@ -40,7 +40,7 @@ rising_joined (e ∷ front) back parts = (
 )
 
 -- one entry goes, is changed, or is added
-module _ (front back : List Entry) (e : Entry) (up : IsRising (front ++ e ∷ back)) where
+module _ (front back : List TicketPlace) (e : TicketPlace) (up : IsRising (front ++ e ∷ back)) where
   pub rising_without : IsRising (front ++ back)
   rising_without =
       let parts = rising_parts front (e ∷ back) up in
@@ -51,7 +51,7 @@ module _ (front back : List Entry) (e : Entry) (up : IsRising (front ++ e ∷ ba
             (λ x below. All-tail (λ other. x.ticket < other.ticket) e back below) front parts.across;
       })
 
-  pub rising_changed : (d : Entry) → d.ticket ≡ e.ticket → IsRising (front ++ d ∷ back)
+  pub rising_changed : (d : TicketPlace) → d.ticket ≡ e.ticket → IsRising (front ++ d ∷ back)
   rising_changed d same =
       let parts = rising_parts front (e ∷ back) up in
       rising_joined front (d ∷ back) (record {
@@ -65,7 +65,8 @@ module _ (front back : List Entry) (e : Entry) (up : IsRising (front ++ e ∷ ba
             front parts.across;
       })
 
-pub rising_more : (entries : List Entry) (e : Entry) → IsRising entries → All (λ other. other.ticket < e.ticket) entries → IsRising (entries ++ e ∷ [])
+pub rising_more : (entries : List TicketPlace) (e : TicketPlace) → IsRising entries → All (λ other. other.ticket < e.ticket) entries
+    → IsRising (entries ++ e ∷ [])
 rising_more entries e up below = rising_joined entries (e ∷ []) (record {
   first = up;
   second = (All-nil (λ other. e.ticket < other.ticket), tt);
@@ -73,37 +74,38 @@ rising_more entries e up below = rising_joined entries (e ∷ []) (record {
       (λ x lower. All-cons (λ other. x.ticket < other.ticket) e [] lower (All-nil (λ other. x.ticket < other.ticket))) entries below;
 })
 
-rising_step : (b : Bool) (e : Entry) (entries : List Entry) → IsBelowAll e entries → IsRising entries → IsRising (cond b (e ∷ entries) entries)
+rising_step : (b : Bool) (e : TicketPlace) (entries : List TicketPlace) → IsBelowAll e entries → IsRising entries → IsRising (cond b (e ∷ entries) entries)
 rising_step true e entries below up = (below, up)
 rising_step false e entries below up = up
 
-pub rising_filter : (test : Entry → Bool) (entries : List Entry) → IsRising entries → IsRising (filter test entries)
+pub rising_filter : (test : TicketPlace → Bool) (entries : List TicketPlace) → IsRising entries → IsRising (filter test entries)
 rising_filter test [] up = tt
 rising_filter test (e ∷ entries) up = rising_step (test e) e (filter test entries) (All-filter test (λ other. e.ticket < other.ticket) entries up.0)
     (rising_filter test entries up.1)
 
 -- the pairs with an entry in the middle that has a place or has none
-pub pairs_around : (front back : List Entry) (e : Entry) (o : Option ℕ) → e.place ≡ o
+pub pairs_around : (front back : List TicketPlace) (e : TicketPlace) (o : Option ℕ) → e.place ≡ o
     → pairs_in (front ++ e ∷ back) ≡ pairs_in front ++ cons_option (option_map (λ place. (e.ticket, place)) o) (pairs_in back)
 pairs_around front back e o is = filter_map-append pair_of front (e ∷ back)
     ∙ ap (λ (p : Option ℕ). pairs_in front ++ cons_option (option_map (λ place. (e.ticket, place)) p) (pairs_in back)) is
 
-pub pairs_without : (front back : List Entry) (e : Entry) → e.place ≡ None → pairs_in (front ++ e ∷ back) ≡ pairs_in (front ++ back)
+pub pairs_without : (front back : List TicketPlace) (e : TicketPlace) → e.place ≡ None → pairs_in (front ++ e ∷ back) ≡ pairs_in (front ++ back)
 pairs_without front back e is = pairs_around front back e None is ∙ sym (filter_map-append pair_of front back)
 
 -- what holds of the tickets of entries holds of those of their pairs, and back where the entries have places
 module _ (P : ℕ → Type 0) where
-  pair_step : (e : Entry) (o : Option ℕ) (pairs : List (ℕ × ℕ)) → P e.ticket → All (λ pair. P pair.0) pairs
+  pair_step : (e : TicketPlace) (o : Option ℕ) (pairs : List (ℕ × ℕ)) → P e.ticket → All (λ pair. P pair.0) pairs
       → All (λ pair. P pair.0) (cons_option (option_map (λ place. (e.ticket, place)) o) pairs)
   pair_step e None pairs this rest = rest
   pair_step e (Some place) pairs this rest = All-cons (λ pair. P pair.0) (e.ticket, place) pairs this rest
 
-  pub each_pair : (entries : List Entry) → All (λ entry. P entry.ticket) entries → All (λ pair. P pair.0) (pairs_in entries)
+  pub each_pair : (entries : List TicketPlace) → All (λ entry. P entry.ticket) entries → All (λ pair. P pair.0) (pairs_in entries)
   each_pair [] all = All-nil (λ pair. P pair.0)
   each_pair (e ∷ entries) all = pair_step e e.place (pairs_in entries) (All-head (λ entry. P entry.ticket) e entries all)
       (each_pair entries (All-tail (λ entry. P entry.ticket) e entries all))
 
-  kept_step : (e : Entry) (o : Option ℕ) (pairs : List (ℕ × ℕ)) (kept : List Entry) → (All (λ pair. P pair.0) pairs → All (λ entry. P entry.ticket) kept)
+  kept_step : (e : TicketPlace) (o : Option ℕ) (pairs : List (ℕ × ℕ)) (kept : List TicketPlace)
+      → (All (λ pair. P pair.0) pairs → All (λ entry. P entry.ticket) kept)
       → All (λ pair. P pair.0) (cons_option (option_map (λ place. (e.ticket, place)) o) pairs)
       → All (λ entry. P entry.ticket) (cond (is_some o) (e ∷ kept) kept)
   kept_step e None pairs kept rest all = rest all
@@ -111,12 +113,12 @@ module _ (P : ℕ → Type 0) where
       All-cons (λ entry. P entry.ticket) e kept (All-head (λ pair. P pair.0) (e.ticket, place) pairs all)
       (rest (All-tail (λ pair. P pair.0) (e.ticket, place) pairs all))
 
-  pub each_kept : (entries : List Entry) → All (λ pair. P pair.0) (pairs_in entries) → All (λ entry. P entry.ticket) (filter has_place entries)
+  pub each_kept : (entries : List TicketPlace) → All (λ pair. P pair.0) (pairs_in entries) → All (λ entry. P entry.ticket) (filter has_place entries)
   each_kept [] all = All-nil (λ entry. P entry.ticket)
   each_kept (e ∷ entries) all = kept_step e e.place (pairs_in entries) (filter has_place entries) (each_kept entries) all
 
 -- the entries that have a place have all the pairs, and are as many
-module _ (e : Entry) (kept : List Entry) (pairs : List (ℕ × ℕ)) where
+module _ (e : TicketPlace) (kept : List TicketPlace) (pairs : List (ℕ × ℕ)) where
   same_step : (o : Option ℕ) → e.place ≡ o → pairs_in kept ≡ pairs
       → pairs_in (cond (is_some o) (e ∷ kept) kept) ≡ cons_option (option_map (λ place. (e.ticket, place)) o) pairs
   same_step None is same = same
@@ -127,16 +129,16 @@ module _ (e : Entry) (kept : List Entry) (pairs : List (ℕ × ℕ)) where
   length_step None same = same
   length_step (Some place) same = omega arith
 
-pub pairs_kept : (entries : List Entry) → pairs_in (filter has_place entries) ≡ pairs_in entries
+pub pairs_kept : (entries : List TicketPlace) → pairs_in (filter has_place entries) ≡ pairs_in entries
 pairs_kept [] = refl
 pairs_kept (e ∷ entries) = same_step e (filter has_place entries) (pairs_in entries) e.place refl (pairs_kept entries)
 
-pub length-kept : (entries : List Entry) → length (filter has_place entries) ≡ length (pairs_in entries)
+pub length-kept : (entries : List TicketPlace) → length (filter has_place entries) ≡ length (pairs_in entries)
 length-kept [] = refl
 length-kept (e ∷ entries) = length_step e (filter has_place entries) (pairs_in entries) e.place (length-kept entries)
 
 -- an entry in the middle of what rises
-module _ (front back : List Entry) (e : Entry) (up : IsRising (front ++ e ∷ back)) where
+module _ (front back : List TicketPlace) (e : TicketPlace) (up : IsRising (front ++ e ∷ back)) where
   -- no other has its ticket
   pub others_absent : IsAbsent e.ticket (pairs_in front ++ pairs_in back)
   others_absent =
@@ -156,7 +158,7 @@ module _ (front back : List Entry) (e : Entry) (up : IsRising (front ++ e ∷ ba
       (Contains-append_right (pairs_in front) ((e.ticket, place) ∷ pairs_in back) (e.ticket, place) (0, omega arith, refl))
 
   -- where it loses its place, its pair is gone
-  pub place_removed : (d : Entry) (place : ℕ) → d.place ≡ None → Contains (pairs_in (front ++ e ∷ back)) (e.ticket, place)
+  pub place_removed : (d : TicketPlace) (place : ℕ) → d.place ≡ None → Contains (pairs_in (front ++ e ∷ back)) (e.ticket, place)
       → Removes e.ticket (pairs_in (front ++ e ∷ back)) (pairs_in (front ++ d ∷ back))
   place_removed d place none among = by_place e.place refl
     where

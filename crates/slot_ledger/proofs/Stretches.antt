@@ -7,16 +7,16 @@ use Rattle.std.proofs.lemmas.List.{set_split, take-set-le, drop-set-lt, drop-set
 use Rattle.std.proofs.lemmas.List.Elements.{All-append, All-cons, All-head, All-nil, All-weaker}
 use Rattle.std.proofs.lemmas.Option.{slice_get_within, get_or_from_slice_get, slice_get-get_or}
 use Rattle.list_facts.proofs.Places.{set_read}
-use Rattle.slot_ledger.specs.declared.tickets.Entry.{Entry}
-use Rattle.slot_ledger.specs.Tickets.{IsBelowAll, IsRising, IsWithin, AreStretches, Passes, IsAboveLast, has_place, pairs_in, stretches}
+use Rattle.slot_ledger.specs.declared.tickets.TicketPlace.{TicketPlace}
+use Rattle.slot_ledger.specs.Tickets.{IsBelowAll, IsRising, IsWithin, AreStretches, SweepsOneOn, IsAboveLast, has_place, pairs_in, stretches}
 use Rattle.slot_ledger.proofs.Rising.{rising_parts, rising_without, rising_more, rising_filter, pairs_around, pairs_without, pairs_kept, each_kept}
 
 -- what stands around a place that counts, whatever is written there
-pub record IsAround (kept next at : ℕ) (entries front back : List Entry) : Type 0 where
-  pub written : (e : Entry) → stretches kept next (set entries at e) ≡ front ++ e ∷ back
+pub record IsAround (kept next at : ℕ) (entries front back : List TicketPlace) : Type 0 where
+  pub written : (e : TicketPlace) → stretches kept next (set entries at e) ≡ front ++ e ∷ back
 
-module _ (kept next at : ℕ) (entries : List Entry) (within : IsWithin kept next entries) (there : at < length entries) where
-  around_low : at < kept → (front : List Entry) × (back : List Entry) × IsAround kept next at entries front back
+module _ (kept next at : ℕ) (entries : List TicketPlace) (within : IsWithin kept next entries) (there : at < length entries) where
+  around_low : at < kept → (front : List TicketPlace) × (back : List TicketPlace) × IsAround kept next at entries front back
   around_low low = (
     take at (take kept entries),
     drop (suc at) (take kept entries) ++ drop next entries,
@@ -25,13 +25,15 @@ module _ (kept next at : ℕ) (entries : List Entry) (within : IsWithin kept nex
           let ordered = within.ordered in
           let bound = within.within in
           let long = length-take kept entries in
-          ap (λ (l : List Entry). l ++ drop next (set entries at e)) (take-set-lt kept entries at e low ∙ set_split (take kept entries) at e (omega arith))
-          ∙ ap (λ (l : List Entry). (take at (take kept entries) ++ e ∷ drop (suc at) (take kept entries)) ++ l) (drop-set-lt next entries at e (omega arith))
+          ap (λ (l : List TicketPlace). l ++ drop next (set entries at e)) (take-set-lt kept entries at e low
+          ∙ set_split (take kept entries) at e (omega arith))
+          ∙ ap (λ (l : List TicketPlace). (take at (take kept entries) ++ e ∷ drop (suc at) (take kept entries)) ++ l)
+          (drop-set-lt next entries at e (omega arith))
           ∙ append_assoc (take at (take kept entries)) (e ∷ drop (suc at) (take kept entries)) (drop next entries);
     },
   )
 
-  around_high : (more : ℕ) → at ≡ next + more → (front : List Entry) × (back : List Entry) × IsAround kept next at entries front back
+  around_high : (more : ℕ) → at ≡ next + more → (front : List TicketPlace) × (back : List TicketPlace) × IsAround kept next at entries front back
   around_high more is = (
     take kept entries ++ take more (drop next entries),
     drop (suc more) (drop next entries),
@@ -39,37 +41,38 @@ module _ (kept next at : ℕ) (entries : List Entry) (within : IsWithin kept nex
       written = λ e.
           let ordered = within.ordered in
           let long = length-drop next entries in
-          ap (λ (l : List Entry). l ++ drop next (set entries at e)) (take-set-le kept entries at e (omega arith))
+          ap (λ (l : List TicketPlace). l ++ drop next (set entries at e)) (take-set-le kept entries at e (omega arith))
           ∙ ap (λ (n : ℕ). take kept entries ++ drop next (set entries n e)) is
-          ∙ ap (λ (l : List Entry). take kept entries ++ l) (drop-set-add next entries more e ∙ set_split (drop next entries) more e (omega arith))
+          ∙ ap (λ (l : List TicketPlace). take kept entries ++ l) (drop-set-add next entries more e ∙ set_split (drop next entries) more e (omega arith))
           ∙ sym (append_assoc (take kept entries) (take more (drop next entries)) (e ∷ drop (suc more) (drop next entries)));
     },
   )
 
-  pub around : (at < kept) ⊎ (next ≤ at) → (front : List Entry) × (back : List Entry) × IsAround kept next at entries front back
+  pub around : (at < kept) ⊎ (next ≤ at) → (front : List TicketPlace) × (back : List TicketPlace) × IsAround kept next at entries front back
   around side = elim side [
     | inl low ↦ around_low low
     | inr high ↦ around_high (at - next) (omega arith)
   ]
 
-pub read_around : (kept next at : ℕ) (entries front back : List Entry) (e : Entry) → IsAround kept next at entries front back → slice_get entries at ≡ Some e
+pub read_around : (kept next at : ℕ) (entries front back : List TicketPlace) (e : TicketPlace) → IsAround kept next at entries front back
+    → slice_get entries at ≡ Some e
     → stretches kept next entries ≡ front ++ e ∷ back
 read_around kept next at entries front back e is there = ap (stretches kept next) (sym (set_read entries at e there)) ∙ is.written e
 
 -- an entry without a place that is passed
-module _ (kept next : ℕ) (entries : List Entry) (e : Entry) (are : AreStretches kept next entries) (there : slice_get entries next ≡ Some e) where
+module _ (kept next : ℕ) (entries : List TicketPlace) (e : TicketPlace) (are : AreStretches kept next entries) (there : slice_get entries next ≡ Some e) where
   here : next < length entries
   here = slice_get_within entries next e there
 
   first_of_rest : drop next entries ≡ e ∷ drop (next + 1) entries
-  first_of_rest = drop_more entries next e here ∙ ap (λ (x : Entry). x ∷ drop (next + 1) entries) (get_or_from_slice_get entries next e e there)
+  first_of_rest = drop_more entries next e here ∙ ap (λ (x : TicketPlace). x ∷ drop (next + 1) entries) (get_or_from_slice_get entries next e e there)
 
-  pub pass_dropped : e.place ≡ None → Passes kept next kept entries entries
+  pub pass_dropped : e.place ≡ None → SweepsOneOn kept next kept entries entries
   pass_dropped none =
       let ordered = are.within.ordered in
       let in_range = here in
       let parts : stretches kept next entries ≡ take kept entries ++ e ∷ drop (next + 1) entries =
-      ap (λ (l : List Entry). take kept entries ++ l) first_of_rest in
+      ap (λ (l : List TicketPlace). take kept entries ++ l) first_of_rest in
       record {
         within = record { ordered = omega arith; within = omega arith };
         rising = rising_without (take kept entries) (drop (next + 1) entries) e (subst IsRising parts are.rising);
@@ -78,12 +81,12 @@ module _ (kept next : ℕ) (entries : List Entry) (e : Entry) (are : AreStretche
       }
 
 -- entries of which all count
-pub whole : (entries : List Entry) → IsRising entries → AreStretches 0 0 entries
+pub whole : (entries : List TicketPlace) → IsRising entries → AreStretches 0 0 entries
 whole entries up = record { within = record { ordered = omega arith; within = omega arith }; rising = up; last = λ some. some }
 
 -- a ticket above the last one is above all
-module _ (kept next ticket : ℕ) (entries : List Entry) (are : AreStretches kept next entries) (above : IsAboveLast ticket entries) where
-  above_all_with : (e : Entry) → 0 < length entries → All (λ entry. entry.ticket < ticket) (stretches kept next entries)
+module _ (kept next ticket : ℕ) (entries : List TicketPlace) (are : AreStretches kept next entries) (above : IsAboveLast ticket entries) where
+  above_all_with : (e : TicketPlace) → 0 < length entries → All (λ entry. entry.ticket < ticket) (stretches kept next entries)
   above_all_with d some =
       let n = length entries - 1 in
       let last = get_or entries n d in
@@ -94,8 +97,8 @@ module _ (kept next ticket : ℕ) (entries : List Entry) (are : AreStretches kep
       let whole_is : entries ≡ init ++ last ∷ [] =
       sym (take_all (n + 1) entries (omega arith)) ∙ take_more entries n d (omega arith) in
       let parts : stretches kept next entries ≡ (take kept entries ++ drop next init) ++ last ∷ [] =
-      ap (λ (l : List Entry). take kept entries ++ drop next l) whole_is
-      ∙ ap (λ (l : List Entry). take kept entries ++ l) (drop-append-le next init (last ∷ []) (omega arith))
+      ap (λ (l : List TicketPlace). take kept entries ++ drop next l) whole_is
+      ∙ ap (λ (l : List TicketPlace). take kept entries ++ l) (drop-append-le next init (last ∷ []) (omega arith))
       ∙ sym (append_assoc (take kept entries) (drop next init) (last ∷ [])) in
       let rising = rising_parts (take kept entries ++ drop next init) (last ∷ []) (subst IsRising parts are.rising) in
       let top : last.ticket < ticket = above last (slice_get-get_or entries n d (omega arith)) in
@@ -117,13 +120,13 @@ module _ (kept next ticket : ℕ) (entries : List Entry) (are : AreStretches kep
           omega arith
 
 -- one entry more
-module _ (kept next : ℕ) (entries : List Entry) (e : Entry) (within : IsWithin kept next entries) where
+module _ (kept next : ℕ) (entries : List TicketPlace) (e : TicketPlace) (within : IsWithin kept next entries) where
   pub stretches-push : stretches kept next (entries ++ e ∷ []) ≡ stretches kept next entries ++ e ∷ []
   stretches-push =
       let ordered = within.ordered in
       let bound = within.within in
-      ap (λ (l : List Entry). l ++ drop next (entries ++ e ∷ [])) (take-append-le kept entries (e ∷ []) (omega arith))
-      ∙ ap (λ (l : List Entry). take kept entries ++ l) (drop-append-le next entries (e ∷ []) bound)
+      ap (λ (l : List TicketPlace). l ++ drop next (entries ++ e ∷ [])) (take-append-le kept entries (e ∷ []) (omega arith))
+      ∙ ap (λ (l : List TicketPlace). take kept entries ++ l) (drop-append-le next entries (e ∷ []) bound)
       ∙ sym (append_assoc (take kept entries) (drop next entries) (e ∷ []))
 
   pub are-push : IsRising (stretches kept next entries) → All (λ other. other.ticket < e.ticket) (stretches kept next entries)
@@ -138,12 +141,12 @@ module _ (kept next : ℕ) (entries : List Entry) (e : Entry) (within : IsWithin
       }
 
 -- entries that take one ticket more at their end: they have these pairs, all of lower tickets
-pub record AreReady (ticket kept next : ℕ) (entries : List Entry) (pairs : List (ℕ × ℕ)) : Type 0 where
+pub record AreReady (ticket kept next : ℕ) (entries : List TicketPlace) (pairs : List (ℕ × ℕ)) : Type 0 where
   pub are : AreStretches kept next entries
   pub below : All (λ entry. entry.ticket < ticket) (stretches kept next entries)
   pub same : pairs_in (stretches kept next entries) ≡ pairs
 
-module _ (ticket kept next : ℕ) (entries : List Entry) (are : AreStretches kept next entries) where
+module _ (ticket kept next : ℕ) (entries : List TicketPlace) (are : AreStretches kept next entries) where
   pub ready_as_they_are : IsAboveLast ticket entries → AreReady ticket kept next entries (pairs_in (stretches kept next entries))
   ready_as_they_are above = record { are = are; below = above_all kept next ticket entries are above; same = refl }
 
@@ -155,7 +158,7 @@ module _ (ticket kept next : ℕ) (entries : List Entry) (are : AreStretches kep
     same = pairs_kept (stretches kept next entries);
   }
 
-module _ (kept next : ℕ) (entries : List Entry) (e : Entry) (place : ℕ) (pairs : List (ℕ × ℕ)) (is : e.place ≡ Some place)
+module _ (kept next : ℕ) (entries : List TicketPlace) (e : TicketPlace) (place : ℕ) (pairs : List (ℕ × ℕ)) (is : e.place ≡ Some place)
     (ready : AreReady e.ticket kept next entries pairs) where
   pub pushed_are : AreStretches kept next (entries ++ e ∷ [])
   pushed_are = are-push kept next entries e ready.are.within ready.are.rising ready.below

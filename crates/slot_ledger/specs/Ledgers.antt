@@ -4,7 +4,7 @@ use Rattle.dispatch_log.specs.declared.allowance.Allowance.{Allowance}
 use Rattle.dispatch_log.specs.declared.setup.Setup.{Setup}
 use Rattle.dispatch_log.specs.Rows.{served}
 use Rattle.dispatch_log.specs.Setups.{IsSound}
-use Rattle.dispatch_log.specs.Words.{Scene}
+use Rattle.dispatch_log.specs.Scenes.{Scene}
 use Rattle.slot_ledger.specs.declared.places.Slot.{Slot}
 use Rattle.slot_ledger.specs.Counts.{Counted, AreCounts}
 use Rattle.slot_ledger.specs.Slots.{rows_in}

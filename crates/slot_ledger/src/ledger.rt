@@ -4,7 +4,7 @@ ghost use Rattle.dispatch_log.specs.declared.queue.Queue.{Queue};
 ghost use Rattle.dispatch_log.specs.declared.row.Phase.{Phase};
 ghost use Rattle.dispatch_log.specs.Rows.{served, queued};
 ghost use Rattle.dispatch_log.specs.Setups.{IsSound};
-ghost use Rattle.dispatch_log.specs.Words.{is_up, limit_of};
+ghost use Rattle.dispatch_log.specs.Scenes.{is_up, limit_of};
 ghost use Rattle.slot_ledger.specs.Ledgers.{scene_of, with_slots, with_up, with_limit};
 ghost use Rattle.slot_ledger.specs.Slots.{rows_in, HasRow, HasCountable, HasNode, HasTicketAt, HasNoTicket, AreBelow, with_phase, with_failure, unpinned, waiting, loosened};
 ghost use Rattle.slot_ledger.specs.Counts.{IsQueueOf, IsPhaseOf};

@@ -1,12 +1,12 @@
 ghost use Rattle.std.specs.Prelude.{◌≡◌, ℕ, ◌<◌, ◌≤◌, [], ◌∷◌, ◌++◌, true, IfOk, All, Contains, MatchOption, filter, length, vec_len, vec_capacity};
-ghost use Rattle.slot_ledger.specs.Tickets.{AreStretches, HasTicketAmong, IsAboveLast, IsAbsent, IsInStretches, IsRising, IsWithin, Passes, Removes, has_place, pairs_in, stretches};
+ghost use Rattle.slot_ledger.specs.Tickets.{AreStretches, HasTicketAmong, IsAboveLast, IsAbsent, IsInStretches, IsRising, IsWithin, SweepsOneOn, Removes, has_place, pairs_in, stretches};
 
 use std::alloc::{AllocError, Global};
 use std::marker::Model;
 
 /// A ticket, and its place until the ticket is removed.
 #[derive(Clone, Copy)]
-struct Entry {
+struct TicketPlace {
     ticket: u64,
     place: Option<usize>,
 }
@@ -21,7 +21,7 @@ struct Entry {
 pub(crate) struct Tickets {
     // By rising ticket: those before `kept`, which the sweep has passed, and those from `next` on. What
     // lies between is left over.
-    entries: Vec<Entry>,
+    entries: Vec<TicketPlace>,
     kept: usize,
     next: usize,
 }
@@ -74,7 +74,7 @@ impl Tickets {
             self.kept = 0;
             self.next = 0;
         }
-        self.entries.push_reserved(Entry {
+        self.entries.push_reserved(TicketPlace {
             ticket,
             place: Some(place),
         });
@@ -87,7 +87,7 @@ impl Tickets {
         ensures room { self.new.room ≡ self.old.room }
     {
         if let Some(at) = position(&self.entries, self.kept, self.next, ticket) {
-            self.entries[at] = Entry {
+            self.entries[at] = TicketPlace {
                 ticket,
                 place: None,
             };
@@ -112,10 +112,10 @@ impl Tickets {
 }
 
 // Keeps the entry at `next` if it has a place. Returns how many are kept then.
-fn pass(entries: &mut [Entry], kept: usize, next: usize) -> usize
+fn pass(entries: &mut [TicketPlace], kept: usize, next: usize) -> usize
     requires within { next < length entries.old }
     requires stretches { AreStretches kept next entries.old }
-    ensures { Passes kept next result entries.old entries.new }
+    ensures { SweepsOneOn kept next result entries.old entries.new }
 {
     let entry = entries[next];
     if entry.place.is_none() {
@@ -126,7 +126,7 @@ fn pass(entries: &mut [Entry], kept: usize, next: usize) -> usize
 }
 
 // Whether the ticket can go in at the end as it is.
-fn takes(entries: &Vec<Entry>, ticket: u64) -> bool
+fn takes(entries: &Vec<TicketPlace>, ticket: u64) -> bool
     ensures room { result ≡ true → vec_len entries.now < vec_capacity entries.now }
     ensures highest { result ≡ true → IsAboveLast ticket entries.now.items }
 {
@@ -134,7 +134,7 @@ fn takes(entries: &Vec<Entry>, ticket: u64) -> bool
 }
 
 // Leaves the entries that have a place. `O(n)`.
-fn compact(entries: &mut Vec<Entry>, kept: usize, next: usize)
+fn compact(entries: &mut Vec<TicketPlace>, kept: usize, next: usize)
     requires { IsWithin kept next entries.old.items }
     ensures items { entries.new.items ≡ filter has_place (stretches kept next entries.old.items) }
     ensures capacity { vec_capacity entries.new ≡ vec_capacity entries.old }
@@ -144,7 +144,7 @@ fn compact(entries: &mut Vec<Entry>, kept: usize, next: usize)
 }
 
 // Leaves out the entries from one place up to another.
-fn cut(entries: &mut Vec<Entry>, from: usize, to: usize)
+fn cut(entries: &mut Vec<TicketPlace>, from: usize, to: usize)
     requires { IsWithin from to entries.old.items }
     ensures items { entries.new.items ≡ stretches from to entries.old.items }
     ensures capacity { vec_capacity entries.new ≡ vec_capacity entries.old }
@@ -153,7 +153,7 @@ fn cut(entries: &mut Vec<Entry>, from: usize, to: usize)
 }
 
 // Where the entry of a ticket is.
-fn position(entries: &[Entry], kept: usize, next: usize, ticket: u64) -> Option<usize>
+fn position(entries: &[TicketPlace], kept: usize, next: usize, ticket: u64) -> Option<usize>
     requires { AreStretches kept next entries.now }
     ensures { MatchOption result (IsAbsent ticket (pairs_in (stretches kept next entries.now))) (λ at. IsInStretches ticket kept next entries.now at) }
 {
@@ -165,7 +165,7 @@ fn position(entries: &[Entry], kept: usize, next: usize, ticket: u64) -> Option<
 }
 
 // The same among entries by rising ticket.
-fn search(entries: &[Entry], ticket: u64) -> Option<usize>
+fn search(entries: &[TicketPlace], ticket: u64) -> Option<usize>
     requires { IsRising entries.now }
     ensures { MatchOption result (IsAbsent ticket (pairs_in entries.now)) (λ at. HasTicketAmong ticket entries.now at) }
 {

@@ -21,7 +21,7 @@ use Rattle.pend_queue.proofs.Without.{IsAscending-without, IsPermutation-without
 use Rattle.slot_ledger.specs.Counts.{IsQueueOf}
 use Rattle.server_pick.specs.declared.heads.Heads.{Heads}
 use Rattle.wait_queues.specs.declared.waiters.Waiter.{Waiter}
-use Rattle.wait_queues.specs.Kept.{weight_of, line_weight, AreLinedUp, AreWaiting}
+use Rattle.wait_queues.specs.InQueues.{weight_of, line_weight, AreLinedUp, AreWaiting}
 use Rattle.wait_queues.specs.Lines.{Line, Lined, line_at, first_key, with_line, with_moved, gathered}
 use Rattle.wait_queues.specs.Order.{Order, with_places}
 use Rattle.wait_queues.specs.Order.{without as without_place}

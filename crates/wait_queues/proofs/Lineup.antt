@@ -25,7 +25,7 @@ use Rattle.pend_queue.proofs.Merged.{IsAscending-merged, IsPermutation-merged}
 use Rattle.slot_ledger.specs.Counts.{IsQueueOf}
 use Rattle.server_pick.proofs.Taking.{same_queues, own_queue}
 use Rattle.wait_queues.specs.declared.waiters.Waiter.{Waiter}
-use Rattle.wait_queues.specs.Kept.{weight_at, weight_of, line_weight, AreLinedUp}
+use Rattle.wait_queues.specs.InQueues.{weight_at, weight_of, line_weight, AreLinedUp}
 use Rattle.wait_queues.specs.Lines.{Line, Lined, line_at, with_line, with_moved, gathered}
 use Rattle.wait_queues.specs.Waitlists.{Waiters, WaitsAt, HasNoKey, NoneWaitsIn, IsFirstIn}
 use Rattle.wait_queues.proofs.Lining.{one_or_other, line_own, line_other, lines_kept, room_kept}

@@ -7,7 +7,7 @@ use Rattle.due_key.specs.declared.key.Key.{Key}
 use Rattle.dispatch_log.specs.declared.queue.Queue.{Queue}
 use Rattle.dispatch_log.specs.Rows.{same_queue}
 use Rattle.wait_queues.specs.declared.waiters.Waiter.{Waiter}
-use Rattle.wait_queues.specs.Kept.{weight_at, weight_of}
+use Rattle.wait_queues.specs.InQueues.{weight_at, weight_of}
 use Rattle.wait_queues.specs.Waitlists.{Waiters, WaitsAt}
 
 module _ (weight : Key × ℕ → ℕ) (queue : Queue) where

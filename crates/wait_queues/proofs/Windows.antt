@@ -6,7 +6,7 @@ use Rattle.due_key.specs.declared.key.Key.{Key}
 use Rattle.dispatch_log.specs.declared.queue.Queue.{Queue}
 use Rattle.slot_ledger.specs.Counts.{IsQueueOf}
 use Rattle.wait_queues.specs.declared.waiters.Waiter.{Waiter}
-use Rattle.wait_queues.specs.Kept.{weight_at, weight_of, AreLinedUp, AreWaiting}
+use Rattle.wait_queues.specs.InQueues.{weight_at, weight_of, AreLinedUp, AreWaiting}
 use Rattle.wait_queues.specs.Lines.{Lined}
 use Rattle.wait_queues.specs.Order.{Order}
 use Rattle.wait_queues.specs.Waitlists.{Waiters, WaitsAt, since_before}

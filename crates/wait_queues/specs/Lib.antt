@@ -2,4 +2,4 @@ pub mod Order
 pub mod Links
 pub mod Lines
 pub mod Waitlists
-pub mod Kept
+pub mod InQueues

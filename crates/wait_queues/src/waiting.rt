@@ -35,7 +35,7 @@ pub struct Taken<N> {
 impl<Q: PendQueue<Key, usize>> Model for WaitQueues<Q> {
     ghost use Rattle.std.specs.Prelude.{length};
     ghost use Rattle.wait_queues.specs.Waitlists.{Waitlist};
-    ghost use Rattle.wait_queues.specs.Kept.{AreWaiting};
+    ghost use Rattle.wait_queues.specs.InQueues.{AreWaiting};
 
     ghost Value = { Waitlist };
 

@@ -4,7 +4,7 @@ use super::{moment, opening};
 use crate::{Report, audit, certify};
 use dispatch_log::{Arrival, Entry, Queue};
 use due_key::{Class, Due, Key, Offset};
-use readable_log::{Grant, Log};
+use readable_log::{Log, SlotGrant};
 use std::alloc::{AllocError, Global};
 use std::test::Fail;
 
@@ -136,7 +136,7 @@ fn chosen(numbers: &mut Numbers, waiting: &[Waiting], in_order: bool) -> Option<
 }
 
 /// The grants that a report is about.
-fn group(alloc: Global, log: &Log, report: &Report) -> Result<Vec<Grant>, AllocError> {
+fn group(alloc: Global, log: &Log, report: &Report) -> Result<Vec<SlotGrant>, AllocError> {
     log.grants()
         .iter()
         .copied()
@@ -145,7 +145,7 @@ fn group(alloc: Global, log: &Log, report: &Report) -> Result<Vec<Grant>, AllocE
 }
 
 /// The least that the greatest lateness of an assignment can be. None where there is none.
-fn least(alloc: Global, group: &[Grant]) -> Result<Option<i64>, AllocError> {
+fn least(alloc: Global, group: &[SlotGrant]) -> Result<Option<i64>, AllocError> {
     let orders = [1, 1, 2, 6, 24, 120, 720, 5040].as_slice();
     let mut least: Option<i64> = None;
     for order in 0..orders.get(group.len()).copied().unwrap_or(0) {
@@ -158,7 +158,7 @@ fn least(alloc: Global, group: &[Grant]) -> Result<Option<i64>, AllocError> {
 
 /// The greatest lateness with the slots in the order of this number, from 0. None where one of
 /// them isn't after its stay's joining.
-fn greatest(alloc: Global, group: &[Grant], order: usize) -> Result<Option<i64>, AllocError> {
+fn greatest(alloc: Global, group: &[SlotGrant], order: usize) -> Result<Option<i64>, AllocError> {
     let mut slots = Vec::from_slice(alloc, group)?;
     let mut left = order;
     let mut worst: Option<i64> = None;

@@ -1,5 +1,5 @@
+use super::servers::waits_in;
 use super::state::Plain;
-use super::words::waits_in;
 use dispatch_log::{Entry, Phase, Queue, Row};
 use due_key::Moment;
 use verdict::Cause;

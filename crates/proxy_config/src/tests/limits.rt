@@ -26,21 +26,21 @@ fn of_lines(rt: HostRuntime) -> Result<(), AllocError> {
         alloc,
         file_of(alloc, 65, 0, 0)?.as_str(),
         67,
-        Cause::Limit,
+        FaultCause::Limit,
     );
     faulty(
         &rt,
         alloc,
         file_of(alloc, 1, 257, 0)?.as_str(),
         260,
-        Cause::Limit,
+        FaultCause::Limit,
     );
     faulty(
         &rt,
         alloc,
         file_of(alloc, 1, 0, 257)?.as_str(),
         260,
-        Cause::Limit,
+        FaultCause::Limit,
     );
     Ok(())
 }
@@ -61,6 +61,6 @@ fn of_bytes(rt: HostRuntime) -> Result<(), AllocError> {
     assert!(rt; read(alloc, text.as_bytes()).is_ok());
     // The byte past the last is a line feed, and stands in line 6.
     text.push_str("\n\"")?;
-    faulty(&rt, alloc, text.as_str(), 6, Cause::Limit);
+    faulty(&rt, alloc, text.as_str(), 6, FaultCause::Limit);
     Ok(())
 }

@@ -2,7 +2,7 @@ use super::*;
 use std::test::Fail;
 
 /// A `listen` in its first two lines, with an ACL in the third, and these lines.
-fn pinned(rt: &impl Abort, alloc: Global, lines: &str, line: u64, cause: Cause) {
+fn pinned(rt: &impl Abort, alloc: Global, lines: &str, line: u64, cause: FaultCause) {
     let text = format!(in alloc; "listen w\nbind :80\nacl x path /\n{lines}");
     faulty(rt, alloc, text.expect(rt, "memory").as_str(), line, cause);
 }
@@ -31,7 +31,7 @@ fn a_refused_section_declares_no_server(rt: HostRuntime) {
         "use-server b if x\nbackend y\ncookie\nserver b h:80\ndefaults\nserver b h:80",
     ];
     for lines in rows {
-        pinned(&rt, rt.alloc(), lines, 4, Cause::Unknown);
+        pinned(&rt, rt.alloc(), lines, 4, FaultCause::Unknown);
     }
 }
 
@@ -43,28 +43,28 @@ fn a_server_counts_past_a_faulty_line(rt: HostRuntime) {
         alloc,
         "use-server b if x\ncookie\nserver b h:80",
         5,
-        Cause::Keyword,
+        FaultCause::Keyword,
     );
     pinned(
         &rt,
         alloc,
         "use-server b if x\ncookie\ndefaults\nserver b h:80",
         4,
-        Cause::Unknown,
+        FaultCause::Unknown,
     );
     pinned(
         &rt,
         alloc,
         "use-server b if x\nserver b h:80 x",
         4,
-        Cause::Unknown,
+        FaultCause::Unknown,
     );
     pinned(
         &rt,
         alloc,
         "use-server b if x\nbind :81\nserver b h:80 x\nserver b h:80",
         5,
-        Cause::Twice,
+        FaultCause::Twice,
     );
 }
 
@@ -76,35 +76,35 @@ fn a_faulty_condition_counts_behind_a_declared_server(rt: HostRuntime) {
         alloc,
         "use-server b if y\nserver a h:80",
         4,
-        Cause::Unknown,
+        FaultCause::Unknown,
     );
     pinned(
         &rt,
         alloc,
         "use-server b if !!x\nserver b h:80",
         4,
-        Cause::Condition,
+        FaultCause::Condition,
     );
     pinned(
         &rt,
         alloc,
         "use-server b if !!x\nserver a h:80",
         4,
-        Cause::Unknown,
+        FaultCause::Unknown,
     );
     pinned(
         &rt,
         alloc,
         "use-server b if { path\nserver b h:80",
         4,
-        Cause::Words,
+        FaultCause::Words,
     );
     pinned(
         &rt,
         alloc,
         "use-server b\ncookie\nserver b h:80",
         4,
-        Cause::Words,
+        FaultCause::Words,
     );
 }
 
@@ -116,35 +116,35 @@ fn the_first_of_pins_and_other_lines_is_named(rt: HostRuntime) {
         alloc,
         "use-server b if x\ncookie\nserver a h:80",
         4,
-        Cause::Unknown,
+        FaultCause::Unknown,
     );
     pinned(
         &rt,
         alloc,
         "server a h:80\ncookie\nuse-server b if x",
         5,
-        Cause::Keyword,
+        FaultCause::Keyword,
     );
     pinned(
         &rt,
         alloc,
         "use-server a if x\ncookie\nuse-server b if x\nserver a h:80",
         5,
-        Cause::Keyword,
+        FaultCause::Keyword,
     );
     pinned(
         &rt,
         alloc,
         "use-server a if x\nuse-server b if x\nuse-server c if x\nserver a h:80\nserver c h:80",
         5,
-        Cause::Unknown,
+        FaultCause::Unknown,
     );
     pinned(
         &rt,
         alloc,
         "use-server a if x\nretries x\ncookie\n\"\nserver a h:80",
         5,
-        Cause::Number,
+        FaultCause::Number,
     );
 }
 
@@ -156,15 +156,15 @@ fn a_pin_may_end_the_file(rt: HostRuntime) {
         alloc,
         "server a h:80\nuse-server b if x",
         5,
-        Cause::Unknown,
+        FaultCause::Unknown,
     );
-    pinned(&rt, alloc, "use-server b if x", 4, Cause::Unknown);
+    pinned(&rt, alloc, "use-server b if x", 4, FaultCause::Unknown);
     faulty(
         &rt,
         alloc,
         "listen w\nacl x path /\nserver a h:80\nuse-server a if x",
         1,
-        Cause::Missing,
+        FaultCause::Missing,
     );
 }
 
@@ -180,6 +180,6 @@ fn pins_of_later_servers_count_as_rules(rt: HostRuntime) -> Result<(), Fail> {
     let config = read(alloc, text.as_bytes())?;
     assert_eq!(rt; config.pins.len(), 256);
     more.push_str("http-request set-priority-class int(1)\nserver a h:80\n")?;
-    faulty(&rt, alloc, more.as_str(), 260, Cause::Limit);
+    faulty(&rt, alloc, more.as_str(), 260, FaultCause::Limit);
     Ok(())
 }

@@ -1,4 +1,5 @@
-use crate::{Step, step_of};
+use crate::Step;
+use crate::step::step_of;
 
 // The moment, class, offset and pin of an arrival.
 fn arrival(line: &[u8]) -> Option<(u64, i64, i64, &str)> {

@@ -1,4 +1,4 @@
-use crate::{Header, MOST_BYTES, Name, ScriptError, is_faulty, read};
+use crate::{Header, Line, MOST_BYTES, Name, ScriptError, is_faulty, read, step_in};
 use dispatch_log::ServerSet;
 use proxy_words::Lines;
 use std::alloc::Global;
@@ -17,7 +17,7 @@ fn fault_from(script: &[u8], header: usize) -> Option<usize> {
     let mut number = 0usize;
     for line in Lines::new(script) {
         number = number.saturating_add(1);
-        if header < number && is_faulty(line) {
+        if header < number && is_faulty(&Line::of(line)) {
             return Some(number);
         }
     }
@@ -191,4 +191,33 @@ fn what_no_line_says_is_not_set(rt: HostRuntime) -> Result<(), Fail> {
     assert!(rt; !header.redispatch());
     assert_eq!(rt; header.queue_timeout(), None);
     Ok(())
+}
+
+fn kind(line: &[u8]) -> &'static str {
+    match Line::of(line) {
+        Some(Line::Setting(_)) => "setting",
+        Some(Line::Step(_)) => "step",
+        Some(Line::Skipped) => "skipped",
+        None => "none",
+    }
+}
+
+#[test]
+fn a_line_is_a_setting_a_step_or_skipped(rt: HostRuntime) {
+    let rows = [
+        (b"places 3".as_slice(), "setting"),
+        (b" redispatch\t", "setting"),
+        (b"0 tick", "step"),
+        (b"roll", "step"),
+        (b"", "skipped"),
+        (b" \t", "skipped"),
+        (b"# roll", "skipped"),
+        (b" # roll", "none"),
+        (b"places", "none"),
+        (b"tick", "none"),
+    ];
+    for (line, answer) in rows {
+        assert_eq!(rt; kind(line), answer);
+        assert_eq!(rt; step_in(Line::of(line)).is_some(), answer == "step");
+    }
 }

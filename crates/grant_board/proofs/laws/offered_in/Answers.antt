@@ -1,6 +1,6 @@
 use Rattle.std.proofs.Common.{sym}
 use Rattle.grant_board.specs.declared.laws.Word.TheVariants.{Offered}
-use Rattle.grant_board.specs.Words.{OffersNot}
+use Rattle.grant_board.specs.BoardWords.{OffersNot}
 use Rattle.grant_board.proofs.Codes.{if_none}
 use Rattle.grant_board.proofs.laws.offered_in.Goals as goal
 

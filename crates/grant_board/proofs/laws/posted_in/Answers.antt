@@ -1,6 +1,6 @@
 use Rattle.std.proofs.Common.{sym}
 use Rattle.grant_board.specs.declared.laws.Word.TheVariants.{Posted}
-use Rattle.grant_board.specs.Words.{IsUnposted}
+use Rattle.grant_board.specs.BoardWords.{IsUnposted}
 use Rattle.grant_board.proofs.Codes.{if_none}
 use Rattle.grant_board.proofs.laws.posted_in.Goals as goal
 

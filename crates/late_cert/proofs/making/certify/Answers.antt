@@ -1,6 +1,6 @@
 use Rattle.std.proofs.Common.{List, subst, sym}
 use Rattle.std.specs.List.Sorted.{IsPermutation, IsStableBy}
-use Rattle.readable_log.specs.declared.grant.Grant.{Grant}
+use Rattle.readable_log.specs.declared.grant.SlotGrant.{SlotGrant}
 use Rattle.readable_log.specs.Windows.{window_of}
 use Rattle.late_cert.specs.Groups.{is_before, AreGroups}
 use Rattle.late_cert.specs.Reports.{AreReports}
@@ -13,7 +13,7 @@ returns c =
     let log = window_of c.args.log.now in
     subst (AreReports log) (sym c.from_vec.ensures)
     (certified log sorted c.in_ok-reports_of.field-0.items c.grants.ensures.readable
-    (subst (λ (l : List Grant). IsPermutation l sorted) c.grants.ensures.grants c.in_ok-sorted.ensures.permutation)
+    (subst (λ (l : List SlotGrant). IsPermutation l sorted) c.grants.ensures.grants c.in_ok-sorted.ensures.permutation)
     c.in_ok-sorted.ensures.sorted
-    (subst (λ (l : List Grant). IsStableBy is_before l sorted) c.grants.ensures.grants c.in_ok-sorted.ensures.stable)
-    (subst (λ (l : List Grant). AreGroups l c.in_ok-reports_of.field-0.items) c.as_slice.ensures.value c.in_ok-reports_of.ensures))
+    (subst (λ (l : List SlotGrant). IsStableBy is_before l sorted) c.grants.ensures.grants c.in_ok-sorted.ensures.stable)
+    (subst (λ (l : List SlotGrant). AreGroups l c.in_ok-reports_of.field-0.items) c.as_slice.ensures.value c.in_ok-reports_of.ensures))

@@ -2,7 +2,7 @@ use Rattle.std.proofs.Common.{Option, ℕ, ◌<◌, ◌++◌, ◌∷◌, [], Lis
 use Rattle.std.proofs.lemmas.List.{append-nil}
 use Rattle.std.proofs.lemmas.List.Sums.{prefix_len-le-length}
 use Rattle.readable_log.specs.Grants.{is_of}
-use Rattle.readable_log.specs.declared.grant.Grant.{Grant}
+use Rattle.readable_log.specs.declared.grant.SlotGrant.{SlotGrant}
 use Rattle.late_cert.specs.Groups.{AreGroups}
 use Rattle.late_cert.specs.declared.report.Report.{Report}
 use Rattle.late_cert.proofs.Grouped.{one_more, some_group, no_group}
@@ -18,7 +18,7 @@ groups-preserved c = λ more rest.
     let g = c.in-Some.first.now in
     let r = c.in_ok-report_of.field-0 in
     let some : 0 < c.group_len.result = subst (λ n. 0 < n) (sym {A = ℕ} c.group_len.ensures)
-    (some_group c.groups.rest.now g (sym {A = Option Grant} c.in-Some.ensures.value)) in
+    (some_group c.groups.rest.now g (sym {A = Option SlotGrant} c.in-Some.ensures.value)) in
     let all : AreGroups c.args.grants.now (c.groups.reports.items ++ r ∷ more) = c.groups.invariant (r ∷ more)
     (one_more c.groups.rest.now c.split_at.result.0.now c.split_at.result.1.now g.queue g.class c.group_len.result r more c.group_len.ensures some
     c.split_at.ensures.front c.split_at.ensures.back c.in_ok-report_of.ensures.report c.in_ok-report_of.ensures.queue c.in_ok-report_of.ensures.class rest)

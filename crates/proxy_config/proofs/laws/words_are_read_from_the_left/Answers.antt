@@ -1,5 +1,5 @@
-use Rattle.proxy_config.proofs.LeftLines.{words_line-left}
+use Rattle.proxy_config.proofs.LeftLines.{words-left}
 use Rattle.proxy_config.proofs.laws.words_are_read_from_the_left.Goals as goal
 
 pub returns : goal.returns
-returns c = words_line-left
+returns c = words-left

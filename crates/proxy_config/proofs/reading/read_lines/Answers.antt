@@ -1,18 +1,15 @@
 use Rattle.std.proofs.Common.{◌≡◌, ◌∙◌, ◌+◌, ℕ, Bool, List, [], ◌∷◌, length, Option, Some, None, Result, Err, sym, ap, subst, arith}
 use Rattle.std.specs.Str.Lines.{lines}
-use Rattle.proxy_config.specs.declared.draft.Draft.{Draft}
 use Rattle.proxy_config.specs.declared.faults.ConfigFault.{ConfigFault}
 use Rattle.proxy_config.specs.declared.parts.Config.{Config}
 use Rattle.proxy_config.specs.declared.parts.Pin.{Pin}
 use Rattle.proxy_config.specs.declared.parts.Server.{Server}
 use Rattle.proxy_config.specs.declared.progress.Progress.{Progress}
 use Rattle.proxy_config.specs.declared.wishes.Wish.{Wish}
-use Rattle.proxy_config.specs.Draft.{start}
+use Rattle.proxy_config.specs.Resolved.{Resolved, start}
 use Rattle.proxy_config.specs.File.{Answers, declared_servers, finished, is_line, run, survey}
-use Rattle.proxy_config.specs.Wishes.{with_pins}
-use Rattle.proxy_config.specs.Progress.{decided, settled, take_line, unless_known}
-use Rattle.proxy_config.proofs.Granted.{fit}
-use Rattle.proxy_config.proofs.OnePass.{coming, coming-take}
+use Rattle.proxy_config.specs.Progress.{decided, settled, take_line, unless_known, with_pins}
+use Rattle.proxy_config.proofs.OnePass.{coming, coming-take, fit}
 use Rattle.proxy_config.proofs.Surveys.{survey-take}
 use Rattle.proxy_config.proofs.reading.read_lines.Goals as goal
 
@@ -24,7 +21,7 @@ servers_kept long p next n too_long left rest line all so_far is length_is read 
     ∙ sym (survey-take long p n line rest) ∙ ap (λ (ls : List (List ℕ)). (survey long p.draft n ls).servers) (sym is) ∙ so_far
 
 coming_kept : (servers : List Server) (long : Option ℕ) (p next : Progress) (n : ℕ) (too_long : Bool) (left rest : List (List ℕ)) (line : List ℕ)
-    (all : Result Draft ConfigFault)
+    (all : Result Resolved ConfigFault)
     → coming servers long p n left ≡ all → left ≡ line ∷ rest → too_long ≡ is_line long n → next ≡ take_line too_long p n line
     → coming servers long next (n + 1) rest ≡ all
 coming_kept servers long p next n too_long left rest line all so_far is length_is read =
@@ -32,7 +29,7 @@ coming_kept servers long p next n too_long left rest line all so_far is length_i
     ∙ sym (coming-take servers long p n line rest) ∙ ap (λ (ls : List (List ℕ)). coming servers long p n ls) (sym is) ∙ so_far
 
 -- behind no pin the known fault is the first
-behind_none : (servers : List Server) (wishes : List Wish) (known : Option ConfigFault) (fault : ConfigFault) (more : List Pin → Result Draft ConfigFault)
+behind_none : (servers : List Server) (wishes : List Wish) (known : Option ConfigFault) (fault : ConfigFault) (more : List Pin → Result Resolved ConfigFault)
     → Some fault ≡ decided wishes known → with_pins servers wishes (λ ps. unless_known known (more ps)) ≡ Err fault
 behind_none servers [] None fault more is = absurd (let none = is in cc)
 behind_none servers [] (Some first) fault more is = cc

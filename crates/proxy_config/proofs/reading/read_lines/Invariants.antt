@@ -1,6 +1,6 @@
 use Rattle.std.proofs.Common.{◌≡◌, ◌+◌, ◌≤◌, length}
 use Rattle.std.specs.Str.Lines.{lines}
-use Rattle.proxy_config.specs.Draft.{start}
+use Rattle.proxy_config.specs.Resolved.{start}
 use Rattle.proxy_config.specs.File.{declared_servers, run, survey}
 use Rattle.proxy_config.proofs.OnePass.{coming}
 use Rattle.proxy_config.proofs.reading.read_lines.Given as goal

@@ -1,5 +1,5 @@
 use Rattle.std.proofs.Common.{◌≡◌, ◌++◌, Ok}
-use Rattle.proxy_config.specs.Wishes.{with_pins}
+use Rattle.proxy_config.specs.Progress.{with_pins}
 use Rattle.proxy_config.proofs.wishes.pins_of.Given as goal
 
 -- all wishes come to the pins so far and those of the wishes that are left

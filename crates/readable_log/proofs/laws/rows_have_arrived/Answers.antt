@@ -1,6 +1,6 @@
 use Rattle.readable_log.specs.Windows.{base_rows}
 use Rattle.readable_log.proofs.Based.{base_arrived, base_joined}
-use Rattle.readable_log.proofs.Rows.{rows_arrived, rows_joined}
+use Rattle.readable_log.proofs.RowsLeft.{rows_arrived, rows_joined}
 use Rattle.readable_log.proofs.laws.rows_have_arrived.Goals as goal
 
 pub returns-clause-arrived : goal.returns-clause-arrived

@@ -1,9 +1,9 @@
-use Rattle.std.proofs.Common.{◌≡◌, ℕ, ◌+◌, Option, Some, cond, length, refl, subst, is_eq}
-use Rattle.std.specs.BTreeMap.{get}
-use Rattle.readable_log.specs.Grants.{server_of}
+use Rattle.std.proofs.Common.{ℕ, ◌+◌, length, refl, subst}
+use Rattle.std.specs.declared.cmp.Ordering.{Ordering}
+use Rattle.dispatch_log.specs.declared.queue.Queue.{Queue}
 use Rattle.readable_log.specs.Index.{wait_cmp}
 use Rattle.readable_log.specs.declared.read.Index.{Index}
-use Rattle.readable_log.proofs.Indexed.{index_joined}
+use Rattle.readable_log.proofs.Indexed.{index_joined, wait_order, IsPutAt}
 use Rattle.readable_log.proofs.read.note_joining.Goals as goal
 
 pub returns : goal.returns
@@ -12,14 +12,7 @@ returns c = λ base log entry long no_arrival begins is.
     let q = c.args.queue in
     let old = c.args.index.now in
     let new : Index = record { keys = old.keys; joinings = c.insert.new.self } in
-    let updated : (w : ℕ × Option ℕ) → get wait_cmp new.joinings w
-    ≡ cond (is_eq (wait_cmp (t, c.server_of.result) w)) (Some c.args.position) (get wait_cmp old.joinings w) = λ w. c.in_ok-insert.ensures.updates.0 w in
-    let server : (w : ℕ × Option ℕ) → get wait_cmp new.joinings w
-    ≡ cond (is_eq (wait_cmp (t, server_of q) w)) (Some c.args.position) (get wait_cmp old.joinings w) =
-    subst (λ (s : Option ℕ). (w : ℕ × Option ℕ)
-    → get wait_cmp new.joinings w ≡ cond (is_eq (wait_cmp (t, s) w)) (Some c.args.position) (get wait_cmp old.joinings w)) c.server_of.ensures updated in
-    let placed : (w : ℕ × Option ℕ) → get wait_cmp new.joinings w
-    ≡ cond (is_eq (wait_cmp (t, server_of q) w)) (Some (length log + 1)) (get wait_cmp old.joinings w) =
-    subst (λ (n : ℕ). (w : ℕ × Option ℕ) → get wait_cmp new.joinings w
-    ≡ cond (is_eq (wait_cmp (t, server_of q) w)) (Some n) (get wait_cmp old.joinings w)) long server in
+    let updated : IsPutAt wait_cmp old new t q c.args.position =
+    subst (λ (cmp : ℕ × Queue → ℕ × Queue → Ordering). IsPutAt cmp old new t q c.args.position) wait_order (λ w. c.in_ok-insert.ensures.updates.0 w) in
+    let placed : IsPutAt wait_cmp old new t q (length log + 1) = subst (λ (n : ℕ). IsPutAt wait_cmp old new t q n) long updated in
     index_joined base log entry t q old new is no_arrival begins refl placed

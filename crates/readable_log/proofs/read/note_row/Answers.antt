@@ -1,10 +1,10 @@
 use Rattle.std.proofs.Common.{◌≡◌, ℕ, Option, Some, cond, is_eq, refl, sym, ◌∙◌, subst}
 use Rattle.std.specs.BTreeMap.{get}
+use Rattle.std.specs.declared.cmp.Ordering.{Ordering}
 use Rattle.dispatch_log.specs.declared.queue.Queue.{Queue}
-use Rattle.readable_log.specs.Grants.{server_of}
 use Rattle.readable_log.specs.Index.{wait_cmp}
 use Rattle.readable_log.specs.declared.read.Index.{Index}
-use Rattle.readable_log.proofs.Indexed.{index_row}
+use Rattle.readable_log.proofs.Indexed.{index_row, wait_order, IsPutAt}
 use Rattle.list_facts.proofs.Never.{none_some}
 use Rattle.std.proofs.lemmas.Option.{same_Some}
 use Rattle.readable_log.proofs.read.note_row.Goals as goal
@@ -15,11 +15,10 @@ returns-in_ok-insert-2 c = λ base is.
     let row = c.args.row in
     let new : Index = record { keys = c.insert.new.self; joinings = c.insert-in-Some.new.self } in
     index_row base row old new is (λ t. c.in_ok-insert.ensures.updates.0 t) (λ none. none_some (sym none ∙ c.in-Some.is))
-    (λ p at w.
-    let same : c.server_of.result ≡ server_of p =
-    subst (λ (q : Queue). c.server_of.result ≡ server_of q) (same_Some c.in-Some.queue p (sym c.in-Some.is ∙ at)) c.server_of.ensures in
-    subst (λ (s : Option ℕ). get wait_cmp new.joinings w ≡ cond (is_eq (wait_cmp (row.ticket, s) w)) (Some 0) (get wait_cmp old.joinings w)) same
-    (c.in_ok-insert-2.ensures.updates.0 w))
+    (λ p at.
+    subst (λ (q : Queue). IsPutAt wait_cmp old new row.ticket q 0) (same_Some c.in-Some.queue p (sym c.in-Some.is ∙ at))
+    (subst (λ (cmp : ℕ × Queue → ℕ × Queue → Ordering). IsPutAt cmp old new row.ticket c.in-Some.queue 0) wait_order
+    (λ w. c.in_ok-insert-2.ensures.updates.0 w)))
 
 pub returns-in_default : goal.returns-in_default
 returns-in_default c = λ base is.

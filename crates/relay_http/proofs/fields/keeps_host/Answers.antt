@@ -3,7 +3,7 @@ use Rattle.std.proofs.Common.{◌≡◌, ◌∙◌, ◌+◌, ◌<◌, true, fals
 use Rattle.std.specs.Prelude.{◌&&◌, ◌||◌}
 use Rattle.std.proofs.lemmas.Option.{slice_get-get_or}
 use Rattle.relay_http.specs.Fields.{is_kept, of_request}
-use Rattle.list_facts.proofs.Kept.{any_more, any_front}
+use Rattle.list_facts.proofs.Filtered.{any_more, any_front}
 use Rattle.req_view.specs.Request.{NamedValue, is_named}
 use Rattle.relay_http.proofs.fields.keeps_host.Goals as goal
 

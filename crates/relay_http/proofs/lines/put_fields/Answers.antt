@@ -6,7 +6,7 @@ use Rattle.relay_body.proofs.Exits.{at_exit}
 use Rattle.relay_http.specs.Fields.{is_kept, dropped}
 use Rattle.relay_http.specs.Lines.{kept_line}
 use Rattle.relay_http.specs.Texts.{field_text, fields_text}
-use Rattle.list_facts.proofs.Kept.{flat_more, flat_front}
+use Rattle.list_facts.proofs.Filtered.{flat_more, flat_front}
 use Rattle.relay_http.proofs.Putting.{puts_trans, puts_halts, halts_front, puts_as, halts_as}
 use Rattle.req_view.specs.Request.{NamedValue}
 use Rattle.relay_http.proofs.lines.put_fields.Goals as goal

@@ -2,7 +2,7 @@
 use Rattle.std.proofs.Common.{◌∙◌, ◌<◌, ◌≤◌, [], ◌∷◌, ◌++◌, length, refl, sym, ap, arith, append-nil, length-append}
 use Rattle.httparse.specs.Grammar.{print_response}
 use Rattle.relay_body.proofs.Exits.{at_exit}
-use Rattle.list_facts.proofs.Kept.{flat_last}
+use Rattle.list_facts.proofs.Filtered.{flat_last}
 use Rattle.relay_body.proofs.Stepping.{moves_none, moves_trans, moves_as, Countable-later}
 use Rattle.relay_http.specs.Framings.{answer_plan, is_interim}
 use Rattle.relay_http.specs.Heads.{NoAnswer}

@@ -1,13 +1,21 @@
-use Rattle.std.proofs.Common.{sym, ◌∙◌}
+use Rattle.std.proofs.Common.{◌≡◌, false, is_some, sym, ap, ◌∙◌}
 use Rattle.std.specs.Str.Lines.{lines}
+use Rattle.script.specs.Faults.{is_step}
+use Rattle.script.specs.Lines.{is_step_line, is_fault}
+use Rattle.script.specs.Reading.{with_kind}
 use Rattle.script.proofs.Headers.{one_more}
+use Rattle.script.proofs.KindsOfLines.{step_is, kind_line}
 use Rattle.script.proofs.header.read_lines.Goals as goal
 
 -- a line more is read
 pub lines-preserved : goal.lines-preserved
-lines-preserved c = (
-  c.lines.invariant.0,
-  one_more (lines c.args.script.now) c.lines.lines c.next.new.self c.in-Some.line.now c.lines.header c.take.new.self c.lines.number c.lines.invariant.1
-      c.in-Some.ensures.steps
-      (sym c.is_step.ensures ∙ c.if-is_step.false) c.in-Ok.ensures.ok.0 c.in-Ok.ensures.ok.1,
-)
+lines-preserved c =
+    let line = c.in-Some.line.now in
+    let header = c.lines.header in
+    let kind = c.of-kind.ensures.value in
+    let other : is_step line ≡ false = ap is_some (sym (step_is line)) ∙ ap is_step_line (sym kind) ∙ sym c.is_step.ensures ∙ c.if-is_step.false in (
+      c.lines.invariant.0,
+      one_more (lines c.args.script.now) c.lines.lines c.next.new.self line header c.take.new.self c.lines.number c.lines.invariant.1
+          c.in-Some.ensures.steps
+          other (ap (is_fault header false) (sym kind) ∙ c.in-Ok.ensures.ok.0) (c.in-Ok.ensures.ok.1 ∙ ap (with_kind header) kind ∙ kind_line header line other),
+    )

@@ -1,5 +1,5 @@
 use Rattle.std.proofs.Common.{◌≡◌, ℕ, ◌<◌, true}
-use Rattle.dispatch_log.specs.Words.{is_usable}
+use Rattle.dispatch_log.specs.Scenes.{is_usable}
 use Rattle.slot_ledger.specs.Ledgers.{scene_of}
 use Rattle.server_pick.proofs.placement.some_usable.Given as goal
 

@@ -1,6 +1,6 @@
 use Rattle.std.proofs.Common.{ap, ◌∙◌}
 use Rattle.dispatch_log.specs.Histories.{History}
-use Rattle.dispatch_log.specs.Words.{Scene, is_up}
+use Rattle.dispatch_log.specs.Scenes.{Scene, is_up}
 use Rattle.dispatch_trace.specs.Histories.{scene_of}
 use Rattle.dispatch_trace.proofs.Beginning.{scene_is}
 use Rattle.dispatch_trace.proofs.trace.Trace.up.Goals as goal

@@ -1,6 +1,6 @@
 use Rattle.std.proofs.Common.{◌≡◌, ◌==◌, true, ap, sym, subst, ◌∙◌, ◌<◌, length, arith}
 use Rattle.std.proofs.lemmas.Bool.{eqb-true, eqb-false}
-use Rattle.grant_board.specs.Words.{IsAmong}
+use Rattle.grant_board.specs.BoardWords.{IsAmong}
 use Rattle.grant_board.specs.RelayCalls.{relay_looked, take_after}
 use Rattle.grant_board.specs.Plays.{relay_of, relay_seat}
 use Rattle.grant_board.specs.Views.{grant}

@@ -2,7 +2,7 @@ use Rattle.std.proofs.Common.{ℕ, ◌<◌, ◌≤◌, ◌++◌, ◌∷◌, [], 
 use Rattle.std.specs.Option.{unwrap_or}
 use Rattle.dispatch_log.specs.Logs.{Recorded}
 use Rattle.dispatch_log.specs.declared.entry.Entry.{Entry}
-use Rattle.readable_log.specs.Kept.{IsKept}
+use Rattle.readable_log.specs.LogParts.{IsKept}
 use Rattle.readable_log.specs.Readable.{MayFollow}
 use Rattle.readable_log.specs.Windows.{base_rows}
 use Rattle.readable_log.proofs.Pushes.{kept_push}

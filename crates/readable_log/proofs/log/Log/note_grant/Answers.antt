@@ -2,9 +2,9 @@ use Rattle.std.proofs.Common.{◌≡◌, ℕ, ◌+◌, ◌<◌, ◌≤◌, ◌++
 use Rattle.dispatch_log.specs.Logs.{Recorded}
 use Rattle.dispatch_log.specs.declared.entry.Entry.{Entry}
 use Rattle.dispatch_log.specs.declared.entry.Entry.TheVariants.{Granted}
-use Rattle.readable_log.specs.declared.grant.Grant.{Grant}
+use Rattle.readable_log.specs.declared.grant.SlotGrant.{SlotGrant}
 use Rattle.readable_log.specs.Grants.{joining_of, has_joined, grants}
-use Rattle.readable_log.specs.Kept.{IsKept}
+use Rattle.readable_log.specs.LogParts.{IsKept}
 use Rattle.readable_log.specs.Readable.{HasArrived}
 use Rattle.readable_log.specs.Windows.{base_rows}
 use Rattle.readable_log.proofs.Pushes.{kept_grant, grants-length, granted_by, window_with}
@@ -38,7 +38,7 @@ invariant_of-self c =
     short begun came joined waits in (
       c.self.invariant.0,
       subst (λ (l : List Entry). IsKept base l c.put.new.list.items s.moment s.most) (sym c.put-2.ensures.items)
-          (subst (λ (l : List Grant). IsKept base (s.list.items ++ Granted a.key.ticket a.queue a.server ∷ []) l s.moment s.most) (sym c.put.ensures.items)
+          (subst (λ (l : List SlotGrant). IsKept base (s.list.items ++ Granted a.key.ticket a.queue a.server ∷ []) l s.moment s.most) (sym c.put.ensures.items)
           (subst (λ (n : ℕ). IsKept base (s.list.items ++ Granted a.key.ticket a.queue a.server ∷ []) (s.granted.items ++ grant n ∷ []) s.moment s.most)
           (sym slot) kept)),
       subst (λ (n : ℕ). s.most ≤ n) (sym c.put-2.ensures.room) c.self.invariant.2,

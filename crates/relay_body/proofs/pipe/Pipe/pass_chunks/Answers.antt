@@ -4,7 +4,7 @@ use Rattle.std.specs.List.{flat_map}
 use Rattle.relay_body.specs.Bodies.{LacksChunked}
 use Rattle.relay_body.specs.Chunks.{IsChunk, LacksChunk, print_chunk, chunk_text}
 use Rattle.relay_body.proofs.Exits.{at_exit}
-use Rattle.list_facts.proofs.Kept.{flat_last}
+use Rattle.list_facts.proofs.Filtered.{flat_last}
 use Rattle.list_facts.proofs.Members.{all_append}
 use Rattle.relay_body.proofs.Wholes.{chunks_then, lacks_first, chunk_some}
 use Rattle.relay_body.proofs.Stepping.{moves_none, moves_trans, moves_as, moves_breaks, moves_smaller}

@@ -4,7 +4,7 @@ use Rattle.std.specs.List.{flat_map}
 use Rattle.relay_body.specs.Trailers.{IsTrailer, print_line, LacksLine, LacksTrailers}
 use Rattle.relay_body.proofs.Exits.{at_exit}
 use Rattle.relay_body.proofs.Lines.{trailers_lack, trailers_end}
-use Rattle.list_facts.proofs.Kept.{flat_last}
+use Rattle.list_facts.proofs.Filtered.{flat_last}
 use Rattle.list_facts.proofs.Members.{all_append}
 use Rattle.relay_body.proofs.Stepping.{moves_none, moves_trans, moves_as, moves_breaks, breaks_less}
 use Rattle.relay_body.proofs.pipe.Pipe.read_trailers.Goals as goal

@@ -2,7 +2,7 @@
 ghost use Rattle.std.specs.Prelude.{◌≡◌, ◌<◌, ◌≤◌, ◌++◌, true, length, take, replicate, IfOk};
 ghost use Rattle.std.specs.Mem.Slots.{slots_items, slots_len, IsFull};
 ghost use Rattle.list_facts.specs.Weights.{total};
-ghost use Rattle.grant_board.specs.Words.{nonzero};
+ghost use Rattle.grant_board.specs.BoardWords.{nonzero};
 ghost use Rattle.grant_board.specs.Views.{terms};
 ghost use Rattle.grant_board.specs.Rule.{terms_of};
 ghost use Rattle.grant_board.specs.KeeperCalls.{new_keeper, IsClosed};

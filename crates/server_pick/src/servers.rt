@@ -3,7 +3,7 @@ ghost use Rattle.dispatch_log.specs.declared.queue.Queue.TheVariants.{Server};
 ghost use Rattle.dispatch_log.specs.Rows.{queued};
 ghost use Rattle.dispatch_log.specs.Setups.{is_within};
 ghost use Rattle.dispatch_log.specs.Picks.{weight_of, load};
-ghost use Rattle.dispatch_log.specs.Words.{of_server, limit_of, is_usable, is_free, has_room, takes_pinned};
+ghost use Rattle.dispatch_log.specs.Scenes.{of_server, limit_of, is_usable, is_free, has_room, takes_pinned};
 ghost use Rattle.slot_ledger.specs.Ledgers.{scene_of};
 
 use dispatch_log::{Queue, ServerSet};

@@ -1,7 +1,7 @@
 -- What a log keeps beside its entries.
 use Rattle.std.specs.Prelude.{◌≡◌, ℕ, ◌≤◌, List, length}
 use Rattle.dispatch_log.specs.declared.entry.Entry.{Entry}
-use Rattle.readable_log.specs.declared.grant.Grant.{Grant}
+use Rattle.readable_log.specs.declared.grant.SlotGrant.{SlotGrant}
 use Rattle.readable_log.specs.Grants.{moment_of, grants}
 use Rattle.readable_log.specs.declared.base.BaseRow.{BaseRow}
 use Rattle.readable_log.specs.Readable.{IsReadable}
@@ -14,7 +14,7 @@ pub record IsLog (base : State) (listed : List BaseRow) (capacity : ℕ) : Type 
   pub room : length base.rows ≤ capacity
 
 -- readable entries, no more than there is room for, with their grants and the moment of their last event
-pub record IsKept (base : List BaseRow) (list : List Entry) (granted : List Grant) (moment most : ℕ) : Type 0 where
+pub record IsKept (base : List BaseRow) (list : List Entry) (granted : List SlotGrant) (moment most : ℕ) : Type 0 where
   pub within : length list ≤ most
   pub readable : IsReadable (record { base = base; entries = list })
   pub granted_are : granted ≡ grants (record { base = base; entries = list })

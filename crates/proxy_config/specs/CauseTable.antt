@@ -2,7 +2,7 @@
 use Rattle.std.specs.Prelude.{◌≡◌, ◌⊎◌, ◌↔◌, ℕ, Bool, true, false, is_some, List, [], ◌∷◌, Some, Err}
 use Rattle.std.specs.List.{list_any}
 use Rattle.proxy_words.specs.Text.{words, uncommented}
-use Rattle.proxy_config.specs.declared.faults.Cause.TheVariants as causes
+use Rattle.proxy_config.specs.declared.faults.FaultCause.TheVariants as causes
 use Rattle.proxy_config.specs.declared.parts.Server.{Server}
 use Rattle.proxy_config.specs.declared.draft.Draft.{Draft}
 use Rattle.proxy_config.specs.declared.draft.Section.{Section}
@@ -10,7 +10,8 @@ use Rattle.proxy_config.specs.declared.draft.Section.TheVariants as sections
 use Rattle.proxy_config.specs.declared.keywords.Keyword.{Keyword}
 use Rattle.proxy_config.specs.declared.keywords.Keyword.TheVariants as keywords
 use Rattle.proxy_config.specs.Keywords.{keyword_of}
-use Rattle.proxy_config.specs.Draft.{in_listen, is_ignored, is_quoting, step}
+use Rattle.proxy_config.specs.Draft.{in_listen, is_ignored, is_quoting}
+use Rattle.proxy_config.specs.Resolved.{Resolved, resolved_line}
 
 -- the words of a line, and whether it is one that `global` ignores
 abbrev pub words_of : List ℕ → List (List ℕ)
@@ -51,8 +52,8 @@ pub record IsRead (d : Draft) (too_long : Bool) (line : List ℕ) : Type 0 where
   pub short : too_long ≡ false
 
 -- Where each of these causes stands, and nowhere else.
-pub record EachInItsRow (servers : List Server) (too_long : Bool) (d : Draft) (n : ℕ) (line : List ℕ) : Type 0 where
-  pub quoting : (step servers too_long d n line ≡ Err causes.Quoting) ↔ IsQuoted d line
-  pub place : (step servers too_long d n line ≡ Err causes.Place) ↔ (IsRead d too_long line × IsMisplaced d (words_of line))
-  pub section : (step servers too_long d n line ≡ Err causes.Section) ↔ (IsRead d too_long line × BeginsRefused d (words_of line))
-  pub missing : ¬ (step servers too_long d n line ≡ Err causes.Missing)
+pub record EachInItsRow (servers : List Server) (too_long : Bool) (r : Resolved) (n : ℕ) (line : List ℕ) : Type 0 where
+  pub quoting : (resolved_line servers too_long r n line ≡ Err causes.Quoting) ↔ IsQuoted r.draft line
+  pub place : (resolved_line servers too_long r n line ≡ Err causes.Place) ↔ (IsRead r.draft too_long line × IsMisplaced r.draft (words_of line))
+  pub section : (resolved_line servers too_long r n line ≡ Err causes.Section) ↔ (IsRead r.draft too_long line × BeginsRefused r.draft (words_of line))
+  pub missing : ¬ (resolved_line servers too_long r n line ≡ Err causes.Missing)

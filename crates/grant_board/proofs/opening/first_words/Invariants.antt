@@ -1,5 +1,5 @@
 use Rattle.std.proofs.Common.{◌≡◌, ◌++◌, take, replicate}
-use Rattle.grant_board.proofs.ends.first_words.Given as goal
+use Rattle.grant_board.proofs.opening.first_words.Given as goal
 
 abbrev pub invariant-loop-limit : goal.invariant-loop-limit
 invariant-loop-limit l = l.words.items ≡ replicate l.places 0 ++ take l.limit-index l.limits

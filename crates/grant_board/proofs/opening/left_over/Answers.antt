@@ -1,8 +1,8 @@
 use Rattle.std.proofs.Common.{arith}
 use Rattle.std.specs.Mem.Slots.{slots_items}
 use Rattle.grant_board.proofs.Ending.{nonzero-no, nonzero-yes, counts_on}
-use Rattle.grant_board.proofs.ends.left_over.Goals as goal
-use Rattle.grant_board.proofs.ends.left_over.Goals.{then-word-ne0, else-word-ne0}
+use Rattle.grant_board.proofs.opening.left_over.Goals as goal
+use Rattle.grant_board.proofs.opening.left_over.Goals.{then-word-ne0, else-word-ne0}
 
 pub loop-i-preserved : goal.loop-i-preserved
 loop-i-preserved c =

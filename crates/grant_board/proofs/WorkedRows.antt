@@ -7,7 +7,7 @@ use Rattle.verdict.specs.declared.Verdict.TheVariants.{Serve, Told}
 use Rattle.verdict.specs.declared.Ending.TheVariants.{Done, Failed}
 use Rattle.grant_board.specs.declared.laws.Word.TheVariants.{Empty, Offered, Taken, Posted}
 use Rattle.grant_board.specs.declared.view.View.{View}
-use Rattle.grant_board.specs.Words.{encode_of, IsWord, nonzero}
+use Rattle.grant_board.specs.BoardWords.{encode_of, IsWord, nonzero}
 use Rattle.list_facts.specs.Weights.{total}
 use Rattle.grant_board.specs.Views.{Grant, grant, Terms, terms, KeeperView, RelayView, count_at, count_of, without}
 use Rattle.grant_board.specs.Rule.{BoardState, Agrees, Orderly}

@@ -1,0 +1,55 @@
+ghost use Rattle.std.specs.Prelude.{◌≡◌, IfSome};
+ghost use Rattle.script.specs.Lines.{line_of, step_in};
+ghost use Rattle.script.specs.Reading.{IsWithinLine};
+ghost use Rattle.script.specs.Steps.{is_skipped};
+
+use crate::setting::{Setting, setting_of};
+use crate::step::{Step, step_of};
+use proxy_words::Words;
+
+/// What a line of a script is.
+#[derive(Debug, Drop)]
+pub enum Line<'a> {
+    /// A header line, and what it sets.
+    Setting(Setting<'a>),
+    /// An event, or the next window.
+    Step(Step<'a>),
+    /// Nothing: it has no word, or its first byte is `#`.
+    Skipped,
+}
+
+impl<'a> Line<'a> {
+    /// What a line is; None where it is none of these.
+    pub fn of(line: &'a [u8]) -> Option<Line<'a>>
+        ensures value { result ≡ line_of line.now }
+        ensures within { IfSome result IsWithinLine }
+    {
+        if let Some(step) = step_of(line) {
+            return Some(Line::Step(step));
+        }
+        if let Some(setting) = setting_of(line) {
+            return Some(Line::Setting(setting));
+        }
+        if is_skipped(line) {
+            Some(Line::Skipped)
+        } else {
+            None
+        }
+    }
+}
+
+/// The step that such a line is, if it is one.
+pub fn step_in(kind: Option<Line>) -> Option<Step>
+    ensures { result ≡ step_in kind.entry }
+{
+    match kind {
+        Some(Line::Step(step)) => Some(step),
+        _ => None,
+    }
+}
+
+fn is_skipped(line: &[u8]) -> bool
+    ensures { result ≡ is_skipped line.now }
+{
+    Words::new(line).next().is_none() || line[0] == b'#'
+}

@@ -17,11 +17,11 @@ use Rattle.readable_log.specs.Grants.{is_of, stays, grants}
 use Rattle.readable_log.specs.Readable.{IsReadable}
 use Rattle.readable_log.specs.Timely.{IsTimely}
 use Rattle.readable_log.specs.Windows.{Window}
-use Rattle.readable_log.specs.declared.grant.Grant.{Grant}
+use Rattle.readable_log.specs.declared.grant.SlotGrant.{SlotGrant}
 use Rattle.readable_log.specs.declared.grant.Stay.{Stay}
 use Rattle.readable_log.proofs.Timely.{timely}
 use Rattle.late_cert.specs.Lateness.{own_lateness}
-use Rattle.late_cert.specs.Reports.{IsSound}
+use Rattle.late_cert.specs.Reports.{IsSoundReport}
 use Rattle.late_cert.specs.Running.{IsGreatest, IsWorstIn, IsWorstOf, IsWorstAmong, latenesses_of, worst_so_far, worst_with}
 use Rattle.late_cert.specs.declared.table.Running.{Running}
 use Rattle.late_cert.specs.declared.report.Report.{Report}
@@ -68,7 +68,7 @@ greatest_is_one numbers (Some worst) number is among bound =
     ap Some (grind (arith, ints))
 
 -- the worst of some grants and one more
-pub among_with : (gs : List Grant) (g : Grant) (before : Queue → ℤ → Option ℤ) (queue : Queue) (class : ℤ)
+pub among_with : (gs : List SlotGrant) (g : SlotGrant) (before : Queue → ℤ → Option ℤ) (queue : Queue) (class : ℤ)
     → IsGreatest (latenesses_of queue class gs) (before queue class)
     → IsGreatest (latenesses_of queue class (gs ++ g ∷ [])) (worst_with before g.queue g.class (late_by g) queue class)
 among_with gs g before queue class is =
@@ -90,7 +90,7 @@ pub own_latenesses : (window : Window) → IsReadable window → (queue : Queue)
     → map (own_lateness window) (stays window queue class) ≡ latenesses_of queue class (grants window)
 own_latenesses window readable queue class = go (grants window) (timely window readable)
   where
-    go : (gs : List Grant) → AllByRecursion (IsTimely window) gs
+    go : (gs : List SlotGrant) → AllByRecursion (IsTimely window) gs
         → map (own_lateness window) (map (λ g. g.stay) (filter (is_of queue class) gs)) ≡ latenesses_of queue class gs
     go [] all = refl
     go (g ∷ gs) all = by (is_of queue class g) (go gs all.1)
@@ -102,7 +102,7 @@ own_latenesses window readable queue class = go (grants window) (timely window r
         by false rest = rest
 
 -- the worst so far of a queue and class is what a sound report of it says
-pub certified : (window : Window) (report : Report) (worst : Option ℤ) → IsWorstIn window report.queue report.class worst → IsSound window report
+pub certified : (window : Window) (report : Report) (worst : Option ℤ) → IsWorstIn window report.queue report.class worst → IsSoundReport window report
     → worst ≡ Some report.worst
 certified window report worst is sound =
     greatest_is_one (map (own_lateness window) (stays window report.queue report.class)) worst report.worst is

@@ -9,7 +9,7 @@ use Rattle.dispatch_log.specs.declared.queue.Queue.{Queue}
 use Rattle.dispatch_log.specs.Rows.{same_queue}
 use Rattle.readable_log.specs.Grants.{is_of, stays}
 use Rattle.readable_log.specs.Windows.{Window}
-use Rattle.readable_log.specs.declared.grant.Grant.{Grant}
+use Rattle.readable_log.specs.declared.grant.SlotGrant.{SlotGrant}
 use Rattle.std.specs.List.{filter}
 use Rattle.late_cert.specs.Lateness.{own_lateness}
 use Rattle.late_cert.specs.Queues.{IsQueueOf}
@@ -46,14 +46,14 @@ IsWorstOf window running =
     (queue : Queue) (class : ℤ) → IsBetween LOWEST_CLASS HIGHEST_CLASS class → IsWorstIn window queue class (worst_so_far running queue class)
 
 -- the latenesses of the grants from a queue and of a class
-abbrev pub latenesses_of : Queue → ℤ → List Grant → List ℤ
+abbrev pub latenesses_of : Queue → ℤ → List SlotGrant → List ℤ
 latenesses_of queue class grants = map late_by (filter (is_of queue class) grants)
 
 -- the worst so far of each queue and class is that of some grants
-abbrev pub IsWorstAmong : List Grant → Running → Type 0
+abbrev pub IsWorstAmong : List SlotGrant → Running → Type 0
 IsWorstAmong grants running =
     (queue : Queue) (class : ℤ) → IsBetween LOWEST_CLASS HIGHEST_CLASS class → IsGreatest (latenesses_of queue class grants) (worst_so_far running queue class)
 
 -- a running worst has room for a grant
-abbrev pub HasRoomFor : Running → Grant → Type 0
+abbrev pub HasRoomFor : Running → SlotGrant → Type 0
 HasRoomFor running grant = IsQueueOf running.servers grant.queue × IsTrue (has_room running grant.class)

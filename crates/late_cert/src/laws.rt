@@ -68,6 +68,6 @@ pub fn worked_reports()
 /// The law of the running worst: where it is that of a window, it is for each queue and class what a sound report says, and `None` only where
 /// no stay of it ended with a slot.
 pub fn running_worst_is_certified()
-    ensures worst { (window : Window) (running : Running) (report : Report) → IsWorstOf window running → IsSound window report → IsBetween LOWEST_CLASS HIGHEST_CLASS report.class → worst_so_far running report.queue report.class ≡ Some report.worst }
+    ensures worst { (window : Window) (running : Running) (report : Report) → IsWorstOf window running → IsSoundReport window report → IsBetween LOWEST_CLASS HIGHEST_CLASS report.class → worst_so_far running report.queue report.class ≡ Some report.worst }
     ensures none { (window : Window) (running : Running) (queue : Queue) (class : ℤ) → IsWorstOf window running → IsBetween LOWEST_CLASS HIGHEST_CLASS class → worst_so_far running queue class ≡ None → stays window queue class ≡ [] }
 {}

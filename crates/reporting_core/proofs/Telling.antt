@@ -24,18 +24,18 @@ use Rattle.dispatch_log.specs.Judgement.{Stage, AllMayCome, MayCome, next_stage,
 use Rattle.dispatch_log.specs.Legal.{AddsEvent, IsLegal}
 use Rattle.dispatch_log.specs.Logs.{Recorded}
 use Rattle.dispatch_log.specs.States.{State, opening_state, scene, after, key_of}
-use Rattle.dispatch_log.specs.Words.{Scene, may_take, is_free, is_up, limit_of}
+use Rattle.dispatch_log.specs.Scenes.{Scene, may_take, is_free, is_up, limit_of}
 use Rattle.dispatch_log.specs.Rows.{Rows, IsRow, served}
 use Rattle.dispatch_log.specs.declared.row.Row.{Row}
 use Rattle.readable_log.specs.Ordered.{HaveArrived}
 use Rattle.readable_log.specs.Readable.{HasArrived}
 use Rattle.readable_log.proofs.Based.{base_arrived}
-use Rattle.readable_log.proofs.Rows.{rows_arrived}
+use Rattle.readable_log.proofs.RowsLeft.{rows_arrived}
 use Rattle.readable_log.proofs.Judged.{judged_keep_order}
 use Rattle.readable_log.specs.Grants.{Wait, arrival_in, grant_in, newer_key, key_known, grant_after, grants_after, grants}
 use Rattle.readable_log.specs.Windows.{Window, base_rows, newer_base_key, base_key, window_in, window_of}
 use Rattle.readable_log.specs.declared.base.BaseRow.{BaseRow}
-use Rattle.readable_log.specs.declared.grant.Grant.{Grant}
+use Rattle.readable_log.specs.declared.grant.SlotGrant.{SlotGrant}
 use Rattle.readable_log.proofs.Timely.{follows}
 use Rattle.late_cert.specs.Queues.{IsQueueOf}
 use Rattle.late_cert.specs.Running.{has_room, worst_so_far, latenesses_of, HasRoomFor, IsGreatest, IsWorstAmong}
@@ -47,7 +47,7 @@ grants_behind : (base : List BaseRow) (past es fs : List Entry)
     → grants_after base past (es ++ fs) ≡ grants_after base past es ++ grants_after base (past ++ es) fs
 grants_behind base past [] fs = ap (λ l. grants_after base l fs) (sym (append-nil past))
 grants_behind base past (e ∷ es) fs =
-    let own : List Grant = option_map_or (λ grant. grant ∷ []) (grant_after base past e) [] in
+    let own : List SlotGrant = option_map_or (λ grant. grant ∷ []) (grant_after base past e) [] in
     ap (λ l. own ++ l) (grants_behind base (past ++ e ∷ []) es fs
     ∙ ap (λ l. grants_after base (past ++ e ∷ []) es ++ grants_after base l fs) (append_assoc past (e ∷ []) es))
     ∙ sym (append_assoc own (grants_after base (past ++ e ∷ []) es) (grants_after base (past ++ e ∷ es) fs))
@@ -95,12 +95,12 @@ module _ (P : ℤ → Type 0) where
       (by_grant (grant_after base past e) refl)
       (granted_classes base (past ++ e ∷ []) es (record { waited = have.waited; arrived = all_append _ past (e ∷ []) have.arrived (arrive.0, tt) }) arrive.1)
     where
-      by_grant : (o : Option Grant) → grant_after base past e ≡ o → AllByRecursion (λ grant. P grant.class) (option_map_or (λ grant. grant ∷ []) o [])
+      by_grant : (o : Option SlotGrant) → grant_after base past e ≡ o → AllByRecursion (λ grant. P grant.class) (option_map_or (λ grant. grant ∷ []) o [])
       by_grant None made = tt
       by_grant (Some g) made =
           let f = follows base past e g made in
           let known : KnownClass (Some f.key) = subst KnownClass f.known (known_class base past f.wait.ticket have) in
-          (subst P (sym (ap (λ (x : Grant). x.class) f.made)) known, tt)
+          (subst P (sym (ap (λ (x : SlotGrant). x.class) f.made)) known, tt)
 
 -- entries that are no events are no arrivals
 none_arrive : (P : ℤ → Type 0) (es : List Entry) → All (λ entry. begins_event entry ≡ false) es → ArriveSo P es
@@ -164,12 +164,12 @@ granted_queues setup s used stage base past (e ∷ es) all =
         (queue_there setup s queue server lawful.taken lawful.next.takes.0)
     by_entry x wait may is = cc
 
-    by_grant : (o : Option Grant) → grant_after base past e ≡ o
+    by_grant : (o : Option SlotGrant) → grant_after base past e ≡ o
         → AllByRecursion (λ grant. IsQueueOf (length setup.servers) grant.queue) (option_map_or (λ grant. grant ∷ []) o [])
     by_grant None made = tt
     by_grant (Some g) made =
         let f = follows base past e g made in
-        (subst (IsQueueOf (length setup.servers)) (sym (ap (λ (x : Grant). x.queue) f.made)) (by_entry e f.wait all.0 f.is), tt)
+        (subst (IsQueueOf (length setup.servers)) (sym (ap (λ (x : SlotGrant). x.queue) f.made)) (by_entry e f.wait all.0 f.is), tt)
 
 -- ---- an event
 
@@ -189,10 +189,10 @@ module _ (h new : History) (e : Entry) (running : Running) (queues : running.ser
   abbrev base : List BaseRow
   base = base_rows h.base.rows
 
-  abbrev old : List Grant
+  abbrev old : List SlotGrant
   old = grants (window_in h)
 
-  abbrev added : List Grant
+  abbrev added : List SlotGrant
   added = grants_after base h.log (e ∷ adds.brought)
 
   same_base : base_rows new.base.rows ≡ base
@@ -206,7 +206,7 @@ module _ (h new : History) (e : Entry) (running : Running) (queues : running.ser
 
   pub tells : IsTelling h new running
   tells = record {
-    from = subst (λ (l : List Grant). length old ≤ length l) (sym parts) (omega (arith, length-append old added));
+    from = subst (λ (l : List SlotGrant). length old ≤ length l) (sym parts) (omega (arith, length-append old added));
     told = ap (take (length old)) parts ∙ take_at old added (length old) refl;
     room = subst (AllByRecursion (HasRoomFor running)) (sym (ap (drop (length old)) parts ∙ drop-append_seam old added))
         (all_both (λ grant. IsQueueOf running.servers grant.queue) (λ grant. IsTrue (has_room running grant.class)) added
@@ -226,24 +226,24 @@ same_window log h base entries =
     ap (λ (b : State). record { base = base_rows b.rows; entries = log.entries }) base ∙ ap (λ es. record { base = base_rows h.base.rows; entries = es }) entries
 
 -- what a running worst asks before it is told of the grants of a log from a number on
-pub record IsReady (log : Recorded) (before : List Grant) (running : Running) : Type 0 where
+pub record IsReady (log : Recorded) (before : List SlotGrant) (running : Running) : Type 0 where
   pub from : length before ≤ length (grants (window_of log))
   pub told : IsWorstAmong (take (length before) (grants (window_of log))) running
   pub room : AllByRecursion (HasRoomFor running) (drop (length before) (grants (window_of log)))
 
-pub ready : (h new : History) (running : Running) (was now : Recorded) (before : List Grant) → IsTelling h new running
+pub ready : (h new : History) (running : Running) (was now : Recorded) (before : List SlotGrant) → IsTelling h new running
     → IsWorstAmong (grants (window_in h)) running → before ≡ grants (window_of was) → window_of was ≡ window_in h → window_of now ≡ window_in new
     → IsReady now before running
 ready h new running was now before tells worst listed same next =
     let all : before ≡ grants (window_in h) = listed ∙ ap grants same in
     let after : grants (window_of now) ≡ grants (window_in new) = ap grants next in
     record {
-      from = subst (λ (l : List Grant). length l ≤ length (grants (window_of now))) (sym all)
-          (subst (λ (l : List Grant). length (grants (window_in h)) ≤ length l) (sym after) tells.from);
+      from = subst (λ (l : List SlotGrant). length l ≤ length (grants (window_of now))) (sym all)
+          (subst (λ (l : List SlotGrant). length (grants (window_in h)) ≤ length l) (sym after) tells.from);
       told = subst (λ l. IsWorstAmong l running)
-          (sym (ap (λ (l : List Grant). take (length l) (grants (window_of now))) all ∙ ap (take (length (grants (window_in h)))) after ∙ tells.told)) worst;
+          (sym (ap (λ (l : List SlotGrant). take (length l) (grants (window_of now))) all ∙ ap (take (length (grants (window_in h)))) after ∙ tells.told)) worst;
       room = subst (AllByRecursion (HasRoomFor running))
-          (sym (ap (λ (l : List Grant). drop (length l) (grants (window_of now))) all ∙ ap (drop (length (grants (window_in h)))) after)) tells.room;
+          (sym (ap (λ (l : List SlotGrant). drop (length l) (grants (window_of now))) all ∙ ap (drop (length (grants (window_in h)))) after)) tells.room;
     }
 
 -- and what it is after that

@@ -3,7 +3,7 @@ use Rattle.std.specs.Prelude.{◌≡◌, ℕ, ◌==◌, ◌<◌, Bool, false, Li
 use Rattle.dispatch_log.specs.declared.entry.Entry.{Entry}
 use Rattle.dispatch_log.specs.declared.entry.Entry.TheVariants.{Direct, Granted}
 use Rattle.dispatch_log.specs.Histories.{History}
-use Rattle.dispatch_log.specs.Words.{is_up}
+use Rattle.dispatch_log.specs.Scenes.{is_up}
 use Rattle.dispatch_trace.specs.Histories.{scene_of}
 use Rattle.reporting_core.specs.declared.lines.ServerLine.{ServerLine}
 

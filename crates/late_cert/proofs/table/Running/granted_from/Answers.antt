@@ -4,7 +4,7 @@ use Rattle.std.proofs.lemmas.List.{take_more, take_all}
 use Rattle.std.specs.List.{AllByRecursion}
 use Rattle.readable_log.specs.Grants.{grants}
 use Rattle.readable_log.specs.Windows.{window_of}
-use Rattle.readable_log.specs.declared.grant.Grant.{Grant}
+use Rattle.readable_log.specs.declared.grant.SlotGrant.{SlotGrant}
 use Rattle.late_cert.specs.Queues.{IsQueueOf}
 use Rattle.late_cert.specs.Running.{IsGreatest, IsWorstAmong, HasRoomFor, has_room, latenesses_of, worst_so_far, worst_with}
 use Rattle.late_cert.specs.Tests.{late_by}
@@ -13,7 +13,7 @@ use Rattle.late_cert.proofs.table.Running.granted_from.Goals as goal
 
 roomy : (c : goal.After-lateness) → HasRoomFor c.args.self.now c.index-grants-number.result
 roomy c =
-    let gs : List Grant = c.grants-grants.result.now in
+    let gs : List SlotGrant = c.grants-grants.result.now in
     let all : AllByRecursion (HasRoomFor c.args.self.now) (drop c.args.from gs) =
     subst (λ l. AllByRecursion (HasRoomFor c.args.self.now) (drop c.args.from l)) (sym c.grants-grants.ensures.grants) c.requires.room in
     subst (HasRoomFor c.args.self.now) (sym c.index-grants-number.is)
@@ -28,8 +28,8 @@ granted-requires-clause-room c = subst IsTrue (sym (c.loop-number.invariant.room
 
 pub loop-number-preserved : goal.loop-number-preserved
 loop-number-preserved c =
-    let gs : List Grant = c.grants-grants.result.now in
-    let g : Grant = c.index-grants-number.result in
+    let gs : List SlotGrant = c.grants-grants.result.now in
+    let g : SlotGrant = c.index-grants-number.result in
     let was = c.loop-number.self in
     let more : take (c.loop-number.number + 1) gs ≡ take c.loop-number.number gs ++ g ∷ [] =
     take_more gs c.loop-number.number g c.loop-number-test.true ∙ ap (λ it. take c.loop-number.number gs ++ it ∷ []) (sym c.index-grants-number.is) in
@@ -48,7 +48,7 @@ loop-number-preserved c =
 
 pub returns-clause-worst : goal.returns-clause-worst
 returns-clause-worst c queue class in_range =
-    let gs : List Grant = c.grants-grants.result.now in
+    let gs : List SlotGrant = c.grants-grants.result.now in
     let whole : take c.loop-number.number gs ≡ gs = take_all c.loop-number.number gs (omega arith) in
     subst (λ l. IsGreatest (latenesses_of queue class l) (worst_so_far c.loop-number.self queue class)) (whole ∙ c.grants-grants.ensures.grants)
     (c.loop-number.invariant.worst queue class in_range)

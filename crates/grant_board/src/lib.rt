@@ -20,8 +20,8 @@ mod tally;
 mod view;
 
 pub use board::{Board, BoardName};
-pub use opening::Closing;
 pub use keeper::KeeperSeat;
+pub use opening::Closing;
 pub use pass::{Pass, Taking};
 pub use relay::{Met, RelaySeat};
 pub use returned::Return;

@@ -1,5 +1,5 @@
 -- The order of queues and classes, as keys are compared.
-use Rattle.std.proofs.Common.{◌≡◌, ℕ, ◌&&◌, true, false, ℤ, refl, arith, is_lt}
+use Rattle.std.proofs.Common.{◌≡◌, ◌&&◌, true, false, ℤ, refl, arith, is_lt}
 use Rattle.std.specs.Ordering.{int_cmp, int_eq, ordering_then}
 use Rattle.std.specs.declared.cmp.Ordering.{Ordering}
 use Rattle.std.proofs.lemmas.Bool.Decides.{nat_tests}

@@ -112,7 +112,8 @@ unfolding draft.request_line
 request_in pins d words inside = rw inside (within_bind _ _ (within_unless _ causes.Limit refl)
     (λ limit. within_bind _ _ (weaker is_count (within_rule d.acls words)) (λ rule. within_ok _)))
 
-use_in : (servers : List Server) (r : Resolved) (words : List (List ℕ)) → draft.in_listen r.draft.section ≡ true → Within is_placed (pinned_line servers r words)
+use_in : (servers : List Server) (r : Resolved) (words : List (List ℕ)) → draft.in_listen r.draft.section ≡ true
+    → Within is_placed (pinned_line servers r words)
 unfolding pinned_line
 use_in servers r words inside = rw inside (within_bind _ _ (within_unless _ causes.Limit refl)
     (λ limit. within_bind _ _ (weaker is_count (within_pin servers r.draft.acls words)) (λ pin. within_ok _)))
@@ -185,7 +186,8 @@ begins keywords.Refused = true
 begins other = false
 
 -- a line that its section takes and that begins none
-line_in : (servers : List Server) (r : Resolved) (n : ℕ) (keyword : Keyword) (words : List (List ℕ)) → begins keyword ≡ false → takes r.draft.section keyword ≡ true
+line_in : (servers : List Server) (r : Resolved) (n : ℕ) (keyword : Keyword) (words : List (List ℕ)) → begins keyword ≡ false
+    → takes r.draft.section keyword ≡ true
     → Within is_placed (line_of servers r n keyword words)
 line_in servers r n keywords.Global words other inside = absurd (let none = other in cc)
 line_in servers r n keywords.Defaults words other inside = absurd (let none = other in cc)
@@ -271,7 +273,8 @@ section_only servers r n keywords.Refused words is = inl refl
 section_only servers r n (keywords.Shared kind) words is =
     absurd (not_of_section servers r n (keywords.Shared kind) words (takes r.draft.section (keywords.Shared kind)) refl refl is)
 section_only servers r n keywords.Bind words is = absurd (not_of_section servers r n keywords.Bind words (takes r.draft.section keywords.Bind) refl refl is)
-section_only servers r n keywords.Server words is = absurd (not_of_section servers r n keywords.Server words (takes r.draft.section keywords.Server) refl refl is)
+section_only servers r n keywords.Server words is =
+    absurd (not_of_section servers r n keywords.Server words (takes r.draft.section keywords.Server) refl refl is)
 section_only servers r n keywords.Acl words is = absurd (not_of_section servers r n keywords.Acl words (takes r.draft.section keywords.Acl) refl refl is)
 section_only servers r n keywords.HttpRequest words is =
     absurd (not_of_section servers r n keywords.HttpRequest words (takes r.draft.section keywords.HttpRequest) refl refl is)
@@ -360,7 +363,8 @@ each_in_its_row servers too_long r n line =
     let read = line_by servers r n (words_of line) in
     let causes_of = words_causes servers r n (words_of line) in
     let step : resolved_line servers too_long r n line ≡ stepped ignored quoted too_long r read = line_stepped servers too_long r n line in
-    let to_read : (read_is : IsRead r.draft too_long line) → resolved_line servers too_long r n line ≡ read = λ it. step ∙ rw (it.heeded, it.unquoted, it.short) refl in
+    let to_read : (read_is : IsRead r.draft too_long line) → resolved_line servers too_long r n line ≡ read = λ it. step
+    ∙ rw (it.heeded, it.unquoted, it.short) refl in
     record {
       quoting = (λ is. quoting_only ignored quoted too_long r read causes_of (sym step ∙ is), λ is. step ∙ rw (is.0, is.1) refl);
       place = (

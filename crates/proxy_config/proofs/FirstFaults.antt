@@ -79,7 +79,8 @@ after_fault servers long d n line lines fault (Ok next) taken more is = later se
 after_fault servers long d n line lines fault (Err cause) taken more is =
     subst (λ (f : ConfigFault). Fault servers long d n (line ∷ lines) f) (same_err _ _ is) (here servers long d n line lines cause taken)
 
-run-fault : (servers : List Server) (long : Option ℕ) (d : Resolved) (n : ℕ) (lines : List (List ℕ)) (fault : ConfigFault) → run servers long d n lines ≡ Err fault
+run-fault : (servers : List Server) (long : Option ℕ) (d : Resolved) (n : ℕ) (lines : List (List ℕ)) (fault : ConfigFault)
+    → run servers long d n lines ≡ Err fault
     → Fault servers long d n lines fault
 run-fault servers long d n [] fault is = absurd (let no = is in cc)
 run-fault servers long d n (line ∷ lines) fault is =
@@ -154,11 +155,13 @@ run-names servers long lines fault first =
   where
     names : (servers : List Server) (long : Option ℕ) (d e : Resolved) (n : ℕ) (before : List (List ℕ)) (line : List ℕ) (after : List (List ℕ))
         (fault : ConfigFault)
-        → TakenIn servers long d n before e → fault.line ≡ length before + n → resolved_line servers (is_line long fault.line) e fault.line line ≡ Err fault.cause
+        → TakenIn servers long d n before e → fault.line ≡ length before + n
+        → resolved_line servers (is_line long fault.line) e fault.line line ≡ Err fault.cause
         → run servers long d n (before ++ line ∷ after) ≡ Err fault
     names servers long d e n [] line after fault taken number cause =
         let here : fault.line ≡ n = omega (arith, number) in
-        let faulty : resolved_line servers (is_line long n) d n line ≡ Err fault.cause = subst (λ (m : ℕ). resolved_line servers (is_line long m) d m line ≡ Err fault.cause) here
+        let faulty : resolved_line servers (is_line long n) d n line ≡ Err fault.cause =
+        subst (λ (m : ℕ). resolved_line servers (is_line long m) d m line ≡ Err fault.cause) here
         (subst (λ (x : Resolved). resolved_line servers (is_line long fault.line) x fault.line line ≡ Err fault.cause) taken cause) in
         rw faulty (ap (λ (m : ℕ). Err (record { line = m; cause = fault.cause })) (sym here))
     names servers long d e n (first ∷ before) line after fault taken number cause =

@@ -1,5 +1,6 @@
 -- Each line is read from the left.
-use Rattle.std.proofs.Common.{◌≡◌, ◌⊎◌, inl, inr, ◌+◌, ℕ, zero, suc, true, cond, not, List, [], ◌∷◌, length, Some, Result, Ok, Err, refl, sym, ◌∙◌, arith, codes}
+use Rattle.std.proofs.Common.{◌≡◌, ◌⊎◌, inl, inr, ◌+◌, ℕ, zero, suc, true, cond, not, List}
+use Rattle.std.proofs.Common.{[], ◌∷◌, length, Some, Result, Ok, Err, refl, sym, ◌∙◌, arith, codes}
 use Rattle.std.specs.Option.{ok_or, is_some}
 use Rattle.std.specs.Prelude.{nat_le}
 use Rattle.std.specs.Str.{bytes_eq}

@@ -255,7 +255,8 @@ record SoundDraft (known : List Server) (pins_are : List Pin) (d : Draft) : Type
 abbrev SoundResolved : List Server → Resolved → Type 0
 SoundResolved known r = SoundDraft known r.pins r.draft
 
-global_keeps : (known : List Server) (ps : List Pin) (d e : Draft) (words : List (List ℕ)) → draft.global_line d words ≡ Ok e → SoundDraft known ps d → SoundDraft known ps e
+global_keeps : (known : List Server) (ps : List Pin) (d e : Draft) (words : List (List ℕ)) → draft.global_line d words ≡ Ok e → SoundDraft known ps d
+    → SoundDraft known ps e
 unfolding draft.global_line
 global_keeps known ps d e words is sound =
     let end = bind_ok (end_at words) _ e is in
@@ -271,7 +272,8 @@ global_keeps known ps d e words is sound =
       values = sound.values;
     })
 
-defaults_keep : (known : List Server) (ps : List Pin) (d e : Draft) (words : List (List ℕ)) → draft.defaults_line d words ≡ Ok e → SoundDraft known ps d → SoundDraft known ps e
+defaults_keep : (known : List Server) (ps : List Pin) (d e : Draft) (words : List (List ℕ)) → draft.defaults_line d words ≡ Ok e → SoundDraft known ps d
+    → SoundDraft known ps e
 unfolding draft.defaults_line
 defaults_keep known ps d e words is sound =
     let name = bind_ok (draft.optional_name words) _ e is in
@@ -343,7 +345,8 @@ value_keeps known ps d e kind words sections.Listen at_ is sound =
       values = shared_sound kind d.values v.0 words v.1 sound.values;
     })
 
-bind_keeps : (known : List Server) (ps : List Pin) (d e : Draft) (words : List (List ℕ)) → draft.bind_line d words ≡ Ok e → SoundDraft known ps d → SoundDraft known ps e
+bind_keeps : (known : List Server) (ps : List Pin) (d e : Draft) (words : List (List ℕ)) → draft.bind_line d words ≡ Ok e → SoundDraft known ps d
+    → SoundDraft known ps e
 unfolding draft.bind_line
 bind_keeps known ps d e words is sound =
     let place = bind_ok (unless (not (draft.in_listen d.section)) causes.Place) _ e is in
@@ -363,7 +366,8 @@ bind_keeps known ps d e words is sound =
       values = sound.values;
     })
 
-test_keeps : (known : List Server) (ps : List Pin) (d e : Draft) (words : List (List ℕ)) → draft.test_line d words ≡ Ok e → SoundDraft known ps d → SoundDraft known ps e
+test_keeps : (known : List Server) (ps : List Pin) (d e : Draft) (words : List (List ℕ)) → draft.test_line d words ≡ Ok e → SoundDraft known ps d
+    → SoundDraft known ps e
 unfolding draft.test_line
 test_keeps known ps d e words is sound =
     let place = bind_ok (unless (not (draft.in_listen d.section)) causes.Place) _ e is in
@@ -381,7 +385,8 @@ test_keeps known ps d e words is sound =
       values = sound.values;
     })
 
-request_keeps : (known : List Server) (ps : List Pin) (d e : Draft) (words : List (List ℕ)) → draft.request_line (length ps) d words ≡ Ok e → SoundDraft known ps d → SoundDraft known ps e
+request_keeps : (known : List Server) (ps : List Pin) (d e : Draft) (words : List (List ℕ)) → draft.request_line (length ps) d words ≡ Ok e
+    → SoundDraft known ps d → SoundDraft known ps e
 unfolding draft.request_line
 request_keeps known ps d e words is sound =
     let place = bind_ok (unless (not (draft.in_listen d.section)) causes.Place) _ e is in
@@ -421,7 +426,8 @@ use_keeps known r e words is sound =
       values = sound.values;
     })
 
-server_keeps : (known : List Server) (ps : List Pin) (d e : Draft) (words : List (List ℕ)) → draft.server_line d words ≡ Ok e → SoundDraft known ps d → SoundDraft known ps e
+server_keeps : (known : List Server) (ps : List Pin) (d e : Draft) (words : List (List ℕ)) → draft.server_line d words ≡ Ok e → SoundDraft known ps d
+    → SoundDraft known ps e
 unfolding draft.server_line
 server_keeps known ps d e words is sound =
     let place = bind_ok (unless (not (draft.in_listen d.section)) causes.Place) _ e is in

@@ -92,7 +92,8 @@ pub data HasFault (servers : List Server) (r : Resolved) : List (List ℕ) → F
       → is_check setting ≡ false → setting_of setting ≡ Some which → value_in which value ≡ None
       → HasFault servers r (word ∷ name ∷ at ∷ setting ∷ value ∷ more) causes.Number
   -- `address`: one that isn't one
-  no_bind_address : (word at : List ℕ) (more : List (List ℕ)) → keyword_of word ≡ Some keywords.Bind → in_listen r.draft.section ≡ true → is_some r.draft.bind ≡ false
+  no_bind_address : (word at : List ℕ) (more : List (List ℕ)) → keyword_of word ≡ Some keywords.Bind → in_listen r.draft.section ≡ true
+      → is_some r.draft.bind ≡ false
       → bind_of at ≡ None
       → HasFault servers r (word ∷ at ∷ more) causes.Address
   no_server_address : (word name at : List ℕ) (more : List (List ℕ)) → keyword_of word ≡ Some keywords.Server → TakesServer r.draft name → address_of at ≡ None

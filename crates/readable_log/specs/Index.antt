@@ -1,5 +1,5 @@
 -- What a reader of a log keeps of the entries that it has read.
-use Rattle.std.specs.Prelude.{◌≡◌, ℕ, List, Option, is_some}
+use Rattle.std.specs.Prelude.{◌≡◌, ℕ, List, is_some}
 use Rattle.std.specs.BTreeMap.{get}
 use Rattle.std.specs.Option.{unwrap_or}
 use Rattle.std.specs.Ordering.{nat_cmp, ordering_then}

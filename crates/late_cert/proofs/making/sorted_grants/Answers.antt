@@ -1,4 +1,4 @@
-use Rattle.std.proofs.Common.{◌≡◌, ◌+◌, ℕ, ℤ, List, ◌∙◌, sym, subst, refl, is_lt, rules, get_or}
+use Rattle.std.proofs.Common.{◌≡◌, ◌+◌, ℤ, List, ◌∙◌, sym, subst, refl, is_lt, rules, get_or}
 use Rattle.std.specs.Ordering.{int_cmp, ordering_then}
 use Rattle.dispatch_log.specs.contracts.queue.QueueOrd.TheImpl as derived
 use Rattle.std.specs.List.Sorted.{IsSortedByKey, IsStableByKey, ties}

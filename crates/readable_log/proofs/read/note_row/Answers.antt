@@ -1,5 +1,4 @@
-use Rattle.std.proofs.Common.{◌≡◌, ℕ, Option, Some, cond, is_eq, refl, sym, ◌∙◌, subst}
-use Rattle.std.specs.BTreeMap.{get}
+use Rattle.std.proofs.Common.{ℕ, refl, sym, ◌∙◌, subst}
 use Rattle.std.specs.declared.cmp.Ordering.{Ordering}
 use Rattle.dispatch_log.specs.declared.queue.Queue.{Queue}
 use Rattle.readable_log.specs.Index.{wait_cmp}

@@ -1,4 +1,5 @@
-use Rattle.std.proofs.Common.{◌≡◌, ◌++◌, ◌+◌, List, [], ℕ, Option, Some, true, filter_map, is_some, string_bytes, refl, ap, sym, subst, ◌∙◌, append_assoc, append-nil, arith}
+use Rattle.std.proofs.Common.{◌≡◌, ◌++◌, ◌+◌, List, [], ℕ, Option, Some, true, filter_map}
+use Rattle.std.proofs.Common.{is_some, string_bytes, refl, ap, sym, subst, ◌∙◌, append_assoc, append-nil, arith}
 use Rattle.std.specs.Str.Lines.{lines}
 use Rattle.script.specs.declared.step.Step.{Step}
 use Rattle.script.specs.declared.line.Line.{Line}
@@ -21,7 +22,8 @@ pub lines-preserved-in-Continue-1 : goal.lines-preserved-in-Continue-1
 lines-preserved-in-Continue-1 g c = (
   c.lines.invariant.0,
   through_step (lines c.args.script.now) c.lines.lines c.next.new.self c.in-Some.line.now c.args.header c.lines.number c.requires c.lines.invariant.1
-      c.in-Some.ensures.steps (ap is_some (sym (asked c.in-Some.line.now c.step_in.result c.of-kind.result c.step_in.ensures c.of-kind.ensures.value) ∙ c.in-Some-step_in.is)),
+      c.in-Some.ensures.steps (ap is_some (sym (asked c.in-Some.line.now c.step_in.result c.of-kind.result c.step_in.ensures c.of-kind.ensures.value)
+      ∙ c.in-Some-step_in.is)),
   (λ last rest more.
       let answered = c.in_ok-take_step-in-Some-step_in.ensures.ok in
       let all = λ (text : List ℕ). IsScriptText c.args.names.now c.args.core.now (steps_of c.args.script.now) last text in
@@ -39,9 +41,11 @@ pub lines-preserved : goal.lines-preserved
 lines-preserved g c = (
   c.lines.invariant.0,
   through_other (lines c.args.script.now) c.lines.lines c.next.new.self c.in-Some.line.now c.args.header c.lines.number c.requires c.lines.invariant.1
-      c.in-Some.ensures.steps (ap is_some (sym (asked c.in-Some.line.now c.step_in.result c.of-kind.result c.step_in.ensures c.of-kind.ensures.value) ∙ c.in-None.is))
+      c.in-Some.ensures.steps (ap is_some (sym (asked c.in-Some.line.now c.step_in.result c.of-kind.result c.step_in.ensures c.of-kind.ensures.value)
+      ∙ c.in-None.is))
       (λ low settings. elim c.else-header-number.branch [
-        | else-header-number-via-then-header-number+else-faulty w ↦ ap (is_fault settings true) (sym c.of-kind.ensures.value) ∙ sym (c.is_faulty-faulty.ensures settings) ∙ w.if-faulty.false
+        | else-header-number-via-then-header-number+else-faulty w ↦ ap (is_fault settings true) (sym c.of-kind.ensures.value)
+            ∙ sym (c.is_faulty-faulty.ensures settings) ∙ w.if-faulty.false
         | else-header-number-via-else-header-number w ↦ let high = w.if-header-number.false in absurd (omega (arith, low, high))
       ]),
   (λ last rest more.
@@ -56,7 +60,8 @@ returns-then-faulty-clause-fault g c = λ line is.
     let same : c.lines.number + 1 ≡ line = cc in
     subst (λ n. fault_behind [] (lines c.args.script.now) ≡ Some n) same
     (fault_found (lines c.args.script.now) c.lines.lines c.next.new.self c.in-Some.line.now c.args.header c.lines.number c.requires c.lines.invariant.1
-    c.in-Some.ensures.steps (ap is_some (sym (asked c.in-Some.line.now c.step_in.result c.of-kind.result c.step_in.ensures c.of-kind.ensures.value) ∙ c.in-None.is)) c.if-header-number.true
+    c.in-Some.ensures.steps (ap is_some (sym (asked c.in-Some.line.now c.step_in.result c.of-kind.result c.step_in.ensures c.of-kind.ensures.value)
+    ∙ c.in-None.is)) c.if-header-number.true
     (λ settings. ap (is_fault settings true) (sym c.of-kind.ensures.value) ∙ sym (c.is_faulty-faulty.ensures settings) ∙ c.if-faulty.true))
 
 -- no line is left

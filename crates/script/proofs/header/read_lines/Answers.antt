@@ -17,5 +17,6 @@ lines-preserved c =
       c.lines.invariant.0,
       one_more (lines c.args.script.now) c.lines.lines c.next.new.self line header c.take.new.self c.lines.number c.lines.invariant.1
           c.in-Some.ensures.steps
-          other (ap (is_fault header false) (sym kind) ∙ c.in-Ok.ensures.ok.0) (c.in-Ok.ensures.ok.1 ∙ ap (with_kind header) kind ∙ kind_line header line other),
+          other (ap (is_fault header false) (sym kind) ∙ c.in-Ok.ensures.ok.0) (c.in-Ok.ensures.ok.1 ∙ ap (with_kind header) kind
+          ∙ kind_line header line other),
     )

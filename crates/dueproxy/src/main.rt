@@ -11,9 +11,13 @@ mod advice;
 mod check;
 mod command;
 mod explain;
+mod input;
+mod picture;
 
 use check::{check, check_in_full};
 use command::{Asked, ask};
+use input::InputFault;
+use picture::{DrawFault, Only, draw};
 use replay::{Fault, replay};
 use std::env;
 use std::io::{Read, Write};
@@ -33,6 +37,8 @@ fn main(rt: HostRuntime) -> ExitCode {
         Asked::Replay => replay_streams(&rt, &mut rt.stdin(), &mut rt.stdout()),
         Asked::Check(file) => check(&rt, &file),
         Asked::Explain(file) => check_in_full(&rt, &file),
+        Asked::Draw(only) => draw_streams(&rt, &mut rt.stdin(), &mut rt.stdout(), &only),
+        Asked::Tell(_) => USAGE,
         Asked::Later => {
             let _ = rt.eprintln("run isn't there yet: replay and check are");
             USAGE
@@ -50,6 +56,32 @@ fn replay_streams<R: Read, W: Write>(
 ) -> u8 {
     let ended = replay(rt.alloc(), input, output);
     end(rt, ended)
+}
+
+// Draws the script or the trace of a stream onto another, and answers the status.
+fn draw_streams<R: Read, W: Write>(
+    rt: &(impl Eprint + AllocGlobal),
+    input: &mut R,
+    output: &mut W,
+    only: &Option<Only>,
+) -> u8 {
+    match draw(rt.alloc(), input, output, only) {
+        Ok(()) => 0,
+        Err(fault) => {
+            let _ = rt.eprintln(fault);
+            match fault {
+                DrawFault::Input(fault) => status_of_input(fault),
+                DrawFault::NoQueue => USAGE,
+            }
+        }
+    }
+}
+
+fn status_of_input(fault: InputFault) -> u8 {
+    match fault {
+        InputFault::NoMemory | InputFault::Unread | InputFault::Unwritten => 1,
+        InputFault::Script { .. } | InputFault::Trace { .. } => 5,
+    }
 }
 
 // Prints what went wrong, and answers the status.

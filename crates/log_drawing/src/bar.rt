@@ -1,0 +1,60 @@
+use crate::drawing::Subject;
+use crate::palette::Palette;
+use dispatch_log::{Entry, Queue};
+use due_key::Class;
+use log_stretches::{Came, Course, Lane, Stretch};
+use std::alloc::{AllocError, Global};
+
+/// A stretch of a request that is drawn.
+#[derive(Clone, Copy, Debug, PartialEq, Eq)]
+pub(crate) struct Bar {
+    pub(crate) stretch: Stretch,
+    /// The request's arrival, where the log has it.
+    pub(crate) came: Option<Came>,
+    /// The colour of its class, as its number in the palette.
+    pub(crate) colour: usize,
+    /// Its row in its lane, from the top.
+    pub(crate) row: usize,
+}
+
+/// The stretches that are asked for, as bars whose rows aren't laid yet.
+pub(crate) fn bars_of(
+    alloc: Global,
+    subject: &Subject,
+    course: &Course,
+    palette: &Palette,
+) -> Result<Vec<Bar>, AllocError> {
+    let mut bars = Vec::new(alloc);
+    for stretch in course.stretches() {
+        let came = course.arrival(stretch.ticket);
+        let class = came.map(|came| came.arrival.class);
+        if is_asked_for(subject, stretch, class) {
+            bars.push(Bar {
+                stretch: *stretch,
+                came,
+                colour: palette.colour(class),
+                row: 0,
+            })?;
+        }
+    }
+    Ok(bars)
+}
+
+// Of one queue and class: the stays of the class in the queue, and the services that follow from them.
+fn is_asked_for(subject: &Subject, stretch: &Stretch, class: Option<Class>) -> bool {
+    let Some((queue, asked)) = subject.only else {
+        return true;
+    };
+    class == Some(asked) && queue_behind(subject.entries, stretch) == Some(queue)
+}
+
+/// The queue of a stay, and that from which a service was granted its slot.
+pub(crate) fn queue_behind(entries: &[Entry], stretch: &Stretch) -> Option<Queue> {
+    match stretch.lane {
+        Lane::Queue(queue) => Some(queue),
+        Lane::Server(_) => match entries.get(stretch.from.saturating_sub(1)) {
+            Some(Entry::Granted(_, queue, _)) => Some(*queue),
+            _ => None,
+        },
+    }
+}

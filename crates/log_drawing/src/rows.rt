@@ -1,0 +1,76 @@
+use crate::bar::Bar;
+use crate::sheet::lane_number;
+use std::alloc::{AllocError, Global};
+use std::collections::BinaryHeap;
+
+/// The rows of one lane. The heaps give their greatest item first, so they keep how far a number lies below the greatest one.
+#[derive(Drop)]
+struct LaneRows {
+    /// The rows in which something stands, each behind the position at which that ends.
+    taken: BinaryHeap<(usize, usize)>,
+    /// The rows that were taken before.
+    free: BinaryHeap<usize>,
+    used: usize,
+}
+
+/// Gives each bar the topmost row of its lane in which nothing stands, and answers how many rows each of so many lanes has.
+/// The bars come in the order in which they begin.
+pub(crate) fn lay_rows(
+    alloc: Global,
+    bars: &mut [Bar],
+    lanes: usize,
+) -> Result<Vec<usize>, AllocError> {
+    let mut all = empty_lanes(alloc, lanes)?;
+    for bar in bars.iter_mut() {
+        if let Some(rows) = all.get_mut(lane_number(bar.stretch.lane)) {
+            let end = bar.stretch.to.unwrap_or(usize::MAX);
+            bar.row = rows.take(bar.stretch.from, end)?;
+        }
+    }
+    let mut counts = Vec::with_capacity(alloc, lanes)?;
+    for rows in all.as_slice() {
+        counts.push(rows.used)?;
+    }
+    Ok(counts)
+}
+
+fn empty_lanes(alloc: Global, lanes: usize) -> Result<Vec<LaneRows>, AllocError> {
+    let mut all = Vec::with_capacity(alloc, lanes)?;
+    for _ in 0..lanes {
+        all.push(LaneRows {
+            taken: BinaryHeap::new(alloc),
+            free: BinaryHeap::new(alloc),
+            used: 0,
+        })?;
+    }
+    Ok(all)
+}
+
+impl LaneRows {
+    // The topmost row in which nothing stands at a position, for what ends at another.
+    fn take(&mut self, from: usize, end: usize) -> Result<usize, AllocError> {
+        self.release(from)?;
+        let row = match self.free.pop() {
+            Some(below) => usize::MAX - below,
+            None => self.used,
+        };
+        self.used = self.used.max(row.saturating_add(1));
+        self.taken.push((usize::MAX - end, row))?;
+        Ok(row)
+    }
+
+    // What ended up to a position leaves its row.
+    fn release(&mut self, position: usize) -> Result<(), AllocError> {
+        for _ in 0..self.taken.len() {
+            let Some((below, row)) = self.taken.peek().copied() else {
+                return Ok(());
+            };
+            if position < usize::MAX - below {
+                return Ok(());
+            }
+            let _ = self.taken.pop();
+            self.free.push(usize::MAX - row)?;
+        }
+        Ok(())
+    }
+}

@@ -1,0 +1,175 @@
+use crate::bar::Bar;
+use crate::drawing::Scene;
+use crate::escape::push_escaped;
+use dispatch_log::{Entry, Queue};
+use due_key::Due;
+use log_stretches::{Came, Lane};
+use script::Names;
+use std::alloc::AllocError;
+use trace_lines::ReportLine;
+
+/// Writes the bars, each with its story as its title.
+pub(crate) fn push_bars(text: &mut String, scene: &Scene) -> Result<(), AllocError> {
+    for bar in scene.bars {
+        push_bar(text, scene, bar)?;
+        push_late_part(text, scene, bar)?;
+    }
+    Ok(())
+}
+
+fn push_bar(text: &mut String, scene: &Scene, bar: &Bar) -> Result<(), AllocError> {
+    let (from, to) = scene.times(bar);
+    let y = scene.sheet.row(bar.stretch.lane, bar.row);
+    let lasts = to.saturating_sub(from);
+    let colour = bar.colour;
+    let kind = match bar.stretch.lane {
+        Lane::Queue(_) if scene.is_critical(bar) => "w c",
+        Lane::Queue(_) => "w",
+        Lane::Server(_) => "s",
+    };
+    let thick = scene.sheet.thick;
+    write!(
+        text,
+        "<rect class=\"k{colour} {kind}\" x=\"{from}\" y=\"{y}\" width=\"{lasts}\" height=\"{thick}\"><title>"
+    )?;
+    push_story(text, scene, bar)?;
+    text.push_str("</title></rect>\n")
+}
+
+// What of a stay is past its due date stands out.
+fn push_late_part(text: &mut String, scene: &Scene, bar: &Bar) -> Result<(), AllocError> {
+    let Lane::Queue(_) = bar.stretch.lane else {
+        return Ok(());
+    };
+    let Some(came) = bar.came else {
+        return Ok(());
+    };
+    let (from, to) = scene.times(bar);
+    let late = scene.sheet.due(came.arrival.due).unwrap_or(if came.arrival.due.get() < 0 { 0 } else { to });
+    let late = late.max(from);
+    if to <= late {
+        return Ok(());
+    }
+    let lasts = to - late;
+    let y = scene.sheet.row(bar.stretch.lane, bar.row);
+    let (colour, thick) = (bar.colour, scene.sheet.thick);
+    writeln!(
+        text,
+        "<rect class=\"k{colour} l\" x=\"{late}\" y=\"{y}\" width=\"{lasts}\" height=\"{thick}\"/>"
+    )
+}
+
+fn push_story(text: &mut String, scene: &Scene, bar: &Bar) -> Result<(), AllocError> {
+    let ticket = bar.stretch.ticket;
+    write!(text, "ticket {ticket}")?;
+    if let Some(came) = bar.came {
+        push_arrival(text, scene.subject.names, came)?;
+    }
+    push_stretch(text, scene, bar)?;
+    push_end(text, scene, bar)
+}
+
+fn push_arrival(text: &mut String, names: &Names, came: Came) -> Result<(), AllocError> {
+    let (class, due, moment) = (came.arrival.class, came.arrival.due, came.moment);
+    write!(text, ", class {class}: came at {moment} ms, due at {due} ms")?;
+    if let Some(server) = came.arrival.pin {
+        text.push_str(", bound to ")?;
+        push_escaped(text, names.of(server))?;
+    }
+    Ok(())
+}
+
+fn push_stretch(text: &mut String, scene: &Scene, bar: &Bar) -> Result<(), AllocError> {
+    match bar.stretch.lane {
+        Lane::Queue(queue) => {
+            text.push_str("\nwaited in ")?;
+            push_queue(text, scene.subject.names, queue)?;
+        }
+        Lane::Server(server) => {
+            text.push_str("\nserved by ")?;
+            push_escaped(text, scene.subject.names.of(server))?;
+        }
+    }
+    let from = scene.course.moment(bar.stretch.from);
+    write!(text, " from {from} ms")?;
+    if let Some(position) = bar.stretch.to {
+        let to = scene.course.moment(position);
+        write!(text, " to {to} ms")?;
+    }
+    Ok(())
+}
+
+fn push_end(text: &mut String, scene: &Scene, bar: &Bar) -> Result<(), AllocError> {
+    let names = scene.subject.names;
+    match scene.ending(bar) {
+        None => text.push_str(", and still at the end"),
+        Some(Entry::Granted(_, _, server)) => {
+            text.push_str(", then a slot of ")?;
+            push_escaped(text, names.of(server))?;
+            push_lateness(text, scene, bar)
+        }
+        Some(Entry::Moved(_, _)) => text.push_str(", then moved to *"),
+        Some(Entry::Left(_, cause)) => write!(text, ", then told {cause}"),
+        Some(_) => Ok(()),
+    }
+}
+
+fn push_lateness(text: &mut String, scene: &Scene, bar: &Bar) -> Result<(), AllocError> {
+    let (Some(came), Some(position)) = (bar.came, bar.stretch.to) else {
+        return Ok(());
+    };
+    let lateness = came.arrival.due.lateness(scene.course.moment(position));
+    if lateness > 0 {
+        write!(text, "\n{lateness} ms late")?;
+    } else {
+        write!(text, "\nin time, lateness {lateness} ms")?;
+    }
+    if scene.is_critical(bar) {
+        text.push_str(", in a critical set")?;
+    }
+    Ok(())
+}
+
+/// Writes the name of a queue: `*` is the backend's.
+pub(crate) fn push_queue(text: &mut String, names: &Names, queue: Queue) -> Result<(), AllocError> {
+    match queue {
+        Queue::Backend => text.push_str("*"),
+        Queue::Server(server) => push_escaped(text, names.of(server)),
+    }
+}
+
+impl<'a> Scene<'a> {
+    /// The milliseconds from the left end at which a bar begins and ends.
+    pub(crate) fn times(&self, bar: &Bar) -> (u64, u64) {
+        let from = self.sheet.since(self.course.moment(bar.stretch.from));
+        let to = match bar.stretch.to {
+            Some(position) => self.sheet.since(self.course.moment(position)),
+            None => self.sheet.span,
+        };
+        (from, to)
+    }
+
+    /// The entry that ends a bar.
+    pub(crate) fn ending(&self, bar: &Bar) -> Option<Entry> {
+        let position = bar.stretch.to?;
+        self.subject.entries.get(position.saturating_sub(1)).copied()
+    }
+
+    /// Whether a bar is a stay of a critical set.
+    pub(crate) fn is_critical(&self, bar: &Bar) -> bool {
+        self.subject.reports.iter().any(|report| stands_in(report, bar))
+    }
+}
+
+// Whether a bar is a stay of a report's critical set: of its queue and class, with a slot after the cut up to the worst one.
+fn stands_in(report: &ReportLine, bar: &Bar) -> bool {
+    let (Lane::Queue(queue), Some(slot), Some(came)) = (bar.stretch.lane, bar.stretch.to, bar.came)
+    else {
+        return false;
+    };
+    queue == report.queue
+        && came.arrival.class == report.class
+        && report.before.saturating_add(report.after) < slot
+        && slot <= report.before.saturating_add(report.to)
+        && report.critical.contains(&bar.stretch.ticket)
+}

@@ -17,6 +17,8 @@ pub(crate) fn push_axis(text: &mut String, scene: &Scene) -> Result<(), AllocErr
         }
     }
     push_grid(text, scene)?;
+    let (x, y) = (LEFT - 10, NUMBERS - 5);
+    writeln!(text, "<text class=\"r m\" x=\"{x}\" y=\"{y}\">ms</text>")?;
     for roll in scene.subject.rolls {
         let x = scene.sheet.pixel(scene.sheet.since(scene.course.moment(*roll)));
         let height = scene.sheet.height.saturating_sub(NUMBERS);

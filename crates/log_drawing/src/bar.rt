@@ -1,7 +1,7 @@
 use crate::drawing::Subject;
 use crate::palette::Palette;
 use dispatch_log::{Entry, Queue};
-use due_key::Class;
+use due_key::{Class, Moment};
 use log_stretches::{Came, Course, Lane, Stretch};
 use std::alloc::{AllocError, Global};
 
@@ -15,6 +15,25 @@ pub(crate) struct Bar {
     pub(crate) colour: usize,
     /// Its row in its lane, from the top.
     pub(crate) row: usize,
+}
+
+/// The most bars of a picture in which due dates stand behind bars that end earlier.
+pub(crate) const MOST_WITH_DUE_DATES: usize = 400;
+
+impl Bar {
+    /// The due date of a stay that ended before it, where the log goes on until then.
+    pub(crate) fn early_due(&self, course: &Course) -> Option<Moment> {
+        let Lane::Queue(_) = self.stretch.lane else {
+            return None;
+        };
+        let due = u64::try_from(self.came?.arrival.due.get()).ok()?;
+        let due = Moment::new(due)?;
+        if course.moment(self.stretch.to?) < due && due <= course.last_moment() {
+            Some(due)
+        } else {
+            None
+        }
+    }
 }
 
 /// The stretches that are asked for, as bars whose rows aren't laid yet.

@@ -48,11 +48,11 @@ text{font:12px system-ui,-apple-system,'Segoe UI',Roboto,Helvetica,Arial,sans-se
 .n{font-size:11px;pointer-events:none;fill:#111}.v{fill:#fff}\
 .g{stroke:#e3e3e3;fill:none}.b{fill:#f6f6f6}.a{fill:#eef2f5}\
 rect,path{vector-effect:non-scaling-stroke}\
-.w{fill-opacity:.28;stroke-opacity:.75}.s{stroke-opacity:1}.l{fill-opacity:.55;stroke:none;pointer-events:none}\
+.w{fill-opacity:.28;stroke-opacity:.75}.s{stroke:#222;stroke-opacity:.6}.l{fill-opacity:.55;stroke:none;pointer-events:none}\
 .c{stroke:#000;stroke-opacity:1;stroke-width:2}.d{stroke:#111;stroke-width:2;fill:none;pointer-events:none}\
 .x{stroke:#c00000;stroke-width:3;fill:none;pointer-events:none}\
-.u{stroke:#111;stroke-dasharray:4 3;fill:none}.t{fill:#111;stroke:none}.o{stroke:#999;stroke-dasharray:1 3;fill:none}\
-.f{fill:none}.p{stroke-opacity:.4;fill:none}.q{fill:none}\
+.u{stroke:#111;stroke-dasharray:4 3;fill:none}.t{fill:#111;stroke:none}.y{fill:url(#down);pointer-events:none}.e{stroke-opacity:.8;fill:none;pointer-events:none}.o{stroke:#999;stroke-dasharray:1 3;fill:none}\
+.z .w,.z .s{stroke-width:.4}.z .c{stroke-width:1}.z .d{stroke-width:1;stroke-opacity:.5}.p{stroke-opacity:.4;fill:none}.q{fill:none}\
 ";
 
 /// Writes the picture at the end. After an `Err` a part of it may stand there. `O(n log n)` in the entries, times the
@@ -61,7 +61,7 @@ pub fn push_drawing(alloc: Global, text: &mut String, subject: &Subject) -> Resu
     let course = Course::new(alloc, subject.entries)?;
     let palette = Palette::new(alloc, &course)?;
     let mut bars = bars_of(alloc, subject, &course, &palette)?;
-    let rows = lay_rows(alloc, &mut bars, lanes_of(subject.names.len()))?;
+    let rows = lay_rows(alloc, &course, &mut bars, lanes_of(subject.names.len()))?;
     let lines = lines_below(alloc, subject)?;
     let sheet = Sheet::new(alloc, &course, rows.as_slice(), lines.as_slice())?;
     let scene = Scene {
@@ -73,8 +73,8 @@ pub fn push_drawing(alloc: Global, text: &mut String, subject: &Subject) -> Resu
     push_head(text, &sheet)?;
     push_key(text, &scene, &palette)?;
     push_axis(text, &scene)?;
-    push_hatches(text, &scene)?;
     push_plot(alloc, text, &scene)?;
+    push_hatches(text, &scene)?;
     push_captions(text, &scene)?;
     text.push_str("</svg>\n")
 }
@@ -86,9 +86,9 @@ fn push_head(text: &mut String, sheet: &Sheet) -> Result<(), AllocError> {
         text,
         "<svg xmlns=\"http://www.w3.org/2000/svg\" width=\"{WIDTH}\" height=\"{height}\" viewBox=\"0 0 {WIDTH} {height}\">\n<style>"
     )?;
-    text.push_str(STYLE)?;
     text.push_str(COLOUR_STYLE)?;
-    text.push_str("</style>\n<defs><pattern id=\"down\" width=\"8\" height=\"8\" patternUnits=\"userSpaceOnUse\" patternTransform=\"rotate(45)\"><path d=\"M0 0v8\" stroke=\"#888\" stroke-width=\"3\"/></pattern></defs>\n")?;
+    text.push_str(STYLE)?;
+    text.push_str("</style>\n<defs><pattern id=\"down\" width=\"8\" height=\"8\" patternUnits=\"userSpaceOnUse\" patternTransform=\"rotate(45)\"><path d=\"M0 0v8\" stroke=\"#555\" stroke-opacity=\".55\" stroke-width=\"3\"/></pattern></defs>\n")?;
     text.push_str("<rect width=\"100%\" height=\"100%\" fill=\"#fff\"/>\n")
 }
 
@@ -104,8 +104,9 @@ fn push_plot(alloc: Global, text: &mut String, scene: &Scene) -> Result<(), Allo
         push_plain_bars(alloc, text, scene)?;
         return text.push_str("</svg>\n");
     }
+    text.push_str(if sheet.is_dense() { "<g class=\"z\">\n" } else { "<g>\n" })?;
     push_bars(text, scene)?;
     push_marks(text, scene)?;
-    text.push_str("</svg>\n")?;
+    text.push_str("</g>\n</svg>\n")?;
     push_labels(text, scene)
 }

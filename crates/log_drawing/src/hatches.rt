@@ -32,18 +32,15 @@ fn push_hatch(
     up: Option<usize>,
 ) -> Result<(), AllocError> {
     let sheet = scene.sheet;
-    let from = scene.course.moment(down.saturating_add(1));
-    let to = up.map(|number| scene.course.moment(number.saturating_add(1)));
-    let left = sheet.pixel(sheet.since(from));
-    let right = sheet.pixel(to.map_or(sheet.span, |moment| sheet.since(moment)));
+    let from = sheet.since(scene.course.moment(down.saturating_add(1)));
+    let to = up.map_or(sheet.span, |number| {
+        sheet.since(scene.course.moment(number.saturating_add(1)))
+    });
+    let (left, right) = (sheet.pixel(from), sheet.pixel(to));
     let width = right.saturating_sub(left).max(1);
     let (top, height) = (band.top, band.height);
-    write!(
+    writeln!(
         text,
-        "<rect x=\"{left}\" y=\"{top}\" width=\"{width}\" height=\"{height}\" fill=\"url(#down)\"><title>down from {from} ms"
-    )?;
-    if let Some(to) = to {
-        write!(text, " to {to} ms")?;
-    }
-    text.push_str("</title></rect>\n")
+        "<rect class=\"y\" x=\"{left}\" y=\"{top}\" width=\"{width}\" height=\"{height}\"/>"
+    )
 }

@@ -55,7 +55,7 @@ const SIGNS: &str = "\
 <rect class=\"k7 w c\" x=\"684\" y=\"65\" width=\"14\" height=\"12\"/><text x=\"704\" y=\"76\">critical set</text>
 <path class=\"t\" d=\"M788 67h10l-5 8z\"/><text x=\"804\" y=\"76\">worst slot</text>
 <path class=\"u\" d=\"M884 64v14\"/><text x=\"892\" y=\"76\">cut</text>
-<rect x=\"930\" y=\"65\" width=\"14\" height=\"12\" fill=\"url(#down)\"/><text x=\"950\" y=\"76\">server is down</text>
+<rect class=\"y\" x=\"930\" y=\"65\" width=\"14\" height=\"12\"/><text x=\"950\" y=\"76\">server is down</text>
 ";
 
 fn push_signs(text: &mut String) -> Result<(), AllocError> {

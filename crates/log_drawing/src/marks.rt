@@ -1,5 +1,6 @@
-use crate::bar::Bar;
+use crate::bar::{Bar, MOST_WITH_DUE_DATES};
 use crate::drawing::Scene;
+use crate::palette::is_dark;
 use dispatch_log::Entry;
 use log_stretches::Lane;
 use std::alloc::AllocError;
@@ -10,26 +11,50 @@ const ROOM: u64 = 6;
 
 /// Writes the due dates of stays as ticks on their rows, and a mark at the end of each that was told why it isn't served.
 pub(crate) fn push_marks(text: &mut String, scene: &Scene) -> Result<(), AllocError> {
+    let few = scene.bars.len() <= MOST_WITH_DUE_DATES;
     for bar in scene.bars {
-        let y = scene.sheet.row(bar.stretch.lane, bar.row);
-        let thick = scene.sheet.thick;
-        if let Some(due) = due_on(scene, bar) {
-            writeln!(text, "<path class=\"d\" d=\"M{due} {y}v{thick}\"/>")?;
+        push_due(text, scene, bar)?;
+        if few {
+            push_early_due(text, scene, bar)?;
         }
         if let Some(Entry::Left(_, _)) = scene.ending(bar) {
             let (_, to) = scene.times(bar);
-            writeln!(text, "<path class=\"x\" d=\"M{to} {y}v{thick}\"/>")?;
+            push_tick(text, scene, bar, "x", to)?;
         }
     }
     Ok(())
 }
 
-// Where the due date of a stay is on the picture.
-fn due_on(scene: &Scene, bar: &Bar) -> Option<u64> {
-    match bar.stretch.lane {
-        Lane::Queue(_) => scene.sheet.due(bar.came?.arrival.due),
-        Lane::Server(_) => None,
+fn push_tick(text: &mut String, scene: &Scene, bar: &Bar, kind: &str, at: u64) -> Result<(), AllocError> {
+    let y = scene.sheet.row(bar.stretch.lane, bar.row);
+    let thick = scene.sheet.thick;
+    writeln!(text, "<path class=\"{kind}\" d=\"M{at} {y}v{thick}\"/>")
+}
+
+// The due date of a stay that lasts so long.
+fn push_due(text: &mut String, scene: &Scene, bar: &Bar) -> Result<(), AllocError> {
+    let (Lane::Queue(_), Some(came)) = (bar.stretch.lane, bar.came) else {
+        return Ok(());
+    };
+    let (from, to) = scene.times(bar);
+    match scene.sheet.due(came.arrival.due) {
+        Some(due) if from <= due && due <= to => push_tick(text, scene, bar, "d", due),
+        _ => Ok(()),
     }
+}
+
+// A due date behind the end of its stay, and a line up to it.
+fn push_early_due(text: &mut String, scene: &Scene, bar: &Bar) -> Result<(), AllocError> {
+    let Some(due) = bar.early_due(scene.course) else {
+        return Ok(());
+    };
+    let due = scene.sheet.since(due);
+    let (_, to) = scene.times(bar);
+    let lasts = due.saturating_sub(to);
+    let middle = scene.sheet.row(bar.stretch.lane, bar.row).saturating_add(scene.sheet.thick / 2);
+    let colour = bar.colour;
+    writeln!(text, "<path class=\"k{colour} e\" d=\"M{to} {middle}h{lasts}\"/>")?;
+    push_tick(text, scene, bar, "d", due)
 }
 
 /// Writes the tickets into the bars that have room for them.
@@ -52,8 +77,8 @@ fn push_label(text: &mut String, scene: &Scene, bar: &Bar) -> Result<(), AllocEr
         return Ok(());
     }
     let class = match bar.stretch.lane {
-        Lane::Queue(_) => "n",
-        Lane::Server(_) => "n v",
+        Lane::Server(_) if is_dark(bar.colour) => "n v",
+        _ => "n",
     };
     let x = left.saturating_add(4);
     let y = scene.sheet.row(bar.stretch.lane, bar.row).saturating_add(scene.sheet.thick.saturating_sub(4));

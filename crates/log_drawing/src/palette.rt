@@ -12,6 +12,11 @@ pub(crate) const COLOUR_STYLE: &str = "\
 .k6{fill:#b8a800;stroke:#b8a800}.k7{fill:#777;stroke:#777}
 ";
 
+/// Whether what is written on a colour has to be white.
+pub(crate) fn is_dark(colour: usize) -> bool {
+    matches!(colour, 0 | 2 | 5 | 7)
+}
+
 /// The classes of a log, the lowest first. Each has the colour of its number, and the colours come round again.
 #[derive(Drop)]
 pub(crate) struct Palette {

@@ -1,5 +1,6 @@
-use crate::bar::Bar;
+use crate::bar::{Bar, MOST_WITH_DUE_DATES};
 use crate::sheet::lane_number;
+use log_stretches::Course;
 use std::alloc::{AllocError, Global};
 use std::collections::BinaryHeap;
 
@@ -14,16 +15,18 @@ struct LaneRows {
 }
 
 /// Gives each bar the topmost row of its lane in which nothing stands, and answers how many rows each of so many lanes has.
-/// The bars come in the order in which they begin.
+/// The bars come in the order in which they begin. Of few bars each keeps its row up to its due date, which is drawn there.
 pub(crate) fn lay_rows(
     alloc: Global,
+    course: &Course,
     bars: &mut [Bar],
     lanes: usize,
 ) -> Result<Vec<usize>, AllocError> {
     let mut all = empty_lanes(alloc, lanes)?;
+    let few = bars.len() <= MOST_WITH_DUE_DATES;
     for bar in bars.iter_mut() {
+        let end = end_of(course, bar, few);
         if let Some(rows) = all.get_mut(lane_number(bar.stretch.lane)) {
-            let end = bar.stretch.to.unwrap_or(usize::MAX);
             bar.row = rows.take(bar.stretch.from, end)?;
         }
     }
@@ -32,6 +35,15 @@ pub(crate) fn lay_rows(
         counts.push(rows.used)?;
     }
     Ok(counts)
+}
+
+// The position up to which a bar takes its row.
+fn end_of(course: &Course, bar: &Bar, few: bool) -> usize {
+    let end = bar.stretch.to.unwrap_or(usize::MAX);
+    match bar.early_due(course) {
+        Some(due) if few => end.max(course.position_after(due)),
+        _ => end,
+    }
 }
 
 fn empty_lanes(alloc: Global, lanes: usize) -> Result<Vec<LaneRows>, AllocError> {

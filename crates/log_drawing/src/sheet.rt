@@ -20,6 +20,9 @@ const GAP: usize = 14;
 /// The height from which on bars have numbers in them.
 const LEAST_FOR_LABELS: usize = 13;
 
+/// The height from which on bars have lines around them.
+const LEAST_FOR_LINES: usize = 5;
+
 /// The height of a line of text.
 pub(crate) const LINE: usize = 17;
 
@@ -123,15 +126,32 @@ impl Sheet {
 
     /// The milliseconds from the left end up to a due date, where that is on the picture.
     pub(crate) fn due(&self, due: Due) -> Option<u64> {
-        let after = due.get().checked_sub_unsigned(self.first)?;
-        let after = u64::try_from(after).ok()?;
+        let after = u64::try_from(self.after(due)).ok()?;
         if after <= self.span { Some(after) } else { None }
+    }
+
+    /// The same, and one of the ends for what is further away.
+    pub(crate) fn due_within(&self, due: Due) -> u64 {
+        match u64::try_from(self.after(due)) {
+            Ok(after) => after.min(self.span),
+            Err(_) => 0,
+        }
+    }
+
+    // The milliseconds from the left end, below 0 for what was before.
+    fn after(&self, due: Due) -> i64 {
+        due.get().saturating_sub_unsigned(self.first)
     }
 
     /// The distance in pixels from the left of what is so many milliseconds from the left end.
     pub(crate) fn pixel(&self, after: u64) -> u64 {
         let across = u128::from(after.min(self.span)) * u128::from(PLOT) / u128::from(self.span.max(1));
         LEFT.saturating_add(u64::try_from(across).unwrap_or(PLOT))
+    }
+
+    /// Whether bars are so thin that lines around them would hide them.
+    pub(crate) fn is_dense(&self) -> bool {
+        self.thick < LEAST_FOR_LINES
     }
 
     /// Whether there is room for numbers in the bars.

@@ -30,10 +30,10 @@ fn push_bar(text: &mut String, scene: &Scene, bar: &Bar) -> Result<(), AllocErro
     let thick = scene.sheet.thick;
     write!(
         text,
-        "<rect class=\"k{colour} {kind}\" x=\"{from}\" y=\"{y}\" width=\"{lasts}\" height=\"{thick}\"><title>"
+        "<path class=\"k{colour} {kind}\" d=\"M{from} {y}h{lasts}v{thick}h-{lasts}z\"><title>"
     )?;
     push_story(text, scene, bar)?;
-    text.push_str("</title></rect>\n")
+    text.push_str("</title></path>\n")
 }
 
 // What of a stay is past its due date stands out.
@@ -45,8 +45,7 @@ fn push_late_part(text: &mut String, scene: &Scene, bar: &Bar) -> Result<(), All
         return Ok(());
     };
     let (from, to) = scene.times(bar);
-    let late = scene.sheet.due(came.arrival.due).unwrap_or(if came.arrival.due.get() < 0 { 0 } else { to });
-    let late = late.max(from);
+    let late = scene.sheet.due_within(came.arrival.due).max(from);
     if to <= late {
         return Ok(());
     }
@@ -55,7 +54,7 @@ fn push_late_part(text: &mut String, scene: &Scene, bar: &Bar) -> Result<(), All
     let (colour, thick) = (bar.colour, scene.sheet.thick);
     writeln!(
         text,
-        "<rect class=\"k{colour} l\" x=\"{late}\" y=\"{y}\" width=\"{lasts}\" height=\"{thick}\"/>"
+        "<path class=\"k{colour} l\" d=\"M{late} {y}h{lasts}v{thick}h-{lasts}z\"/>"
     )
 }
 

@@ -25,17 +25,16 @@ placed_after count (entry ∷ entries) ticket =
     option_map_or (λ placing. if placing.ticket == ticket then Some (count + 1) else placed_after (count + 1) entries ticket) (placing_in entry)
     (placed_after (count + 1) entries ticket)
 
--- the stretch that begins with an entry that places a ticket in a lane, where so many and it stand before others: up to
--- the next entry that places the ticket
-abbrev pub stretch_from : ℕ → Placing → List Entry → List Stretch
-stretch_from at placing later =
-    option_map_or (λ lane. record { ticket = placing.ticket; lane = lane; from = at; to = placed_after at later placing.ticket } ∷ []) placing.lane []
+-- the stretch that begins at a position with a placing in a lane, and ends at another
+abbrev pub stretch_to : ℕ → Placing → Option ℕ → List Stretch
+stretch_to at placing to = option_map_or (λ lane. record { ticket = placing.ticket; lane = lane; from = at; to = to } ∷ []) placing.lane []
 
--- the stretches of entries that follow so many
+-- the stretches of entries that follow so many: where an entry places a ticket in a lane, up to the next one that places it
 abbrev pub stretches_after : ℕ → List Entry → List Stretch
 stretches_after count [] = []
 stretches_after count (entry ∷ entries) =
-    option_map_or (λ placing. stretch_from (count + 1) placing entries) (placing_in entry) [] ++ stretches_after (count + 1) entries
+    option_map_or (λ placing. stretch_to (count + 1) placing (placed_after (count + 1) entries placing.ticket)) (placing_in entry) []
+    ++ stretches_after (count + 1) entries
 
 -- the stretches of a log: a stay or a service for each entry that begins one, in order
 abbrev pub stretches_of : List Entry → List Stretch

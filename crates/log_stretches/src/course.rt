@@ -37,6 +37,12 @@ impl Course {
         }
     }
 
+    /// The position of the first entry after a moment; one more than there are entries where none is.
+    pub fn position_after(&self, moment: Moment) -> usize {
+        let before = self.moments.as_slice().partition_point(|at| *at <= moment);
+        before.saturating_add(1)
+    }
+
     /// The moment of the first event; 0 where there is none.
     pub fn first_moment(&self) -> Moment {
         self.moments.first().copied().unwrap_or(Moment::zero())
@@ -93,11 +99,18 @@ fn moments_of(alloc: Global, entries: &[Entry]) -> Result<Vec<Moment>, AllocErro
 fn arrivals_of(alloc: Global, entries: &[Entry]) -> Result<BTreeMap<u64, Came>, AllocError> {
     let mut arrivals = BTreeMap::new(alloc);
     for entry in entries {
-        if let Entry::Arrive(moment, arrival) = *entry {
-            arrivals.insert(arrival.ticket, Came { moment, arrival })?;
-        }
+        note_arrival(&mut arrivals, *entry)?;
     }
     Ok(arrivals)
+}
+
+fn note_arrival(arrivals: &mut BTreeMap<u64, Came>, entry: Entry) -> Result<(), AllocError> {
+    if let Entry::Arrive(moment, arrival) = entry {
+        let ticket = arrival.ticket;
+        let came = Came { moment, arrival };
+        arrivals.insert(ticket, came)?;
+    }
+    Ok(())
 }
 
 fn moment_in(entry: &Entry) -> Option<Moment> {

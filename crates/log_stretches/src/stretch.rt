@@ -1,5 +1,9 @@
-ghost use Rattle.std.specs.Prelude.{◌≡◌, IfOk};
-ghost use Rattle.log_stretches.specs.Stretches.{placing_in, stretches_of};
+ghost use Rattle.std.specs.Prelude.{◌≡◌, ◌+◌, ◌==◌, ◌++◌, ◌∷◌, ℕ, List, Some, IfOk, OnOk, if◌then◌else◌};
+ghost use Rattle.std.specs.BTreeMap.{get};
+ghost use Rattle.std.specs.Ordering.{nat_cmp};
+ghost use Rattle.dispatch_log.specs.declared.entry.Entry.{Entry};
+ghost use Rattle.log_stretches.specs.Stretches.{placing_in, stretch_to, stretches_of};
+ghost use Rattle.log_stretches.specs.ReadBack.{AreReadBack};
 
 use dispatch_log::{Entry, Queue};
 use std::alloc::{AllocError, Global};
@@ -40,32 +44,69 @@ pub fn stretches_of(alloc: Global, entries: &[Entry]) -> Result<Vec<Stretch>, Al
 {
     let mut next = BTreeMap::new(alloc);
     let mut stretches = Vec::new(alloc);
-    for i in (0..entries.len()).rev() {
-        if let Some(placing) = placing_in(&entries[i]) {
-            note(&mut next, &mut stretches, placing, i + 1)?;
-        }
+    let mut rest = entries;
+    'entries: while let Some((entry, front)) = rest.split_last() {
+        take(&mut next, &mut stretches, entry, rest.len())?;
+        rest = front;
     }
     stretches.reverse();
     Ok(stretches)
 }
 
-// Adds the stretch that begins at a position, where it is known of each ticket which later entry places it first.
-fn note(
+// Takes the entry at a position in, where the entries behind it were. For each ticket it is kept which of those places it
+// first, and the stretches so far stand with the last one first.
+fn take(
     next: &mut BTreeMap<u64, usize>,
+    stretches: &mut Vec<Stretch>,
+    entry: &Entry,
+    at: usize,
+) -> Result<(), AllocError>
+    ensures { OnOk result ((count : ℕ) (later : List Entry) → at ≡ count + 1 → AreReadBack at later (get nat_cmp next.old) stretches.old.items
+        → AreReadBack count (entry.now ∷ later) (get nat_cmp next.new) stretches.new.items) }
+{
+    match placing_in(entry) {
+        None => Ok(()),
+        Some(placing) => {
+            let to = place(next, placing.ticket, at)?;
+            begin(stretches, placing, at, to)
+        }
+    }
+}
+
+// Keeps that a ticket is placed at a position, and answers where it is placed after that.
+fn place(
+    next: &mut BTreeMap<u64, usize>,
+    ticket: u64,
+    at: usize,
+) -> Result<Option<usize>, AllocError>
+    ensures later { IfOk result (λ to. to ≡ get nat_cmp next.old ticket) }
+    ensures next { OnOk result ((other : ℕ) → get nat_cmp next.new other ≡ (if ticket == other then Some at else get nat_cmp next.old other)) }
+{
+    let later = next.insert(ticket, at)?;
+    Ok(later)
+}
+
+// Adds the stretch that begins at a position and ends at another, where one begins.
+fn begin(
     stretches: &mut Vec<Stretch>,
     placing: Placing,
     at: usize,
-) -> Result<(), AllocError> {
-    let to = next.insert(placing.ticket, at)?;
-    if let Some(lane) = placing.lane {
-        stretches.push(Stretch {
-            ticket: placing.ticket,
-            lane,
-            from: at,
-            to,
-        })?;
+    to: Option<usize>,
+) -> Result<(), AllocError>
+    ensures { OnOk result (stretches.new.items ≡ stretches.old.items ++ stretch_to at placing to) }
+{
+    match placing.lane {
+        None => Ok(()),
+        Some(lane) => {
+            stretches.push(Stretch {
+                ticket: placing.ticket,
+                lane,
+                from: at,
+                to,
+            })?;
+            Ok(())
+        }
     }
-    Ok(())
 }
 
 fn placing_in(entry: &Entry) -> Option<Placing>
@@ -82,7 +123,9 @@ fn placing_in(entry: &Entry) -> Option<Placing>
     }
 }
 
-fn placed(ticket: u64, lane: Lane) -> Option<Placing> {
+fn placed(ticket: u64, lane: Lane) -> Option<Placing>
+    ensures { result ≡ Some (record { ticket = ticket; lane = Some lane }) }
+{
     Some(Placing {
         ticket,
         lane: Some(lane),

@@ -24,10 +24,20 @@ fn tells(line: &[u8]) -> Option<bool> {
     if words.next()? != b"arrive".as_slice() {
         return None;
     }
-    match words.count() {
-        2 => Some(false),
-        4 => Some(true),
-        _ => None,
+    of_arrival(words)
+}
+
+// `C O` is of a script and `T C D NAME` of a trace; both have `C O NAME`, which also reads as `T C D`.
+fn of_arrival(mut words: Words) -> Option<bool> {
+    let _first = words.next()?;
+    let _second = words.next()?;
+    if words.next().is_none() {
+        return Some(false);
+    }
+    if words.next().is_some() {
+        Some(true)
+    } else {
+        None
     }
 }
 

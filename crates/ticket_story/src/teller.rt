@@ -1,0 +1,63 @@
+use crate::chapter::push_chapter;
+use crate::critical::push_critical;
+use crate::lines::Story;
+use dispatch_log::{Entry, Queue};
+use log_stretches::{Came, Course};
+use script::Names;
+use std::alloc::{AllocError, Global};
+use trace_lines::ReportLine;
+
+/// What a story is told of.
+#[derive(Clone, Copy)]
+pub struct Telling<'a> {
+    /// The names of the servers.
+    pub names: &'a Names,
+    /// The entries of a log, those of all its windows one after the other.
+    pub entries: &'a [Entry],
+    pub reports: &'a [ReportLine],
+}
+
+/// Writes the story of a ticket at the end, in at most [`crate::MOST_LINES`] lines; false where the log has no such arrival, and then
+/// nothing is written. After an `Err` a part may stand there. `O(n log n)` in the entries.
+pub fn push_story(
+    alloc: Global,
+    text: &mut String,
+    telling: &Telling,
+    ticket: u64,
+) -> Result<bool, AllocError> {
+    let course = Course::new(alloc, telling.entries)?;
+    let Some(came) = course.arrival(ticket) else {
+        return Ok(false);
+    };
+    let mut story = Story::new(alloc);
+    add_arrival(&mut story, telling, came)?;
+    for stretch in course.stretches() {
+        if stretch.ticket == ticket {
+            push_chapter(&mut story, telling, &course, came, stretch)?;
+        }
+    }
+    push_critical(&mut story, telling, &course, came)?;
+    story.push_to(text)?;
+    Ok(true)
+}
+
+fn add_arrival(story: &mut Story, telling: &Telling, came: Came) -> Result<(), AllocError> {
+    let mut line = story.line();
+    let (moment, arrival) = (came.moment, came.arrival);
+    let (ticket, class, due) = (arrival.ticket, arrival.class, arrival.due);
+    write!(line, "Ticket {ticket} of class {class} comes at {moment} ms and is due at {due} ms")?;
+    if let Some(server) = arrival.pin {
+        write!(line, ", bound to {}", telling.names.of(server))?;
+    }
+    story.add(line)
+}
+
+impl<'a> Telling<'a> {
+    /// The name of a queue: `*` is the backend's.
+    pub(crate) fn queue(&self, queue: Queue) -> &str {
+        match queue {
+            Queue::Backend => "*",
+            Queue::Server(server) => self.names.of(server),
+        }
+    }
+}

@@ -17,7 +17,8 @@ pub(crate) fn push_axis(text: &mut String, scene: &Scene) -> Result<(), AllocErr
         }
     }
     push_grid(text, scene)?;
-    let (x, y) = (LEFT - 10, NUMBERS - 5);
+    let x = LEFT - 10;
+    let y = NUMBERS - 5;
     writeln!(text, "<text class=\"r m\" x=\"{x}\" y=\"{y}\">ms</text>")?;
     for roll in scene.subject.rolls {
         let x = scene.sheet.pixel(scene.sheet.since(scene.course.moment(*roll)));
@@ -28,7 +29,8 @@ pub(crate) fn push_axis(text: &mut String, scene: &Scene) -> Result<(), AllocErr
 }
 
 fn push_band(text: &mut String, scene: &Scene, band: &Band) -> Result<(), AllocError> {
-    let (top, height) = (band.top, band.height);
+    let top = band.top;
+    let height = band.height;
     let kind = match band.lane {
         Lane::Queue(_) => "b",
         Lane::Server(_) => "a",
@@ -57,7 +59,7 @@ fn push_band(text: &mut String, scene: &Scene, band: &Band) -> Result<(), AllocE
 fn push_grid(text: &mut String, scene: &Scene) -> Result<(), AllocError> {
     let sheet = scene.sheet;
     let step = step_for(sheet.span);
-    let over = sheet.first % step;
+    let over = sheet.first % step.max(1);
     let mut after = if over == 0 { 0 } else { step - over };
     let height = sheet.height.saturating_sub(NUMBERS);
     for _ in 0..=MOST_LINES {
@@ -78,7 +80,7 @@ fn push_grid(text: &mut String, scene: &Scene) -> Result<(), AllocError> {
 fn step_for(span: u64) -> u64 {
     let mut step: u64 = 1;
     for turn in 0..60 {
-        if span / step <= MOST_LINES {
+        if span / step.max(1) <= MOST_LINES {
             return step;
         }
         step = if turn % 3 == 1 {

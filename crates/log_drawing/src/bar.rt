@@ -1,16 +1,17 @@
 use crate::drawing::Subject;
 use crate::palette::Palette;
 use dispatch_log::{Entry, Queue};
-use due_key::{Class, Moment};
-use log_stretches::{Came, Course, Lane, Stretch};
+use due_key::{Class, Due, Moment};
+use log_stretches::{Course, Lane, Stretch};
 use std::alloc::{AllocError, Global};
 
 /// A stretch of a request that is drawn.
 #[derive(Clone, Copy, Debug, PartialEq, Eq)]
 pub(crate) struct Bar {
     pub(crate) stretch: Stretch,
-    /// The request's arrival, where the log has it.
-    pub(crate) came: Option<Came>,
+    /// The class and the due date of the request, where the log has its arrival.
+    pub(crate) class: Option<Class>,
+    pub(crate) due: Option<Due>,
     /// The colour of its class, as its number in the palette.
     pub(crate) colour: usize,
     /// Its row in its lane, from the top.
@@ -26,9 +27,9 @@ impl Bar {
         let Lane::Queue(_) = self.stretch.lane else {
             return None;
         };
-        let due = u64::try_from(self.came?.arrival.due.get()).ok()?;
-        let due = Moment::new(due)?;
-        if course.moment(self.stretch.to?) < due && due <= course.last_moment() {
+        let due = Moment::new(u64::try_from(self.due?.get()).ok()?)?;
+        let last = course.moment(course.entries().len());
+        if course.moment(self.stretch.to?) < due && due <= last {
             Some(due)
         } else {
             None
@@ -45,26 +46,41 @@ pub(crate) fn bars_of(
 ) -> Result<Vec<Bar>, AllocError> {
     let mut bars = Vec::new(alloc);
     for stretch in course.stretches() {
-        let came = course.arrival(stretch.ticket);
-        let class = came.map(|came| came.arrival.class);
-        if is_asked_for(subject, stretch, class) {
-            bars.push(Bar {
-                stretch: *stretch,
-                came,
-                colour: palette.colour(class),
-                row: 0,
-            })?;
+        if is_asked_for(subject, course, stretch) {
+            bars.push(bar_of(course, palette, *stretch))?;
         }
     }
     Ok(bars)
 }
 
+fn bar_of(course: &Course, palette: &Palette, stretch: Stretch) -> Bar {
+    let class = class_of(course, stretch.ticket);
+    let due = due_of(course, stretch.ticket);
+    let colour = palette.colour(class);
+    Bar {
+        stretch,
+        class,
+        due,
+        colour,
+        row: 0,
+    }
+}
+
+fn class_of(course: &Course, ticket: u64) -> Option<Class> {
+    Some(course.arrival(ticket)?.arrival.class)
+}
+
+fn due_of(course: &Course, ticket: u64) -> Option<Due> {
+    Some(course.arrival(ticket)?.arrival.due)
+}
+
 // Of one queue and class: the stays of the class in the queue, and the services that follow from them.
-fn is_asked_for(subject: &Subject, stretch: &Stretch, class: Option<Class>) -> bool {
+fn is_asked_for(subject: &Subject, course: &Course, stretch: &Stretch) -> bool {
     let Some((queue, asked)) = subject.only else {
         return true;
     };
-    class == Some(asked) && queue_behind(subject.entries, stretch) == Some(queue)
+    class_of(course, stretch.ticket) == Some(asked)
+        && queue_behind(subject.entries, stretch) == Some(queue)
 }
 
 /// The queue of a stay, and that from which a service was granted its slot.

@@ -80,7 +80,8 @@ fn push_caption(
         let window = window_of(scene.subject.rolls, report.before);
         write!(text, "window {window}, ")?;
     }
-    let (class, worst) = (report.class, report.worst);
+    let class = report.class;
+    let worst = report.worst;
     write!(text, "class {class}: worst {worst} ms: ")?;
     push_tickets(text, report.critical.as_slice())?;
     push_needed(text, report)?;
@@ -132,7 +133,8 @@ fn push_cut(
     report: &ReportLine,
 ) -> Result<(), AllocError> {
     let sheet = scene.sheet;
-    let (top, height) = (band.top, band.height);
+    let top = band.top;
+    let height = band.height;
     let above = top.saturating_sub(8);
     if report.after != 0 {
         let cut = scene.course.moment(report.before.saturating_add(report.after));

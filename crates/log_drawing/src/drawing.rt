@@ -37,7 +37,7 @@ pub struct Subject<'a> {
 #[derive(Clone, Copy)]
 pub(crate) struct Scene<'a> {
     pub(crate) subject: &'a Subject<'a>,
-    pub(crate) course: &'a Course,
+    pub(crate) course: &'a Course<'a>,
     pub(crate) sheet: &'a Sheet,
     pub(crate) bars: &'a [Bar],
 }
@@ -59,7 +59,7 @@ rect,path{vector-effect:non-scaling-stroke}\
 /// reports where titles are written.
 pub fn push_drawing(alloc: Global, text: &mut String, subject: &Subject) -> Result<(), AllocError> {
     let course = Course::new(alloc, subject.entries)?;
-    let palette = Palette::new(alloc, &course)?;
+    let palette = Palette::new(alloc, subject.entries)?;
     let mut bars = bars_of(alloc, subject, &course, &palette)?;
     let rows = lay_rows(alloc, &course, &mut bars, lanes_of(subject.names.len()))?;
     let lines = lines_below(alloc, subject)?;
@@ -95,7 +95,8 @@ fn push_head(text: &mut String, sheet: &Sheet) -> Result<(), AllocError> {
 // What stands over time. In the inner picture one across is one millisecond.
 fn push_plot(alloc: Global, text: &mut String, scene: &Scene) -> Result<(), AllocError> {
     let sheet = scene.sheet;
-    let (height, span) = (sheet.height, sheet.span);
+    let height = sheet.height;
+    let span = sheet.span;
     writeln!(
         text,
         "<svg x=\"{LEFT}\" y=\"0\" width=\"{PLOT}\" height=\"{height}\" viewBox=\"0 0 {span} {height}\" preserveAspectRatio=\"none\">"

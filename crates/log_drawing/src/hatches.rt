@@ -36,9 +36,11 @@ fn push_hatch(
     let to = up.map_or(sheet.span, |number| {
         sheet.since(scene.course.moment(number.saturating_add(1)))
     });
-    let (left, right) = (sheet.pixel(from), sheet.pixel(to));
+    let left = sheet.pixel(from);
+    let right = sheet.pixel(to);
     let width = right.saturating_sub(left).max(1);
-    let (top, height) = (band.top, band.height);
+    let top = band.top;
+    let height = band.height;
     writeln!(
         text,
         "<rect class=\"y\" x=\"{left}\" y=\"{top}\" width=\"{width}\" height=\"{height}\"/>"

@@ -3,6 +3,7 @@ use crate::escape::push_escaped;
 use crate::palette::{COLOURS, Palette};
 use crate::sheet::LEFT;
 use crate::story::push_queue;
+use dispatch_log::Entry;
 use std::alloc::AllocError;
 
 /// The most classes that the key names.
@@ -16,8 +17,9 @@ pub(crate) fn push_key(text: &mut String, scene: &Scene, palette: &Palette) -> R
 }
 
 fn push_heading(text: &mut String, scene: &Scene) -> Result<(), AllocError> {
-    let requests = scene.course.requests();
-    let (first, last) = (scene.course.first_moment(), scene.course.last_moment());
+    let requests = arrivals_in(scene.subject.entries);
+    let first = scene.course.moment(1);
+    let last = scene.course.moment(scene.subject.entries.len());
     write!(text, "<text class=\"h\" x=\"{LEFT}\" y=\"28\">")?;
     match scene.subject.only {
         None => write!(text, "{requests} requests")?,
@@ -28,6 +30,10 @@ fn push_heading(text: &mut String, scene: &Scene) -> Result<(), AllocError> {
         }
     }
     writeln!(text, ", {first} to {last} ms</text>")
+}
+
+fn arrivals_in(entries: &[Entry]) -> usize {
+    entries.iter().filter(|entry| matches!(entry, Entry::Arrive(_, _))).count()
 }
 
 fn push_classes(text: &mut String, palette: &Palette) -> Result<(), AllocError> {

@@ -33,11 +33,11 @@ fn push_tick(text: &mut String, scene: &Scene, bar: &Bar, kind: &str, at: u64) -
 
 // The due date of a stay that lasts so long.
 fn push_due(text: &mut String, scene: &Scene, bar: &Bar) -> Result<(), AllocError> {
-    let (Lane::Queue(_), Some(came)) = (bar.stretch.lane, bar.came) else {
+    let (Lane::Queue(_), Some(date)) = (bar.stretch.lane, bar.due) else {
         return Ok(());
     };
     let (from, to) = scene.times(bar);
-    match scene.sheet.due(came.arrival.due) {
+    match scene.sheet.due(date) {
         Some(due) if from <= due && due <= to => push_tick(text, scene, bar, "d", due),
         _ => Ok(()),
     }
@@ -70,7 +70,8 @@ pub(crate) fn push_labels(text: &mut String, scene: &Scene) -> Result<(), AllocE
 
 fn push_label(text: &mut String, scene: &Scene, bar: &Bar) -> Result<(), AllocError> {
     let (from, to) = scene.times(bar);
-    let (left, right) = (scene.sheet.pixel(from), scene.sheet.pixel(to));
+    let left = scene.sheet.pixel(from);
+    let right = scene.sheet.pixel(to);
     let ticket = bar.stretch.ticket;
     let needed = digits(ticket).saturating_mul(DIGIT).saturating_add(ROOM);
     if right.saturating_sub(left) < needed {

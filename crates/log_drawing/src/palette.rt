@@ -1,5 +1,5 @@
+use dispatch_log::Entry;
 use due_key::Class;
-use log_stretches::Course;
 use std::alloc::{AllocError, Global};
 
 /// How many colours there are: those of Okabe and Ito, which can be told apart with any colour vision.
@@ -24,10 +24,21 @@ pub(crate) struct Palette {
 }
 
 impl Palette {
-    pub(crate) fn new(alloc: Global, course: &Course) -> Result<Palette, AllocError> {
-        Ok(Palette {
-            classes: course.classes(alloc)?,
-        })
+    pub(crate) fn new(alloc: Global, entries: &[Entry]) -> Result<Palette, AllocError> {
+        let mut all = Vec::new(alloc);
+        for entry in entries {
+            if let Entry::Arrive(_, arrival) = *entry {
+                all.push(arrival.class)?;
+            }
+        }
+        all.sort()?;
+        let mut classes: Vec<Class> = Vec::new(alloc);
+        for class in all {
+            if classes.last().copied() != Some(class) {
+                classes.push(class)?;
+            }
+        }
+        Ok(Palette { classes })
     }
 
     pub(crate) fn classes(&self) -> &[Class] {

@@ -1,5 +1,6 @@
 use crate::bar::{Bar, MOST_WITH_DUE_DATES};
 use crate::sheet::lane_number;
+use due_key::Moment;
 use log_stretches::Course;
 use std::alloc::{AllocError, Global};
 use std::collections::BinaryHeap;
@@ -41,9 +42,15 @@ pub(crate) fn lay_rows(
 fn end_of(course: &Course, bar: &Bar, few: bool) -> usize {
     let end = bar.stretch.to.unwrap_or(usize::MAX);
     match bar.early_due(course) {
-        Some(due) if few => end.max(course.position_after(due)),
+        Some(due) if few => end.max(position_after(course, due)),
         _ => end,
     }
+}
+
+// The position of the first entry after a moment, where moments never fall.
+fn position_after(course: &Course, moment: Moment) -> usize {
+    let before = course.moments().partition_point(|at| *at <= moment);
+    before.saturating_add(1)
 }
 
 fn empty_lanes(alloc: Global, lanes: usize) -> Result<Vec<LaneRows>, AllocError> {

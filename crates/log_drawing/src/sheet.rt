@@ -81,8 +81,8 @@ impl Sheet {
         rows: &[usize],
         lines: &[usize],
     ) -> Result<Sheet, AllocError> {
-        let first = course.first_moment().get();
-        let lasting = course.last_moment().get().saturating_sub(first);
+        let first = course.moment(1).get();
+        let lasting = course.moment(course.entries().len()).get().saturating_sub(first);
         let (pitch, thick) = sizes(rows);
         let mut bands = Vec::with_capacity(alloc, rows.len())?;
         let mut top = TOP;

@@ -1,8 +1,8 @@
 use crate::bar::Bar;
 use crate::drawing::Scene;
 use crate::escape::push_escaped;
-use dispatch_log::{Entry, Queue};
-use due_key::Due;
+use dispatch_log::{Arrival, Entry, Queue};
+use due_key::Moment;
 use log_stretches::{Came, Lane};
 use script::Names;
 use std::alloc::AllocError;
@@ -41,17 +41,18 @@ fn push_late_part(text: &mut String, scene: &Scene, bar: &Bar) -> Result<(), All
     let Lane::Queue(_) = bar.stretch.lane else {
         return Ok(());
     };
-    let Some(came) = bar.came else {
+    let Some(due) = bar.due else {
         return Ok(());
     };
     let (from, to) = scene.times(bar);
-    let late = scene.sheet.due_within(came.arrival.due).max(from);
+    let late = scene.sheet.due_within(due).max(from);
     if to <= late {
         return Ok(());
     }
     let lasts = to - late;
     let y = scene.sheet.row(bar.stretch.lane, bar.row);
-    let (colour, thick) = (bar.colour, scene.sheet.thick);
+    let colour = bar.colour;
+    let thick = scene.sheet.thick;
     writeln!(
         text,
         "<path class=\"k{colour} l\" d=\"M{late} {y}h{lasts}v{thick}h-{lasts}z\"/>"
@@ -61,7 +62,7 @@ fn push_late_part(text: &mut String, scene: &Scene, bar: &Bar) -> Result<(), All
 fn push_story(text: &mut String, scene: &Scene, bar: &Bar) -> Result<(), AllocError> {
     let ticket = bar.stretch.ticket;
     write!(text, "ticket {ticket}")?;
-    if let Some(came) = bar.came {
+    if let Some(came) = scene.course.arrival(ticket) {
         push_arrival(text, scene.subject.names, came)?;
     }
     push_stretch(text, scene, bar)?;
@@ -69,13 +70,27 @@ fn push_story(text: &mut String, scene: &Scene, bar: &Bar) -> Result<(), AllocEr
 }
 
 fn push_arrival(text: &mut String, names: &Names, came: Came) -> Result<(), AllocError> {
-    let (class, due, moment) = (came.arrival.class, came.arrival.due, came.moment);
-    write!(text, ", class {class}: came at {moment} ms, due at {due} ms")?;
-    if let Some(server) = came.arrival.pin {
-        text.push_str(", bound to ")?;
-        push_escaped(text, names.of(server))?;
+    let moment = came.moment;
+    let arrival = came.arrival;
+    let pin = arrival.pin;
+    push_came(text, moment, arrival)?;
+    push_pin(text, names, pin)
+}
+
+fn push_pin(text: &mut String, names: &Names, pin: Option<usize>) -> Result<(), AllocError> {
+    match pin {
+        None => Ok(()),
+        Some(server) => {
+            text.push_str(", bound to ")?;
+            push_escaped(text, names.of(server))
+        }
     }
-    Ok(())
+}
+
+fn push_came(text: &mut String, moment: Moment, arrival: Arrival) -> Result<(), AllocError> {
+    let class = arrival.class;
+    let due = arrival.due;
+    write!(text, ", class {class}: came at {moment} ms, due at {due} ms")
 }
 
 fn push_stretch(text: &mut String, scene: &Scene, bar: &Bar) -> Result<(), AllocError> {
@@ -114,10 +129,10 @@ fn push_end(text: &mut String, scene: &Scene, bar: &Bar) -> Result<(), AllocErro
 }
 
 fn push_lateness(text: &mut String, scene: &Scene, bar: &Bar) -> Result<(), AllocError> {
-    let (Some(came), Some(position)) = (bar.came, bar.stretch.to) else {
+    let (Some(due), Some(position)) = (bar.due, bar.stretch.to) else {
         return Ok(());
     };
-    let lateness = came.arrival.due.lateness(scene.course.moment(position));
+    let lateness = due.lateness(scene.course.moment(position));
     if lateness > 0 {
         write!(text, "\n{lateness} ms late")?;
     } else {
@@ -162,12 +177,11 @@ impl<'a> Scene<'a> {
 
 // Whether a bar is a stay of a report's critical set: of its queue and class, with a slot after the cut up to the worst one.
 fn stands_in(report: &ReportLine, bar: &Bar) -> bool {
-    let (Lane::Queue(queue), Some(slot), Some(came)) = (bar.stretch.lane, bar.stretch.to, bar.came)
-    else {
+    let (Lane::Queue(queue), Some(slot)) = (bar.stretch.lane, bar.stretch.to) else {
         return false;
     };
     queue == report.queue
-        && came.arrival.class == report.class
+        && bar.class == Some(report.class)
         && report.before.saturating_add(report.after) < slot
         && slot <= report.before.saturating_add(report.to)
         && report.critical.contains(&bar.stretch.ticket)

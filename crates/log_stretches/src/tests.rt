@@ -26,6 +26,9 @@ fn a_stay_ends_where_its_service_begins(rt: HostRuntime) -> Result<(), Fail> {
     assert_eq!(rt; stretches.as_slice(), [stay, service].as_slice());
     let course = Course::new(rt.alloc(), &entries)?;
     assert_eq!(rt; course.stretches(), [stay, service].as_slice());
-    assert_eq!(rt; course.moment(2), Moment::zero());
+    let moments = [Moment::zero(), Moment::zero(), Moment::zero()];
+    assert_eq!(rt; course.moments(), moments.as_slice());
+    assert_eq!(rt; course.arrival(7), None);
+    assert_eq!(rt; course.entries(), entries.as_slice());
     Ok(())
 }

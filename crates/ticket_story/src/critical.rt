@@ -35,8 +35,10 @@ fn add_report(
 ) -> Result<(), AllocError> {
     let mut line = story.line();
     let queue = telling.queue(report.queue);
-    let (class, worst) = (report.class, report.worst);
-    let (count, to) = (report.critical.len(), course.moment(report.before.saturating_add(report.to)));
+    let class = report.class;
+    let worst = report.worst;
+    let count = report.critical.len();
+    let to = course.moment(report.before.saturating_add(report.to));
     write!(
         line,
         "It stands in the critical set of {queue} class {class}: {count} requests had {count} slots up to {to} ms, "

@@ -64,7 +64,8 @@ fn add_overtaking(
     };
     let mut line = story.line();
     let moment = course.moment(position);
-    let (from, to) = (telling.queue(*queue), telling.names.of(*server));
+    let from = telling.queue(*queue);
+    let to = telling.names.of(*server);
     write!(line, "  {moment} ms: ticket {ticket} goes first, from {from} to {to}")?;
     if let Some(other) = course.arrival(*ticket) {
         write_reason(&mut line, other.arrival, came.arrival)?;
@@ -84,7 +85,8 @@ fn write_reason(line: &mut String, first: Arrival, second: Arrival) -> Result<()
 }
 
 fn write_lesser(line: &mut String, first: Arrival, second: Arrival) -> Result<(), AllocError> {
-    let (class, due) = (first.class, first.due);
+    let class = first.class;
+    let due = first.due;
     if class < second.class {
         write!(line, ": its class is {class}")
     } else if due < second.due {

@@ -1,7 +1,8 @@
 use crate::chapter::push_chapter;
 use crate::critical::push_critical;
 use crate::lines::Story;
-use dispatch_log::{Entry, Queue};
+use dispatch_log::{Arrival, Entry, Queue};
+use due_key::Moment;
 use log_stretches::{Came, Course};
 use script::Names;
 use std::alloc::{AllocError, Global};
@@ -42,14 +43,21 @@ pub fn push_story(
 }
 
 fn add_arrival(story: &mut Story, telling: &Telling, came: Came) -> Result<(), AllocError> {
+    let pin = came.arrival.pin;
     let mut line = story.line();
-    let (moment, arrival) = (came.moment, came.arrival);
-    let (ticket, class, due) = (arrival.ticket, arrival.class, arrival.due);
-    write!(line, "Ticket {ticket} of class {class} comes at {moment} ms and is due at {due} ms")?;
-    if let Some(server) = arrival.pin {
-        write!(line, ", bound to {}", telling.names.of(server))?;
+    write_arrival(&mut line, came.moment, came.arrival)?;
+    if let Some(server) = pin {
+        let name = telling.names.of(server);
+        write!(line, ", bound to {name}")?;
     }
     story.add(line)
+}
+
+fn write_arrival(line: &mut String, moment: Moment, arrival: Arrival) -> Result<(), AllocError> {
+    let ticket = arrival.ticket;
+    let class = arrival.class;
+    let due = arrival.due;
+    write!(line, "Ticket {ticket} of class {class} comes at {moment} ms and is due at {due} ms")
 }
 
 impl<'a> Telling<'a> {

@@ -243,6 +243,25 @@ mod tests {
     use super::*;
     use std::test::Fail;
 
+    #[test]
+    fn a_picture_is_of_all_or_of_a_queue_and_class(rt: HostRuntime) -> Result<(), Fail> {
+        assert_eq!(rt; asked(&rt, &["dueproxy", "draw"])?, Asked::Draw(None));
+        let only = Only {
+            queue: String::from_str(rt.alloc(), "*")?,
+            class: Class::clamp(-1),
+        };
+        assert_eq!(rt;
+            asked(&rt, &["dueproxy", "draw", "--of", "*", "-1"])?,
+            Asked::Draw(Some(only))
+        );
+        assert_eq!(rt; asked(&rt, &["dueproxy", "draw", "--of", "*"])?, Asked::Nothing(2));
+        assert_eq!(rt;
+            asked(&rt, &["dueproxy", "draw", "--of", "*", "x"])?,
+            Asked::Nothing(2)
+        );
+        Ok(())
+    }
+
     fn asked(rt: &HostRuntime, words: &[&str]) -> Result<Asked, Fail> {
         let mut texts = Vec::new(rt.alloc());
         for word in words {
@@ -265,6 +284,8 @@ mod tests {
             Asked::Explain(file)
         );
         assert_eq!(rt; asked(&rt, &["dueproxy", "check"])?, Asked::Nothing(2));
+        assert_eq!(rt; asked(&rt, &["dueproxy", "explain", "7"])?, Asked::Tell(7));
+        assert_eq!(rt; asked(&rt, &["dueproxy", "explain", "x"])?, Asked::Nothing(2));
         assert_eq!(rt;
             asked(&rt, &["dueproxy", "run", "file", "--workers", "7"])?,
             Asked::Later

@@ -122,3 +122,6 @@ fn end(rt: &impl Eprint, ended: Result<(), Fault>) -> u8
         }
     }
 }
+
+#[cfg(test)]
+mod tests;

@@ -9,9 +9,6 @@ use std::alloc::{AllocError, Global};
 #[derive(Clone, Copy, Debug, PartialEq, Eq)]
 pub(crate) struct Bar {
     pub(crate) stretch: Stretch,
-    /// The class and the due date of the request, where the log has its arrival.
-    pub(crate) class: Option<Class>,
-    pub(crate) due: Option<Due>,
     /// The colour of its class, as its number in the palette.
     pub(crate) colour: usize,
     /// Its row in its lane, from the top.
@@ -27,7 +24,7 @@ impl Bar {
         let Lane::Queue(_) = self.stretch.lane else {
             return None;
         };
-        let due = Moment::new(u64::try_from(self.due?.get()).ok()?)?;
+        let due = Moment::new(u64::try_from(due_of(course, self.stretch.ticket)?.get()).ok()?)?;
         let last = course.moment(course.entries().len());
         if course.moment(self.stretch.to?) < due && due <= last {
             Some(due)
@@ -54,23 +51,21 @@ pub(crate) fn bars_of(
 }
 
 fn bar_of(course: &Course, palette: &Palette, stretch: Stretch) -> Bar {
-    let class = class_of(course, stretch.ticket);
-    let due = due_of(course, stretch.ticket);
-    let colour = palette.colour(class);
+    let colour = palette.colour(class_of(course, stretch.ticket));
     Bar {
         stretch,
-        class,
-        due,
         colour,
         row: 0,
     }
 }
 
-fn class_of(course: &Course, ticket: u64) -> Option<Class> {
+/// The class of a ticket, where the log has its arrival.
+pub(crate) fn class_of(course: &Course, ticket: u64) -> Option<Class> {
     Some(course.arrival(ticket)?.arrival.class)
 }
 
-fn due_of(course: &Course, ticket: u64) -> Option<Due> {
+/// The due date of a ticket, where the log has its arrival.
+pub(crate) fn due_of(course: &Course, ticket: u64) -> Option<Due> {
     Some(course.arrival(ticket)?.arrival.due)
 }
 

@@ -88,7 +88,7 @@ fn push_head(text: &mut String, sheet: &Sheet) -> Result<(), AllocError> {
     )?;
     text.push_str(COLOUR_STYLE)?;
     text.push_str(STYLE)?;
-    text.push_str("</style>\n<defs><pattern id=\"down\" width=\"8\" height=\"8\" patternUnits=\"userSpaceOnUse\" patternTransform=\"rotate(45)\"><path d=\"M0 0v8\" stroke=\"#555\" stroke-opacity=\".55\" stroke-width=\"3\"/></pattern></defs>\n")?;
+    text.push_str("</style>\n<defs><pattern id=\"down\" width=\"8\" height=\"8\" patternUnits=\"userSpaceOnUse\" patternTransform=\"rotate(45)\"><path d=\"M1 0v8\" stroke=\"#333\" stroke-opacity=\".55\" stroke-width=\"2\"/><path d=\"M5 0v8\" stroke=\"#fff\" stroke-opacity=\".6\" stroke-width=\"2\"/></pattern></defs>\n")?;
     text.push_str("<rect width=\"100%\" height=\"100%\" fill=\"#fff\"/>\n")
 }
 

@@ -1,4 +1,4 @@
-use crate::bar::{Bar, MOST_WITH_DUE_DATES};
+use crate::bar::{Bar, MOST_WITH_DUE_DATES, due_of};
 use crate::drawing::Scene;
 use crate::palette::is_dark;
 use dispatch_log::Entry;
@@ -33,7 +33,10 @@ fn push_tick(text: &mut String, scene: &Scene, bar: &Bar, kind: &str, at: u64) -
 
 // The due date of a stay that lasts so long.
 fn push_due(text: &mut String, scene: &Scene, bar: &Bar) -> Result<(), AllocError> {
-    let (Lane::Queue(_), Some(date)) = (bar.stretch.lane, bar.due) else {
+    let Lane::Queue(_) = bar.stretch.lane else {
+        return Ok(());
+    };
+    let Some(date) = due_of(scene.course, bar.stretch.ticket) else {
         return Ok(());
     };
     let (from, to) = scene.times(bar);

@@ -1,8 +1,8 @@
-use crate::bar::Bar;
+use crate::bar::{Bar, class_of, due_of};
 use crate::drawing::Scene;
 use crate::escape::push_escaped;
 use dispatch_log::{Arrival, Entry, Queue};
-use due_key::Moment;
+use due_key::{Class, Moment};
 use log_stretches::{Came, Lane};
 use script::Names;
 use std::alloc::AllocError;
@@ -41,7 +41,7 @@ fn push_late_part(text: &mut String, scene: &Scene, bar: &Bar) -> Result<(), All
     let Lane::Queue(_) = bar.stretch.lane else {
         return Ok(());
     };
-    let Some(due) = bar.due else {
+    let Some(due) = due_of(scene.course, bar.stretch.ticket) else {
         return Ok(());
     };
     let (from, to) = scene.times(bar);
@@ -129,7 +129,10 @@ fn push_end(text: &mut String, scene: &Scene, bar: &Bar) -> Result<(), AllocErro
 }
 
 fn push_lateness(text: &mut String, scene: &Scene, bar: &Bar) -> Result<(), AllocError> {
-    let (Some(due), Some(position)) = (bar.due, bar.stretch.to) else {
+    let Some(due) = due_of(scene.course, bar.stretch.ticket) else {
+        return Ok(());
+    };
+    let Some(position) = bar.stretch.to else {
         return Ok(());
     };
     let lateness = due.lateness(scene.course.moment(position));
@@ -171,17 +174,18 @@ impl<'a> Scene<'a> {
 
     /// Whether a bar is a stay of a critical set.
     pub(crate) fn is_critical(&self, bar: &Bar) -> bool {
-        self.subject.reports.iter().any(|report| stands_in(report, bar))
+        let class = class_of(self.course, bar.stretch.ticket);
+        self.subject.reports.iter().any(|report| stands_in(report, bar, class))
     }
 }
 
 // Whether a bar is a stay of a report's critical set: of its queue and class, with a slot after the cut up to the worst one.
-fn stands_in(report: &ReportLine, bar: &Bar) -> bool {
+fn stands_in(report: &ReportLine, bar: &Bar, class: Option<Class>) -> bool {
     let (Lane::Queue(queue), Some(slot)) = (bar.stretch.lane, bar.stretch.to) else {
         return false;
     };
     queue == report.queue
-        && bar.class == Some(report.class)
+        && class == Some(report.class)
         && report.before.saturating_add(report.after) < slot
         && slot <= report.before.saturating_add(report.to)
         && report.critical.contains(&bar.stretch.ticket)

@@ -135,7 +135,7 @@ fn add_service_end(
     };
     let name = telling.names.of(server);
     match stretch.to {
-        None => write!(line, "it is served by {name} at the end")?,
+        None => write!(line, "It is served by {name} at the end")?,
         Some(position) => {
             let moment = course.moment(position);
             write!(line, "{moment} ms: its slot of {name} is free again")?;

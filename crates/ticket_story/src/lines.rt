@@ -1,3 +1,6 @@
+ghost use Rattle.std.specs.Prelude.{◌≡◌, ◌++◌, OnOk, codes, map, string_bytes};
+ghost use Rattle.ticket_story.specs.Stories.{AddsStory, count_text, lines_text};
+
 use std::alloc::{AllocError, Global};
 
 /// The most lines of a story.
@@ -28,22 +31,37 @@ impl Story {
         Ok(())
     }
 
-    /// Writes the lines at the end, and for all that are too many one that says how many they are.
-    pub(crate) fn push_to(&self, text: &mut String) -> Result<(), AllocError> {
-        let whole = self.lines.len() <= MOST_LINES;
-        let written = if whole {
-            self.lines.len()
-        } else {
-            MOST_LINES - 1
-        };
-        for line in self.lines.iter().take(written) {
-            text.push_str(line.as_str())?;
-            text.push_str("\n")?;
+    /// Writes the lines at the end; of too many the first ones, and in the last line how many the others are.
+    pub(crate) fn push_to(&self, text: &mut String) -> Result<(), AllocError>
+        ensures { OnOk result (AddsStory (string_bytes text.old) (string_bytes text.new)) }
+    {
+        let lines = self.lines.as_slice();
+        if lines.len() <= MOST_LINES {
+            return push_lines(text, lines);
         }
-        if whole {
-            return Ok(());
-        }
-        let more = self.lines.len().saturating_sub(written);
-        writeln!(text, "and {more} more lines")
+        let (first, others) = lines.split_at(MOST_LINES - 1);
+        push_lines(text, first)?;
+        push_count(text, others.len())
     }
+}
+
+fn push_lines(text: &mut String, lines: &[String]) -> Result<(), AllocError>
+    ensures { OnOk result (string_bytes text.new ≡ string_bytes text.old ++ lines_text (map string_bytes lines.now)) }
+{
+    for line in lines {
+        push_line(text, line.as_str())?;
+    }
+    Ok(())
+}
+
+fn push_line(text: &mut String, line: &str) -> Result<(), AllocError>
+    ensures { OnOk result (string_bytes text.new ≡ string_bytes text.old ++ (line.now ++ codes "\n")) }
+{
+    writeln!(text, "{line}")
+}
+
+fn push_count(text: &mut String, more: usize) -> Result<(), AllocError>
+    ensures { OnOk result (string_bytes text.new ≡ string_bytes text.old ++ (count_text more ++ codes "\n")) }
+{
+    writeln!(text, "and {more} more lines")
 }

@@ -1,3 +1,7 @@
+ghost use Rattle.std.specs.Prelude.{◌≡◌, Ok, true, false, IfOk, is_some, string_bytes};
+ghost use Rattle.log_stretches.specs.Courses.{came_in};
+ghost use Rattle.ticket_story.specs.Stories.{AddsStory};
+
 use crate::chapter::push_chapter;
 use crate::critical::push_critical;
 use crate::lines::Story;
@@ -25,7 +29,11 @@ pub fn push_story(
     text: &mut String,
     telling: &Telling,
     ticket: u64,
-) -> Result<bool, AllocError> {
+) -> Result<bool, AllocError>
+    ensures told { IfOk result (λ told. told ≡ is_some (came_in telling.now.entries.now ticket)) }
+    ensures untold { result ≡ Ok false → string_bytes text.new ≡ string_bytes text.old }
+    ensures short { result ≡ Ok true → AddsStory (string_bytes text.old) (string_bytes text.new) }
+{
     let course = Course::new(alloc, telling.entries)?;
     let Some(came) = course.arrival(ticket) else {
         return Ok(false);

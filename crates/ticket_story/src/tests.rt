@@ -23,7 +23,7 @@ const STORY: &str = "Ticket 2 of class 0 comes at 1 ms and is due at 1 ms
 1 ms: it waits in *
   10 ms: ticket 3 goes first, from * to s1: due earlier, at -3 ms
 20 ms: it gets a slot of s1, 19 ms late
-it is served by s1 at the end
+It is served by s1 at the end
 It stands in the critical set of * class 0: 2 requests had 2 slots up to 20 ms, so one of them is 19 ms late at least
 ";
 

@@ -2,6 +2,7 @@ use crate::lines::Story;
 use crate::overtaking::push_overtakings;
 use crate::teller::Telling;
 use dispatch_log::{Entry, Queue};
+use due_key::Due;
 use log_stretches::{Came, Course, Lane, Stretch};
 use std::alloc::AllocError;
 
@@ -10,7 +11,7 @@ pub(crate) fn push_chapter(
     story: &mut Story,
     telling: &Telling,
     course: &Course,
-    came: Came,
+    came: &Came,
     stretch: &Stretch,
 ) -> Result<(), AllocError> {
     match stretch.lane {
@@ -47,7 +48,7 @@ fn add_stay_end(
     story: &mut Story,
     telling: &Telling,
     course: &Course,
-    came: Came,
+    came: &Came,
     stretch: &Stretch,
 ) -> Result<(), AllocError> {
     let Some(position) = stretch.to else {
@@ -58,17 +59,25 @@ fn add_stay_end(
     write!(line, "{moment} ms: ")?;
     match telling.entries.get(position.saturating_sub(1)) {
         Some(Entry::Granted(_, _, server)) => {
-            let lateness = came.arrival.due.lateness(moment);
+            let lateness = due_in(came).lateness(moment);
             write!(line, "it gets a slot of {}", telling.names.of(*server))?;
             write_lateness(&mut line, lateness)?;
         }
         Some(Entry::Moved(_, server)) => {
-            write!(line, "{} is down, so it moves to *", telling.names.of(*server))?;
+            write!(
+                line,
+                "{} is down, so it moves to *",
+                telling.names.of(*server)
+            )?;
         }
         Some(Entry::Left(_, cause)) => write!(line, "it is told that it isn't served: {cause}")?,
         _ => write!(line, "it waits there no more")?,
     }
     story.add(line)
+}
+
+fn due_in(came: &Came) -> Due {
+    came.arrival.due
 }
 
 fn write_lateness(line: &mut String, lateness: i64) -> Result<(), AllocError> {
@@ -94,7 +103,11 @@ fn add_service(
     };
     let mut line = story.line();
     let moment = course.moment(stretch.from);
-    write!(line, "{moment} ms: {} is free and serves it at once", telling.names.of(server))?;
+    write!(
+        line,
+        "{moment} ms: {} is free and serves it at once",
+        telling.names.of(server)
+    )?;
     story.add(line)
 }
 
@@ -104,7 +117,9 @@ fn push_retries(
     course: &Course,
     stretch: &Stretch,
 ) -> Result<(), AllocError> {
-    let end = stretch.to.unwrap_or(telling.entries.len().saturating_add(1));
+    let end = stretch
+        .to
+        .unwrap_or(telling.entries.len().saturating_add(1));
     for (number, entry) in telling.entries.iter().enumerate() {
         if let Entry::Retried(ticket, server, failures) = *entry {
             let position = number.saturating_add(1);

@@ -1,6 +1,6 @@
 use crate::lines::Story;
 use crate::teller::Telling;
-use log_stretches::{Came, Course};
+use log_stretches::Course;
 use std::alloc::AllocError;
 use trace_lines::ReportLine;
 
@@ -9,9 +9,8 @@ pub(crate) fn push_critical(
     story: &mut Story,
     telling: &Telling,
     course: &Course,
-    came: Came,
+    ticket: u64,
 ) -> Result<(), AllocError> {
-    let ticket = came.arrival.ticket;
     let mut found = false;
     for report in telling.reports {
         if report.critical.contains(&ticket) {

@@ -37,11 +37,13 @@ impl Story {
     {
         let lines = self.lines.as_slice();
         if lines.len() <= MOST_LINES {
-            return push_lines(text, lines);
+            push_lines(text, lines)?;
+            return Ok(());
         }
         let (first, others) = lines.split_at(MOST_LINES - 1);
         push_lines(text, first)?;
-        push_count(text, others.len())
+        push_count(text, others.len())?;
+        Ok(())
     }
 }
 
@@ -63,5 +65,6 @@ fn push_line(text: &mut String, line: &str) -> Result<(), AllocError>
 fn push_count(text: &mut String, more: usize) -> Result<(), AllocError>
     ensures { OnOk result (string_bytes text.new ≡ string_bytes text.old ++ (count_text more ++ codes "\n")) }
 {
-    writeln!(text, "and {more} more lines")
+    write!(text, "and {more} more lines")?;
+    text.push_str("\n")
 }

@@ -13,10 +13,12 @@ pub(crate) fn push_overtakings(
     story: &mut Story,
     telling: &Telling,
     course: &Course,
-    came: Came,
+    came: &Came,
     stretch: &Stretch,
 ) -> Result<(), AllocError> {
-    let end = stretch.to.unwrap_or(telling.entries.len().saturating_add(1));
+    let end = stretch
+        .to
+        .unwrap_or(telling.entries.len().saturating_add(1));
     let mut ahead = 0usize;
     for (number, entry) in telling.entries.iter().enumerate() {
         let position = number.saturating_add(1);
@@ -56,25 +58,31 @@ fn add_overtaking(
     story: &mut Story,
     telling: &Telling,
     course: &Course,
-    came: Came,
+    came: &Came,
     position: usize,
 ) -> Result<(), AllocError> {
-    let Some(Entry::Granted(ticket, queue, server)) = telling.entries.get(position.saturating_sub(1)) else {
+    let Some(Entry::Granted(ticket, queue, server)) = telling
+        .entries
+        .get(position.saturating_sub(1))
+    else {
         return Ok(());
     };
     let mut line = story.line();
     let moment = course.moment(position);
     let from = telling.queue(*queue);
     let to = telling.names.of(*server);
-    write!(line, "  {moment} ms: ticket {ticket} goes first, from {from} to {to}")?;
+    write!(
+        line,
+        "  {moment} ms: ticket {ticket} goes first, from {from} to {to}"
+    )?;
     if let Some(other) = course.arrival(*ticket) {
-        write_reason(&mut line, other.arrival, came.arrival)?;
+        write_reason(&mut line, &other.arrival, &came.arrival)?;
     }
     story.add(line)
 }
 
 // Why one request goes before another: what of their keys differs first.
-fn write_reason(line: &mut String, first: Arrival, second: Arrival) -> Result<(), AllocError> {
+fn write_reason(line: &mut String, first: &Arrival, second: &Arrival) -> Result<(), AllocError> {
     match first.key().cmp(&second.key()) {
         Ordering::Less => write_lesser(line, first, second),
         _ => {
@@ -84,7 +92,7 @@ fn write_reason(line: &mut String, first: Arrival, second: Arrival) -> Result<()
     }
 }
 
-fn write_lesser(line: &mut String, first: Arrival, second: Arrival) -> Result<(), AllocError> {
+fn write_lesser(line: &mut String, first: &Arrival, second: &Arrival) -> Result<(), AllocError> {
     let class = first.class;
     let due = first.due;
     if class < second.class {

@@ -39,21 +39,23 @@ pub fn push_story(
         return Ok(false);
     };
     let mut story = Story::new(alloc);
-    add_arrival(&mut story, telling, came)?;
+    add_arrival(&mut story, telling, &came)?;
     for stretch in course.stretches() {
         if stretch.ticket == ticket {
-            push_chapter(&mut story, telling, &course, came, stretch)?;
+            push_chapter(&mut story, telling, &course, &came, stretch)?;
         }
     }
-    push_critical(&mut story, telling, &course, came)?;
+    push_critical(&mut story, telling, &course, ticket)?;
     story.push_to(text)?;
     Ok(true)
 }
 
-fn add_arrival(story: &mut Story, telling: &Telling, came: Came) -> Result<(), AllocError> {
-    let pin = came.arrival.pin;
+fn add_arrival(story: &mut Story, telling: &Telling, came: &Came) -> Result<(), AllocError> {
+    let arrival = came.arrival;
+    let moment = came.moment;
+    let pin = arrival.pin;
     let mut line = story.line();
-    write_arrival(&mut line, came.moment, came.arrival)?;
+    write_arrival(&mut line, moment, arrival)?;
     if let Some(server) = pin {
         let name = telling.names.of(server);
         write!(line, ", bound to {name}")?;
@@ -65,7 +67,10 @@ fn write_arrival(line: &mut String, moment: Moment, arrival: Arrival) -> Result<
     let ticket = arrival.ticket;
     let class = arrival.class;
     let due = arrival.due;
-    write!(line, "Ticket {ticket} of class {class} comes at {moment} ms and is due at {due} ms")
+    write!(
+        line,
+        "Ticket {ticket} of class {class} comes at {moment} ms and is due at {due} ms"
+    )
 }
 
 impl<'a> Telling<'a> {

@@ -212,7 +212,9 @@ fn of<'a>(alloc: Global) -> Arg<'a> {
         .num_args(2)
         .allow_hyphen_values(true)
         .value_names(&["QUEUE", "CLASS"])
-        .help("Of the requests of one class alone that wait in one queue: a server's name, or * for the backend's")
+        .help(
+            "Of the requests of one class alone that wait in one queue: a server's name, or * for the backend's",
+        )
 }
 
 fn ticket<'a>(alloc: Global) -> Arg<'a> {
@@ -254,7 +256,10 @@ mod tests {
             asked(&rt, &["dueproxy", "draw", "--of", "*", "-1"])?,
             Asked::Draw(Some(only))
         );
-        assert_eq!(rt; asked(&rt, &["dueproxy", "draw", "--of", "*"])?, Asked::Nothing(2));
+        assert_eq!(rt;
+            asked(&rt, &["dueproxy", "draw", "--of", "*"])?,
+            Asked::Nothing(2)
+        );
         assert_eq!(rt;
             asked(&rt, &["dueproxy", "draw", "--of", "*", "x"])?,
             Asked::Nothing(2)
@@ -285,7 +290,10 @@ mod tests {
         );
         assert_eq!(rt; asked(&rt, &["dueproxy", "check"])?, Asked::Nothing(2));
         assert_eq!(rt; asked(&rt, &["dueproxy", "explain", "7"])?, Asked::Tell(7));
-        assert_eq!(rt; asked(&rt, &["dueproxy", "explain", "x"])?, Asked::Nothing(2));
+        assert_eq!(rt;
+            asked(&rt, &["dueproxy", "explain", "x"])?,
+            Asked::Nothing(2)
+        );
         assert_eq!(rt;
             asked(&rt, &["dueproxy", "run", "file", "--workers", "7"])?,
             Asked::Later

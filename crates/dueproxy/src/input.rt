@@ -80,7 +80,9 @@ fn names_in(alloc: Global, bytes: &[u8]) -> Result<Vec<String>, InputFault> {
 fn texts_of(alloc: Global, names: &Names) -> Option<Vec<String>> {
     let mut texts = Vec::new(alloc);
     for server in 0..names.len() {
-        texts.push(String::from_str(alloc, names.of(server)).ok()?).ok()?;
+        texts
+            .push(String::from_str(alloc, names.of(server)).ok()?)
+            .ok()?;
     }
     Some(texts)
 }
@@ -102,5 +104,7 @@ pub(crate) fn queue_of(names: &Names, name: &str) -> Option<Queue> {
     if name == "*" {
         return Some(Queue::Backend);
     }
-    (0..names.len()).find(|server| names.of(*server) == name).map(Queue::Server)
+    (0..names.len())
+        .find(|server| names.of(*server) == name)
+        .map(Queue::Server)
 }

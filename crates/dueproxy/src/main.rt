@@ -19,11 +19,11 @@ use check::{check, check_in_full};
 use command::{Asked, ask};
 use input::InputFault;
 use picture::{DrawFault, Only, draw};
-use tale::{TellFault, tell};
 use replay::{Fault, replay};
 use std::env;
 use std::io::{Read, Write};
 use std::process::ExitCode;
+use tale::{TellFault, tell};
 
 const USAGE: u8 = 2;
 

@@ -22,7 +22,10 @@ fn a_script_and_its_trace_have_one_picture(rt: HostRuntime) -> Result<(), Fail> 
     let mut trace = Vec::new(rt.alloc());
     replay::replay(rt.alloc(), &mut rest, &mut trace)?;
     let trace = std::str::from_utf8(&trace)?;
-    assert_eq!(rt; of_script.as_slice(), drawn(rt.alloc(), trace, &None)?.as_slice());
+    assert_eq!(rt;
+        of_script.as_slice(),
+        drawn(rt.alloc(), trace, &None)?.as_slice()
+    );
     Ok(())
 }
 
@@ -39,13 +42,14 @@ fn what_cannot_be_drawn_is_named(rt: HostRuntime) -> Result<(), Fail> {
         cause: Cause::Moment,
     };
     assert_eq!(rt; trace.err(), Some(DrawFault::Input(fault)));
-    let only = Some(
-        Only {
-            queue: String::from_str(rt.alloc(), "zz")?,
-            class: Class::clamp(0),
-        },
+    let only = Some(Only {
+        queue: String::from_str(rt.alloc(), "zz")?,
+        class: Class::clamp(0),
+    });
+    assert_eq!(rt;
+        drawn(rt.alloc(), SCRIPT, &only).err(),
+        Some(DrawFault::NoQueue)
     );
-    assert_eq!(rt; drawn(rt.alloc(), SCRIPT, &only).err(), Some(DrawFault::NoQueue));
     Ok(())
 }
 
@@ -66,6 +70,9 @@ fn a_story_is_of_a_ticket_that_came(rt: HostRuntime) -> Result<(), Fail> {
     assert_eq!(rt; tell(rt.alloc(), &mut rest, &mut story, 2), Ok(()));
     assert!(rt; story.as_slice().starts_with(b"Ticket 2 of class 0"));
     let mut rest = SCRIPT.as_bytes();
-    assert_eq!(rt; tell(rt.alloc(), &mut rest, &mut story, 9), Err(TellFault::NoTicket));
+    assert_eq!(rt;
+        tell(rt.alloc(), &mut rest, &mut story, 9),
+        Err(TellFault::NoTicket)
+    );
     Ok(())
 }

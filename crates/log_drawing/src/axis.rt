@@ -7,6 +7,7 @@ use std::alloc::AllocError;
 
 /// The most lines of the grid, and how far below the top the numbers stand.
 const MOST_LINES: u64 = 12;
+
 const NUMBERS: usize = 106;
 
 /// Writes the lanes with their names, the grid of moments, and the rolls.
@@ -21,9 +22,14 @@ pub(crate) fn push_axis(text: &mut String, scene: &Scene) -> Result<(), AllocErr
     let y = NUMBERS - 5;
     writeln!(text, "<text class=\"r m\" x=\"{x}\" y=\"{y}\">ms</text>")?;
     for roll in scene.subject.rolls {
-        let x = scene.sheet.pixel(scene.sheet.since(scene.course.moment(*roll)));
+        let x = scene
+            .sheet
+            .pixel(scene.sheet.since(scene.course.moment(*roll)));
         let height = scene.sheet.height.saturating_sub(NUMBERS);
-        writeln!(text, "<path class=\"o\" d=\"M{x} {NUMBERS}v{height}\"><title>the next window</title></path>")?;
+        writeln!(
+            text,
+            "<path class=\"o\" d=\"M{x} {NUMBERS}v{height}\"><title>the next window</title></path>"
+        )?;
     }
     Ok(())
 }
@@ -70,7 +76,10 @@ fn push_grid(text: &mut String, scene: &Scene) -> Result<(), AllocError> {
         let moment = sheet.first.saturating_add(after);
         writeln!(text, "<path class=\"g\" d=\"M{x} {NUMBERS}v{height}\"/>")?;
         let y = NUMBERS - 5;
-        writeln!(text, "<text class=\"i m\" x=\"{x}\" y=\"{y}\">{moment}</text>")?;
+        writeln!(
+            text,
+            "<text class=\"i m\" x=\"{x}\" y=\"{y}\">{moment}</text>"
+        )?;
         after = after.saturating_add(step);
     }
     Ok(())

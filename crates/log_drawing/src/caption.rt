@@ -6,6 +6,7 @@ use trace_lines::ReportLine;
 
 /// The most reports of a queue whose captions are written, and the most tickets of one.
 const MOST_CAPTIONS: usize = 6;
+
 const MOST_TICKETS: usize = 16;
 
 /// How many lines of text stand below each lane.
@@ -63,7 +64,10 @@ fn push_lane(text: &mut String, scene: &Scene, band: &Band) -> Result<(), AllocE
 
 // The front of a line of text below a lane.
 fn push_place(text: &mut String, band: &Band, line: usize) -> Result<(), AllocError> {
-    let below = line.saturating_add(1).saturating_mul(LINE).saturating_sub(3);
+    let below = line
+        .saturating_add(1)
+        .saturating_mul(LINE)
+        .saturating_sub(3);
     let y = band.top.saturating_add(band.height).saturating_add(below);
     write!(text, "<text class=\"m\" x=\"{LEFT}\" y=\"{y}\">")
 }
@@ -108,13 +112,19 @@ fn push_tickets(text: &mut String, tickets: &[u64]) -> Result<(), AllocError> {
 }
 
 fn push_needed(text: &mut String, report: &ReportLine) -> Result<(), AllocError> {
-    let few = ["no", "one", "two", "three", "four", "five", "six", "seven", "eight", "nine", "ten"];
+    let few = [
+        "no", "one", "two", "three", "four", "five", "six", "seven", "eight", "nine", "ten",
+    ];
     let count = report.critical.len();
     match few.get(count) {
         Some(word) => write!(text, " needed {word} slot")?,
         None => write!(text, " needed {count} slot")?,
     }
-    if count == 1 { Ok(()) } else { text.push_str("s") }
+    if count == 1 {
+        Ok(())
+    } else {
+        text.push_str("s")
+    }
 }
 
 // The number of the window before which so many entries stand, from 1.
@@ -122,7 +132,10 @@ fn window_of(rolls: &[usize], before: usize) -> usize {
     if before == 0 {
         return 1;
     }
-    rolls.iter().position(|roll| *roll == before).map_or(1, |roll| roll.saturating_add(2))
+    rolls
+        .iter()
+        .position(|roll| *roll == before)
+        .map_or(1, |roll| roll.saturating_add(2))
 }
 
 // The cut as a dashed line, and the worst slot as an arrow that points at it.
@@ -137,7 +150,9 @@ fn push_cut(
     let height = band.height;
     let above = top.saturating_sub(8);
     if report.after != 0 {
-        let cut = scene.course.moment(report.before.saturating_add(report.after));
+        let cut = scene
+            .course
+            .moment(report.before.saturating_add(report.after));
         let x = sheet.pixel(sheet.since(cut));
         let long = height.saturating_add(8);
         writeln!(text, "<path class=\"u\" d=\"M{x} {above}v{long}\"/>")?;

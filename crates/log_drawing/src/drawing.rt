@@ -88,7 +88,9 @@ fn push_head(text: &mut String, sheet: &Sheet) -> Result<(), AllocError> {
     )?;
     text.push_str(COLOUR_STYLE)?;
     text.push_str(STYLE)?;
-    text.push_str("</style>\n<defs><pattern id=\"down\" width=\"8\" height=\"8\" patternUnits=\"userSpaceOnUse\" patternTransform=\"rotate(45)\"><path d=\"M1 0v8\" stroke=\"#333\" stroke-opacity=\".55\" stroke-width=\"2\"/><path d=\"M5 0v8\" stroke=\"#fff\" stroke-opacity=\".6\" stroke-width=\"2\"/></pattern></defs>\n")?;
+    text.push_str(
+        "</style>\n<defs><pattern id=\"down\" width=\"8\" height=\"8\" patternUnits=\"userSpaceOnUse\" patternTransform=\"rotate(45)\"><path d=\"M1 0v8\" stroke=\"#333\" stroke-opacity=\".55\" stroke-width=\"2\"/><path d=\"M5 0v8\" stroke=\"#fff\" stroke-opacity=\".6\" stroke-width=\"2\"/></pattern></defs>\n",
+    )?;
     text.push_str("<rect width=\"100%\" height=\"100%\" fill=\"#fff\"/>\n")
 }
 
@@ -105,7 +107,11 @@ fn push_plot(alloc: Global, text: &mut String, scene: &Scene) -> Result<(), Allo
         push_plain_bars(alloc, text, scene)?;
         return text.push_str("</svg>\n");
     }
-    text.push_str(if sheet.is_dense() { "<g class=\"z\">\n" } else { "<g>\n" })?;
+    text.push_str(if sheet.is_dense() {
+        "<g class=\"z\">\n"
+    } else {
+        "<g>\n"
+    })?;
     push_bars(text, scene)?;
     push_marks(text, scene)?;
     text.push_str("</g>\n</svg>\n")?;

@@ -20,7 +20,9 @@ pub(crate) fn push_hatches(text: &mut String, scene: &Scene) -> Result<(), Alloc
 // The number of the entry behind this one by which the server is up again.
 fn up_again(entries: &[Entry], number: usize, server: usize) -> Option<usize> {
     let behind = entries.get(number..)?;
-    let after = behind.iter().position(|entry| *entry == Entry::Health(server, true))?;
+    let after = behind
+        .iter()
+        .position(|entry| *entry == Entry::Health(server, true))?;
     Some(number.saturating_add(after))
 }
 

@@ -10,7 +10,11 @@ use std::alloc::AllocError;
 const MOST_CLASSES: usize = 12;
 
 /// Writes what the picture is of, and what its colours and signs say.
-pub(crate) fn push_key(text: &mut String, scene: &Scene, palette: &Palette) -> Result<(), AllocError> {
+pub(crate) fn push_key(
+    text: &mut String,
+    scene: &Scene,
+    palette: &Palette,
+) -> Result<(), AllocError> {
     push_heading(text, scene)?;
     push_classes(text, palette)?;
     push_signs(text)
@@ -33,7 +37,10 @@ fn push_heading(text: &mut String, scene: &Scene) -> Result<(), AllocError> {
 }
 
 fn arrivals_in(entries: &[Entry]) -> usize {
-    entries.iter().filter(|entry| matches!(entry, Entry::Arrive(_, _))).count()
+    entries
+        .iter()
+        .filter(|entry| matches!(entry, Entry::Arrive(_, _)))
+        .count()
 }
 
 fn push_classes(text: &mut String, palette: &Palette) -> Result<(), AllocError> {
@@ -41,10 +48,16 @@ fn push_classes(text: &mut String, palette: &Palette) -> Result<(), AllocError> 
     for (number, class) in palette.classes().iter().enumerate() {
         if number == MOST_CLASSES {
             let more = palette.classes().len().saturating_sub(MOST_CLASSES);
-            return writeln!(text, "<text class=\"m\" x=\"{x}\" y=\"54\">and {more} more</text>");
+            return writeln!(
+                text,
+                "<text class=\"m\" x=\"{x}\" y=\"54\">and {more} more</text>"
+            );
         }
         let colour = number % COLOURS;
-        writeln!(text, "<rect class=\"k{colour}\" x=\"{x}\" y=\"43\" width=\"14\" height=\"12\"/>")?;
+        writeln!(
+            text,
+            "<rect class=\"k{colour}\" x=\"{x}\" y=\"43\" width=\"14\" height=\"12\"/>"
+        )?;
         x = x.saturating_add(20);
         writeln!(text, "<text x=\"{x}\" y=\"54\">class {class}</text>")?;
         x = x.saturating_add(72);

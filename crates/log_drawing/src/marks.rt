@@ -7,6 +7,7 @@ use std::alloc::AllocError;
 
 /// The width of a digit of a label in pixels, and what stays free at both ends of a bar.
 const DIGIT: u64 = 7;
+
 const ROOM: u64 = 6;
 
 /// Writes the due dates of stays as ticks on their rows, and a mark at the end of each that was told why it isn't served.
@@ -25,7 +26,13 @@ pub(crate) fn push_marks(text: &mut String, scene: &Scene) -> Result<(), AllocEr
     Ok(())
 }
 
-fn push_tick(text: &mut String, scene: &Scene, bar: &Bar, kind: &str, at: u64) -> Result<(), AllocError> {
+fn push_tick(
+    text: &mut String,
+    scene: &Scene,
+    bar: &Bar,
+    kind: &str,
+    at: u64,
+) -> Result<(), AllocError> {
     let y = scene.sheet.row(bar.stretch.lane, bar.row);
     let thick = scene.sheet.thick;
     writeln!(text, "<path class=\"{kind}\" d=\"M{at} {y}v{thick}\"/>")
@@ -54,9 +61,15 @@ fn push_early_due(text: &mut String, scene: &Scene, bar: &Bar) -> Result<(), All
     let due = scene.sheet.since(due);
     let (_, to) = scene.times(bar);
     let lasts = due.saturating_sub(to);
-    let middle = scene.sheet.row(bar.stretch.lane, bar.row).saturating_add(scene.sheet.thick / 2);
+    let middle = scene
+        .sheet
+        .row(bar.stretch.lane, bar.row)
+        .saturating_add(scene.sheet.thick / 2);
     let colour = bar.colour;
-    writeln!(text, "<path class=\"k{colour} e\" d=\"M{to} {middle}h{lasts}\"/>")?;
+    writeln!(
+        text,
+        "<path class=\"k{colour} e\" d=\"M{to} {middle}h{lasts}\"/>"
+    )?;
     push_tick(text, scene, bar, "d", due)
 }
 
@@ -85,10 +98,18 @@ fn push_label(text: &mut String, scene: &Scene, bar: &Bar) -> Result<(), AllocEr
         _ => "n",
     };
     let x = left.saturating_add(4);
-    let y = scene.sheet.row(bar.stretch.lane, bar.row).saturating_add(scene.sheet.thick.saturating_sub(4));
-    writeln!(text, "<text class=\"{class}\" x=\"{x}\" y=\"{y}\">{ticket}</text>")
+    let y = scene
+        .sheet
+        .row(bar.stretch.lane, bar.row)
+        .saturating_add(scene.sheet.thick.saturating_sub(4));
+    writeln!(
+        text,
+        "<text class=\"{class}\" x=\"{x}\" y=\"{y}\">{ticket}</text>"
+    )
 }
 
 fn digits(number: u64) -> u64 {
-    number.checked_ilog10().map_or(1, |tens| u64::from(tens).saturating_add(1))
+    number
+        .checked_ilog10()
+        .map_or(1, |tens| u64::from(tens).saturating_add(1))
 }

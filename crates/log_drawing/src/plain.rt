@@ -24,7 +24,10 @@ pub(crate) fn push_plain_bars(
         if !group.is_empty() {
             let kind = if number % 2 == 0 { "p" } else { "q" };
             let colour = number / 2;
-            write!(text, "<path class=\"k{colour} {kind}\" stroke-width=\"{thick}\" d=\"")?;
+            write!(
+                text,
+                "<path class=\"k{colour} {kind}\" stroke-width=\"{thick}\" d=\""
+            )?;
             text.push_str(group.as_str())?;
             text.push_str("\"/>\n")?;
         }

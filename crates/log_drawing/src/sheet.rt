@@ -5,6 +5,7 @@ use std::alloc::{AllocError, Global};
 
 /// The least and the greatest distance of the plot from the left, in pixels.
 pub(crate) const LEFT: u64 = 150;
+
 pub(crate) const RIGHT: u64 = LEFT + PLOT;
 
 /// The width of the plot in pixels.
@@ -15,6 +16,7 @@ pub(crate) const WIDTH: u64 = RIGHT + 40;
 
 /// The distance of the first lane from the top, and of lanes from each other.
 const TOP: usize = 120;
+
 const GAP: usize = 14;
 
 /// The height from which on bars have numbers in them.
@@ -82,7 +84,10 @@ impl Sheet {
         lines: &[usize],
     ) -> Result<Sheet, AllocError> {
         let first = course.moment(1).get();
-        let lasting = course.moment(course.entries().len()).get().saturating_sub(first);
+        let lasting = course
+            .moment(course.entries().len())
+            .get()
+            .saturating_sub(first);
         let (pitch, thick) = sizes(rows);
         let mut bands = Vec::with_capacity(alloc, rows.len())?;
         let mut top = TOP;
@@ -90,7 +95,10 @@ impl Sheet {
             let below = lines.get(number).copied().unwrap_or(0).saturating_mul(LINE);
             let band = band_of(lane_of(number), *count, top, pitch);
             if let Some(band) = band {
-                top = top.saturating_add(band.height).saturating_add(below).saturating_add(GAP);
+                top = top
+                    .saturating_add(band.height)
+                    .saturating_add(below)
+                    .saturating_add(GAP);
             }
             bands.push(band)?;
         }
@@ -127,7 +135,11 @@ impl Sheet {
     /// The milliseconds from the left end up to a due date, where that is on the picture.
     pub(crate) fn due(&self, due: Due) -> Option<u64> {
         let after = u64::try_from(self.after(due)).ok()?;
-        if after <= self.span { Some(after) } else { None }
+        if after <= self.span {
+            Some(after)
+        } else {
+            None
+        }
     }
 
     /// The same, and one of the ends for what is further away.
@@ -145,7 +157,8 @@ impl Sheet {
 
     /// The distance in pixels from the left of what is so many milliseconds from the left end.
     pub(crate) fn pixel(&self, after: u64) -> u64 {
-        let across = u128::from(after.min(self.span)) * u128::from(PLOT) / u128::from(self.span.max(1));
+        let across = u128::from(after.min(self.span)) * u128::from(PLOT)
+            / u128::from(self.span.max(1));
         LEFT.saturating_add(u64::try_from(across).unwrap_or(PLOT))
     }
 
@@ -176,7 +189,9 @@ fn band_of(lane: Lane, rows: usize, top: usize, pitch: usize) -> Option<Band> {
 
 // The distance of rows and the height of bars for so many rows in all.
 fn sizes(rows: &[usize]) -> (usize, usize) {
-    let all = rows.iter().fold(0, |all: usize, rows| all.saturating_add(*rows));
+    let all = rows
+        .iter()
+        .fold(0, |all: usize, rows| all.saturating_add(*rows));
     match all {
         0..=30 => (20, 16),
         31..=60 => (16, 13),

@@ -90,7 +90,10 @@ fn push_pin(text: &mut String, names: &Names, pin: Option<usize>) -> Result<(), 
 fn push_came(text: &mut String, moment: Moment, arrival: Arrival) -> Result<(), AllocError> {
     let class = arrival.class;
     let due = arrival.due;
-    write!(text, ", class {class}: came at {moment} ms, due at {due} ms")
+    write!(
+        text,
+        ", class {class}: came at {moment} ms, due at {due} ms"
+    )
 }
 
 fn push_stretch(text: &mut String, scene: &Scene, bar: &Bar) -> Result<(), AllocError> {
@@ -169,13 +172,19 @@ impl<'a> Scene<'a> {
     /// The entry that ends a bar.
     pub(crate) fn ending(&self, bar: &Bar) -> Option<Entry> {
         let position = bar.stretch.to?;
-        self.subject.entries.get(position.saturating_sub(1)).copied()
+        self.subject
+            .entries
+            .get(position.saturating_sub(1))
+            .copied()
     }
 
     /// Whether a bar is a stay of a critical set.
     pub(crate) fn is_critical(&self, bar: &Bar) -> bool {
         let class = class_of(self.course, bar.stretch.ticket);
-        self.subject.reports.iter().any(|report| stands_in(report, bar, class))
+        self.subject
+            .reports
+            .iter()
+            .any(|report| stands_in(report, bar, class))
     }
 }
 

@@ -1,3 +1,6 @@
+ghost use Rattle.std.specs.Prelude.{◌≡◌, None, IfOk};
+ghost use Rattle.readable_log.specs.Grants.{moment_in};
+
 use crate::event::{end, health, next, ticket, ticket_alone};
 use crate::fault::{Cause, LineError};
 use crate::servers::Servers;
@@ -10,7 +13,9 @@ pub(crate) fn decision_of(
     servers: &mut Servers,
     name: &[u8],
     words: Words,
-) -> Result<Entry, LineError> {
+) -> Result<Entry, LineError>
+    ensures { IfOk result (λ entry. moment_in entry ≡ None) }
+{
     if name == b"join".as_slice() {
         joining(servers, words)
     } else if name == b"grant".as_slice() {
@@ -29,11 +34,9 @@ pub(crate) fn decision_of(
 }
 
 // `T S`, behind `direct`, `move` or `free`.
-fn slot_decision(
-    servers: &mut Servers,
-    name: &[u8],
-    mut words: Words,
-) -> Result<Entry, LineError> {
+fn slot_decision(servers: &mut Servers, name: &[u8], mut words: Words) -> Result<Entry, LineError>
+    ensures { IfOk result (λ entry. moment_in entry ≡ None) }
+{
     let ticket = ticket(next(&mut words)?)?;
     let server = servers.number(next(&mut words)?)?;
     end(words)?;
@@ -49,7 +52,9 @@ fn slot_decision(
 }
 
 // `T Q`, behind `join`.
-fn joining(servers: &mut Servers, mut words: Words) -> Result<Entry, LineError> {
+fn joining(servers: &mut Servers, mut words: Words) -> Result<Entry, LineError>
+    ensures { IfOk result (λ entry. moment_in entry ≡ None) }
+{
     let ticket = ticket(next(&mut words)?)?;
     let queue = servers.queue(next(&mut words)?)?;
     end(words)?;
@@ -57,7 +62,9 @@ fn joining(servers: &mut Servers, mut words: Words) -> Result<Entry, LineError> 
 }
 
 // `T Q S`, behind `grant`.
-fn grant(servers: &mut Servers, mut words: Words) -> Result<Entry, LineError> {
+fn grant(servers: &mut Servers, mut words: Words) -> Result<Entry, LineError>
+    ensures { IfOk result (λ entry. moment_in entry ≡ None) }
+{
     let ticket = ticket(next(&mut words)?)?;
     let queue = servers.queue(next(&mut words)?)?;
     let server = servers.number(next(&mut words)?)?;
@@ -66,7 +73,9 @@ fn grant(servers: &mut Servers, mut words: Words) -> Result<Entry, LineError> {
 }
 
 // `T S K`, behind `retry`.
-fn retry(servers: &mut Servers, mut words: Words) -> Result<Entry, LineError> {
+fn retry(servers: &mut Servers, mut words: Words) -> Result<Entry, LineError>
+    ensures { IfOk result (λ entry. moment_in entry ≡ None) }
+{
     let ticket = ticket(next(&mut words)?)?;
     let server = servers.number(next(&mut words)?)?;
     let Some(failures) = number(next(&mut words)?) else {
@@ -77,7 +86,9 @@ fn retry(servers: &mut Servers, mut words: Words) -> Result<Entry, LineError> {
 }
 
 // `T CAUSE`, behind `left`.
-fn told(mut words: Words) -> Result<Entry, LineError> {
+fn told(mut words: Words) -> Result<Entry, LineError>
+    ensures { IfOk result (λ entry. moment_in entry ≡ None) }
+{
     let ticket = ticket(next(&mut words)?)?;
     let cause = cause_of(next(&mut words)?)?;
     end(words)?;
@@ -99,7 +110,9 @@ fn cause_of(word: &[u8]) -> Result<Told, LineError> {
 }
 
 // `S up` or `S down`, behind `health`.
-fn health_of(servers: &mut Servers, mut words: Words) -> Result<Entry, LineError> {
+fn health_of(servers: &mut Servers, mut words: Words) -> Result<Entry, LineError>
+    ensures { IfOk result (λ entry. moment_in entry ≡ None) }
+{
     let server = servers.number(next(&mut words)?)?;
     let up = health(next(&mut words)?)?;
     end(words)?;

@@ -1,3 +1,6 @@
+ghost use Rattle.std.specs.Prelude.{◌≡◌, Some, IfOk};
+ghost use Rattle.readable_log.specs.Grants.{moment_in};
+
 use crate::fault::{Cause, LineError};
 use crate::servers::Servers;
 use dispatch_log::{Arrival, Entry};
@@ -9,7 +12,9 @@ pub(crate) fn event_of(
     servers: &mut Servers,
     at: Moment,
     mut words: Words,
-) -> Result<Entry, LineError> {
+) -> Result<Entry, LineError>
+    ensures { IfOk result (λ entry. moment_in entry ≡ Some at) }
+{
     let name = next(&mut words)?;
     if name == b"arrive".as_slice() {
         arrival(servers, at, words)
@@ -32,11 +37,9 @@ pub(crate) fn event_of(
 }
 
 // `T C D` or `T C D NAME`, behind `M arrive`.
-fn arrival(
-    servers: &mut Servers,
-    moment: Moment,
-    mut words: Words,
-) -> Result<Entry, LineError> {
+fn arrival(servers: &mut Servers, moment: Moment, mut words: Words) -> Result<Entry, LineError>
+    ensures { IfOk result (λ entry. moment_in entry ≡ Some moment) }
+{
     let ticket = ticket(next(&mut words)?)?;
     let class = class_of(next(&mut words)?)?;
     let due = due_of(next(&mut words)?)?;
@@ -60,7 +63,9 @@ fn arrival(
 }
 
 // `S up` or `S down`, behind `M check`.
-fn check(servers: &mut Servers, moment: Moment, mut words: Words) -> Result<Entry, LineError> {
+fn check(servers: &mut Servers, moment: Moment, mut words: Words) -> Result<Entry, LineError>
+    ensures { IfOk result (λ entry. moment_in entry ≡ Some moment) }
+{
     let server = servers.number(next(&mut words)?)?;
     let answered = health(next(&mut words)?)?;
     end(words)?;
@@ -68,7 +73,9 @@ fn check(servers: &mut Servers, moment: Moment, mut words: Words) -> Result<Entr
 }
 
 // `S N`, behind `M limit`.
-fn limit(servers: &mut Servers, moment: Moment, mut words: Words) -> Result<Entry, LineError> {
+fn limit(servers: &mut Servers, moment: Moment, mut words: Words) -> Result<Entry, LineError>
+    ensures { IfOk result (λ entry. moment_in entry ≡ Some moment) }
+{
     let server = servers.number(next(&mut words)?)?;
     let Some(limit) = number(next(&mut words)?) else {
         return Err(LineError::Faulty(Cause::Form));

@@ -8,6 +8,7 @@ mod kind;
 mod reader;
 mod report;
 mod servers;
+mod timed;
 mod trace;
 
 pub use fault::{Cause, TraceError};

@@ -1,11 +1,13 @@
+ghost use Rattle.std.specs.Prelude.{IfOk};
+ghost use Rattle.trace_lines.specs.Timed.{IsTimed};
+
 use crate::decision::decision_of;
 use crate::event::{end, event_of, moment_of, ticket_alone};
 use crate::fault::{Cause, LineError, TraceError};
 use crate::report::{ReportLine, report_of};
 use crate::servers::Servers;
+use crate::timed::Timed;
 use crate::trace::Trace;
-use dispatch_log::Entry;
-use due_key::Moment;
 use proxy_words::{Lines, Words};
 use std::alloc::Global;
 
@@ -17,11 +19,9 @@ pub const MOST_BYTES: usize = 67_108_864;
 struct Reader {
     alloc: Global,
     servers: Servers,
-    entries: Vec<Entry>,
+    entries: Timed,
     rolls: Vec<usize>,
     reports: Vec<ReportLine>,
-    // The moment of the last event.
-    moment: Moment,
     // How many entries stand before the present window, and before the one that ended last.
     start: usize,
     ended: usize,
@@ -30,7 +30,9 @@ struct Reader {
 /// Reads the lines of a trace, where servers of these names are known already. Lines without words and lines whose first byte
 /// is `#` are skipped. The first faulty line is named, with its cause; a trace of more than [`MOST_BYTES`] bytes is at fault
 /// as a whole, as line 0. One pass over the bytes, and over the names for each name.
-pub fn read_trace(alloc: Global, names: Vec<String>, text: &[u8]) -> Result<Trace, TraceError> {
+pub fn read_trace(alloc: Global, names: Vec<String>, text: &[u8]) -> Result<Trace, TraceError>
+    ensures { IfOk result (λ trace. IsTimed trace.entries.items) }
+{
     if MOST_BYTES < text.len() {
         return Err(TraceError::at(0, Cause::Length));
     }
@@ -51,29 +53,29 @@ impl Reader {
         Reader {
             alloc,
             servers: Servers::new(alloc, names),
-            entries: Vec::new(alloc),
+            entries: Timed::new(alloc),
             rolls: Vec::new(alloc),
             reports: Vec::new(alloc),
-            moment: Moment::zero(),
             start: 0,
             ended: 0,
         }
     }
 
-    fn into_trace(self) -> Trace {
+    fn into_trace(self) -> Trace
+        ensures { IsTimed result.entries.items }
+    {
         let Reader {
             alloc: _,
             servers,
             entries,
             rolls,
             reports,
-            moment: _,
             start: _,
             ended: _,
         } = self;
         Trace {
             names: servers.into_names(),
-            entries,
+            entries: entries.into_entries(),
             rolls,
             reports,
         }
@@ -96,11 +98,7 @@ impl Reader {
     fn take_event(&mut self, first: &[u8], words: Words) -> Result<(), LineError> {
         let moment = moment_of(first)?;
         let entry = event_of(&mut self.servers, moment, words)?;
-        if moment < self.moment {
-            return Err(LineError::Faulty(Cause::Moment));
-        }
-        self.moment = moment;
-        self.note(entry)
+        self.entries.note_event(moment, entry)
     }
 
     fn take_other(&mut self, first: &[u8], words: Words) -> Result<(), LineError> {
@@ -114,16 +112,13 @@ impl Reader {
             self.take_report(words)
         } else {
             let entry = decision_of(&mut self.servers, first, words)?;
-            if self.entries.is_empty() {
-                return Err(LineError::Faulty(Cause::Place));
-            }
-            self.note(entry)
+            self.entries.note_decision(entry)
         }
     }
 
     // The reports of a window stand behind the roll that ends it, or at the end.
     fn take_report(&mut self, words: Words) -> Result<(), LineError> {
-        if self.entries.is_empty() {
+        if self.entries.len() == 0 {
             return Err(LineError::Faulty(Cause::Place));
         }
         let before = if self.entries.len() == self.start {
@@ -142,13 +137,6 @@ impl Reader {
         self.ended = self.start;
         self.start = self.entries.len();
         if self.rolls.push(self.start).is_err() {
-            return Err(LineError::NoMemory);
-        }
-        Ok(())
-    }
-
-    fn note(&mut self, entry: Entry) -> Result<(), LineError> {
-        if self.entries.push(entry).is_err() {
             return Err(LineError::NoMemory);
         }
         Ok(())

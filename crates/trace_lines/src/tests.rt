@@ -33,7 +33,19 @@ fn a_script_is_no_trace(rt: HostRuntime) -> Result<(), Fail> {
     assert!(rt; !is_trace(b"0 arrive 0 0\n"));
     assert!(rt; !is_trace(b"# 1\nlog 5\n"));
     assert!(rt; is_trace(b"0 arrive 1 0 5\n  direct 1 a"));
-    let unread = read_trace(rt.alloc(), Vec::new(rt.alloc()), b"0 tick\n\n0 arrive 0 0\n");
-    assert!(rt; matches!(&unread, Err(TraceError::Fault { line: 3, cause: Cause::Form })));
+    let unread = read_trace(
+        rt.alloc(),
+        Vec::new(rt.alloc()),
+        b"0 tick\n\n0 arrive 0 0\n",
+    );
+    assert!(rt;
+        matches!(
+            &unread,
+            Err(TraceError::Fault {
+                line: 3,
+                cause: Cause::Form
+            })
+        )
+    );
     Ok(())
 }

@@ -8,6 +8,7 @@ use std::test::Fail;
 use trace_lines::Trace;
 
 const SCRIPTS: usize = 200;
+
 const EVENTS: usize = 40;
 
 #[test]
@@ -85,7 +86,9 @@ fn expected(alloc: Global, trace: &Trace) -> Result<Vec<Seen>, Fail> {
 
 fn seen_of(entries: &[Entry], stretch: &Stretch, first: u64, end: u64) -> Seen {
     let from = moment_at(entries, stretch.from);
-    let to = stretch.to.map_or(end, |position| moment_at(entries, position));
+    let to = stretch
+        .to
+        .map_or(end, |position| moment_at(entries, position));
     Seen {
         ticket: stretch.ticket,
         waits: matches!(stretch.lane, Lane::Queue(_)),

@@ -2,6 +2,8 @@
 use Rattle.std.specs.Prelude.{ℕ, Result, Ok, Err}
 use Rattle.dueproxy.specs.declared.check.Checked.{Checked}
 use Rattle.dueproxy.specs.declared.check.Checked.TheVariants as checks
+use Rattle.dueproxy.specs.declared.input.InputFault.{InputFault}
+use Rattle.dueproxy.specs.declared.input.InputFault.TheVariants as inputs
 use Rattle.replay.specs.declared.fault.Fault.{Fault}
 use Rattle.replay.specs.declared.fault.Fault.TheVariants.{NoMemory, Script, Read, Write}
 
@@ -19,3 +21,11 @@ status_of_check (checks.Good servers) = 0
 status_of_check (checks.Faulty fault) = 3
 status_of_check checks.NoMemory = 1
 status_of_check checks.Unread = 1
+
+-- 1 where memory, a read or a write failed; 5 where the script or the trace is faulty
+abbrev pub status_of_input : InputFault → ℕ
+status_of_input inputs.NoMemory = 1
+status_of_input inputs.Unread = 1
+status_of_input inputs.Unwritten = 1
+status_of_input (inputs.Script line) = 5
+status_of_input (inputs.Trace line cause) = 5

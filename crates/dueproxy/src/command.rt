@@ -1,5 +1,8 @@
+use crate::picture::Only;
 use clap::error::ErrorKind;
-use clap::{Arg, ArgAction, Command, Error};
+use clap::{Arg, ArgAction, ArgMatches, Command, Error};
+use due_key::Class;
+use proxy_words::{long_number, signed_long_number};
 use std::alloc::{AllocError, Global};
 
 /// What the words of the command line ask for.
@@ -10,6 +13,10 @@ pub(crate) enum Asked {
     Check(String),
     /// The same, with every faulty line and what takes its place.
     Explain(String),
+    /// Draw the script or the trace, of all or of one queue and class.
+    Draw(Option<Only>),
+    /// Tell the story of this ticket.
+    Tell(u64),
     /// A subcommand that is not there yet.
     Later,
     /// Nothing more: help was printed, or a fault in the words, and this is the status.
@@ -58,6 +65,19 @@ what takes the place of a keyword of HAProxy that isn't there; at the end stands
 
 For example, dueproxy check examples/shop.cfg";
 
+const DRAW_HELP: &str = "\
+Reads a script or a trace from standard input, and writes the picture to standard
+output: a lane for each queue and for each server, a bar for each request that waits
+or is served, and for each report the requests that prove its lateness.
+
+For example, dueproxy draw < examples/overtaking.script > overtaking.svg";
+
+const TELL_HELP: &str = "\
+Reads a script or a trace from standard input, and says when the request came, where
+it waited and for whom, when it was served and how late.
+
+For example, dueproxy explain 2 < examples/overtaking.script";
+
 /// Reads the words, and prints help or what is wrong with them.
 pub(crate) fn ask(rt: &(impl Print + Eprint + AllocGlobal), words: &[String]) -> Asked {
     let Ok(command) = dueproxy(rt.alloc()) else {
@@ -71,6 +91,8 @@ pub(crate) fn ask(rt: &(impl Print + Eprint + AllocGlobal), words: &[String]) ->
                 let file = words.get_str("FILE").unwrap_or_default();
                 check_of(rt, file, words.get_flag("explain"))
             }
+            Some(("draw", words)) => draw_of(rt, words),
+            Some(("explain", words)) => tell_of(rt, words),
             _ => Asked::Later,
         },
     }
@@ -81,6 +103,34 @@ fn check_of(rt: &(impl Eprint + AllocGlobal), file: &str, explain: bool) -> Aske
         Ok(file) if explain => Asked::Explain(file),
         Ok(file) => Asked::Check(file),
         Err(_) => no_memory(rt),
+    }
+}
+
+// All, or the two words behind `--of`.
+fn draw_of(rt: &(impl Eprint + AllocGlobal), words: &ArgMatches) -> Asked {
+    let Some([queue, class, ..]) = words.get_strs("of") else {
+        return Asked::Draw(None);
+    };
+    let Some(class) = signed_long_number(class.as_bytes()) else {
+        let _ = rt.eprintln("the CLASS of --of is a number");
+        return Asked::Nothing(2);
+    };
+    let Ok(queue) = String::from_str(rt.alloc(), queue) else {
+        return no_memory(rt);
+    };
+    Asked::Draw(Some(Only {
+        queue,
+        class: Class::clamp(class),
+    }))
+}
+
+fn tell_of(rt: &impl Eprint, words: &ArgMatches) -> Asked {
+    match long_number(words.get_str("TICKET").unwrap_or_default().as_bytes()) {
+        Some(ticket) => Asked::Tell(ticket),
+        None => {
+            let _ = rt.eprintln("a TICKET is a number");
+            Asked::Nothing(2)
+        }
     }
 }
 
@@ -103,6 +153,8 @@ fn dueproxy<'a>(alloc: Global) -> Result<Command<'a>, AllocError> {
         .after_help(SCRIPT_HELP)
         .subcommand_required(true)
         .subcommand(replay(alloc))?
+        .subcommand(draw(alloc)?)?
+        .subcommand(tell(alloc)?)?
         .subcommand(check(alloc)?)?
         .subcommand(run(alloc)?)
 }
@@ -111,6 +163,20 @@ fn replay<'a>(alloc: Global) -> Command<'a> {
     Command::new(alloc, "replay")
         .about("Runs a script of events from standard input, and prints what the dispatcher did")
         .after_help(SCRIPT_HELP)
+}
+
+fn draw<'a>(alloc: Global) -> Result<Command<'a>, AllocError> {
+    Command::new(alloc, "draw")
+        .about("Draws a script, or a trace that replay wrote, as a picture for a browser (SVG)")
+        .after_help(DRAW_HELP)
+        .arg(of(alloc))
+}
+
+fn tell<'a>(alloc: Global) -> Result<Command<'a>, AllocError> {
+    Command::new(alloc, "explain")
+        .about("Tells the story of one request of a script, or of a trace that replay wrote")
+        .after_help(TELL_HELP)
+        .arg(ticket(alloc))
 }
 
 fn check<'a>(alloc: Global) -> Result<Command<'a>, AllocError> {
@@ -139,6 +205,25 @@ fn explain<'a>(alloc: Global) -> Arg<'a> {
         .help("Names every faulty line, and what takes the place of HAProxy's keywords")
 }
 
+fn of<'a>(alloc: Global) -> Arg<'a> {
+    Arg::new(alloc, "of")
+        .long("of")
+        .action(ArgAction::Set)
+        .num_args(2)
+        .allow_hyphen_values(true)
+        .value_names(&["QUEUE", "CLASS"])
+        .help(
+            "Of the requests of one class alone that wait in one queue: a server's name, or * for the backend's",
+        )
+}
+
+fn ticket<'a>(alloc: Global) -> Arg<'a> {
+    Arg::new(alloc, "TICKET")
+        .required(true)
+        .action(ArgAction::Set)
+        .help("The request: the first that came has ticket 1, the next 2")
+}
+
 fn file<'a>(alloc: Global) -> Arg<'a> {
     Arg::new(alloc, "FILE")
         .required(true)
@@ -159,6 +244,28 @@ fn number<'a>(alloc: Global, name: &'a str, default: &'a str, low: i64, high: i6
 mod tests {
     use super::*;
     use std::test::Fail;
+
+    #[test]
+    fn a_picture_is_of_all_or_of_a_queue_and_class(rt: HostRuntime) -> Result<(), Fail> {
+        assert_eq!(rt; asked(&rt, &["dueproxy", "draw"])?, Asked::Draw(None));
+        let only = Only {
+            queue: String::from_str(rt.alloc(), "*")?,
+            class: Class::clamp(-1),
+        };
+        assert_eq!(rt;
+            asked(&rt, &["dueproxy", "draw", "--of", "*", "-1"])?,
+            Asked::Draw(Some(only))
+        );
+        assert_eq!(rt;
+            asked(&rt, &["dueproxy", "draw", "--of", "*"])?,
+            Asked::Nothing(2)
+        );
+        assert_eq!(rt;
+            asked(&rt, &["dueproxy", "draw", "--of", "*", "x"])?,
+            Asked::Nothing(2)
+        );
+        Ok(())
+    }
 
     fn asked(rt: &HostRuntime, words: &[&str]) -> Result<Asked, Fail> {
         let mut texts = Vec::new(rt.alloc());
@@ -182,6 +289,11 @@ mod tests {
             Asked::Explain(file)
         );
         assert_eq!(rt; asked(&rt, &["dueproxy", "check"])?, Asked::Nothing(2));
+        assert_eq!(rt; asked(&rt, &["dueproxy", "explain", "7"])?, Asked::Tell(7));
+        assert_eq!(rt;
+            asked(&rt, &["dueproxy", "explain", "x"])?,
+            Asked::Nothing(2)
+        );
         assert_eq!(rt;
             asked(&rt, &["dueproxy", "run", "file", "--workers", "7"])?,
             Asked::Later

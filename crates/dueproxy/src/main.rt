@@ -5,19 +5,25 @@
 #![tactic(auto)]
 
 ghost use Rattle.std.specs.Prelude.{◌≡◌};
-ghost use Rattle.dueproxy.specs.Statuses.{status_of};
+ghost use Rattle.dueproxy.specs.Statuses.{status_of, status_of_input};
 
 mod advice;
 mod check;
 mod command;
 mod explain;
+mod input;
+mod picture;
+mod tale;
 
 use check::{check, check_in_full};
 use command::{Asked, ask};
+use input::InputFault;
+use picture::{DrawFault, Only, draw};
 use replay::{Fault, replay};
 use std::env;
 use std::io::{Read, Write};
 use std::process::ExitCode;
+use tale::{TellFault, tell};
 
 const USAGE: u8 = 2;
 
@@ -33,8 +39,10 @@ fn main(rt: HostRuntime) -> ExitCode {
         Asked::Replay => replay_streams(&rt, &mut rt.stdin(), &mut rt.stdout()),
         Asked::Check(file) => check(&rt, &file),
         Asked::Explain(file) => check_in_full(&rt, &file),
+        Asked::Draw(only) => draw_streams(&rt, &mut rt.stdin(), &mut rt.stdout(), &only),
+        Asked::Tell(ticket) => tell_streams(&rt, &mut rt.stdin(), &mut rt.stdout(), ticket),
         Asked::Later => {
-            let _ = rt.eprintln("run isn't there yet: replay and check are");
+            let _ = rt.eprintln("run isn't there yet: replay, draw, explain and check are");
             USAGE
         }
         Asked::Nothing(status) => status,
@@ -52,6 +60,53 @@ fn replay_streams<R: Read, W: Write>(
     end(rt, ended)
 }
 
+// Draws the script or the trace of a stream onto another, and answers the status.
+fn draw_streams<R: Read, W: Write>(
+    rt: &(impl Eprint + AllocGlobal),
+    input: &mut R,
+    output: &mut W,
+    only: &Option<Only>,
+) -> u8 {
+    match draw(rt.alloc(), input, output, only) {
+        Ok(()) => 0,
+        Err(fault) => {
+            let _ = rt.eprintln(fault);
+            match fault {
+                DrawFault::Input(fault) => status_of_input(fault),
+                DrawFault::NoQueue => USAGE,
+            }
+        }
+    }
+}
+
+// Tells the story of a ticket of the script or the trace of a stream on another, and answers the status.
+fn tell_streams<R: Read, W: Write>(
+    rt: &(impl Eprint + AllocGlobal),
+    input: &mut R,
+    output: &mut W,
+    ticket: u64,
+) -> u8 {
+    match tell(rt.alloc(), input, output, ticket) {
+        Ok(()) => 0,
+        Err(fault) => {
+            let _ = rt.eprintln(fault);
+            match fault {
+                TellFault::Input(fault) => status_of_input(fault),
+                TellFault::NoTicket => USAGE,
+            }
+        }
+    }
+}
+
+fn status_of_input(fault: InputFault) -> u8
+    ensures { result ≡ status_of_input fault }
+{
+    match fault {
+        InputFault::NoMemory | InputFault::Unread | InputFault::Unwritten => 1,
+        InputFault::Script { .. } | InputFault::Trace { .. } => 5,
+    }
+}
+
 // Prints what went wrong, and answers the status.
 fn end(rt: &impl Eprint, ended: Result<(), Fault>) -> u8
     ensures { result ≡ status_of ended }
@@ -67,3 +122,6 @@ fn end(rt: &impl Eprint, ended: Result<(), Fault>) -> u8
         }
     }
 }
+
+#[cfg(test)]
+mod tests;

@@ -1,0 +1,4 @@
+mod chance;
+mod markup;
+mod pictures;
+mod stories;

@@ -1,0 +1,22 @@
+//! The picture of a log: who stood where, when, and which critical sets prove the lateness, as one SVG file.
+#![tactic(auto)]
+
+mod axis;
+mod bar;
+mod caption;
+mod drawing;
+mod escape;
+mod hatches;
+mod key;
+mod marks;
+mod palette;
+mod plain;
+mod rows;
+mod sheet;
+mod story;
+
+pub use drawing::{Subject, push_drawing};
+pub use escape::push_escaped;
+
+#[cfg(test)]
+mod tests;

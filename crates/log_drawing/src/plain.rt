@@ -1,0 +1,52 @@
+use crate::bar::Bar;
+use crate::drawing::Scene;
+use crate::palette::COLOURS;
+use log_stretches::Lane;
+use std::alloc::{AllocError, Global};
+
+/// Writes the bars alone, those of one colour and kind as one path: far shorter than a shape for each.
+pub(crate) fn push_plain_bars(
+    alloc: Global,
+    text: &mut String,
+    scene: &Scene,
+) -> Result<(), AllocError> {
+    let mut groups: Vec<String> = Vec::new(alloc);
+    for _ in 0..=2 * COLOURS + 1 {
+        groups.push(String::new(alloc))?;
+    }
+    for bar in scene.bars {
+        if let Some(group) = groups.get_mut(group_of(bar)) {
+            push_line(group, scene, bar)?;
+        }
+    }
+    let thick = scene.sheet.thick;
+    for (number, group) in groups.iter().enumerate() {
+        if !group.is_empty() {
+            let kind = if number % 2 == 0 { "p" } else { "q" };
+            let colour = number / 2;
+            write!(
+                text,
+                "<path class=\"k{colour} {kind}\" stroke-width=\"{thick}\" d=\""
+            )?;
+            text.push_str(group.as_str())?;
+            text.push_str("\"/>\n")?;
+        }
+    }
+    Ok(())
+}
+
+// Stays and services of each colour are groups of their own.
+fn group_of(bar: &Bar) -> usize {
+    let service = match bar.stretch.lane {
+        Lane::Queue(_) => 0,
+        Lane::Server(_) => 1,
+    };
+    bar.colour.saturating_mul(2).saturating_add(service)
+}
+
+fn push_line(group: &mut String, scene: &Scene, bar: &Bar) -> Result<(), AllocError> {
+    let (from, to) = scene.times(bar);
+    let y = scene.sheet.row(bar.stretch.lane, bar.row);
+    let lasts = to.saturating_sub(from);
+    write!(group, "M{from} {y}h{lasts}")
+}

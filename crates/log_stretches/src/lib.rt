@@ -1,0 +1,11 @@
+//! Where each request of a log was, and when: its stays in queues and its services by servers.
+#![tactic(auto)]
+
+mod course;
+mod stretch;
+
+pub use course::{Came, Course};
+pub use stretch::{Lane, Stretch, stretches_of};
+
+#[cfg(test)]
+mod tests;

@@ -1,0 +1,47 @@
+use crate::lines::Story;
+use crate::teller::Telling;
+use log_stretches::Course;
+use std::alloc::AllocError;
+use trace_lines::ReportLine;
+
+/// Adds for each report in whose critical set a request stands what that proves, or that there is none.
+pub(crate) fn push_critical(
+    story: &mut Story,
+    telling: &Telling,
+    course: &Course,
+    ticket: u64,
+) -> Result<(), AllocError> {
+    let mut found = false;
+    for report in telling.reports {
+        if report.critical.contains(&ticket) {
+            add_report(story, telling, course, report)?;
+            found = true;
+        }
+    }
+    if found {
+        return Ok(());
+    }
+    let mut line = story.line();
+    line.push_str("It stands in no critical set")?;
+    story.add(line)
+}
+
+fn add_report(
+    story: &mut Story,
+    telling: &Telling,
+    course: &Course,
+    report: &ReportLine,
+) -> Result<(), AllocError> {
+    let mut line = story.line();
+    let queue = telling.queue(report.queue);
+    let class = report.class;
+    let worst = report.worst;
+    let count = report.critical.len();
+    let to = course.moment(report.before.saturating_add(report.to));
+    write!(
+        line,
+        "It stands in the critical set of {queue} class {class}: {count} requests had {count} slots up to {to} ms, "
+    )?;
+    write!(line, "so one of them is {worst} ms late at least")?;
+    story.add(line)
+}

@@ -1,0 +1,14 @@
+//! The story of one request of a log in words: when it came, where it waited and for whom, when it was served and how late.
+#![tactic(auto)]
+
+mod chapter;
+mod critical;
+mod lines;
+mod overtaking;
+mod teller;
+
+pub use lines::MOST_LINES;
+pub use teller::{Telling, push_story};
+
+#[cfg(test)]
+mod tests;

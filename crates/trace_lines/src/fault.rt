@@ -1,0 +1,55 @@
+use thiserror::Error;
+
+/// What is wrong with a line of a trace.
+#[derive(Clone, Copy, Debug, PartialEq, Eq, Error)]
+pub enum Cause {
+    /// No line of a trace reads so.
+    #[error("no line of a trace")]
+    Form,
+    /// A moment is earlier than that of the event before it.
+    #[error("a moment before the last event's")]
+    Moment,
+    /// A decision or a report stands before the first event.
+    #[error("no event stands before it")]
+    Place,
+    /// It names one server more than there can be.
+    #[error("a 65th server")]
+    Servers,
+    /// The trace as a whole has too many bytes.
+    #[error("more than 67108864 bytes")]
+    Length,
+}
+
+/// Why a trace wasn't read.
+#[derive(Clone, Copy, Debug, PartialEq, Eq, Error)]
+pub enum TraceError {
+    /// A growth found no memory.
+    #[error("no memory")]
+    NoMemory,
+    /// The first faulty line, from 1, and what is wrong with it; line 0 where the trace is too long.
+    #[error("trace line {line}: {cause}")]
+    Fault { line: usize, cause: Cause },
+}
+
+impl TraceError {
+    pub(crate) fn at(line: usize, cause: Cause) -> TraceError {
+        TraceError::Fault { line, cause }
+    }
+}
+
+/// Why one line wasn't read.
+#[derive(Clone, Copy, Debug, PartialEq, Eq)]
+pub(crate) enum LineError {
+    NoMemory,
+    Faulty(Cause),
+}
+
+impl LineError {
+    /// The same of the line with this number.
+    pub(crate) fn on(self, line: usize) -> TraceError {
+        match self {
+            LineError::NoMemory => TraceError::NoMemory,
+            LineError::Faulty(cause) => TraceError::at(line, cause),
+        }
+    }
+}

@@ -1,0 +1,89 @@
+ghost use Rattle.std.specs.Prelude.{◌≡◌};
+ghost use Rattle.proxy_words.specs.Text.{words};
+ghost use Rattle.trace_lines.specs.Kinds.{is_of_header, is_of_trace, is_trace, of_arrival, of_event, tells};
+
+use proxy_words::{Lines, Words};
+
+/// Whether a text is a trace rather than a script, by its first line that only one of them can have; where none is such a
+/// line the two say the same. One pass at most, and mostly a look at the first event.
+pub fn is_trace(text: &[u8]) -> bool
+    ensures { result ≡ is_trace text.now }
+{
+    let mut lines = Lines::new(text);
+    'lines: while let Some(line) = lines.next() {
+        if let Some(of_trace) = tells(line) {
+            return of_trace;
+        }
+    }
+    false
+}
+
+// Whether a line is one of a trace alone, or of a script alone.
+fn tells(line: &[u8]) -> Option<bool>
+    ensures { result ≡ tells (words line.now) }
+{
+    let mut words = Words::new(line);
+    let first = words.next()?;
+    if is_of_header(first) {
+        return Some(false);
+    }
+    if is_of_trace(first) {
+        return Some(true);
+    }
+    of_event(words)
+}
+
+// By what stands behind a moment.
+fn of_event(mut words: Words) -> Option<bool>
+    ensures { result ≡ of_event words.entry }
+{
+    let name = words.next()?;
+    if name == b"arrive".as_slice() {
+        of_arrival(words)
+    } else {
+        None
+    }
+}
+
+// `C O` is of a script and `T C D NAME` of a trace; both have `C O NAME`, which also reads as `T C D`.
+fn of_arrival(mut words: Words) -> Option<bool>
+    ensures { result ≡ of_arrival words.entry }
+{
+    let _first = words.next()?;
+    let _second = words.next()?;
+    if words.next().is_none() {
+        return Some(false);
+    }
+    if words.next().is_some() {
+        Some(true)
+    } else {
+        None
+    }
+}
+
+fn is_of_header(word: &[u8]) -> bool
+    ensures { result ≡ is_of_header word.now }
+{
+    word == b"places".as_slice()
+        || word == b"log".as_slice()
+        || word == b"retries".as_slice()
+        || word == b"redispatch".as_slice()
+        || word == b"queue-timeout".as_slice()
+        || word == b"server".as_slice()
+}
+
+fn is_of_trace(word: &[u8]) -> bool
+    ensures { result ≡ is_of_trace word.now }
+{
+    word == b"direct".as_slice()
+        || word == b"join".as_slice()
+        || word == b"grant".as_slice()
+        || word == b"move".as_slice()
+        || word == b"free".as_slice()
+        || word == b"retry".as_slice()
+        || word == b"left".as_slice()
+        || word == b"health".as_slice()
+        || word == b"end".as_slice()
+        || word == b"refused".as_slice()
+        || word == b"queue".as_slice()
+}

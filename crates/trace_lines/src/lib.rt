@@ -1,0 +1,21 @@
+//! A trace read back: from its lines to the entries and the reports that they tell of.
+#![tactic(auto)]
+
+mod decision;
+mod event;
+mod fault;
+mod kind;
+mod reader;
+mod report;
+mod servers;
+mod timed;
+mod trace;
+
+pub use fault::{Cause, TraceError};
+pub use kind::is_trace;
+pub use reader::{MOST_BYTES, read_trace};
+pub use report::ReportLine;
+pub use trace::Trace;
+
+#[cfg(test)]
+mod tests;

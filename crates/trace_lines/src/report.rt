@@ -1,0 +1,86 @@
+use crate::event::{class_of, due_of, next, signed_number, ticket};
+use crate::fault::{Cause, LineError};
+use crate::servers::Servers;
+use dispatch_log::Queue;
+use due_key::{Class, Due};
+use proxy_words::{Words, number};
+use std::alloc::Global;
+
+/// What the line of a report says of the requests of one class that were granted slots from one queue in a window.
+#[derive(Debug, Drop)]
+pub struct ReportLine {
+    /// How many entries stand before the window.
+    pub before: usize,
+    pub queue: Queue,
+    pub class: Class,
+    /// How many requests were granted slots.
+    pub granted: usize,
+    /// The greatest lateness in milliseconds.
+    pub worst: i64,
+    /// The due date of the request that is so late.
+    pub due: Due,
+    /// The position of the cut in the window, from 1; 0 where there is none.
+    pub after: usize,
+    /// The position of the worst slot in the window.
+    pub to: usize,
+    /// The tickets of the critical set, in the order of their slots.
+    pub critical: Vec<u64>,
+}
+
+/// The report that a line tells of, by the words behind `queue`.
+pub(crate) fn report_of(
+    alloc: Global,
+    servers: &mut Servers,
+    before: usize,
+    mut words: Words,
+) -> Result<ReportLine, LineError> {
+    let queue = servers.queue(next(&mut words)?)?;
+    let class = class_of(behind(&mut words, b"class")?)?;
+    let granted = position(behind(&mut words, b"granted")?)?;
+    let worst = signed_number(behind(&mut words, b"worst")?)?;
+    let due = due_of(behind(&mut words, b"due")?)?;
+    let after = position(behind(&mut words, b"after")?)?;
+    let to = position(behind(&mut words, b"to")?)?;
+    let critical = critical_of(alloc, words)?;
+    Ok(ReportLine {
+        before,
+        queue,
+        class,
+        granted,
+        worst,
+        due,
+        after,
+        to,
+        critical,
+    })
+}
+
+// `critical T1 T2 ..`, to the end of the line.
+fn critical_of(alloc: Global, mut words: Words) -> Result<Vec<u64>, LineError> {
+    if next(&mut words)? != b"critical".as_slice() {
+        return Err(LineError::Faulty(Cause::Form));
+    }
+    let mut tickets = Vec::new(alloc);
+    for word in words {
+        if tickets.push(ticket(word)?).is_err() {
+            return Err(LineError::NoMemory);
+        }
+    }
+    Ok(tickets)
+}
+
+// The word that follows this one.
+fn behind<'a>(words: &mut Words<'a>, name: &[u8]) -> Result<&'a [u8], LineError> {
+    if next(words)? == name {
+        next(words)
+    } else {
+        Err(LineError::Faulty(Cause::Form))
+    }
+}
+
+fn position(word: &[u8]) -> Result<usize, LineError> {
+    match number(word) {
+        Some(position) => Ok(position as usize),
+        None => Err(LineError::Faulty(Cause::Form)),
+    }
+}

@@ -21,7 +21,6 @@ use verdict::{Cause, Ending, Verdict};
 
 mod events;
 mod overtaking;
-mod threads;
 
 // One server of a limit, eight places, a timeout of 10 ms in queues; one result of a check decides.
 fn dispatcher(alloc: Global, limit: u32) -> Result<Core<Queues>, Fail>

@@ -302,6 +302,26 @@ impl<Q: PendQueue<Key, usize>, N: BoardName> Book<Q, N> {
     {
         self.core.expired(moment)
     }
+
+    /// How many requests may live at once. It says what each book keeps: its log is legal, and what is out at the board is what is
+    /// outstanding of it. `O(1)`.
+    pub fn places(&self) -> usize
+        ensures places { result ≡ N.terms.places }
+        ensures of_terms { self.now.view.terms ≡ N.terms }
+        ensures legal { IsLegal self.now.history }
+        ensures book { IsBook self.now.history self.now.view }
+    {
+        self.core.log();
+        self.core.places()
+    }
+
+    /// The keeper's seat, once nothing more is decided.
+    pub fn into_seat(self) -> KeeperSeat
+        ensures board { result.board ≡ N.board }
+        ensures view { result.view ≡ self.view }
+    {
+        self.keeping.into_seat()
+    }
 }
 
 // The bound of a server that serves so many when its limit is set; 0: none.

@@ -1,0 +1,257 @@
+ghost use Rattle.std.specs.Prelude.{◌≡◌, ◌<◌, ◌↔◌, [], length, IfSome, IfNone, IfOk, IfErr, OnOk, OnErr, IsTrue, Some, pos, ◌+ℤ◌, true};
+ghost use Rattle.std.specs.Sync.Mutex.{mutex_guard_value};
+ghost use Rattle.dispatch_log.specs.declared.entry.Entry.TheVariants.{Arrive, Abort, Tick, Check, Limit};
+ghost use Rattle.dispatch_log.specs.declared.refusal.Refusal.TheVariants.{LogFull};
+ghost use Rattle.dispatch_log.specs.Dispatch.{bound_by};
+ghost use Rattle.dispatch_log.specs.Histories.{first_window, next_window, state_of, effective, refuses_arrival, refuses_abort, refuses_tick, refuses_check, refuses_limit, SomeExpires, RefusedOrNoMemory};
+ghost use Rattle.dispatch_log.specs.Legal.{AddsEvent};
+ghost use Rattle.dispatch_log.specs.Rows.{served};
+ghost use Rattle.grant_board.specs.KeeperCalls.{new_keeper, FindsUnposted, IsClosed};
+ghost use Rattle.grant_desk.specs.Replies.{IsHeld, SomeHeld, SomeStep};
+ghost use Rattle.dispatch_trace.specs.Histories.{HasEntryRoom};
+ghost use Rattle.late_cert.specs.Reports.{AreReports};
+ghost use Rattle.late_cert.specs.Running.{IsWorstIn};
+ghost use Rattle.list_facts.specs.Weights.{AreIn};
+ghost use Rattle.readable_log.specs.Windows.{window_in};
+ghost use Rattle.reporting_core.specs.Lines.{AreLines};
+ghost use Rattle.reporting_core.specs.Reporting.{IsNew};
+ghost use Rattle.outstanding.specs.Books.{terms_of};
+ghost use Rattle.outstanding.specs.Calls.{CarriesOut, TakesBack, SetsBound};
+ghost use Rattle.outstanding.specs.Outstanding.{outstanding};
+ghost use Rattle.outstanding.specs.Turns.{Turns, VisitsSome};
+
+use binom_queue::BinomQueue;
+use dispatch_core::Core;
+use dispatch_log::{Queue, Refusal};
+use dispatch_trace::Ticketed;
+use due_key::{Class, Key, Moment};
+use grant_board::{Board, BoardName, Closing, KeeperSeat, RelaySeat, Return};
+use late_cert::{Reports, Running};
+use locked_book::{Book, Wanted};
+use place_set::PlaceSet;
+use reporting_core::{ServerLine, Window};
+use std::alloc::{AllocError, Global};
+use std::sync::{Mutex, MutexGuard, Wait};
+
+/// The queues that a desk's dispatcher keeps.
+pub type Queues = BinomQueue<Key, usize>;
+
+/// A dispatcher that threads share: its book behind a lock, and the board that N names, which no lock guards.
+///
+/// Each call waits for the lock and is the book's call of that name. No clause can say what the lock held before and after it; what is said is that the
+/// reply is the book's for some state which the lock may have held. The places that a call offered at are added to the caller's set while the
+/// lock is held, for it to wake whoever waits there once the lock is free.
+#[derive(Drop)]
+pub struct Desk<N: BoardName> {
+    book: Mutex<Book<Queues, N>>,
+    board: Board,
+    ghost named: { board ≡ N.board },
+}
+
+impl<N: BoardName> Desk<N> {
+    /// A desk of a dispatcher and a keeper's seat that have done nothing, where the board was opened for the dispatcher's places and limits, and a
+    /// running worst for the dispatcher's servers that was told nothing.
+    pub fn new(core: Core<Queues>, board: Board, seat: KeeperSeat, running: Running) -> Desk<N>
+        requires first { core ≡ first_window core.setup [] }
+        requires board { (board ≡ N.board) × (seat.board ≡ N.board) }
+        requires terms { N.terms ≡ terms_of core.setup }
+        requires seat { seat.view ≡ new_keeper N.terms }
+        requires running { IsNew running (length core.setup.servers) }
+    {
+        Desk {
+            book: Mutex::new(Book::new(core, seat, running)),
+            board,
+        }
+    }
+
+    /// The board, for the seats of threads.
+    pub fn board(&self) -> &Board
+        ensures { result.now ≡ N.board }
+    {
+        &self.board
+    }
+
+    /// A request arrives. Refused as the dispatcher's `arrive`.
+    pub fn arrive<R: Wait>(
+        &self,
+        rt: &R,
+        alloc: Global,
+        moment: Moment,
+        wanted: Wanted,
+        woken: &mut PlaceSet,
+    ) -> Result<Ticketed, Refusal>
+        ensures ok { IfOk result (λ it. SomeStep N.terms (λ old new. AddsEvent old.history new.history (Arrive (effective old.history moment) (record { ticket = it.ticket; class = wanted.class; due = pos (effective old.history moment) +ℤ wanted.offset; pin = wanted.pin; place = it.place })) × CarriesOut old new woken.old woken.new)) }
+        ensures place { IfOk result (λ it. it.place < N.terms.places) }
+        ensures err { IfErr result (λ refusal. SomeHeld N.terms (λ held. RefusedOrNoMemory (refuses_arrival held.history wanted.pin) refusal)) }
+        ensures unchanged { OnErr result (woken.new ≡ woken.old) }
+    {
+        self.enter(rt)
+            .arrive(alloc, &self.board, moment, wanted, woken)
+    }
+
+    /// A request that waits is given up. Refused as the dispatcher's `abort`.
+    pub fn abort<R: Wait>(
+        &self,
+        rt: &R,
+        moment: Moment,
+        ticket: u64,
+        woken: &mut PlaceSet,
+    ) -> Result<(), Refusal>
+        ensures ok { OnOk result (SomeStep N.terms (λ old new. AddsEvent old.history new.history (Abort (effective old.history moment) ticket) × CarriesOut old new woken.old woken.new)) }
+        ensures err { IfErr result (λ refusal. SomeHeld N.terms (λ held. refuses_abort held.history ticket ≡ Some refusal)) }
+        ensures unchanged { OnErr result (woken.new ≡ woken.old) }
+    {
+        self.enter(rt).abort(&self.board, moment, ticket, woken)
+    }
+
+    /// Each request that has waited as long as it may is told so. Refused as the dispatcher's `tick`.
+    pub fn tick<R: Wait>(&self, rt: &R, moment: Moment, woken: &mut PlaceSet) -> Result<(), Refusal>
+        ensures ok { OnOk result (SomeStep N.terms (λ old new. AddsEvent old.history new.history (Tick (effective old.history moment)) × CarriesOut old new woken.old woken.new)) }
+        ensures err { IfErr result (λ refusal. SomeHeld N.terms (λ held. refuses_tick held.history ≡ Some refusal)) }
+        ensures unchanged { OnErr result (woken.new ≡ woken.old) }
+    {
+        self.enter(rt).tick(&self.board, moment, woken)
+    }
+
+    /// A check of a server ended. Refused as the dispatcher's `check`.
+    pub fn check<R: Wait>(
+        &self,
+        rt: &R,
+        moment: Moment,
+        server: usize,
+        ok: bool,
+        woken: &mut PlaceSet,
+    ) -> Result<(), Refusal>
+        ensures ok { OnOk result (SomeStep N.terms (λ old new. AddsEvent old.history new.history (Check (effective old.history moment) server ok) × CarriesOut old new woken.old woken.new)) }
+        ensures err { IfErr result (λ refusal. SomeHeld N.terms (λ held. refuses_check held.history server ≡ Some refusal)) }
+        ensures unchanged { OnErr result (woken.new ≡ woken.old) }
+    {
+        self.enter(rt).check(&self.board, moment, server, ok, woken)
+    }
+
+    /// A server's limit is set: the event, then the server's bound at the board, then the offers. Refused as the dispatcher's `limit`.
+    pub fn limit<R: Wait>(
+        &self,
+        rt: &R,
+        moment: Moment,
+        server: usize,
+        limit: u32,
+        woken: &mut PlaceSet,
+    ) -> Result<(), Refusal>
+        ensures ok { OnOk result (SomeStep N.terms (λ old new. AddsEvent old.history new.history (Limit (effective old.history moment) server limit) × SetsBound old new server (bound_by (record { limit = limit; served = served server (state_of old.history).rows })) woken.old woken.new)) }
+        ensures err { IfErr result (λ refusal. SomeHeld N.terms (λ held. refuses_limit held.history server ≡ Some refusal)) }
+        ensures unchanged { OnErr result (woken.new ≡ woken.old) }
+    {
+        self.enter(rt)
+            .limit(&self.board, moment, server, limit, woken)
+    }
+
+    /// What came back from a place becomes the dispatcher's event. `None` where nothing is posted there. Refused where the log is full:
+    /// the return then stays on the board.
+    pub fn collect_at<R: Wait>(
+        &self,
+        rt: &R,
+        moment: Moment,
+        place: usize,
+        woken: &mut PlaceSet,
+    ) -> Result<Option<Return>, Refusal>
+        requires in_range { place < N.terms.places }
+        ensures some { IfOk result (λ found. IfSome found (λ back. SomeStep N.terms (λ old new. TakesBack old new place (effective old.history moment) back woken.old woken.new))) }
+        ensures none { IfOk result (λ found. IfNone found (SomeStep N.terms (λ old new. FindsUnposted old.view new.view place) × (woken.new ≡ woken.old))) }
+        ensures err { IfErr result (λ refusal. (refusal ≡ LogFull) × SomeHeld N.terms (λ held. refuses_tick held.history ≡ Some LogFull)) }
+        ensures unchanged { OnErr result (woken.new ≡ woken.old) }
+    {
+        self.enter(rt).collect_at(&self.board, moment, place, woken)
+    }
+
+    /// Looks at each place that is out, by rising number, and takes what came back there; then a tick, where a request has waited too long.
+    /// Refused where the log is full: what was taken until then stays taken, and its places are in the set. `O(1)` for each place that is
+    /// out, beside the events.
+    pub fn turn<R: Wait>(&self, rt: &R, moment: Moment, woken: &mut PlaceSet) -> Result<(), Refusal>
+        ensures ok { OnOk result (SomeStep N.terms (λ old new. Turns moment old woken.old new woken.new)) }
+        ensures err { IfErr result (λ refusal. (refusal ≡ LogFull) × SomeHeld N.terms (λ held. refuses_tick held.history ≡ Some LogFull)) }
+        ensures stopped { OnErr result (SomeStep N.terms (λ old new. VisitsSome moment old woken.old new woken.new)) }
+    {
+        let mut book = self.enter(rt);
+        let turned = book.turn(&self.board, moment, woken);
+        // Says what the book keeps after it, too.
+        book.places();
+        turned
+    }
+
+    /// Begins the next window of the log.
+    pub fn roll<R: Wait>(&self, rt: &R) {
+        self.enter(rt).roll();
+    }
+
+    /// The reports of the present window. Fails only where memory is refused.
+    pub fn report<R: Wait>(&self, rt: &R, alloc: Global) -> Result<Reports, AllocError>
+        ensures { IfOk result (λ reports. SomeHeld N.terms (λ held. AreReports (window_in held.history) reports)) }
+    {
+        self.enter(rt).report(alloc)
+    }
+
+    /// A line for each server in file order, of the present window. Fails only where memory is refused.
+    pub fn servers<R: Wait>(&self, rt: &R, alloc: Global) -> Result<Vec<ServerLine>, AllocError>
+        ensures { IfOk result (λ lines. SomeHeld N.terms (λ held. AreLines held.history lines.items)) }
+    {
+        self.enter(rt).servers(alloc)
+    }
+
+    /// The greatest lateness of a queue and class in the present window, in milliseconds; `None` only where none of them was granted a slot.
+    pub fn worst<R: Wait>(&self, rt: &R, queue: Queue, class: Class) -> Option<i64>
+        ensures { SomeHeld N.terms (λ held. IsWorstIn (window_in held.history) queue class result) }
+    {
+        self.enter(rt).worst(queue, class)
+    }
+
+    /// Begins the next window where the log has no room for an event, and hands out what is told of the one that ended; `None` where it has
+    /// room. Where memory is refused nothing changes.
+    pub fn make_room<R: Wait>(&self, rt: &R, alloc: Global) -> Result<Option<Window>, AllocError>
+        ensures none { IfOk result (λ found. IfNone found (SomeHeld N.terms (λ held. HasEntryRoom held.history))) }
+        ensures some { IfOk result (λ found. IfSome found (λ window. SomeStep N.terms (λ old new. (HasEntryRoom old.history → ⊥) × AreReports (window_in old.history) window.reports × AreLines old.history window.servers.items × (new ≡ record old { history = next_window old.history })))) }
+    {
+        self.enter(rt).make_room(alloc)
+    }
+
+    /// The relay's seat as it was, and how many passes it has, each of which is outstanding.
+    pub fn vouch<R: Wait>(&self, rt: &R, relay: RelaySeat) -> (RelaySeat, u64)
+        requires named { relay.board ≡ N.board }
+        ensures back { result.0 ≡ relay }
+        ensures count { result.1 ≡ length relay.view.passes }
+        ensures outstanding { SomeHeld N.terms (λ held. AreIn relay.view.passes (outstanding (state_of held.history).rows)) }
+    {
+        self.enter(rt).vouch(&self.board, relay)
+    }
+
+    /// Whether a tick at this moment would tell a timeout. `O(1)`.
+    pub fn expired<R: Wait>(&self, rt: &R, moment: Moment) -> bool
+        ensures { SomeHeld N.terms (λ held. IsTrue result ↔ SomeExpires held.history moment) }
+    {
+        self.enter(rt).expired(moment)
+    }
+
+    /// Ends the board, once all its seats are joined. What the seats took and posted is what the book offered and collected, beside what is left.
+    pub fn close(self, relay: RelaySeat) -> Closing
+        requires named { relay.board ≡ N.board }
+        requires first { relay.view.first ≡ true }
+        requires settled { relay.view.split ≡ relay.view.joined }
+        ensures { SomeHeld N.terms (λ held. IsClosed held.view relay.view result.left) }
+    {
+        let Desk { book, board } = self;
+        let book = book.into_inner();
+        // Says what the book keeps.
+        book.places();
+        board.close(book.into_seat(), relay)
+    }
+
+    // Takes the lock.
+    fn enter<R: Wait>(&self, rt: &R) -> MutexGuard<'_, Book<Queues, N>>
+        ensures { IsHeld N.terms (mutex_guard_value result) }
+    {
+        let book = self.book.lock(rt);
+        // Says what the book keeps.
+        book.places();
+        book
+    }
+}

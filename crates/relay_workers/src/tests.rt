@@ -4,6 +4,7 @@ use dispatch_log::{ServerSet, Servers, Setup};
 use due_key::Moment;
 use grant_board::{Board, BoardName, Closing, KeeperSeat, Pass, RelaySeat};
 use grant_desk::{Desk, Queues};
+use late_cert::Running;
 use proxy_config::{Config, read};
 use std::alloc::Global;
 use std::io::{self, Read, Write};

@@ -10,8 +10,13 @@ use pend_queue::ListQueue;
 use std::alloc::Global;
 use std::test::Fail;
 
+type Lists = ListQueue<Key, usize>;
+
 // One server that serves one request at a time, four places, and a log of so many entries.
-fn dispatcher(alloc: Global, log: usize) -> Result<ReportingCore<ListQueue<Key, usize>>, Fail> {
+fn dispatcher(alloc: Global, log: usize) -> Result<Core<Lists>, Fail>
+    ensures first { IfOk result (λ core. core ≡ first_window core.setup []) }
+    ensures one_server { IfOk result (λ core. length core.setup.servers ≡ 1) }
+{
     let server = ServerSet {
         limit: 1,
         maxqueue: 0,
@@ -29,7 +34,7 @@ fn dispatcher(alloc: Global, log: usize) -> Result<ReportingCore<ListQueue<Key, 
     if !setup.sound() {
         return Err(Fail::from("not a sound setup"));
     }
-    Ok(ReportingCore::new(Core::new(alloc, setup)?, Running::new(alloc, 1)?))
+    Ok(Core::new(alloc, setup)?)
 }
 
 fn moment(number: u64) -> Result<Moment, Fail> {
@@ -49,7 +54,7 @@ fn serve_one(alloc: Global, core: &mut ReportingCore<ListQueue<Key, usize>>) -> 
 #[test]
 fn the_window_is_reported(rt: HostRuntime) -> Result<(), Fail> {
     let alloc = rt.alloc();
-    let mut core = dispatcher(alloc, 64)?;
+    let mut core = ReportingCore::new(dispatcher(alloc, 64)?, Running::new(alloc, 1)?);
     serve_one(alloc, &mut core)?;
     assert_eq!(rt; core.worst(Queue::Backend, Class::clamp(0)), Some(7));
     assert_eq!(rt; core.worst(Queue::Backend, Class::clamp(1)), None);
@@ -69,7 +74,7 @@ fn the_window_is_reported(rt: HostRuntime) -> Result<(), Fail> {
 #[test]
 fn a_full_log_is_handed_out(rt: HostRuntime) -> Result<(), Fail> {
     let alloc = rt.alloc();
-    let mut core = dispatcher(alloc, 20)?;
+    let mut core = ReportingCore::new(dispatcher(alloc, 20)?, Running::new(alloc, 1)?);
     serve_one(alloc, &mut core)?;
     assert!(rt; !core.has_room());
     let Some(window) = core.make_room(alloc)? else {

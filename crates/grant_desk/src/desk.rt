@@ -14,19 +14,16 @@ ghost use Rattle.outstanding.specs.Calls.{CarriesOut, TakesBack, SetsBound};
 ghost use Rattle.outstanding.specs.Outstanding.{outstanding};
 ghost use Rattle.outstanding.specs.Turns.{Turns, VisitsSome};
 
-use binom_queue::BinomQueue;
 use dispatch_core::Core;
 use dispatch_log::Refusal;
 use dispatch_trace::Ticketed;
 use due_key::{Key, Moment};
 use grant_board::{Board, BoardName, Closing, KeeperSeat, RelaySeat, Return};
 use locked_book::{Book, Wanted};
+use pend_queue::PendQueue;
 use place_set::PlaceSet;
 use std::alloc::Global;
 use std::sync::{Mutex, MutexGuard, Wait};
-
-/// The queues that a desk's dispatcher keeps.
-pub type Queues = BinomQueue<Key, usize>;
 
 /// A dispatcher that threads share: its book behind a lock, and the board that N names, which no lock guards.
 ///
@@ -34,15 +31,15 @@ pub type Queues = BinomQueue<Key, usize>;
 /// reply is the book's for some state which the lock may have held. The places that a call offered at are added to the caller's set while the
 /// lock is held, for it to wake whoever waits there once the lock is free.
 #[derive(Drop)]
-pub struct Desk<N: BoardName> {
-    book: Mutex<Book<Queues, N>>,
+pub struct Desk<Q: PendQueue<Key, usize>, N: BoardName> {
+    book: Mutex<Book<Q, N>>,
     board: Board,
     ghost named: { board ≡ N.board },
 }
 
-impl<N: BoardName> Desk<N> {
+impl<Q: PendQueue<Key, usize>, N: BoardName> Desk<Q, N> {
     /// A desk of a dispatcher and a keeper's seat that have done nothing, where the board was opened for the dispatcher's places and limits.
-    pub fn new(core: Core<Queues>, board: Board, seat: KeeperSeat) -> Desk<N>
+    pub fn new(core: Core<Q>, board: Board, seat: KeeperSeat) -> Desk<Q, N>
         requires first { core ≡ first_window core.setup [] }
         requires board { (board ≡ N.board) × (seat.board ≡ N.board) }
         requires terms { N.terms ≡ terms_of core.setup }
@@ -206,7 +203,7 @@ impl<N: BoardName> Desk<N> {
     }
 
     // Takes the lock.
-    fn enter<R: Wait>(&self, rt: &R) -> MutexGuard<'_, Book<Queues, N>>
+    fn enter<R: Wait>(&self, rt: &R) -> MutexGuard<'_, Book<Q, N>>
         ensures { IsHeld N.terms (mutex_guard_value result) }
     {
         let book = self.book.lock(rt);

@@ -4,7 +4,7 @@
 
 mod desk;
 
-pub use desk::{Desk, Queues};
+pub use desk::Desk;
 
 #[cfg(test)]
 mod tests;

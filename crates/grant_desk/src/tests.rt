@@ -5,13 +5,15 @@ ghost use Rattle.grant_board.specs.RelayCalls.{new_relay};
 ghost use Rattle.grant_board.specs.Views.{terms};
 ghost use Rattle.outstanding.specs.Books.{terms_of};
 
-use crate::{Desk, Queues};
+use crate::Desk;
+use binom_queue::BinomQueue;
 use dispatch_core::Core;
 use dispatch_log::{ServerSet, Servers, Setup};
 use dispatch_trace::Ticketed;
-use due_key::{Class, Moment, Offset};
+use due_key::{Class, Key, Moment, Offset};
 use grant_board::{Board, BoardName, Closing, KeeperSeat, RelaySeat, Taking};
 use locked_book::Wanted;
+use pend_queue::{ListQueue, PendQueue};
 use place_set::PlaceSet;
 use std::alloc::Global;
 use std::marker::Brand;
@@ -23,8 +25,12 @@ mod events;
 mod overtaking;
 mod threads;
 
+type Trees = BinomQueue<Key, usize>;
+
+type Lists = ListQueue<Key, usize>;
+
 // One server of a limit, eight places, a timeout of 10 ms in queues; one result of a check decides.
-fn dispatcher(alloc: Global, limit: u32) -> Result<Core<Queues>, Fail>
+fn dispatcher<Q: PendQueue<Key, usize>>(alloc: Global, limit: u32) -> Result<Core<Q>, Fail>
     ensures first { IfOk result (λ core. core ≡ first_window core.setup []) }
     ensures terms { IfOk result (λ core. terms_of core.setup ≡ terms 8 (limit ∷ [])) }
 {
@@ -65,10 +71,10 @@ fn at(millis: u64) -> Result<Moment, Fail> {
 }
 
 // A request arrives and isn't refused.
-fn arrive<N: BoardName, R: Wait>(
+fn arrive<Q: PendQueue<Key, usize>, N: BoardName, R: Wait>(
     rt: &R,
     alloc: Global,
-    desk: &Desk<N>,
+    desk: &Desk<Q, N>,
     moment: u64,
     wanted: Wanted,
 ) -> Result<Ticketed, Fail>
@@ -82,7 +88,11 @@ fn arrive<N: BoardName, R: Wait>(
 }
 
 // A turn that isn't refused, and the first place that it woke.
-fn turn<N: BoardName, R: Wait>(rt: &R, desk: &Desk<N>, moment: u64) -> Result<Option<usize>, Fail> {
+fn turn<Q: PendQueue<Key, usize>, N: BoardName, R: Wait>(
+    rt: &R,
+    desk: &Desk<Q, N>,
+    moment: u64,
+) -> Result<Option<usize>, Fail> {
     let mut woken = PlaceSet::new();
     let Ok(()) = desk.turn(rt, at(moment)?, &mut woken) else {
         return Err(Fail::from("refused"));

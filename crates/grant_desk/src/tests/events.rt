@@ -18,7 +18,7 @@ struct Told {
 fn tell_each<N: BoardName, R: Wait>(
     rt: &R,
     alloc: Global,
-    core: Core<Queues>,
+    core: Core<Trees>,
     opened: (Board, KeeperSeat, RelaySeat),
 ) -> Result<Told, Fail>
     requires first { core ≡ first_window core.setup [] }
@@ -27,7 +27,7 @@ fn tell_each<N: BoardName, R: Wait>(
     requires seats { (opened.1.view ≡ new_keeper N.terms) × (opened.2.view ≡ new_relay N.terms true) }
 {
     let (board, seat, mut relay) = opened;
-    let desk: Desk<N> = Desk::new(core, board, seat);
+    let desk: Desk<Trees, N> = Desk::new(core, board, seat);
     let served = arrive(rt, alloc, &desk, 0, offset(0))?;
     let aborted = arrive(rt, alloc, &desk, 5, offset(0))?;
     let late = arrive(rt, alloc, &desk, 5, offset(0))?;
@@ -78,7 +78,7 @@ fn each_is_told(rt: HostRuntime) -> Result<(), Fail> {
 fn widen<N: BoardName, R: Wait>(
     rt: &R,
     alloc: Global,
-    core: Core<Queues>,
+    core: Core<Trees>,
     opened: (Board, KeeperSeat, RelaySeat),
 ) -> Result<Closing, Fail>
     requires first { core ≡ first_window core.setup [] }
@@ -87,7 +87,7 @@ fn widen<N: BoardName, R: Wait>(
     requires seats { (opened.1.view ≡ new_keeper N.terms) × (opened.2.view ≡ new_relay N.terms true) }
 {
     let (board, seat, mut relay) = opened;
-    let desk: Desk<N> = Desk::new(core, board, seat);
+    let desk: Desk<Trees, N> = Desk::new(core, board, seat);
     let first = arrive(rt, alloc, &desk, 0, offset(0))?;
     let second = arrive(rt, alloc, &desk, 0, offset(0))?;
     let mut woken = PlaceSet::new();

@@ -11,7 +11,7 @@ use super::*;
 fn overtake<N: BoardName, R: Wait>(
     rt: &R,
     alloc: Global,
-    core: Core<Queues>,
+    core: Core<Trees>,
     opened: (Board, KeeperSeat, RelaySeat),
 ) -> Result<Closing, Fail>
     requires first { core ≡ first_window core.setup [] }
@@ -20,7 +20,7 @@ fn overtake<N: BoardName, R: Wait>(
     requires seats { (opened.1.view ≡ new_keeper N.terms) × (opened.2.view ≡ new_relay N.terms true) }
 {
     let (board, seat, mut relay) = opened;
-    let desk: Desk<N> = Desk::new(core, board, seat);
+    let desk: Desk<Trees, N> = Desk::new(core, board, seat);
     let first = arrive(rt, alloc, &desk, 0, offset(0))?;
     let second = arrive(rt, alloc, &desk, 1, offset(0))?;
     let third = arrive(rt, alloc, &desk, 2, offset(-5))?;

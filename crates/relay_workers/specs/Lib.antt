@@ -1,0 +1,4 @@
+pub mod Admissions
+pub mod Outcomes
+pub mod Seats
+pub mod Tallies

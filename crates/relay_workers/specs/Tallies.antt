@@ -1,0 +1,30 @@
+-- Numbers of clients, each of which stays at its greatest value once it has it.
+use Rattle.std.specs.Prelude.{ℕ, ◌+◌, ◌-◌, ◌^◌, min}
+use Rattle.relay_http.specs.declared.refusing.Code.TheVariants.{BadRequest, BadGateway, Unavailable}
+use Rattle.relay_workers.specs.declared.outcome.Outcome.{Outcome}
+use Rattle.relay_workers.specs.declared.outcome.Outcome.TheVariants.{Answered, Refused, Cut}
+use Rattle.relay_workers.specs.declared.tally.Tally.{Tally}
+
+abbrev pub plus : ℕ → ℕ → ℕ
+plus a b = min (a + b) (2 ^ 64 - 1)
+
+-- one client more
+abbrev pub counted : Tally → Tally
+counted t = record t { clients = plus t.clients 1 }
+
+-- of this outcome
+abbrev pub noted : Outcome → Tally → Tally
+noted Answered t = record (counted t) { answered = plus t.answered 1 }
+noted (Refused BadRequest) t = record (counted t) { bad_requests = plus t.bad_requests 1 }
+noted (Refused BadGateway) t = record (counted t) { bad_gateways = plus t.bad_gateways 1 }
+noted (Refused Unavailable) t = record (counted t) { unavailable = plus t.unavailable 1 }
+noted Cut t = counted t
+
+abbrev pub together : Tally → Tally → Tally
+together a b = record {
+  clients = plus a.clients b.clients;
+  answered = plus a.answered b.answered;
+  bad_requests = plus a.bad_requests b.bad_requests;
+  bad_gateways = plus a.bad_gateways b.bad_gateways;
+  unavailable = plus a.unavailable b.unavailable;
+}

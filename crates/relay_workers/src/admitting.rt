@@ -1,0 +1,101 @@
+ghost use Rattle.std.specs.Prelude.{◌≡◌, ◌≢◌, IfOk, OnOk, IfErr, IfSome, false};
+ghost use Rattle.relay_http.specs.States.{IsFresh};
+ghost use Rattle.relay_http.specs.declared.exchange.Stage.TheVariants as stage;
+ghost use Rattle.relay_http.specs.declared.exchange.Stage.TheVariants.{Asked};
+ghost use Rattle.relay_workers.specs.Admissions.{IsAdmitted};
+ghost use Rattle.relay_workers.specs.declared.outcome.Outcome.TheVariants.{Answered};
+
+use crate::gate::Gate;
+use crate::outcome::Outcome;
+use crate::proxy::{Proxy, Runner};
+use dispatch_trace::Ticketed;
+use due_key::{Key, Moment};
+use grant_board::BoardName;
+use locked_book::Wanted;
+use pend_queue::PendQueue;
+use place_set::PlaceSet;
+use prio_rules::decide;
+use relay_http::{Code, Exchange};
+use req_view::View;
+use std::io::{Read, Write};
+use std::sync::Wait;
+
+/// A client whose request has a place and a ticket.
+#[derive(Drop)]
+pub struct Admitted<C: Read + Write + Drop> {
+    pub client: C,
+    pub view: View,
+    /// Its place and its ticket.
+    pub at: Ticketed,
+}
+
+/// From a client to a place: its request's head is read, and it arrives as the rules wish. Where it doesn't, the client is told so, and its connection is
+/// closed.
+///
+/// Refused with 400 where the head is none that is taken, and with 503 where there is no memory, or the dispatcher refuses: all places are taken, the log is
+/// full, the tickets are spent, or the rules name a server that it hasn't.
+pub fn admit<R: Wait, Q: PendQueue<Key, usize>, N: BoardName, G: Gate + Drop>(
+    rt: &R,
+    proxy: &Proxy<Q, N>,
+    runner: &mut Runner<G>,
+    client: G::Client,
+) -> Result<Admitted<G::Client>, Outcome>
+    requires { IsFresh runner.old.exchange.most runner.old.exchange }
+    ensures ok { IfOk result (λ it. IsAdmitted N.terms proxy.now.config it.view it.at) }
+    ensures asked { OnOk result (runner.new.exchange.stage ≡ Asked) }
+    ensures begun { OnOk result (runner.new.exchange.begun ≡ false) }
+    ensures err { IfErr result (λ outcome. outcome ≢ Answered) }
+    ensures most { runner.new.exchange.most ≡ runner.old.exchange.most }
+{
+    let mut client = client;
+    match runner.exchange.read_request(proxy.alloc, &mut client) {
+        Err(fault) => {
+            let outcome = Outcome::after_reading(fault);
+            Err(tell(&mut runner.exchange, &mut client, outcome))
+        }
+        Ok(view) => match arrive(rt, proxy, &view, runner.gate.moment()) {
+            Some(at) => Ok(Admitted { client, view, at }),
+            None => {
+                let outcome = Outcome::Refused(Code::Unavailable);
+                Err(tell(&mut runner.exchange, &mut client, outcome))
+            }
+        },
+    }
+}
+
+/// The request with this head arrives as the rules wish. None where it is refused.
+pub fn arrive<R: Wait, Q: PendQueue<Key, usize>, N: BoardName>(
+    rt: &R,
+    proxy: &Proxy<Q, N>,
+    view: &View,
+    moment: Moment,
+) -> Option<Ticketed>
+    ensures { IfSome result (λ ticket. IsAdmitted N.terms proxy.now.config view.now ticket) }
+{
+    let wish = decide(&proxy.config, view);
+    let wanted = Wanted {
+        class: wish.class,
+        offset: wish.offset,
+        pin: wish.pin,
+    };
+    let mut woken = PlaceSet::new();
+    proxy
+        .desk
+        .arrive(rt, proxy.alloc, moment, wanted, &mut woken)
+        .ok()
+}
+
+/// Tells a client what it is refused with, where it is refused.
+pub(crate) fn tell<W: Write>(exchange: &mut Exchange, client: &mut W, outcome: Outcome) -> Outcome
+    requires begun { exchange.old.begun ≡ false }
+    requires unanswered { (outcome ≢ Answered) × (exchange.old.stage ≢ stage.Answered) }
+    ensures same { result ≡ outcome }
+    ensures unanswered { (result ≢ Answered) × (exchange.new.stage ≢ stage.Answered) }
+    ensures most { exchange.new.most ≡ exchange.old.most }
+{
+    if let Outcome::Refused(code) = outcome {
+        // Where the client is gone, nobody is told.
+        let _ = exchange.refuse(code, client);
+    }
+    outcome
+}

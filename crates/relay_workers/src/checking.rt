@@ -1,0 +1,63 @@
+use crate::gate::{Gate, Pause};
+use crate::proxy::Proxy;
+use due_key::{Key, Moment};
+use grant_board::BoardName;
+use pend_queue::PendQueue;
+use std::sync::Wait;
+use std::sync::atomic::{AtomicBool, Ordering};
+
+const MOST_SERVERS: usize = 64;
+
+/// Has each server with `check` checked, at once and then whenever its `inter` has passed since its last check was over, and tells the dispatcher. It ends when it is told to
+/// stop, or its pauses are spent. It takes no memory.
+pub fn checker<R: Wait, Q: PendQueue<Key, usize>, N: BoardName, G: Gate, P: Pause>(
+    rt: &R,
+    proxy: &Proxy<Q, N>,
+    gate: &mut G,
+    pause: &mut P,
+    stop: &AtomicBool,
+) {
+    let mut due = [Moment::zero(); MOST_SERVERS];
+    pause.begin();
+    for _ in rt.forever() {
+        if stop.load(Ordering::SeqCst) {
+            return;
+        }
+        check_each(rt, proxy, gate, &mut due);
+        if !pause.turn() {
+            return;
+        }
+    }
+}
+
+// One look at each server whose check is due.
+fn check_each<R: Wait, Q: PendQueue<Key, usize>, N: BoardName, G: Gate>(
+    rt: &R,
+    proxy: &Proxy<Q, N>,
+    gate: &mut G,
+    due: &mut [Moment; MOST_SERVERS],
+) {
+    let now = gate.moment();
+    let servers = proxy.config.servers.as_slice();
+    for (number, next) in due.iter_mut().enumerate() {
+        let Some(checks) = servers.get(number).and_then(|server| server.check) else {
+            continue;
+        };
+        if *next > now {
+            continue;
+        }
+        if let Some(ok) = gate.probe(number) {
+            *next = after(now, checks.inter);
+            proxy.note_check(rt, now, number, ok);
+        }
+    }
+}
+
+// So many milliseconds later, or the last moment that there is.
+fn after(moment: Moment, millis: u64) -> Moment {
+    let last = (1 << 62) - 1;
+    match Moment::new(moment.get().saturating_add(millis).min(last)) {
+        Some(later) => later,
+        None => unreachable!(),
+    }
+}

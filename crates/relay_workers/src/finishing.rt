@@ -1,0 +1,119 @@
+ghost use Rattle.std.specs.Prelude.{◌≡◌, [], ◌∷◌, ◌++◌, false, Ok, Some, IfOk, IfErr, OnOk, OnErr, IfSome, IfNone, ◌↔◌};
+ghost use Rattle.grant_board.specs.Views.{return_of};
+ghost use Rattle.relay_http.specs.declared.exchange.Stage.TheVariants as stage;
+ghost use Rattle.relay_http.specs.States.{Serves};
+ghost use Rattle.relay_workers.specs.Outcomes.{after_telling};
+ghost use Rattle.relay_workers.specs.Seats.{IsSameSeat};
+ghost use Rattle.relay_workers.specs.declared.outcome.Outcome.TheVariants.{Answered};
+ghost use Rattle.verdict.specs.declared.Cause.{Cause};
+ghost use Rattle.verdict.specs.declared.Ending.TheVariants as ending;
+ghost use Rattle.verdict.specs.declared.Verdict.TheVariants.{Told};
+
+use crate::admitting::{Admitted, tell};
+use crate::gate::Gate;
+use crate::outcome::Outcome;
+use crate::proxy::{Proxy, Runner};
+use crate::waiting::Granted;
+use due_key::Key;
+use grant_board::{BoardName, Pass, RelaySeat};
+use pend_queue::PendQueue;
+use relay_http::Exchange;
+use std::alloc::Global;
+use std::io::{Read, Write};
+use std::sync::Wait;
+use verdict::{Ending, Verdict};
+
+/// From a pass to the answer: the request is handed to the server of the pass and its answer to the client, the pass is posted, and a turn hands the slot on. A
+/// client that was told why it has no slot gets 503, or nothing where it gave up.
+///
+/// `Err` where there is no connection to the server: the request waits anew, and may be tried again. `Ok` is the end of the exchange.
+pub fn finish<R: Wait, Q: PendQueue<Key, usize>, N: BoardName, G: Gate + Drop>(
+    rt: &R,
+    proxy: &Proxy<Q, N>,
+    seat: &mut RelaySeat,
+    runner: &mut Runner<G>,
+    granted: Granted<G::Client>,
+) -> Result<Outcome, Admitted<G::Client>>
+    requires named { (seat.old.board ≡ N.board) × (seat.old.view.terms ≡ N.terms) }
+    requires holds { seat.old.view.passes ≡ granted.pass ∷ [] }
+    requires asked { (runner.old.exchange.stage ≡ stage.Asked) × (runner.old.exchange.begun ≡ false) }
+    ensures idle { seat.new.view.passes ≡ [] }
+    ensures done { OnOk result (seat.new.view.posts ≡ seat.old.view.posts ++ return_of granted.pass ending.Done ∷ []) }
+    ensures failed { OnErr result ((seat.new.view.posts ≡ seat.old.view.posts ++ return_of granted.pass ending.Failed ∷ []) × Serves granted.pass.verdict) }
+    ensures told { (cause : Cause) → granted.pass.verdict ≡ Told cause → result ≡ Ok (after_telling cause) }
+    ensures answered { IfOk result (λ outcome. (outcome ≡ Answered) ↔ (runner.new.exchange.stage ≡ stage.Answered)) }
+    ensures again { IfErr result (λ it. (it.at ≡ granted.admitted.at) × (it.view ≡ granted.admitted.view) × (runner.new.exchange ≡ runner.old.exchange)) }
+    ensures same { IsSameSeat seat.old seat.new }
+    ensures most { runner.new.exchange.most ≡ runner.old.exchange.most }
+{
+    let Granted { admitted, pass } = granted;
+    let mut admitted = admitted;
+    let carried = carry(proxy.alloc, &pass, runner, &mut admitted);
+    let ending = match carried {
+        Some(_) => Ending::Done,
+        None => Ending::Failed,
+    };
+    seat.post(proxy.desk.board(), pass, ending);
+    proxy.turn(rt, &mut runner.gate);
+    carried.ok_or(admitted)
+}
+
+// What a pass asks for is done. None where there is no connection to its server.
+fn carry<G: Gate + Drop>(
+    alloc: Global,
+    pass: &Pass,
+    runner: &mut Runner<G>,
+    admitted: &mut Admitted<G::Client>,
+) -> Option<Outcome>
+    requires { (runner.old.exchange.stage ≡ stage.Asked) × (runner.old.exchange.begun ≡ false) }
+    ensures told { (cause : Cause) → pass.now.verdict ≡ Told cause → result ≡ Some (after_telling cause) }
+    ensures answered { IfSome result (λ outcome. (outcome ≡ Answered) ↔ (runner.new.exchange.stage ≡ stage.Answered)) }
+    ensures none { IfNone result (Serves pass.now.verdict × (runner.new.exchange ≡ runner.old.exchange)) }
+    ensures kept { (admitted.new.at ≡ admitted.old.at) × (admitted.new.view ≡ admitted.old.view) }
+    ensures most { runner.new.exchange.most ≡ runner.old.exchange.most }
+{
+    match pass.verdict() {
+        Verdict::Told(cause) => {
+            let outcome = Outcome::after_telling(cause);
+            Some(tell(&mut runner.exchange, &mut admitted.client, outcome))
+        }
+        Verdict::Serve(_) => {
+            let mut server = runner.gate.connect(pass)?;
+            Some(hand_on(alloc, pass, &mut runner.exchange, admitted, &mut server))
+        }
+    }
+}
+
+// The request goes to the server, and the answer comes back.
+fn hand_on<C: Read + Write + Drop, S: Read + Write>(
+    alloc: Global,
+    pass: &Pass,
+    exchange: &mut Exchange,
+    admitted: &mut Admitted<C>,
+    server: &mut S,
+) -> Outcome
+    requires asked { (exchange.old.stage ≡ stage.Asked) × (exchange.old.begun ≡ false) }
+    requires serves { Serves pass.now.verdict }
+    ensures answered { (result ≡ Answered) ↔ (exchange.new.stage ≡ stage.Answered) }
+    ensures kept { (admitted.new.at ≡ admitted.old.at) × (admitted.new.view ≡ admitted.old.view) }
+    ensures most { exchange.new.most ≡ exchange.old.most }
+{
+    let view = &admitted.view;
+    let client = &mut admitted.client;
+    if exchange.go_on(view, client).is_err() {
+        return Outcome::Cut;
+    }
+    if let Err(fault) = exchange.forward(pass, view, client, server) {
+        return tell(exchange, client, Outcome::after_forwarding(fault));
+    }
+    match exchange.answer(alloc, pass, view, server, client) {
+        Ok(()) => Outcome::Answered,
+        Err(fault) => {
+            if exchange.begun() {
+                Outcome::Cut
+            } else {
+                tell(exchange, client, Outcome::after_answering(fault))
+            }
+        }
+    }
+}

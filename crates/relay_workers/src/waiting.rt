@@ -1,0 +1,64 @@
+ghost use Rattle.std.specs.Prelude.{◌≡◌, ◌<◌, [], ◌∷◌, ◌++◌, IfSome, IfNone};
+ghost use Rattle.relay_workers.specs.Seats.{IsSameSeat};
+
+use crate::admitting::Admitted;
+use crate::gate::{Gate, Pause};
+use crate::proxy::{Hand, Proxy};
+use due_key::Key;
+use grant_board::{BoardName, Pass, RelaySeat, Taking};
+use pend_queue::PendQueue;
+use std::io::{Read, Write};
+use std::sync::Wait;
+
+/// A client whose request has its pass. It has no `Drop`: the pass is posted.
+pub struct Granted<C: Read + Write + Drop> {
+    pub admitted: Admitted<C>,
+    pub pass: Pass,
+}
+
+/// From a place to a pass: tries to take it, and between two tries asks whether the client is gone, pauses, and turns. A request whose client
+/// is gone, or whose pauses are spent, is given up; where that is refused its pass is there, and is taken as any.
+///
+/// None where all pauses were made and no pass is there even then: the place stays busy.
+pub fn wait<R: Wait, Q: PendQueue<Key, usize>, N: BoardName, G: Gate + Drop, P: Pause + Drop>(
+    rt: &R,
+    proxy: &Proxy<Q, N>,
+    seat: &mut RelaySeat,
+    hand: &mut Hand<G, P>,
+    admitted: Admitted<G::Client>,
+) -> Option<Granted<G::Client>>
+    requires named { (seat.old.board ≡ N.board) × (seat.old.view.terms ≡ N.terms) }
+    requires idle { seat.old.view.passes ≡ [] }
+    requires place { admitted.at.place < N.terms.places }
+    ensures granted { IfSome result (λ it. seat.new.view.passes ≡ it.pass ∷ []) }
+    ensures its_own { IfSome result (λ it. (it.pass.place ≡ admitted.at.place) × (it.pass.ticket ≡ admitted.at.ticket)) }
+    ensures its_request { IfSome result (λ it. (it.admitted.at ≡ admitted.at) × (it.admitted.view ≡ admitted.view)) }
+    ensures none { IfNone result (seat.new.view.passes ≡ []) }
+    ensures posts { seat.new.view.posts ≡ seat.old.view.posts }
+    ensures same { IsSameSeat seat.old seat.new }
+    ensures exchange { hand.new.runner.exchange ≡ hand.old.runner.exchange }
+{
+    let mut admitted = admitted;
+    let mut given_up = false;
+    let mut spent = false;
+    for _ in rt.forever() {
+        match seat.try_take(proxy.desk.board(), admitted.at.place, admitted.at.ticket) {
+            Taking::Taken(pass) => return Some(Granted { admitted, pass }),
+            Taking::NotYet => {}
+        }
+        if spent {
+            return None;
+        }
+        if !given_up && hand.runner.gate.gone(&mut admitted.client) {
+            proxy.give_up(rt, &mut hand.runner.gate, admitted.at.ticket);
+            given_up = true;
+            continue;
+        }
+        if !hand.pause.turn() {
+            proxy.give_up(rt, &mut hand.runner.gate, admitted.at.ticket);
+            spent = true;
+        }
+        proxy.turn(rt, &mut hand.runner.gate);
+    }
+    unreachable!()
+}

@@ -1,0 +1,93 @@
+ghost use Rattle.std.specs.Prelude.{◌≡◌, []};
+ghost use Rattle.relay_http.specs.States.{IsFresh};
+ghost use Rattle.relay_workers.specs.Seats.{IsSameSeat};
+
+use crate::admitting::admit;
+use crate::finishing::finish;
+use crate::gate::{Gate, Pause};
+use crate::idle::Idle;
+use crate::outcome::Outcome;
+use crate::proxy::{Hand, Proxy, Runner};
+use crate::tally::Tally;
+use crate::waiting::wait;
+use due_key::Key;
+use grant_board::{BoardName, RelaySeat};
+use pend_queue::PendQueue;
+use relay_http::Exchange;
+use std::sync::Wait;
+use thiserror::Error;
+
+/// Reads and writes that one exchange may make.
+pub const TURNS: u64 = 1_000_000_000;
+
+/// Why a worker ended while clients still came.
+#[derive(Clone, Copy, Debug, PartialEq, Eq, Error)]
+pub enum Stopped {
+    /// Its exchange found no memory, or there was none to start a thread with.
+    #[error("no memory")]
+    NoMemory,
+    /// All pauses of a wait were made, and no pass came even then.
+    #[error("turns spent")]
+    PausesSpent,
+}
+
+/// Serves one client after the other, until no more come. It takes 80 KiB for an exchange, once, beside what each request's head takes.
+pub fn worker<R: Wait, Q: PendQueue<Key, usize>, N: BoardName, G: Gate + Drop, P: Pause + Drop>(
+    rt: &R,
+    proxy: &Proxy<Q, N>,
+    idle: &mut Idle<N>,
+    gate: G,
+    pause: P,
+) -> Result<Tally, Stopped>
+    ensures { IsSameSeat idle.old.seat idle.new.seat }
+{
+    let Ok(exchange) = Exchange::new(proxy.alloc, TURNS) else {
+        return Err(Stopped::NoMemory);
+    };
+    let mut hand = Hand {
+        runner: Runner { gate, exchange },
+        pause,
+    };
+    let mut tally = Tally::zero();
+    for _ in rt.forever() {
+        let Some(client) = hand.runner.gate.next() else {
+            return Ok(tally);
+        };
+        hand.pause.begin();
+        hand.runner.exchange.renew();
+        let Some(outcome) = attend(rt, proxy, &mut idle.seat, &mut hand, client) else {
+            return Err(Stopped::PausesSpent);
+        };
+        tally.note(outcome);
+    }
+    unreachable!()
+}
+
+// One client, from its request to the end of its answer. None where its pauses were spent.
+fn attend<R: Wait, Q: PendQueue<Key, usize>, N: BoardName, G: Gate + Drop, P: Pause + Drop>(
+    rt: &R,
+    proxy: &Proxy<Q, N>,
+    seat: &mut RelaySeat,
+    hand: &mut Hand<G, P>,
+    client: G::Client,
+) -> Option<Outcome>
+    requires named { (seat.old.board ≡ N.board) × (seat.old.view.terms ≡ N.terms) }
+    requires idle { seat.old.view.passes ≡ [] }
+    requires fresh { IsFresh hand.old.runner.exchange.most hand.old.runner.exchange }
+    ensures idle { seat.new.view.passes ≡ [] }
+    ensures same { IsSameSeat seat.old seat.new }
+    ensures most { hand.new.runner.exchange.most ≡ hand.old.runner.exchange.most }
+{
+    let mut admitted = match admit(rt, proxy, &mut hand.runner, client) {
+        Ok(admitted) => admitted,
+        Err(outcome) => return Some(outcome),
+    };
+    for _ in rt.forever() {
+        let granted = wait(rt, proxy, seat, hand, admitted)?;
+        match finish(rt, proxy, seat, &mut hand.runner, granted) {
+            Ok(outcome) => return Some(outcome),
+            Err(again) => admitted = again,
+        }
+    }
+    unreachable!()
+}

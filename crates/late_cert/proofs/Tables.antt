@@ -31,7 +31,8 @@ got_set xs at new other there place = go (place == at) refl
   where
     go : (b : Bool) → (place == at) ≡ b → unwrap_or (slice_get (set xs at new) place) other ≡ cond b new (unwrap_or (slice_get xs place) other)
     go true e =
-        subst (λ k. unwrap_or (slice_get (set xs at new) k) other ≡ new) (sym ((Decides-eqb place at).0 e)) (ap (λ o. unwrap_or o other) (set_here xs at new there))
+        subst (λ k. unwrap_or (slice_get (set xs at new) k) other ≡ new) (sym ((Decides-eqb place at).0 e))
+        (ap (λ o. unwrap_or o other) (set_here xs at new there))
     go false e = ap (λ o. unwrap_or o other) (get-set_other xs at place new (λ same. let t : (place == at) ≡ true = (Decides-eqb place at).1 same in cc))
 
 -- what a row says once the worst of a server's queue was set
@@ -59,7 +60,8 @@ same_row class other in_range other_in_range same =
 -- the worst of each queue and class once a row was told of a grant
 pub noted : (table : List (Option Worsts)) (at : ℕ) (row new : Worsts) (queue : Queue) (class late : ℤ) → at ≡ row_number class → at < length table
     → row_at table at ≡ Some row → IsBetween LOWEST_CLASS HIGHEST_CLASS class
-    → ((other : Queue) → worst_of new other ≡ cond (same_queue other queue) (Some (option_map_or (int_max late) (worst_of row queue) late)) (worst_of row other))
+    → ((other : Queue) → worst_of new other ≡ cond (same_queue other queue) (Some (option_map_or (int_max late) (worst_of row queue) late))
+    (worst_of row other))
     → (other : Queue) (number : ℤ) → IsBetween LOWEST_CLASS HIGHEST_CLASS number
     → worst_at (set table at (Some new)) other number ≡ worst_with (worst_at table) queue class late other number
 noted table at row new queue class late numbered there stands in_range told other number number_in_range = go (int_eq number class) refl

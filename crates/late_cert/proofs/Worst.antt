@@ -75,7 +75,8 @@ among_with gs g before queue class is =
     subst (λ l. IsGreatest l (worst_with before g.queue g.class (late_by g) queue class)) (sym parts) (go (is_of queue class g) refl)
   where
     parts : latenesses_of queue class (gs ++ g ∷ []) ≡ latenesses_of queue class gs ++ map late_by (filter (is_of queue class) (g ∷ []))
-    parts = ap (map late_by) (filter-append (is_of queue class) gs (g ∷ [])) ∙ map-append late_by (filter (is_of queue class) gs) (filter (is_of queue class) (g ∷ []))
+    parts = ap (map late_by) (filter-append (is_of queue class) gs (g ∷ []))
+        ∙ map-append late_by (filter (is_of queue class) gs) (filter (is_of queue class) (g ∷ []))
 
     go : (b : Bool) → is_of queue class g ≡ b → IsGreatest (latenesses_of queue class gs ++ map late_by (cond b (g ∷ []) []))
         (cond b (Some (option_map_or (int_max (late_by g)) (before g.queue g.class) (late_by g))) (before queue class))
@@ -98,7 +99,8 @@ own_latenesses window readable queue class = go (grants window) (timely window r
         by : (b : Bool) → map (own_lateness window) (map (λ g. g.stay) (filter (is_of queue class) gs)) ≡ latenesses_of queue class gs
             → map (own_lateness window) (map (λ g. g.stay) (cond b (g ∷ filter (is_of queue class) gs) (filter (is_of queue class) gs)))
             ≡ map late_by (cond b (g ∷ filter (is_of queue class) gs) (filter (is_of queue class) gs))
-        by true rest = ap (λ z. z ∷ map (own_lateness window) (map (λ g. g.stay) (filter (is_of queue class) gs))) (lateness_of window g all.0) ∙ ap (λ l. late_by g ∷ l) rest
+        by true rest = ap (λ z. z ∷ map (own_lateness window) (map (λ g. g.stay) (filter (is_of queue class) gs))) (lateness_of window g all.0)
+            ∙ ap (λ l. late_by g ∷ l) rest
         by false rest = rest
 
 -- the worst so far of a queue and class is what a sound report of it says

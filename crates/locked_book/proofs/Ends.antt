@@ -1,6 +1,7 @@
 -- Returns, new limits and windows: what they owe.
 use Rattle.std.proofs.Common.{◌≡◌, ℕ, zero, suc, ◌+◌, ◌-◌, ◌*◌, ◌<◌, ◌≤◌, ◌==◌, max, min, nat_lt, nat_le, not, Bool, true, false, cond}
-use Rattle.std.proofs.Common.{List, [], ◌∷◌, ◌++◌, Option, None, Some, map, drop, length, set, is_none, ◌⊎◌, inl, inr, IfOk, IfSome, IfNone, OnErr, Result, Ok, Err, refl, ap, sym, ◌∙◌, subst, arith}
+use Rattle.std.proofs.Common.{List, [], ◌∷◌, ◌++◌, Option, None, Some, map, drop, length, set, is_none, ◌⊎◌, inl}
+use Rattle.std.proofs.Common.{inr, IfOk, IfSome, IfNone, OnErr, Result, Ok, Err, refl, ap, sym, ◌∙◌, subst, arith}
 use Rattle.std.specs.Option.{option_map_or}
 use Rattle.std.proofs.lemmas.Bool.Decides.{nat_tests}
 use Rattle.std.proofs.lemmas.List.{append-nil, length-map}

@@ -105,7 +105,10 @@ module _ (P : ℤ → Type 0) where
 -- entries that are no events are no arrivals
 none_arrive : (P : ℤ → Type 0) (es : List Entry) → All (λ entry. begins_event entry ≡ false) es → ArriveSo P es
 none_arrive P [] none = tt
-none_arrive P (e ∷ es) none = (by_entry e (All-head (λ x. begins_event x ≡ false) e es none), none_arrive P es (All-tail (λ x. begins_event x ≡ false) e es none))
+none_arrive P (e ∷ es) none = (
+  by_entry e (All-head (λ x. begins_event x ≡ false) e es none),
+  none_arrive P es (All-tail (λ x. begins_event x ≡ false) e es none),
+)
   where
     by_entry : (x : Entry) → begins_event x ≡ false → IfSome (arrival_in x) (λ arrival. P arrival.class)
     by_entry (Arrive m a) is = false_true (sym is)
@@ -223,7 +226,8 @@ module _ (h new : History) (e : Entry) (running : Running) (queues : running.ser
 -- the window that a dispatcher's log is
 pub same_window : (log : Recorded) (h : History) → log.base ≡ h.base → log.entries ≡ h.log → window_of log ≡ window_in h
 same_window log h base entries =
-    ap (λ (b : State). record { base = base_rows b.rows; entries = log.entries }) base ∙ ap (λ es. record { base = base_rows h.base.rows; entries = es }) entries
+    ap (λ (b : State). record { base = base_rows b.rows; entries = log.entries }) base
+    ∙ ap (λ es. record { base = base_rows h.base.rows; entries = es }) entries
 
 -- what a running worst asks before it is told of the grants of a log from a number on
 pub record IsReady (log : Recorded) (before : List SlotGrant) (running : Running) : Type 0 where
@@ -241,7 +245,8 @@ ready h new running was now before tells worst listed same next =
       from = subst (λ (l : List SlotGrant). length l ≤ length (grants (window_of now))) (sym all)
           (subst (λ (l : List SlotGrant). length (grants (window_in h)) ≤ length l) (sym after) tells.from);
       told = subst (λ l. IsWorstAmong l running)
-          (sym (ap (λ (l : List SlotGrant). take (length l) (grants (window_of now))) all ∙ ap (take (length (grants (window_in h)))) after ∙ tells.told)) worst;
+          (sym (ap (λ (l : List SlotGrant). take (length l) (grants (window_of now))) all ∙ ap (take (length (grants (window_in h)))) after
+          ∙ tells.told)) worst;
       room = subst (AllByRecursion (HasRoomFor running))
           (sym (ap (λ (l : List SlotGrant). drop (length l) (grants (window_of now))) all ∙ ap (drop (length (grants (window_in h)))) after)) tells.room;
     }
@@ -264,7 +269,8 @@ pub reserved : (h : History) (running later : Running) → IsReporting h running
     → IsReporting h later
 reserved h running later is room worst servers = record {
   queues = servers ∙ is.queues;
-  worst = λ queue class in_range. subst (IsGreatest (latenesses_of queue class (grants (window_in h)))) (sym (worst queue class)) (is.worst queue class in_range);
+  worst = λ queue class in_range. subst (IsGreatest (latenesses_of queue class (grants (window_in h)))) (sym (worst queue class))
+      (is.worst queue class in_range);
   room = classes_on (λ class. IsTrue (has_room running class)) (λ class. IsTrue (has_room later class)) room (base_rows h.base.rows) h.log is.room;
 }
 

@@ -17,7 +17,8 @@ roomy c =
     let all : AllByRecursion (HasRoomFor c.args.self.now) (drop c.args.from gs) =
     subst (λ l. AllByRecursion (HasRoomFor c.args.self.now) (drop c.args.from l)) (sym c.grants-grants.ensures.grants) c.requires.room in
     subst (HasRoomFor c.args.self.now) (sym c.index-grants-number.is)
-    (from_one_on (HasRoomFor c.args.self.now) gs c.args.from c.loop-number.number c.index-grants-number.result all c.loop-number.auto.number c.loop-number-test.true)
+    (from_one_on (HasRoomFor c.args.self.now) gs c.args.from c.loop-number.number c.index-grants-number.result all c.loop-number.auto.number
+    c.loop-number-test.true)
 
 pub granted-requires-clause-queue : goal.granted-requires-clause-queue
 granted-requires-clause-queue c =
@@ -39,7 +40,8 @@ loop-number-preserved c =
       worst = λ queue class in_range.
           subst (λ o. IsGreatest (latenesses_of queue class (take (c.loop-number.number + 1) gs)) o) (sym (c.granted.ensures.worst queue class in_range))
           (subst (λ l. IsGreatest (latenesses_of queue class l) (worst_with (worst_so_far was) g.queue g.class told queue class)) (sym more)
-          (subst (λ z. IsGreatest (latenesses_of queue class (take c.loop-number.number gs ++ g ∷ [])) (worst_with (worst_so_far was) g.queue g.class z queue class))
+          (subst (λ z. IsGreatest (latenesses_of queue class (take c.loop-number.number gs ++ g ∷ []))
+          (worst_with (worst_so_far was) g.queue g.class z queue class))
           (sym late)
           (among_with (take c.loop-number.number gs) g (worst_so_far was) queue class (c.loop-number.invariant.worst queue class in_range))));
       room = λ class. c.granted.ensures.room class ∙ c.loop-number.invariant.room class;

@@ -9,7 +9,6 @@ use crate::gate::Gate;
 use crate::outcome::Outcome;
 use crate::proxy::{Proxy, Runner};
 use dispatch_trace::Ticketed;
-use due_key::Moment;
 use grant_board::BoardName;
 use locked_book::Wanted;
 use place_set::PlaceSet;
@@ -52,7 +51,7 @@ pub fn admit<R: Wait, N: BoardName, G: Gate + Drop>(
             let outcome = Outcome::after_reading(fault);
             Err(tell(&mut runner.exchange, &mut client, outcome))
         }
-        Ok(view) => match arrive(rt, proxy, &view, runner.gate.moment()) {
+        Ok(view) => match arrive(rt, proxy, &mut runner.gate, &view) {
             Some(at) => Ok(Admitted { client, view, at }),
             None => {
                 let outcome = Outcome::Refused(Code::Unavailable);
@@ -63,11 +62,11 @@ pub fn admit<R: Wait, N: BoardName, G: Gate + Drop>(
 }
 
 /// The request with this head arrives as the rules wish. None where it is refused.
-pub fn arrive<R: Wait, N: BoardName>(
+pub fn arrive<R: Wait, N: BoardName, G: Gate>(
     rt: &R,
     proxy: &Proxy<N>,
+    gate: &mut G,
     view: &View,
-    moment: Moment,
 ) -> Option<Ticketed>
     ensures { IfSome result (λ ticket. IsAdmitted N.terms proxy.now.config view.now ticket) }
 {
@@ -77,11 +76,13 @@ pub fn arrive<R: Wait, N: BoardName>(
         offset: wish.offset,
         pin: wish.pin,
     };
-    let mut woken = PlaceSet::new();
-    proxy
-        .desk
-        .arrive(rt, proxy.alloc, moment, wanted, &mut woken)
-        .ok()
+    let moment = gate.moment();
+    let arrived = proxy.with_room(rt, gate, || {
+        proxy
+            .desk
+            .arrive(rt, proxy.alloc, moment, wanted, &mut PlaceSet::new())
+    });
+    arrived.ok()
 }
 
 /// Tells a client what it is refused with, where it is refused.

@@ -1,13 +1,14 @@
-ghost use Rattle.std.specs.Prelude.{◌≡◌, ◌≢◌, IfOk, OnOk, IfErr, IfSome, false};
+ghost use Rattle.std.specs.Prelude.{◌≡◌, ◌≢◌, IfOk, OnOk, IfErr, false};
 ghost use Rattle.relay_http.specs.States.{IsFresh};
 ghost use Rattle.relay_http.specs.declared.exchange.Stage.TheVariants as stage;
 ghost use Rattle.relay_http.specs.declared.exchange.Stage.TheVariants.{Asked};
-ghost use Rattle.relay_workers.specs.Admissions.{IsAdmitted};
+ghost use Rattle.relay_workers.specs.Admissions.{IsAdmitted, IsTurnedAway};
 ghost use Rattle.relay_workers.specs.declared.outcome.Outcome.TheVariants.{Answered};
 
 use crate::gate::Gate;
 use crate::outcome::Outcome;
 use crate::proxy::{Proxy, Runner};
+use dispatch_log::Refusal;
 use dispatch_trace::Ticketed;
 use grant_board::BoardName;
 use locked_book::Wanted;
@@ -52,8 +53,8 @@ pub fn admit<R: Wait, N: BoardName, G: Gate + Drop>(
             Err(tell(&mut runner.exchange, &mut client, outcome))
         }
         Ok(view) => match arrive(rt, proxy, &mut runner.gate, &view) {
-            Some(at) => Ok(Admitted { client, view, at }),
-            None => {
+            Ok(at) => Ok(Admitted { client, view, at }),
+            Err(_) => {
                 let outcome = Outcome::Refused(Code::Unavailable);
                 Err(tell(&mut runner.exchange, &mut client, outcome))
             }
@@ -61,14 +62,16 @@ pub fn admit<R: Wait, N: BoardName, G: Gate + Drop>(
     }
 }
 
-/// The request with this head arrives as the rules wish. None where it is refused.
+/// The request with this head arrives as the rules wish. Refused as the dispatcher's `arrive`, where the log is full only if there is no memory for the reports of its
+/// window, or the next window is full as well.
 pub fn arrive<R: Wait, N: BoardName, G: Gate>(
     rt: &R,
     proxy: &Proxy<N>,
     gate: &mut G,
     view: &View,
-) -> Option<Ticketed>
-    ensures { IfSome result (λ ticket. IsAdmitted N.terms proxy.now.config view.now ticket) }
+) -> Result<Ticketed, Refusal>
+    ensures ok { IfOk result (λ it. IsAdmitted N.terms proxy.now.config view.now it) }
+    ensures err { IfErr result (λ refusal. IsTurnedAway N.terms proxy.now.config view.now refusal) }
 {
     let wish = decide(&proxy.config, view);
     let wanted = Wanted {
@@ -77,12 +80,11 @@ pub fn arrive<R: Wait, N: BoardName, G: Gate>(
         pin: wish.pin,
     };
     let moment = gate.moment();
-    let arrived = proxy.with_room(rt, gate, || {
+    proxy.with_room(rt, gate, || {
         proxy
             .desk
             .arrive(rt, proxy.alloc, moment, wanted, &mut PlaceSet::new())
-    });
-    arrived.ok()
+    })
 }
 
 /// Tells a client what it is refused with, where it is refused.

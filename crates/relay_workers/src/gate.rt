@@ -31,8 +31,8 @@ pub trait Gate {
     /// The present moment.
     fn moment(&mut self) -> Moment;
 
-    /// Takes what is told of a window that ended since the log had no room in it. Each window goes to the gate of one thread, and windows may come to the gates
-    /// in another order than the one in which they ended.
+    /// Takes what is told of a window that ended since the log was full. Each goes to the gate of one thread, and they may come to the gates in another
+    /// order than the one in which they ended.
     fn window(&mut self, window: Window)
         requires { HasEnded window };
 }
@@ -52,5 +52,5 @@ pub trait Pause {
     /// Pauses; false, and no pause, where none is left.
     fn turn(&mut self) -> bool
         ensures more { OnTrue result (left self.new < left self.old) }
-        ensures spent { OnFalse result (left self.old ≡ 0) };
+        ensures spent { OnFalse result ((left self.old ≡ 0) × (left self.new ≡ 0)) };
 }

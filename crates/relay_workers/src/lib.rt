@@ -11,6 +11,7 @@ mod gate;
 mod idle;
 mod outcome;
 mod proxy;
+mod serving;
 mod tally;
 mod waiting;
 mod working;
@@ -22,6 +23,10 @@ pub use gate::{Gate, Pause};
 pub use idle::Idle;
 pub use outcome::Outcome;
 pub use proxy::{Hand, Proxy, Runner};
+pub use serving::serve;
 pub use tally::Tally;
 pub use waiting::{Granted, wait};
 pub use working::{Stopped, TURNS, worker};
+
+#[cfg(test)]
+mod tests;

@@ -91,11 +91,12 @@ fn join_all<N: BoardName>(proxy: &Proxy<N>, first: &mut RelaySeat, seats: Vec<Id
 fn run_all<
     R: Threads + Wait + Sync,
     N: BoardName + Send + Sync,
+    S: Lends<N> + Sync,
     G: Gate + Send + Drop,
     P: Pause + Send + Drop,
 >(
     rt: &R,
-    proxy: &Proxy<N>,
+    shared: &S,
     seats: &mut [Idle<N>],
     crew: Vec<(G, P)>,
     checks: (G, P),
@@ -109,10 +110,10 @@ fn run_all<
             .spawn(move || {
                 let mut gate = gate;
                 let mut pause = pause;
-                checker(rt, proxy, &mut gate, &mut pause, told)
+                checker(rt, shared.proxy(), &mut gate, &mut pause, told)
             })
             .ok();
-        let all = run_crew(scope, rt, proxy, seats, &mut members);
+        let all = run_crew(scope, rt, shared, seats, &mut members);
         told.store(true, Ordering::SeqCst);
         match checking {
             Some(handle) => {
@@ -124,18 +125,30 @@ fn run_all<
     })
 }
 
+/// What lends a proxy to threads.
+pub trait Lends<N: BoardName> {
+    fn proxy(&self) -> &Proxy<N>;
+}
+
+impl<N: BoardName> Lends<N> for Proxy<N> {
+    fn proxy(&self) -> &Proxy<N> {
+        self
+    }
+}
+
 // A thread for each seat and member. One that can't be started isn't run.
 fn run_crew<
     's,
     E,
     R: Threads + Wait + Sync,
     N: BoardName + Send + Sync + 's,
+    S: Lends<N> + Sync + 's,
     G: Gate + Send + Drop + 's,
     P: Pause + Send + Drop + 's,
 >(
     scope: &Scope<'s, E>,
     rt: &'s R,
-    proxy: &'s Proxy<N>,
+    shared: &'s S,
     seats: &'s mut [Idle<N>],
     crew: &mut vec::IntoIter<(G, P)>,
 ) -> Result<Tally, Stopped> {
@@ -146,9 +159,9 @@ fn run_crew<
         return Ok(Tally::zero());
     };
     let started = scope
-        .spawn(move || worker(rt, proxy, idle, gate, pause))
+        .spawn(move || worker(rt, shared.proxy(), idle, gate, pause))
         .ok();
-    let others = run_crew(scope, rt, proxy, rest, crew);
+    let others = run_crew(scope, rt, shared, rest, crew);
     let mine = match started {
         Some(handle) => handle.join(rt),
         None => Err(Stopped::NoMemory),

@@ -1,5 +1,5 @@
 // Clients that wait.
-ghost use Rattle.std.specs.Prelude.{◌≡◌, [], length, true};
+ghost use Rattle.std.specs.Prelude.{◌≡◌, ◌<◌, [], length, true, IfOk};
 ghost use Rattle.dispatch_log.specs.Histories.{first_window};
 ghost use Rattle.grant_board.specs.KeeperCalls.{new_keeper};
 ghost use Rattle.grant_board.specs.RelayCalls.{new_relay};

@@ -1,5 +1,5 @@
 -- What a thread leaves as it is in the seat that is lent to it.
-use Rattle.std.specs.Prelude.{◌≡◌, ℕ, ◌+◌, []}
+use Rattle.std.specs.Prelude.{◌≡◌}
 use Rattle.grant_board.specs.RelayCalls.{Relay}
 
 -- the seat of the same board and terms, which is the first or isn't, and has split off and joined as many others
@@ -9,11 +9,3 @@ pub record IsSameSeat (old new : Relay) : Type 0 where
   pub first : new.view.first ≡ old.view.first
   pub split : new.view.split ≡ old.view.split
   pub joined : new.view.joined ≡ old.view.joined
-
--- the first seat, without a pass before as after: of the seats that it split off and didn't join there were so many, and there are so many
-pub record IsLent (old new : Relay) (out out_now : ℕ) : Type 0 where
-  pub board : new.board ≡ old.board
-  pub terms : new.view.terms ≡ old.view.terms
-  pub first : new.view.first ≡ old.view.first
-  pub idle : old.view.passes ≡ [] → new.view.passes ≡ []
-  pub out_is : new.view.split + old.view.joined + out ≡ old.view.split + new.view.joined + out_now

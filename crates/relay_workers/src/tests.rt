@@ -22,7 +22,6 @@ use std::sync::atomic::{AtomicU64, Ordering};
 use std::test::Fail;
 
 mod checks;
-mod crews;
 mod fakes;
 mod outcomes;
 mod scenes;

@@ -25,3 +25,6 @@ pub use proxy::{Hand, Proxy, Runner};
 pub use tally::Tally;
 pub use waiting::{Granted, wait};
 pub use working::{Stopped, TURNS, worker};
+
+#[cfg(test)]
+mod tests;

@@ -1,0 +1,126 @@
+// Clients that wait.
+ghost use Rattle.std.specs.Prelude.{◌≡◌, ◌<◌, [], IfOk};
+ghost use Rattle.outstanding.specs.Books.{terms_of};
+ghost use Rattle.relay_workers.specs.Seats.{IsSameSeat};
+
+use super::fakes::{Fake, Few, Scene, Seen};
+use super::scenes::plain;
+use super::*;
+use dispatch_trace::Ticketed;
+use due_key::{Class, Offset};
+use grant_board::Taking;
+use locked_book::Wanted;
+use place_set::PlaceSet;
+use verdict::Ending;
+
+// A request that has a slot before any client comes.
+fn come_first<N: BoardName, R: Wait>(
+    rt: &R,
+    alloc: Global,
+    desk: &Desk<N>,
+) -> Result<Ticketed, Fail>
+    ensures { IfOk result (λ it. it.place < N.terms.places) }
+{
+    let wanted = Wanted {
+        class: Class::clamp(0),
+        offset: Offset::clamp(0),
+        pin: None,
+    };
+    let mut woken = PlaceSet::new();
+    match desk.arrive(rt, alloc, Moment::zero(), wanted, &mut woken) {
+        Ok(it) => Ok(it),
+        Err(_) => Err(Fail::from("refused")),
+    }
+}
+
+// Its exchange is over. Whether it had its slot, and what it left was collected.
+fn go_last<N: BoardName, R: Wait>(
+    rt: &R,
+    desk: &Desk<N>,
+    relay: &mut RelaySeat,
+    it: Ticketed,
+) -> bool
+    requires named { relay.old.board ≡ N.board }
+    requires idle { relay.old.view.passes ≡ [] }
+    requires in_range { it.place < relay.old.view.terms.places }
+    ensures idle { relay.new.view.passes ≡ [] }
+    ensures same { IsSameSeat relay.old relay.new }
+{
+    match relay.try_take(desk.board(), it.place, it.ticket) {
+        Taking::Taken(pass) => {
+            relay.post(desk.board(), pass, Ending::Done);
+            desk.turn(rt, Moment::zero(), &mut PlaceSet::new()).is_ok()
+        }
+        Taking::NotYet => false,
+    }
+}
+
+// Clients come while the only slot is taken.
+fn come_behind<N: BoardName, R: Wait>(
+    rt: &R,
+    proxy: &Proxy<N>,
+    idle: &mut Idle<N>,
+    gate: Fake<'_>,
+) -> Result<Result<Tally, Stopped>, Fail>
+    ensures { IsSameSeat idle.old.seat idle.new.seat }
+{
+    let first = come_first(rt, proxy.alloc, &proxy.desk)?;
+    let tally = worker(rt, proxy, idle, gate, Few::new(3));
+    if !go_last(rt, &proxy.desk, &mut idle.seat, first) {
+        return Err(Fail::from("the slot was lost"));
+    }
+    Ok(tally)
+}
+
+fn work_behind<N: BoardName, R: Wait>(
+    rt: &R,
+    alloc: Global,
+    config: Config,
+    opened: Opened,
+    scene: Scene,
+) -> Result<Found, Fail>
+    requires named { opened.board ≡ N.board }
+    requires terms { N.terms ≡ terms_of opened.core.setup }
+{
+    let (proxy, mut idle) = start::<N>(alloc, config, opened);
+    let seen = Seen::new();
+    let tally = come_behind(rt, &proxy, &mut idle, Fake::new(scene, &seen));
+    let closing = close(proxy, idle);
+    Ok(Found {
+        tally: tally?,
+        seen,
+        closing,
+    })
+}
+
+// Six clients that are gone after so many looks get nothing, each is asked for so often, and nothing is left on the board.
+fn expect<R: Wait>(rt: &R, alloc: Global, patience: u32) -> Result<(), Fail> {
+    let config = config(alloc)?;
+    let opened = one_server(alloc, 1, 4096)?;
+    let scene = Scene {
+        patience,
+        ..plain()
+    };
+    let found = work_behind::<Brand, _>(rt, alloc, config, opened, scene)?;
+    let nobody = Tally {
+        clients: 6,
+        ..Tally::zero()
+    };
+    if found.tally != Ok(nobody) || found.seen.right.load(Ordering::SeqCst) != 0 {
+        return Err(Fail::from("somebody got something"));
+    }
+    if found.closing != (Closing { left: 0 }) {
+        return Err(Fail::from("something is left"));
+    }
+    Ok(())
+}
+
+#[test]
+fn clients_are_gone_while_they_wait(rt: HostRuntime) -> Result<(), Fail> {
+    expect(&rt, rt.alloc(), 1)
+}
+
+#[test]
+fn pauses_are_spent(rt: HostRuntime) -> Result<(), Fail> {
+    expect(&rt, rt.alloc(), u32::MAX)
+}

@@ -26,6 +26,7 @@ mod changes;
 mod events;
 mod overtaking;
 mod redispatch;
+mod threads;
 mod windows;
 
 // A dispatcher that has done nothing, and the board that was opened for its places and limits.

@@ -13,7 +13,6 @@ mod command;
 mod explain;
 mod input;
 mod picture;
-mod serve;
 mod tale;
 
 use check::{check, check_in_full};
@@ -21,7 +20,6 @@ use command::{Asked, ask};
 use input::InputFault;
 use picture::{DrawFault, Only, draw};
 use replay::{Fault, replay};
-use serve::serve_file;
 use std::env;
 use std::io::{Read, Write};
 use std::process::ExitCode;
@@ -43,7 +41,10 @@ fn main(rt: HostRuntime) -> ExitCode {
         Asked::Explain(file) => check_in_full(&rt, &file),
         Asked::Draw(only) => draw_streams(&rt, &mut rt.stdin(), &mut rt.stdout(), &only),
         Asked::Tell(ticket) => tell_streams(&rt, &mut rt.stdin(), &mut rt.stdout(), ticket),
-        Asked::Run(wanted) => serve_file(&rt, &wanted),
+        Asked::Later => {
+            let _ = rt.eprintln("run isn't there yet: replay, draw, explain and check are");
+            USAGE
+        }
         Asked::Nothing(status) => status,
     };
     ExitCode::from(status)

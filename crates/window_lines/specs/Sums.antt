@@ -1,5 +1,5 @@
 -- What servers were given in several windows.
-use Rattle.std.specs.Prelude.{ℕ, ◌+◌, ◌-◌, ◌^◌, min, true, List, [], ◌∷◌, replicate}
+use Rattle.std.specs.Prelude.{ℕ, ◌+◌, ◌-◌, ◌^◌, min, true, List, ◌∷◌, replicate}
 use Rattle.reporting_core.specs.declared.lines.ServerLine.{ServerLine}
 
 -- in no window, for so many servers

@@ -8,6 +8,7 @@ use std::alloc::{AllocError, Global};
 use std::test::Fail;
 
 mod every_assignment;
+mod running;
 
 const BACKEND: Queue = Queue::Backend;
 

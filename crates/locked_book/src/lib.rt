@@ -7,3 +7,6 @@ mod keeping;
 mod offering;
 
 pub use book::{Book, Wanted};
+
+#[cfg(test)]
+mod tests;

@@ -1,5 +1,5 @@
 ghost use Rattle.std.specs.Prelude.{◌≡◌, ◌<◌, [], ◌∷◌, IfSome, IfNone};
-ghost use Rattle.relay_workers.specs.Seats.{IsSameSeat};
+ghost use Rattle.grant_desk.specs.Seats.{IsSameSeat};
 
 use crate::admitting::Admitted;
 use crate::gate::{Gate, Pause};

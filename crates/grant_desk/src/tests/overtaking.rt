@@ -1,37 +1,29 @@
-ghost use Rattle.std.specs.Prelude.{◌≡◌, ◌<◌, ◌∷◌, [], IfOk, length, true};
-ghost use Rattle.dispatch_log.specs.Histories.{first_window};
-ghost use Rattle.grant_board.specs.KeeperCalls.{new_keeper};
-ghost use Rattle.grant_board.specs.RelayCalls.{new_relay};
-ghost use Rattle.grant_board.specs.Views.{terms};
+ghost use Rattle.std.specs.Prelude.{◌≡◌};
+ghost use Rattle.grant_desk.specs.Seats.{IsSameSeat};
 ghost use Rattle.outstanding.specs.Books.{terms_of};
 
 use super::*;
 
-// Of two requests that wait, the later one is due earlier and is served first.
+// Of two requests that wait, the later one is due earlier: it is woken and served first.
 fn overtake<N: BoardName, R: Wait>(
     rt: &R,
     alloc: Global,
-    core: Core<Queues>,
-    opened: (Board, KeeperSeat, RelaySeat),
-) -> Result<Closing, Fail>
-    requires first { core ≡ first_window core.setup [] }
-    requires named { (opened.0 ≡ N.board) × (opened.1.board ≡ N.board) × (opened.2.board ≡ N.board) }
-    requires terms { N.terms ≡ terms_of core.setup }
-    requires seats { (opened.1.view ≡ new_keeper N.terms) × (opened.2.view ≡ new_relay N.terms true) }
-    requires one_server { length core.setup.servers ≡ 1 }
+    desk: &Desk<N>,
+    relay: &mut RelaySeat,
+) -> Result<(), Fail>
+    requires named { relay.old.board ≡ N.board }
+    requires terms { relay.old.view.terms ≡ N.terms }
+    ensures { IsSameSeat relay.old relay.new }
 {
-    let (board, seat, mut relay) = opened;
-    let desk: Desk<N> = Desk::new(core, board, seat, Running::new(alloc, 1)?);
-    let first = arrive(rt, alloc, &desk, 0, offset(0))?;
-    let second = arrive(rt, alloc, &desk, 1, offset(0))?;
-    let third = arrive(rt, alloc, &desk, 2, offset(-5))?;
-    let told = serve(desk.board(), &mut relay, first);
-    let woken = turn(rt, &desk, 10)?;
-    let early = serve(desk.board(), &mut relay, second);
-    let overtaking = serve(desk.board(), &mut relay, third);
-    let woken_later = turn(rt, &desk, 20)?;
-    let last = serve(desk.board(), &mut relay, second);
-    turn(rt, &desk, 30)?;
+    let first = arrive(rt, alloc, desk, 0, offset(0))?;
+    let second = arrive(rt, alloc, desk, 1, offset(0))?;
+    let third = arrive(rt, alloc, desk, 2, offset(-5))?;
+    let told = serve(desk.board(), relay, first);
+    let woken = turn(rt, desk, 10)?;
+    let early = serve(desk.board(), relay, second);
+    let overtaking = serve(desk.board(), relay, third);
+    let woken_later = turn(rt, desk, 20)?;
+    let last = serve(desk.board(), relay, second);
     let slot = Some(Verdict::Serve(0));
     if (told, early, overtaking, last) != (slot, None, slot, slot) {
         return Err(Fail::from("not served in this order"));
@@ -39,15 +31,72 @@ fn overtake<N: BoardName, R: Wait>(
     if (woken, woken_later) != (Some(third.place), Some(second.place)) {
         return Err(Fail::from("others were woken"));
     }
-    Ok(desk.close(relay))
+    Ok(())
+}
+
+// What a desk tells of its window, of class 0 and class 1.
+#[derive(Drop)]
+struct Told {
+    reports: Reports,
+    servers: Vec<ServerLine>,
+    worst: (Option<i64>, Option<i64>),
+    is_full: bool,
+}
+
+fn tell<N: BoardName, R: Wait>(rt: &R, alloc: Global, desk: &Desk<N>) -> Result<Told, Fail> {
+    Ok(Told {
+        reports: reports(rt, alloc, desk)?,
+        servers: desk.servers(rt, alloc)?,
+        worst: (worst(rt, desk, 0), worst(rt, desk, 1)),
+        is_full: desk.make_room(rt, alloc)?.is_some(),
+    })
+}
+
+fn overtake_and_tell<N: BoardName, R: Wait>(
+    rt: &R,
+    alloc: Global,
+    desk: &Desk<N>,
+    relay: &mut RelaySeat,
+) -> Result<Told, Fail>
+    requires named { relay.old.board ≡ N.board }
+    requires terms { relay.old.view.terms ≡ N.terms }
+    ensures { IsSameSeat relay.old relay.new }
+{
+    overtake(rt, alloc, desk, relay)?;
+    let told = tell(rt, alloc, desk)?;
+    turn(rt, desk, 30)?;
+    Ok(told)
+}
+
+fn overtake_once<N: BoardName, R: Wait>(
+    rt: &R,
+    alloc: Global,
+    opened: Opened,
+) -> (Result<Told, Fail>, Closing)
+    requires named { opened.board ≡ N.board }
+    requires terms { N.terms ≡ terms_of opened.core.setup }
+{
+    let (desk, mut relay) = start::<N>(opened);
+    let told = overtake_and_tell(rt, alloc, &desk, &mut relay);
+    (told, desk.close(relay))
 }
 
 #[test]
 fn overtaking_through_a_desk(rt: HostRuntime) -> Result<(), Fail> {
     let alloc = rt.alloc();
-    let core = dispatcher(alloc, 1)?;
-    let opened = Board::open(alloc, 8, &[1])?;
-    let closing = overtake::<Brand, _>(&rt, alloc, core, opened)?;
+    let opened = one_server(alloc, 8, 4096, 1)?;
+    let (told, closing) = overtake_once::<Brand, _>(&rt, alloc, opened);
+    let told = told?;
+    let critical = [stay(3, 6, 10, 2, -5)?, stay(2, 4, 14, 1, 0)?];
+    assert!(rt; is_report(&told.reports, (2, 19, 1), (0, 14), critical.as_slice()));
+    let line = ServerLine {
+        up: true,
+        direct: 1,
+        granted: 2,
+    };
+    assert!(rt; told.servers.as_slice() == [line].as_slice());
+    assert_eq!(rt; told.worst, (Some(19), None));
+    assert!(rt; !told.is_full);
     assert_eq!(rt; closing, Closing { left: 0 });
     Ok(())
 }

@@ -1,7 +1,7 @@
 // Clients that wait.
 ghost use Rattle.std.specs.Prelude.{◌≡◌, ◌<◌, [], IfOk};
 ghost use Rattle.outstanding.specs.Books.{terms_of};
-ghost use Rattle.relay_workers.specs.Seats.{IsSameSeat};
+ghost use Rattle.grant_desk.specs.Seats.{IsSameSeat};
 
 use super::fakes::{Fake, Few, Scene, Seen};
 use super::scenes::plain;

@@ -1,0 +1,74 @@
+ghost use Rattle.std.specs.Prelude.{◌≡◌};
+ghost use Rattle.grant_desk.specs.Seats.{IsSameSeat};
+ghost use Rattle.outstanding.specs.Books.{terms_of};
+
+use super::*;
+
+// Sets the server's limit, and answers the first place that was woken.
+fn limit<N: BoardName, R: Wait>(
+    rt: &R,
+    desk: &Desk<N>,
+    moment: u64,
+    limit: u32,
+) -> Result<Option<usize>, Fail> {
+    let mut woken = PlaceSet::new();
+    let Ok(()) = desk.limit(rt, at(moment)?, 0, limit, &mut woken) else {
+        return Err(Fail::from("refused"));
+    };
+    Ok(woken.next(0))
+}
+
+// Of four requests two are served. The limit falls to one, so that the end of the first gives no slot; then it is lifted.
+fn lower_and_lift<N: BoardName, R: Wait>(
+    rt: &R,
+    alloc: Global,
+    desk: &Desk<N>,
+    relay: &mut RelaySeat,
+) -> Result<Reports, Fail>
+    requires named { relay.old.board ≡ N.board }
+    requires terms { relay.old.view.terms ≡ N.terms }
+    ensures { IsSameSeat relay.old relay.new }
+{
+    let first = arrive(rt, alloc, desk, 0, offset(0))?;
+    let second = arrive(rt, alloc, desk, 0, offset(0))?;
+    let third = arrive(rt, alloc, desk, 1, offset(0))?;
+    let fourth = arrive(rt, alloc, desk, 2, offset(0))?;
+    let lowered = limit(rt, desk, 3, 1)?;
+    serve(desk.board(), relay, first);
+    let ended = turn(rt, desk, 4)?;
+    serve(desk.board(), relay, second);
+    let ended_too = turn(rt, desk, 5)?;
+    let lifted = limit(rt, desk, 6, 0)?;
+    if (lowered, ended) != (None, None) {
+        return Err(Fail::from("a slot beyond the limit"));
+    }
+    if (ended_too, lifted) != (Some(third.place), Some(fourth.place)) {
+        return Err(Fail::from("others were woken"));
+    }
+    reports(rt, alloc, desk)
+}
+
+fn change_limits<N: BoardName, R: Wait>(
+    rt: &R,
+    alloc: Global,
+    opened: Opened,
+) -> (Result<Reports, Fail>, Closing)
+    requires named { opened.board ≡ N.board }
+    requires terms { N.terms ≡ terms_of opened.core.setup }
+{
+    let (desk, mut relay) = start::<N>(opened);
+    let told = lower_and_lift(rt, alloc, &desk, &mut relay);
+    (told, desk.close(relay))
+}
+
+#[test]
+fn a_limit_falls_and_is_lifted(rt: HostRuntime) -> Result<(), Fail> {
+    let alloc = rt.alloc();
+    let opened = one_server(alloc, 8, 4096, 2)?;
+    let (told, closing) = change_limits::<Brand, _>(&rt, alloc, opened);
+    let told = told?;
+    let critical = [stay(3, 6, 16, 1, 0)?];
+    assert!(rt; is_report(&told, (2, 4, 1), (0, 16), critical.as_slice()));
+    assert_eq!(rt; closing, Closing { left: 2 });
+    Ok(())
+}

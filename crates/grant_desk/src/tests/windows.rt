@@ -1,0 +1,107 @@
+ghost use Rattle.std.specs.Prelude.{◌≡◌};
+ghost use Rattle.grant_desk.specs.Seats.{IsSameSeat};
+ghost use Rattle.outstanding.specs.Books.{terms_of};
+
+use super::*;
+
+// Two requests wait as the next window begins, and are served in it.
+fn wait_over_a_roll<N: BoardName, R: Wait>(
+    rt: &R,
+    alloc: Global,
+    desk: &Desk<N>,
+    relay: &mut RelaySeat,
+) -> Result<Reports, Fail>
+    requires named { relay.old.board ≡ N.board }
+    requires terms { relay.old.view.terms ≡ N.terms }
+{
+    let first = arrive(rt, alloc, desk, 0, offset(0))?;
+    arrive(rt, alloc, desk, 1, offset(0))?;
+    let third = arrive(rt, alloc, desk, 2, offset(-5))?;
+    desk.roll(rt);
+    serve(desk.board(), relay, first);
+    turn(rt, desk, 10)?;
+    serve(desk.board(), relay, third);
+    turn(rt, desk, 20)?;
+    reports(rt, alloc, desk)
+}
+
+fn roll_once<N: BoardName, R: Wait>(rt: &R, alloc: Global, opened: Opened) -> Result<Reports, Fail>
+    requires named { opened.board ≡ N.board }
+    requires terms { N.terms ≡ terms_of opened.core.setup }
+{
+    let (desk, mut relay) = start::<N>(opened);
+    wait_over_a_roll(rt, alloc, &desk, &mut relay)
+}
+
+#[test]
+fn who_waits_joined_at_the_base(rt: HostRuntime) -> Result<(), Fail> {
+    let alloc = rt.alloc();
+    let opened = one_server(alloc, 8, 4096, 1)?;
+    let told = roll_once::<Brand, _>(&rt, alloc, opened)?;
+    let critical = [stay(3, 0, 4, 2, -5)?, stay(2, 0, 8, 1, 0)?];
+    assert!(rt; is_report(&told, (2, 19, 1), (0, 8), critical.as_slice()));
+    Ok(())
+}
+
+// A return finds no room in the log, and stays on the board until there is.
+fn make_room<N: BoardName, R: Wait>(
+    rt: &R,
+    alloc: Global,
+    desk: &Desk<N>,
+    relay: &mut RelaySeat,
+) -> Result<Window, Fail>
+    requires named { relay.old.board ≡ N.board }
+    requires terms { relay.old.view.terms ≡ N.terms }
+    ensures { IsSameSeat relay.old relay.new }
+{
+    let it = arrive(rt, alloc, desk, 0, offset(0))?;
+    serve(desk.board(), relay, it);
+    if turned(rt, desk, 1)? != Err(Refusal::LogFull) {
+        return Err(Fail::from("there was room"));
+    }
+    let Some(window) = desk.make_room(rt, alloc)? else {
+        return Err(Fail::from("no room was made"));
+    };
+    turn(rt, desk, 1)?;
+    Ok(window)
+}
+
+fn fill<N: BoardName, R: Wait>(
+    rt: &R,
+    alloc: Global,
+    opened: Opened,
+) -> (Result<Window, Fail>, Closing)
+    requires named { opened.board ≡ N.board }
+    requires terms { N.terms ≡ terms_of opened.core.setup }
+{
+    let (desk, mut relay) = start::<N>(opened);
+    let window = make_room(rt, alloc, &desk, &mut relay);
+    (window, desk.close(relay))
+}
+
+// What a turn answers.
+fn turned<N: BoardName, R: Wait>(
+    rt: &R,
+    desk: &Desk<N>,
+    moment: u64,
+) -> Result<Result<(), Refusal>, Fail> {
+    let mut woken = PlaceSet::new();
+    Ok(desk.turn(rt, at(moment)?, &mut woken))
+}
+
+#[test]
+fn a_full_log_makes_room(rt: HostRuntime) -> Result<(), Fail> {
+    let alloc = rt.alloc();
+    let opened = one_server(alloc, 1, 10, 1)?;
+    let (window, closing) = fill::<Brand, _>(&rt, alloc, opened);
+    let window = window?;
+    assert_eq!(rt; window.reports.len(), 0);
+    let line = ServerLine {
+        up: true,
+        direct: 1,
+        granted: 0,
+    };
+    assert!(rt; window.servers.as_slice() == [line].as_slice());
+    assert_eq!(rt; closing, Closing { left: 0 });
+    Ok(())
+}

@@ -131,9 +131,9 @@ fn serve(desk: &Desk, share: usize, requests: u64) -> u64 {
                 desk.post(place, ticket);
                 live.pop_front();
                 served += 1;
+                desk.turn(served);
             }
         }
-        desk.turn(served);
     }
     served
 }

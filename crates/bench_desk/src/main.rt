@@ -1,7 +1,7 @@
 //! What `bench/desk.sh` times: requests that go through one desk.
 //!
 //! Its words are how many threads, which is 1 or 4, how many places and how many requests. Each thread keeps its part of the places taken; of its requests
-//! it takes the pass of the oldest, posts it, turns, and lets another arrive. Half of the places may be served at once.
+//! it takes the pass of the oldest once it is offered, posts it, turns, and lets another arrive. Half of the places may be served at once.
 #![tactic(auto)]
 
 ghost use Rattle.std.specs.Prelude.{◌≡◌, ◌<◌, [], length, true};
@@ -260,9 +260,9 @@ fn serve<N: BoardName, R: Wait>(
             if take(desk, &mut relay, oldest) {
                 live.pop_front();
                 served += 1;
+                turn(rt, desk, served);
             }
         }
-        turn(rt, desk, served);
     }
     served
 }

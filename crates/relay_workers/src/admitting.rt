@@ -1,15 +1,15 @@
-ghost use Rattle.std.specs.Prelude.{◌≡◌, ◌≢◌, IfOk, OnOk, IfErr, IfSome, false};
+ghost use Rattle.std.specs.Prelude.{◌≡◌, ◌≢◌, IfOk, OnOk, IfErr, false};
 ghost use Rattle.relay_http.specs.States.{IsFresh};
 ghost use Rattle.relay_http.specs.declared.exchange.Stage.TheVariants as stage;
 ghost use Rattle.relay_http.specs.declared.exchange.Stage.TheVariants.{Asked};
-ghost use Rattle.relay_workers.specs.Admissions.{IsAdmitted};
+ghost use Rattle.relay_workers.specs.Admissions.{IsAdmitted, IsTurnedAway};
 ghost use Rattle.relay_workers.specs.declared.outcome.Outcome.TheVariants.{Answered};
 
 use crate::gate::Gate;
 use crate::outcome::Outcome;
 use crate::proxy::{Proxy, Runner};
+use dispatch_log::Refusal;
 use dispatch_trace::Ticketed;
-use due_key::Moment;
 use grant_board::BoardName;
 use locked_book::Wanted;
 use place_set::PlaceSet;
@@ -52,9 +52,9 @@ pub fn admit<R: Wait, N: BoardName, G: Gate + Drop>(
             let outcome = Outcome::after_reading(fault);
             Err(tell(&mut runner.exchange, &mut client, outcome))
         }
-        Ok(view) => match arrive(rt, proxy, &view, runner.gate.moment()) {
-            Some(at) => Ok(Admitted { client, view, at }),
-            None => {
+        Ok(view) => match arrive(rt, proxy, &mut runner.gate, &view) {
+            Ok(at) => Ok(Admitted { client, view, at }),
+            Err(_) => {
                 let outcome = Outcome::Refused(Code::Unavailable);
                 Err(tell(&mut runner.exchange, &mut client, outcome))
             }
@@ -62,14 +62,16 @@ pub fn admit<R: Wait, N: BoardName, G: Gate + Drop>(
     }
 }
 
-/// The request with this head arrives as the rules wish. None where it is refused.
-pub fn arrive<R: Wait, N: BoardName>(
+/// The request with this head arrives as the rules wish. Refused as the dispatcher's `arrive`, where the log is full only if there is no memory for the reports of its
+/// window, or the next window is full as well.
+pub fn arrive<R: Wait, N: BoardName, G: Gate>(
     rt: &R,
     proxy: &Proxy<N>,
+    gate: &mut G,
     view: &View,
-    moment: Moment,
-) -> Option<Ticketed>
-    ensures { IfSome result (λ ticket. IsAdmitted N.terms proxy.now.config view.now ticket) }
+) -> Result<Ticketed, Refusal>
+    ensures ok { IfOk result (λ it. IsAdmitted N.terms proxy.now.config view.now it) }
+    ensures err { IfErr result (λ refusal. IsTurnedAway N.terms proxy.now.config view.now refusal) }
 {
     let wish = decide(&proxy.config, view);
     let wanted = Wanted {
@@ -77,11 +79,12 @@ pub fn arrive<R: Wait, N: BoardName>(
         offset: wish.offset,
         pin: wish.pin,
     };
-    let mut woken = PlaceSet::new();
-    proxy
-        .desk
-        .arrive(rt, proxy.alloc, moment, wanted, &mut woken)
-        .ok()
+    let moment = gate.moment();
+    proxy.with_room(rt, gate, || {
+        proxy
+            .desk
+            .arrive(rt, proxy.alloc, moment, wanted, &mut PlaceSet::new())
+    })
 }
 
 /// Tells a client what it is refused with, where it is refused.

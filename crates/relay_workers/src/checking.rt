@@ -47,7 +47,7 @@ fn check_each<R: Wait, N: BoardName, G: Gate>(
         }
         if let Some(ok) = gate.probe(number) {
             *next = after(now, checks.inter);
-            proxy.note_check(rt, now, number, ok);
+            proxy.note_check(rt, gate, number, ok);
         }
     }
 }

@@ -3,7 +3,7 @@ ghost use Rattle.grant_board.specs.Views.{return_of};
 ghost use Rattle.relay_http.specs.declared.exchange.Stage.TheVariants as stage;
 ghost use Rattle.relay_http.specs.States.{Serves};
 ghost use Rattle.relay_workers.specs.Outcomes.{after_telling};
-ghost use Rattle.relay_workers.specs.Seats.{IsSameSeat};
+ghost use Rattle.grant_desk.specs.Seats.{IsSameSeat};
 ghost use Rattle.relay_workers.specs.declared.outcome.Outcome.TheVariants.{Answered};
 ghost use Rattle.verdict.specs.declared.Cause.{Cause};
 ghost use Rattle.verdict.specs.declared.Ending.TheVariants as ending;

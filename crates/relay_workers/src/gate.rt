@@ -1,9 +1,11 @@
 ghost use Rattle.std.specs.Prelude.{◌≡◌, ◌<◌, ℕ};
 ghost use Rattle.std.specs.Bool.{OnTrue, OnFalse};
 ghost use Rattle.relay_http.specs.States.{Serves};
+ghost use Rattle.relay_workers.specs.Windows.{HasEnded};
 
 use due_key::Moment;
 use grant_board::Pass;
+use reporting_core::Window;
 use std::io::{Read, Write};
 
 /// Where a thread's clients, connections and moments come from. Each thread has one of its own.
@@ -28,6 +30,11 @@ pub trait Gate {
 
     /// The present moment.
     fn moment(&mut self) -> Moment;
+
+    /// Takes what is told of a window that ended since the log was full. Each goes to the gate of one thread, and they may come to the gates in another
+    /// order than the one in which they ended.
+    fn window(&mut self, window: Window)
+        requires { HasEnded window };
 }
 
 /// How often a thread may pause.
@@ -45,5 +52,5 @@ pub trait Pause {
     /// Pauses; false, and no pause, where none is left.
     fn turn(&mut self) -> bool
         ensures more { OnTrue result (left self.new < left self.old) }
-        ensures spent { OnFalse result (left self.old ≡ 0) };
+        ensures spent { OnFalse result ((left self.old ≡ 0) × (left self.new ≡ 0)) };
 }

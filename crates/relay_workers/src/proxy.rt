@@ -1,5 +1,5 @@
 use crate::gate::{Gate, Pause};
-use due_key::Moment;
+use dispatch_log::Refusal;
 use grant_board::BoardName;
 use grant_desk::Desk;
 use place_set::PlaceSet;
@@ -33,19 +33,55 @@ pub struct Hand<G: Gate + Drop, P: Pause + Drop> {
 impl<N: BoardName> Proxy<N> {
     // A turn of the desk. One that is refused is as one that found nothing.
     pub(crate) fn turn<R: Wait, G: Gate>(&self, rt: &R, gate: &mut G) {
-        let mut woken = PlaceSet::new();
-        let _ = self.desk.turn(rt, gate.moment(), &mut woken);
+        let moment = gate.moment();
+        let _ = self.with_room(rt, gate, || {
+            self.desk.turn(rt, moment, &mut PlaceSet::new())
+        });
     }
 
     // A check of a server is over. A result that the dispatcher refuses is dropped.
-    pub(crate) fn note_check<R: Wait>(&self, rt: &R, moment: Moment, server: usize, ok: bool) {
-        let mut woken = PlaceSet::new();
-        let _ = self.desk.check(rt, moment, server, ok, &mut woken);
+    pub(crate) fn note_check<R: Wait, G: Gate>(
+        &self,
+        rt: &R,
+        gate: &mut G,
+        server: usize,
+        ok: bool,
+    ) {
+        let moment = gate.moment();
+        let _ = self.with_room(rt, gate, || {
+            self.desk
+                .check(rt, moment, server, ok, &mut PlaceSet::new())
+        });
     }
 
     // A request that waits is given up. Where that is refused, it has its verdict.
     pub(crate) fn give_up<R: Wait, G: Gate>(&self, rt: &R, gate: &mut G, ticket: u64) {
-        let mut woken = PlaceSet::new();
-        let _ = self.desk.abort(rt, gate.moment(), ticket, &mut woken);
+        let moment = gate.moment();
+        let _ = self.with_room(rt, gate, || {
+            self.desk.abort(rt, moment, ticket, &mut PlaceSet::new())
+        });
+    }
+
+    // A call of the desk. Where the log is full the next window begins, the gate has the one that ended, and the call is made once more; where there is no
+    // memory for that, it stays refused.
+    pub(crate) fn with_room<R: Wait, G: Gate, T, F: Fn() -> Result<T, Refusal>>(
+        &self,
+        rt: &R,
+        gate: &mut G,
+        call: F,
+    ) -> Result<T, Refusal>
+        requires { F.IsAlwaysCallable call }
+        ensures { F.post call result }
+    {
+        match call() {
+            Err(Refusal::LogFull) => {}
+            answer => return answer,
+        }
+        match self.desk.make_room(rt, self.alloc) {
+            Ok(Some(window)) => gate.window(window),
+            Ok(None) => {}
+            Err(_) => return Err(Refusal::LogFull),
+        }
+        call()
     }
 }

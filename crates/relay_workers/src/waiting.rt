@@ -1,5 +1,5 @@
 ghost use Rattle.std.specs.Prelude.{◌≡◌, ◌<◌, [], ◌∷◌, IfSome, IfNone};
-ghost use Rattle.relay_workers.specs.Seats.{IsSameSeat};
+ghost use Rattle.grant_desk.specs.Seats.{IsSameSeat};
 
 use crate::admitting::Admitted;
 use crate::gate::{Gate, Pause};
@@ -31,7 +31,7 @@ pub fn wait<R: Wait, N: BoardName, G: Gate + Drop, P: Pause + Drop>(
     ensures granted { IfSome result (λ it. seat.new.view.passes ≡ it.pass ∷ []) }
     ensures its_own { IfSome result (λ it. (it.pass.place ≡ admitted.at.place) × (it.pass.ticket ≡ admitted.at.ticket)) }
     ensures its_request { IfSome result (λ it. (it.admitted.at ≡ admitted.at) × (it.admitted.view ≡ admitted.view)) }
-    ensures none { IfNone result (seat.new.view.passes ≡ []) }
+    ensures none { IfNone result ((seat.new.view.passes ≡ []) × (P.left hand.new.pause ≡ 0)) }
     ensures posts { seat.new.view.posts ≡ seat.old.view.posts }
     ensures same { IsSameSeat seat.old seat.new }
     ensures exchange { hand.new.runner.exchange ≡ hand.old.runner.exchange }

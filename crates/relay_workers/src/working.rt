@@ -1,6 +1,6 @@
 ghost use Rattle.std.specs.Prelude.{◌≡◌, []};
 ghost use Rattle.relay_http.specs.States.{IsFresh};
-ghost use Rattle.relay_workers.specs.Seats.{IsSameSeat};
+ghost use Rattle.grant_desk.specs.Seats.{IsSameSeat};
 
 use crate::admitting::admit;
 use crate::finishing::finish;

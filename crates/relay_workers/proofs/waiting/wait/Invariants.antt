@@ -1,11 +1,12 @@
-use Rattle.std.proofs.Common.{◌≡◌, []}
-use Rattle.relay_workers.specs.Seats.{IsSameSeat}
+use Rattle.std.proofs.Common.{◌≡◌, [], true}
+use Rattle.grant_desk.specs.Seats.{IsSameSeat}
 use Rattle.relay_workers.proofs.waiting.wait.Given as goal
 
--- no pass was taken yet
+-- no pass was taken yet, and where the pauses are spent none is left
 abbrev pub invariant-loop : goal.invariant-loop
 invariant-loop g l =
     IsSameSeat l.initial.seat l.seat
     × (l.seat.view.passes ≡ []) × (l.seat.view.posts ≡ l.initial.seat.view.posts)
     × (l.admitted.at ≡ l.initial.admitted.at) × (l.admitted.view ≡ l.initial.admitted.view)
     × (l.hand.runner.exchange ≡ l.initial.hand.runner.exchange)
+    × (l.spent ≡ true → g.P.Pause.left l.hand.pause ≡ 0)

@@ -1,6 +1,6 @@
 use Rattle.std.proofs.Common.{◌≡◌, ◌<◌, [], false}
 use Rattle.relay_http.specs.declared.exchange.Stage.TheVariants.{Asked}
-use Rattle.relay_workers.specs.Seats.{IsSameSeat}
+use Rattle.grant_desk.specs.Seats.{IsSameSeat}
 use Rattle.relay_workers.proofs.working.attend.Given as goal
 
 -- the request has its place, and is still to be handed on

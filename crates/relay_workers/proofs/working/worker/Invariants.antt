@@ -1,4 +1,4 @@
-use Rattle.relay_workers.specs.Seats.{IsSameSeat}
+use Rattle.grant_desk.specs.Seats.{IsSameSeat}
 use Rattle.relay_workers.proofs.working.worker.Given as goal
 
 abbrev pub invariant-loop : goal.invariant-loop

@@ -1,0 +1,58 @@
+//! Connections to servers.
+
+use proxy_config::{Address, Host};
+use std::net::{Ipv4Addr, Net, SocketAddr, TcpListener, TcpStream, ToSocketAddrs};
+use std::str;
+use std::time::{Clock, Duration, Instant};
+
+/// A connection to an address within a time. A name is looked up by the system, without a limit of its own, and its addresses are tried one after the
+/// other.
+pub(crate) fn dial<R: Net<Listener = TcpListener, Stream = TcpStream> + Clock>(
+    rt: &R,
+    address: &Address,
+    limit: Option<Duration>,
+) -> Option<TcpStream> {
+    match &address.host {
+        Host::Ip(ip) => dial_one_of(rt, (Ipv4Addr::from(*ip), address.port), limit),
+        Host::Name(name) => {
+            let name = str::from_utf8(name.as_slice()).ok()?;
+            dial_one_of(rt, (name, address.port), limit)
+        }
+    }
+}
+
+fn dial_one_of<R: Net<Listener = TcpListener, Stream = TcpStream> + Clock, A: ToSocketAddrs>(
+    rt: &R,
+    addresses: A,
+    limit: Option<Duration>,
+) -> Option<TcpStream> {
+    let start = Instant::now(rt).ok()?;
+    for address in addresses.to_socket_addrs(rt).ok()? {
+        let stream = match limit {
+            None => TcpStream::connect(rt, address),
+            Some(limit) => {
+                let left = limit.saturating_sub(start.elapsed(rt).ok()?);
+                if left.is_zero() {
+                    return None;
+                }
+                TcpStream::connect_timeout(rt, &address, left)
+            }
+        };
+        if let Ok(stream) = stream {
+            return Some(stream);
+        }
+    }
+    None
+}
+
+/// The first address that a server has.
+pub(crate) fn first_address<R: Net>(rt: &R, address: &Address) -> Option<SocketAddr> {
+    match &address.host {
+        Host::Ip(ip) => Some(SocketAddr::from((Ipv4Addr::from(*ip), address.port))),
+        Host::Name(name) => {
+            let name = str::from_utf8(name.as_slice()).ok()?;
+            let mut found = (name, address.port).to_socket_addrs(rt).ok()?;
+            found.next()
+        }
+    }
+}

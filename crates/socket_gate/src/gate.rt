@@ -1,0 +1,170 @@
+ghost use Rattle.std.specs.Prelude.{◌≡◌, ◌≤◌, IfOk, length};
+ghost use Rattle.relay_http.specs.States.{Serves};
+ghost use Rattle.relay_workers.specs.Windows.{HasEnded};
+
+use crate::dialing::{dial, first_address};
+use crate::front::{Front, within};
+use crate::leaving::has_left;
+use crate::probing::Probe;
+use crate::waits::{duration, left, patience, turnaround};
+use due_key::Moment;
+use grant_board::Pass;
+use relay_workers::Gate;
+use reporting_core::Window;
+use std::alloc::{AllocError, Global};
+use std::net::{Net, TcpListener, TcpStream};
+use std::os::fd::AsRawFd;
+use std::sync::Wait;
+use std::thread;
+use std::time::{Clock, Duration};
+use verdict::Verdict;
+
+/// A connect that failed.
+#[derive(Clone, Copy, Debug, PartialEq, Eq)]
+struct Failure {
+    ticket: u64,
+    server: usize,
+    at: Moment,
+}
+
+/// A thread's gate.
+#[derive(Drop)]
+pub struct SocketGate<'a, R> {
+    rt: &'a R,
+    front: &'a Front<'a>,
+    /// The moment that was last answered.
+    last: Moment,
+    /// The last connect that failed.
+    failure: Option<Failure>,
+    /// The checks that run, by server.
+    probes: Vec<Option<Probe>>,
+}
+
+impl<'a, R: Net<Listener = TcpListener, Stream = TcpStream> + Clock> SocketGate<'a, R> {
+    /// It takes memory for a check of each server.
+    pub fn new(
+        alloc: Global,
+        rt: &'a R,
+        front: &'a Front<'a>,
+    ) -> Result<SocketGate<'a, R>, AllocError> {
+        let servers = front.config.servers.len();
+        let mut probes = Vec::with_capacity(alloc, servers)?;
+        for _ in 0..servers {
+            probes.push(None)?;
+        }
+        Ok(SocketGate {
+            rt,
+            front,
+            last: Moment::zero(),
+            failure: None,
+            probes,
+        })
+    }
+
+    // The present moment. It is never before one that was answered, also where the clock can't be read.
+    fn now(&mut self) -> Moment
+        ensures last { result ≡ self.new.last }
+        ensures later { self.old.last ≤ self.new.last }
+    {
+        let passed = self.front.start.elapsed(self.rt);
+        if let Some(now) = passed.ok().and_then(moment_of) {
+            if self.last < now {
+                self.last = now;
+            }
+        }
+        self.last
+    }
+
+    // Before a request is tried again at the server that just failed it, some time passes.
+    fn hold_back(&mut self, ticket: u64, server: usize) {
+        let Some(failure) = self.failure else {
+            return;
+        };
+        if failure.ticket == ticket && failure.server == server {
+            let wait = turnaround(self.front.config.connect_timeout);
+            let millis = left(failure.at, wait, self.now());
+            thread::sleep(self.rt, Duration::from_millis(millis));
+        }
+    }
+
+    // The check of a server that runs, or else one that begins. None: there is no connection to be had.
+    fn take_probe(&mut self, server: usize, now: Moment) -> Option<Probe> {
+        if let Some(place) = self.probes.get_mut(server) {
+            if let Some(probe) = place.take() {
+                return Some(probe);
+            }
+        }
+        let config = self.front.config;
+        let it = config.servers.as_slice().get(server)?;
+        let address = first_address(self.rt, &it.address)?;
+        Probe::begin(
+            self.rt,
+            address,
+            now,
+            patience(config.connect_timeout, it.check),
+        )
+    }
+}
+
+// The moment after so much time.
+fn moment_of(passed: Duration) -> Option<Moment> {
+    Moment::new(u64::try_from(passed.as_millis()).ok()?)
+}
+
+impl<'a, R: Net<Listener = TcpListener, Stream = TcpStream> + Clock + Print + Wait> Gate
+    for SocketGate<'a, R> {
+    type Client = TcpStream;
+
+    type Server = TcpStream;
+
+    fn next(&mut self) -> Option<TcpStream> {
+        self.front.next(self.rt)
+    }
+
+    fn connect(&mut self, pass: &Pass) -> Option<TcpStream> {
+        let Verdict::Serve(number) = pass.verdict() else {
+            return None;
+        };
+        self.hold_back(pass.ticket(), number);
+        let config = self.front.config;
+        let server = config.servers.as_slice().get(number)?;
+        let dialed = dial(self.rt, &server.address, duration(config.connect_timeout));
+        match dialed {
+            Some(stream) => Some(within(stream, config.server_timeout)),
+            None => {
+                self.failure = Some(Failure {
+                    ticket: pass.ticket(),
+                    server: number,
+                    at: self.now(),
+                });
+                None
+            }
+        }
+    }
+
+    fn probe(&mut self, server: usize) -> Option<bool> {
+        let now = self.now();
+        let Some(probe) = self.take_probe(server, now) else {
+            return Some(false);
+        };
+        let ended = probe.ended(now);
+        if ended.is_none() {
+            if let Some(place) = self.probes.get_mut(server) {
+                *place = Some(probe);
+            }
+        }
+        ended
+    }
+
+    fn gone(&mut self, client: &mut TcpStream) -> bool {
+        has_left(client.as_raw_fd(), self.front.config.abortonclose)
+    }
+
+    fn moment(&mut self) -> Moment {
+        self.now()
+    }
+
+    fn window(&mut self, window: Window) {
+        self.front.tell(self.rt, &window);
+    }
+}

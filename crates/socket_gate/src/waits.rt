@@ -1,0 +1,51 @@
+//! How long is waited for what, in milliseconds.
+
+ghost use Rattle.std.specs.Prelude.{◌≡◌, ◌≤◌, ◌+◌, ◌↔◌, IsTrue};
+ghost use Rattle.socket_gate.specs.Waits.{turnaround, patience, left};
+
+use due_key::Moment;
+use proxy_config::Checks;
+use std::time::Duration;
+
+const SECOND: u64 = 1000;
+
+/// The time for a configured number of milliseconds.
+pub(crate) fn duration(millis: Option<u64>) -> Option<Duration> {
+    millis.map(Duration::from_millis)
+}
+
+/// How long a request waits before it is tried again at the server that failed it, where a connect may take so long.
+pub(crate) fn turnaround(connect: Option<u64>) -> u64
+    ensures { result ≡ turnaround connect }
+{
+    match connect {
+        None => SECOND,
+        Some(connect) => connect.min(SECOND),
+    }
+}
+
+/// How long a check may take, where a connect may take so long. None: without an end.
+pub(crate) fn patience(connect: Option<u64>, checks: Option<Checks>) -> Option<u64>
+    ensures { result ≡ patience connect checks }
+{
+    match (connect, checks) {
+        (None, None) => None,
+        (None, Some(checks)) => Some(checks.inter),
+        (Some(connect), None) => Some(connect),
+        (Some(connect), Some(checks)) => Some(checks.inter.min(connect)),
+    }
+}
+
+/// What is left of so many milliseconds since a moment.
+pub(crate) fn left(since: Moment, millis: u64, now: Moment) -> u64
+    ensures { result ≡ left since millis now }
+{
+    millis.saturating_sub(now.get().saturating_sub(since.get()))
+}
+
+/// Whether so many milliseconds passed since a moment.
+pub(crate) fn is_over(since: Moment, millis: u64, now: Moment) -> bool
+    ensures { IsTrue result ↔ (left since millis now ≡ 0) }
+{
+    left(since, millis, now) == 0
+}

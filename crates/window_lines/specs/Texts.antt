@@ -1,0 +1,21 @@
+-- The text of windows. A line feed ends each line.
+use Rattle.std.specs.Prelude.{ℕ, ◌+◌, List, [], ◌∷◌, ◌++◌, codes}
+use Rattle.std.specs.Fmt.{decimal}
+use Rattle.late_cert.specs.declared.report.Report.{Report}
+use Rattle.reporting_core.specs.declared.lines.ServerLine.{ServerLine}
+use Rattle.script.specs.Reports.{reports_text}
+use Rattle.script.specs.Traces.{health_word, name_of}
+
+-- the line of the window of a number, and those of its reports, under these names of the servers
+abbrev pub window_text : List (List ℕ) → ℕ → List Report → List ℕ
+window_text names number reports = codes "window " ++ decimal number ++ codes "\n" ++ reports_text names reports
+
+-- the line of a server of this name
+abbrev pub server_text : List ℕ → ServerLine → List ℕ
+server_text name line =
+    codes "server " ++ name ++ codes " " ++ health_word line.up ++ codes " direct " ++ decimal line.direct ++ codes " granted " ++ decimal line.granted ++ codes "\n"
+
+-- those of servers in file order, the first of which has this number
+unfoldable pub servers_text : List (List ℕ) → ℕ → List ServerLine → List ℕ
+servers_text names number [] = []
+servers_text names number (line ∷ lines) = server_text (name_of names number) line ++ servers_text names (1 + number) lines

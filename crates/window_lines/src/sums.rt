@@ -1,0 +1,76 @@
+ghost use Rattle.std.specs.Prelude.{◌≡◌, IfOk, length};
+ghost use Rattle.window_lines.specs.Sums.{nothing_for, with_window, with_line};
+
+use reporting_core::ServerLine;
+use std::alloc::{AllocError, Global};
+use std::marker::Model;
+
+/// What each server was given in the windows so far, and whether it was up at the end of the last one. Each number stays at its greatest value once it has it.
+#[derive(Debug, Drop)]
+pub struct Sums {
+    lines: Vec<ServerLine>,
+}
+
+impl Model for Sums {
+    ghost use Rattle.std.specs.Prelude.{List};
+    ghost use Rattle.reporting_core.specs.declared.lines.ServerLine.{ServerLine};
+
+    ghost Value = { List ServerLine };
+
+    ghost view = { λ sums. sums.lines.items };
+}
+
+impl Sums {
+    /// Of no window, for so many servers.
+    pub fn new(alloc: Global, servers: usize) -> Result<Sums, AllocError>
+        ensures { IfOk result (λ sums. sums ≡ nothing_for servers) }
+    {
+        let nothing = ServerLine {
+            up: true,
+            direct: 0,
+            granted: 0,
+        };
+        Ok(Sums {
+            lines: vec![in alloc; nothing; servers]?,
+        })
+    }
+
+    /// A line for each server in file order.
+    pub fn lines(&self) -> &[ServerLine]
+        ensures { result.now ≡ self.now }
+    {
+        self.lines.as_slice()
+    }
+
+    /// One window more, of which these are the servers' lines.
+    pub fn add(&mut self, lines: &[ServerLine])
+        ensures { self.new ≡ with_window lines.now self.old }
+    {
+        add_each(self.lines.as_mut_slice(), lines);
+    }
+}
+
+#[tactic(auto, unfolding(crate::specs::Sums::with_window))]
+fn add_each(sums: &mut [ServerLine], lines: &[ServerLine])
+    ensures { sums.new ≡ with_window lines.now sums.old }
+{
+    let Some((line, lines)) = lines.split_first() else {
+        return;
+    };
+    let Some((sum, sums)) = sums.split_first_mut() else {
+        return;
+    };
+    *sum = with_line(*line, *sum);
+    add_each(sums, lines);
+}
+
+// The sum of a server, and a line of it more.
+fn with_line(line: ServerLine, sum: ServerLine) -> ServerLine
+    ensures { result ≡ with_line line sum }
+{
+    ServerLine {
+        up: line.up,
+        direct: sum.direct.saturating_add(line.direct),
+        granted: sum.granted.saturating_add(line.granted),
+    }
+}

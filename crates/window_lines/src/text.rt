@@ -1,0 +1,47 @@
+ghost use Rattle.std.specs.Prelude.{◌≡◌, ◌++◌, OnOk, string_bytes};
+ghost use Rattle.window_lines.specs.Texts.{window_text, server_text, servers_text};
+
+use late_cert::Report;
+use reporting_core::ServerLine;
+use script::{Names, push_reports};
+use std::alloc::AllocError;
+
+/// Writes the line of a window and those of its reports at the end. After an `Err` a part of them may stand there.
+pub fn push_window(
+    text: &mut String,
+    names: &Names,
+    number: u64,
+    reports: &[Report],
+) -> Result<(), AllocError>
+    ensures { OnOk result (string_bytes text.new ≡ string_bytes text.old ++ window_text names.now number reports.now) }
+{
+    writeln!(text, "window {number}")?;
+    push_reports(text, names, reports)
+}
+
+/// Writes a line for each server at the end, in file order. After an `Err` a part of them may stand there.
+#[tactic(auto, unfolding(crate::specs::Texts::servers_text))]
+pub fn push_servers(
+    text: &mut String,
+    names: &Names,
+    lines: &[ServerLine],
+) -> Result<(), AllocError>
+    ensures { OnOk result (string_bytes text.new ≡ string_bytes text.old ++ servers_text names.now 0 lines.now) }
+{
+    for (number, line) in lines.iter().enumerate() {
+        push_server(text, names.of(number), line)?;
+    }
+    Ok(())
+}
+
+fn push_server(text: &mut String, name: &str, line: &ServerLine) -> Result<(), AllocError>
+    ensures { OnOk result (string_bytes text.new ≡ string_bytes text.old ++ server_text name.now line.now) }
+{
+    let health = if line.up { "up" } else { "down" };
+    let direct = line.direct;
+    let granted = line.granted;
+    writeln!(
+        text,
+        "server {name} {health} direct {direct} granted {granted}"
+    )
+}

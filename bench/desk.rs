@@ -132,6 +132,8 @@ fn serve(desk: &Desk, share: usize, requests: u64) -> u64 {
                 live.pop_front();
                 served += 1;
                 desk.turn(served);
+            } else {
+                std::thread::yield_now();
             }
         }
     }

@@ -26,7 +26,7 @@ use std::collections::VecDeque;
 use std::env;
 use std::marker::{Brand, PhantomData};
 use std::sync::Wait;
-use std::thread::{Threads, join};
+use std::thread::{Threads, join, yield_now};
 use verdict::Ending;
 
 /// How many requests a thread keeps, of how many that it serves.
@@ -261,6 +261,8 @@ fn serve<N: BoardName, R: Wait>(
                 live.pop_front();
                 served += 1;
                 turn(rt, desk, served);
+            } else {
+                yield_now();
             }
         }
     }

@@ -1,0 +1,9 @@
+use Rattle.outstanding.specs.Books.{terms_of}
+use Rattle.bench_desk.proofs.main.Given as goal
+
+-- the board that was opened
+abbrev pub ghosts-one : goal.ghosts-one
+ghosts-one g a = record { board = a.opened.board; terms = terms_of a.opened.core.setup }
+
+abbrev pub ghosts-four : goal.ghosts-four
+ghosts-four g a = record { board = a.opened.board; terms = terms_of a.opened.core.setup }

@@ -1,0 +1,338 @@
+//! What `bench/desk.sh` times: requests that go through one desk.
+//!
+//! Its words are how many threads, which is 1 or 4, how many places and how many requests. Each thread keeps its part of the places taken; of its requests
+//! it takes the pass of the oldest once it is offered, posts it, turns, and lets another arrive. Half of the places may be served at once.
+#![tactic(auto)]
+
+ghost use Rattle.std.specs.Prelude.{◌≡◌, ◌<◌, [], length, true};
+ghost use Rattle.dispatch_log.specs.Histories.{first_window};
+ghost use Rattle.grant_board.specs.KeeperCalls.{new_keeper};
+ghost use Rattle.grant_board.specs.RelayCalls.{new_relay};
+ghost use Rattle.outstanding.specs.Books.{terms_of};
+ghost use Rattle.reporting_core.specs.Reporting.{IsNew};
+
+use anyhow::{Context, Result, bail};
+use dispatch_core::Core;
+use dispatch_log::{Refusal, ServerSet, Servers, Setup};
+use dispatch_trace::Ticketed;
+use due_key::{Class, Moment, Offset};
+use grant_board::{Board, BoardName, KeeperSeat, RelaySeat, Taking};
+use grant_desk::{Desk, Queues};
+use late_cert::Running;
+use locked_book::Wanted;
+use place_set::PlaceSet;
+use std::alloc::Global;
+use std::collections::VecDeque;
+use std::env;
+use std::marker::{Brand, PhantomData};
+use std::sync::Wait;
+use std::thread::{Threads, join, yield_now};
+use verdict::Ending;
+
+/// How many requests a thread keeps, of how many that it serves.
+#[derive(Clone, Copy)]
+struct Share {
+    live: usize,
+    requests: u64,
+}
+
+/// What the words of the command line ask for.
+#[derive(Clone, Copy)]
+struct Asked {
+    threads: u32,
+    places: usize,
+    requests: u64,
+}
+
+/// A dispatcher that has done nothing, and the board that was opened for its places and limits.
+#[derive(Drop)]
+struct Opened {
+    core: Core<Queues>,
+    board: Board,
+    seat: KeeperSeat,
+    relay: RelaySeat,
+    running: Running,
+    ghost first: { core ≡ first_window core.setup [] },
+    ghost named: { (seat.board ≡ board) × (relay.board ≡ board) },
+    ghost keeper: { seat.view ≡ new_keeper (terms_of core.setup) },
+    ghost views: { relay.view ≡ new_relay (terms_of core.setup) true },
+    ghost told_nothing: { IsNew running (length core.setup.servers) },
+}
+
+fn main(rt: HostRuntime) -> Result<()> {
+    let alloc = rt.alloc();
+    let words = env::args(&rt)?.collect::<Vec<String>>(alloc)?;
+    let asked = read(words.as_slice())?;
+    let share = Share {
+        live: asked.places,
+        requests: asked.requests,
+    };
+    let opened = open(alloc, asked.places)?;
+    let served = match asked.threads {
+        1 => one::<Brand, _>(&rt, alloc, opened, share),
+        4 => four::<Brand, _>(&rt, alloc, opened, share),
+        _ => bail!("1 or 4 threads"),
+    };
+    println!(rt; "{served}")?;
+    Ok(())
+}
+
+fn read(words: &[String]) -> Result<Asked> {
+    let [_, threads, places, requests] = words else {
+        bail!("how many threads, places and requests");
+    };
+    Ok(Asked {
+        threads: threads.as_str().parse().context("how many threads")?,
+        places: places.as_str().parse().context("how many places")?,
+        requests: requests.as_str().parse().context("how many requests")?,
+    })
+}
+
+// One server that serves half as many at once as there are places, without a timeout in queues.
+fn open(alloc: Global, places: usize) -> Result<Opened> {
+    let limit = u32::try_from(places / 2).context("how many places")?;
+    let server = ServerSet {
+        limit,
+        maxqueue: 0,
+        weight: 1,
+        rise_fall: None,
+    };
+    let setup = Setup {
+        servers: Servers::from_vec(vec![in alloc; server]?),
+        places,
+        log: 262_144,
+        retries: 3,
+        redispatch: false,
+        queue_timeout: 0,
+    };
+    if !setup.sound() {
+        bail!("not a sound setup");
+    }
+    let running = Running::new(alloc, 1)?;
+    let (board, seat, relay) = Board::open(alloc, places, &[limit])?;
+    Ok(Opened {
+        core: Core::new(alloc, setup)?,
+        board,
+        seat,
+        relay,
+        running,
+    })
+}
+
+fn start<N: BoardName>(opened: Opened) -> (Desk<N>, RelaySeat)
+    requires named { opened.board ≡ N.board }
+    requires terms { N.terms ≡ terms_of opened.core.setup }
+    ensures board { result.1.board ≡ N.board }
+    ensures view { result.1.view ≡ new_relay N.terms true }
+{
+    let Opened {
+        core,
+        board,
+        seat,
+        relay,
+        running,
+    } = opened;
+    (Desk::new(core, board, seat, running), relay)
+}
+
+// How many requests were served by one thread.
+fn one<N: BoardName, R: Wait>(rt: &R, alloc: Global, opened: Opened, share: Share) -> u64
+    requires named { opened.board ≡ N.board }
+    requires terms { N.terms ≡ terms_of opened.core.setup }
+{
+    let (desk, relay) = start::<N>(opened);
+    serve(rt, alloc, &desk, relay, share)
+}
+
+// The same by four, each with a fourth of all.
+fn four<N: BoardName + Send + Sync, R: Threads + Wait + Sync>(
+    rt: &R,
+    alloc: Global,
+    opened: Opened,
+    share: Share,
+) -> u64
+    requires named { opened.board ≡ N.board }
+    requires terms { N.terms ≡ terms_of opened.core.setup }
+{
+    let (desk, first) = start::<N>(opened);
+    let seats = split(desk.board(), first);
+    let share = Share {
+        live: share.live / 4,
+        requests: share.requests / 4,
+    };
+    pairs(rt, alloc, &desk, seats, share)
+}
+
+// The seats of four threads, two by two.
+fn split(board: &Board, first: RelaySeat) -> ((RelaySeat, RelaySeat), (RelaySeat, RelaySeat))
+    requires same_board { first.board ≡ board.now }
+    requires first { first.view.first ≡ true }
+    ensures some_boards { (result.0.0.board ≡ first.board) × (result.0.1.board ≡ first.board) }
+    ensures some_terms { (result.0.0.view.terms ≡ first.view.terms) × (result.0.1.view.terms ≡ first.view.terms) }
+    ensures other_boards { (result.1.0.board ≡ first.board) × (result.1.1.board ≡ first.board) }
+    ensures other_terms { (result.1.0.view.terms ≡ first.view.terms) × (result.1.1.view.terms ≡ first.view.terms) }
+{
+    let mut first = first;
+    let second = first.split(board);
+    let third = first.split(board);
+    let fourth = first.split(board);
+    ((first, second), (third, fourth))
+}
+
+fn pairs<N: BoardName + Send + Sync, R: Threads + Wait + Sync>(
+    rt: &R,
+    alloc: Global,
+    desk: &Desk<N>,
+    seats: ((RelaySeat, RelaySeat), (RelaySeat, RelaySeat)),
+    share: Share,
+) -> u64
+    requires some_boards { (seats.0.0.board ≡ N.board) × (seats.0.1.board ≡ N.board) }
+    requires some_terms { (seats.0.0.view.terms ≡ N.terms) × (seats.0.1.view.terms ≡ N.terms) }
+    requires other_boards { (seats.1.0.board ≡ N.board) × (seats.1.1.board ≡ N.board) }
+    requires other_terms { (seats.1.0.view.terms ≡ N.terms) × (seats.1.1.view.terms ≡ N.terms) }
+{
+    let (first, second) = seats;
+    let (some, others) = join(
+        rt,
+        || -> u64
+            requires { (first.0.board ≡ N.board) × (first.1.board ≡ N.board) × (first.0.view.terms ≡ N.terms) × (first.1.view.terms ≡ N.terms) }
+        { two(rt, alloc, desk, first, share) },
+        || -> u64
+            requires { (second.0.board ≡ N.board) × (second.1.board ≡ N.board) × (second.0.view.terms ≡ N.terms) × (second.1.view.terms ≡ N.terms) }
+        { two(rt, alloc, desk, second, share) },
+    );
+    some.saturating_add(others)
+}
+
+fn two<N: BoardName + Send + Sync, R: Threads + Wait + Sync>(
+    rt: &R,
+    alloc: Global,
+    desk: &Desk<N>,
+    seats: (RelaySeat, RelaySeat),
+    share: Share,
+) -> u64
+    requires boards { (seats.0.board ≡ N.board) × (seats.1.board ≡ N.board) }
+    requires terms { (seats.0.view.terms ≡ N.terms) × (seats.1.view.terms ≡ N.terms) }
+{
+    let (one, other) = seats;
+    let (some, others) = join(
+        rt,
+        || -> u64
+            requires { (one.board ≡ N.board) × (one.view.terms ≡ N.terms) }
+        { serve(rt, alloc, desk, one, share) },
+        || -> u64
+            requires { (other.board ≡ N.board) × (other.view.terms ≡ N.terms) }
+        { serve(rt, alloc, desk, other, share) },
+    );
+    some.saturating_add(others)
+}
+
+// A thread's requests: the oldest is served, and another one comes in its place.
+fn serve<N: BoardName, R: Wait>(
+    rt: &R,
+    alloc: Global,
+    desk: &Desk<N>,
+    relay: RelaySeat,
+    share: Share,
+) -> u64
+    requires named { relay.board ≡ N.board }
+    requires terms { relay.view.terms ≡ N.terms }
+{
+    let mut relay = relay;
+    let mut live = VecDeque::new(alloc);
+    let mut came = 0u64;
+    let mut served = 0u64;
+    for _ in rt.forever() {
+        if served >= share.requests {
+            break;
+        }
+        if live.len() < share.live && came < share.requests {
+            let Some(stands) = arrive(rt, alloc, desk, served) else {
+                break;
+            };
+            if live.push_back(stands).is_err() {
+                break;
+            }
+            came += 1;
+            continue;
+        }
+        if let Some(oldest) = live.front() {
+            if take(desk, &mut relay, oldest) {
+                live.pop_front();
+                served += 1;
+                turn(rt, desk, served);
+            } else {
+                yield_now();
+            }
+        }
+    }
+    served
+}
+
+/// A place of the board's, and its request's ticket.
+#[derive(Drop)]
+struct Stands<N: BoardName> {
+    it: Ticketed,
+    of: PhantomData<N>,
+    ghost in_range: { it.place < N.terms.places },
+}
+
+// A request arrives. Where the log is full, a new window begins first.
+fn arrive<N: BoardName, R: Wait>(
+    rt: &R,
+    alloc: Global,
+    desk: &Desk<N>,
+    moment: u64,
+) -> Option<Stands<N>> {
+    let moment = Moment::new(moment)?;
+    match admit(rt, alloc, desk, moment) {
+        Err(Refusal::LogFull) => {
+            desk.roll(rt);
+            admit(rt, alloc, desk, moment).ok()
+        }
+        admitted => admitted.ok(),
+    }
+}
+
+fn admit<N: BoardName, R: Wait>(
+    rt: &R,
+    alloc: Global,
+    desk: &Desk<N>,
+    moment: Moment,
+) -> Result<Stands<N>, Refusal> {
+    let wanted = Wanted {
+        class: Class::clamp(0),
+        offset: Offset::clamp(0),
+        pin: None,
+    };
+    let mut woken = PlaceSet::new();
+    let it = desk.arrive(rt, alloc, moment, wanted, &mut woken)?;
+    Ok(Stands {
+        it,
+        of: PhantomData,
+    })
+}
+
+// The request's pass is taken and posted, where it is offered.
+fn take<N: BoardName>(desk: &Desk<N>, relay: &mut RelaySeat, stands: &Stands<N>) -> bool
+    requires named { relay.old.board ≡ N.board }
+    requires terms { relay.old.view.terms ≡ N.terms }
+    ensures { (relay.new.board ≡ N.board) × (relay.new.view.terms ≡ N.terms) }
+{
+    match relay.try_take(desk.board(), stands.it.place, stands.it.ticket) {
+        Taking::Taken(pass) => {
+            relay.post(desk.board(), pass, Ending::Done);
+            true
+        }
+        Taking::NotYet => false,
+    }
+}
+
+fn turn<N: BoardName, R: Wait>(rt: &R, desk: &Desk<N>, moment: u64) {
+    let mut woken = PlaceSet::new();
+    let moment = Moment::new(moment).unwrap_or(Moment::zero());
+    if desk.turn(rt, moment, &mut woken).is_err() {
+        desk.roll(rt);
+        let _ = desk.turn(rt, moment, &mut woken);
+    }
+}

@@ -1,9 +1,10 @@
 -- Numbers of clients, each of which stays at its greatest value once it has it.
-use Rattle.std.specs.Prelude.{ℕ, ◌+◌, ◌-◌, ◌^◌, min}
+use Rattle.std.specs.Prelude.{ℕ, ◌+◌, ◌-◌, ◌^◌, min, Result, Ok, Err}
 use Rattle.relay_http.specs.declared.refusing.Code.TheVariants.{BadRequest, BadGateway, Unavailable}
 use Rattle.relay_workers.specs.declared.outcome.Outcome.{Outcome}
 use Rattle.relay_workers.specs.declared.outcome.Outcome.TheVariants.{Answered, Refused, Cut}
 use Rattle.relay_workers.specs.declared.tally.Tally.{Tally}
+use Rattle.relay_workers.specs.declared.working.Stopped.{Stopped}
 
 abbrev pub plus : ℕ → ℕ → ℕ
 plus a b = min (a + b) (2 ^ 64 - 1)
@@ -28,3 +29,9 @@ together a b = record {
   bad_gateways = plus a.bad_gateways b.bad_gateways;
   unavailable = plus a.unavailable b.unavailable;
 }
+
+-- of two threads: the sum, or why the first of them stopped that did
+abbrev pub of_both : Result Tally Stopped → Result Tally Stopped → Result Tally Stopped
+of_both (Ok a) (Ok b) = Ok (together a b)
+of_both (Ok a) (Err stopped) = Err stopped
+of_both (Err stopped) other = Err stopped

@@ -1,0 +1,12 @@
+-- A proxy may be lent to other threads.
+use denote.RattleType.{RattleType}
+use denote.Param.Send.{IsSync, sendable}
+use denote.Param.SendFields.{declared_sync}
+use Rattle.std.proofs.Crossing.{crosses}
+use Rattle.grant_board.specs.declared.board.BoardName as board_name
+use Rattle.grant_desk.proofs.Crosses.{desk_sync}
+use Rattle.proxy_config.proofs.parts.Config.TheSendSync as config
+use Rattle.relay_workers.specs.contracts.proxy.Proxy as proxy
+
+pub proxy_sync : (N : RattleType) (g : board_name.Ghosts N.Denot) → IsSync (proxy.the_row N g)
+proxy_sync N g = declared_sync (proxy.the_type N g) (search (crosses, sendable) depth 60 fits 20000, (desk_sync N g, (config.the_sync, tt)))

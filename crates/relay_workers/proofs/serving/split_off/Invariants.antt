@@ -1,0 +1,8 @@
+use Rattle.std.proofs.Common.{◌≡◌, ◌+◌, vec_len}
+use Rattle.relay_workers.specs.Seats.{IsLent}
+use Rattle.relay_workers.proofs.serving.split_off.Given as goal
+
+abbrev pub invariant-loop : goal.invariant-loop
+invariant-loop g l =
+    IsLent l.initial.first l.first (vec_len l.initial.seats) (vec_len l.seats)
+    × (l.first.view.split ≡ l.initial.first.view.split + l.counter)

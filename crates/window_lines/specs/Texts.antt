@@ -13,7 +13,8 @@ window_text names number reports = codes "window " ++ decimal number ++ codes "\
 -- the line of a server of this name
 abbrev pub server_text : List ℕ → ServerLine → List ℕ
 server_text name line =
-    codes "server " ++ name ++ codes " " ++ health_word line.up ++ codes " direct " ++ decimal line.direct ++ codes " granted " ++ decimal line.granted ++ codes "\n"
+    codes "server " ++ name ++ codes " " ++ health_word line.up ++ codes " direct " ++ decimal line.direct ++
+    codes " granted " ++ decimal line.granted ++ codes "\n"
 
 -- those of servers in file order, the first of which has this number
 unfoldable pub servers_text : List (List ℕ) → ℕ → List ServerLine → List ℕ

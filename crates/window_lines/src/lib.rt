@@ -5,7 +5,6 @@ mod sums;
 mod text;
 
 pub use sums::Sums;
-
 pub use text::{push_servers, push_window};
 
 #[cfg(test)]

@@ -4,6 +4,8 @@ use Rattle.dueproxy.specs.declared.check.Checked.{Checked}
 use Rattle.dueproxy.specs.declared.check.Checked.TheVariants as checks
 use Rattle.dueproxy.specs.declared.input.InputFault.{InputFault}
 use Rattle.dueproxy.specs.declared.input.InputFault.TheVariants as inputs
+use Rattle.proxy_run.specs.declared.fault.RunFault.{RunFault}
+use Rattle.proxy_run.specs.declared.fault.RunFault.TheVariants as runs
 use Rattle.replay.specs.declared.fault.Fault.{Fault}
 use Rattle.replay.specs.declared.fault.Fault.TheVariants.{NoMemory, Script, Read, Write}
 
@@ -29,3 +31,9 @@ status_of_input inputs.Unread = 1
 status_of_input inputs.Unwritten = 1
 status_of_input (inputs.Script line) = 5
 status_of_input (inputs.Trace line cause) = 5
+
+-- 0; 3 where the configuration is faulty; 1 where anything else went wrong
+abbrev pub status_of_run : Result (Unit {0}) RunFault → ℕ
+status_of_run (Ok done) = 0
+status_of_run (Err (runs.Config fault)) = 3
+status_of_run (Err (runs.Serve fault)) = 1

@@ -65,7 +65,7 @@ fn print_all(rt: &(impl Print + Eprint), faulty: usize, text: &str) -> u8 {
     3
 }
 
-fn read_file<R: Files + AllocGlobal>(rt: &R, file: &str) -> io::Result<Vec<u8>> {
+pub(crate) fn read_file<R: Files + AllocGlobal>(rt: &R, file: &str) -> io::Result<Vec<u8>> {
     let mut opened = fs::open(rt, file)?;
     let mut bytes = Vec::new(rt.alloc());
     opened.read_to_end(&mut bytes)?;

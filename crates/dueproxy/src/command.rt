@@ -1,4 +1,6 @@
 use crate::picture::Only;
+use crate::serve;
+use crate::serve::{Run, sizes_of};
 use clap::error::ErrorKind;
 use clap::{Arg, ArgAction, ArgMatches, Command, Error};
 use due_key::Class;
@@ -17,8 +19,8 @@ pub(crate) enum Asked {
     Draw(Option<Only>),
     /// Tell the story of this ticket.
     Tell(u64),
-    /// A subcommand that is not there yet.
-    Later,
+    /// Serve.
+    Run(Run),
     /// Nothing more: help was printed, or a fault in the words, and this is the status.
     Nothing(u8),
 }
@@ -93,7 +95,9 @@ pub(crate) fn ask(rt: &(impl Print + Eprint + AllocGlobal), words: &[String]) ->
             }
             Some(("draw", words)) => draw_of(rt, words),
             Some(("explain", words)) => tell_of(rt, words),
-            _ => Asked::Later,
+            Some(("run", words)) => run_of(rt, words),
+            // clap refuses all other words.
+            _ => Asked::Nothing(2),
         },
     }
 }
@@ -134,6 +138,19 @@ fn tell_of(rt: &impl Eprint, words: &ArgMatches) -> Asked {
     }
 }
 
+fn run_of(rt: &(impl Eprint + AllocGlobal), words: &ArgMatches) -> Asked {
+    let Some(sizes) = sizes_of(words) else {
+        let _ = rt.eprintln(
+            "a number is out of its range: 1 to 256 workers, 1 to 4096 places, 0 to 999999999 requests",
+        );
+        return Asked::Nothing(2);
+    };
+    match String::from_str(rt.alloc(), words.get_str("FILE").unwrap_or_default()) {
+        Ok(file) => Asked::Run(Run { file, sizes }),
+        Err(_) => no_memory(rt),
+    }
+}
+
 fn refuse(rt: &(impl Print + Eprint + AllocGlobal), error: Error) -> Asked {
     if error.kind() == ErrorKind::OutOfMemory {
         return no_memory(rt);
@@ -156,7 +173,7 @@ fn dueproxy<'a>(alloc: Global) -> Result<Command<'a>, AllocError> {
         .subcommand(draw(alloc)?)?
         .subcommand(tell(alloc)?)?
         .subcommand(check(alloc)?)?
-        .subcommand(run(alloc)?)
+        .subcommand(serve::command(alloc, file(alloc))?)
 }
 
 fn replay<'a>(alloc: Global) -> Command<'a> {
@@ -187,15 +204,6 @@ fn check<'a>(alloc: Global) -> Result<Command<'a>, AllocError> {
         .after_help(CHECK_HELP)
         .arg(explain(alloc))?
         .arg(file(alloc))
-}
-
-fn run<'a>(alloc: Global) -> Result<Command<'a>, AllocError> {
-    Command::new(alloc, "run")
-        .about("Serves as a configuration says (not there yet)")
-        .arg(file(alloc))?
-        .arg(number(alloc, "workers", "64", 1, 256))?
-        .arg(number(alloc, "places", "1024", 1, 4096))?
-        .arg(number(alloc, "requests", "0", 0, 999_999_999))
 }
 
 fn explain<'a>(alloc: Global) -> Arg<'a> {
@@ -231,18 +239,10 @@ fn file<'a>(alloc: Global) -> Arg<'a> {
         .help("The configuration")
 }
 
-fn number<'a>(alloc: Global, name: &'a str, default: &'a str, low: i64, high: i64) -> Arg<'a> {
-    Arg::new(alloc, name)
-        .long(name)
-        .action(ArgAction::Set)
-        .value_name("N")
-        .value_parser(clap::value_parser!(u32).range(low..=high))
-        .default_value(default)
-}
-
 #[cfg(test)]
 mod tests {
     use super::*;
+    use proxy_run::Sizes;
     use std::test::Fail;
 
     #[test]
@@ -294,20 +294,31 @@ mod tests {
             asked(&rt, &["dueproxy", "explain", "x"])?,
             Asked::Nothing(2)
         );
-        assert_eq!(rt;
-            asked(&rt, &["dueproxy", "run", "file", "--workers", "7"])?,
-            Asked::Later
-        );
         assert_eq!(rt; asked(&rt, &["dueproxy", "--help"])?, Asked::Nothing(0));
         assert_eq!(rt; asked(&rt, &["dueproxy"])?, Asked::Nothing(2));
         assert_eq!(rt;
             asked(&rt, &["dueproxy", "replay", "more"])?,
             Asked::Nothing(2)
         );
+        Ok(())
+    }
+
+    #[test]
+    fn what_runs_has_its_sizes(rt: HostRuntime) -> Result<(), Fail> {
+        let Some(sizes) = Sizes::new(7, 1024, 0) else {
+            return Err(Fail::from("no sizes"));
+        };
+        let file = String::from_str(rt.alloc(), "file")?;
         assert_eq!(rt;
-            asked(&rt, &["dueproxy", "run", "file", "--workers", "0"])?,
-            Asked::Nothing(2)
+            asked(&rt, &["dueproxy", "run", "file", "--workers", "7"])?,
+            Asked::Run(Run { file, sizes })
         );
+        for number in ["0", "257", "+5", "7x"] {
+            assert_eq!(rt;
+                asked(&rt, &["dueproxy", "run", "file", "--workers", number])?,
+                Asked::Nothing(2)
+            );
+        }
         Ok(())
     }
 }

@@ -13,6 +13,7 @@ mod command;
 mod explain;
 mod input;
 mod picture;
+mod serve;
 mod tale;
 
 use check::{check, check_in_full};
@@ -20,6 +21,7 @@ use command::{Asked, ask};
 use input::InputFault;
 use picture::{DrawFault, Only, draw};
 use replay::{Fault, replay};
+use serve::serve_file;
 use std::env;
 use std::io::{Read, Write};
 use std::process::ExitCode;
@@ -41,10 +43,7 @@ fn main(rt: HostRuntime) -> ExitCode {
         Asked::Explain(file) => check_in_full(&rt, &file),
         Asked::Draw(only) => draw_streams(&rt, &mut rt.stdin(), &mut rt.stdout(), &only),
         Asked::Tell(ticket) => tell_streams(&rt, &mut rt.stdin(), &mut rt.stdout(), ticket),
-        Asked::Later => {
-            let _ = rt.eprintln("run isn't there yet: replay, draw, explain and check are");
-            USAGE
-        }
+        Asked::Run(wanted) => serve_file(&rt, &wanted),
         Asked::Nothing(status) => status,
     };
     ExitCode::from(status)

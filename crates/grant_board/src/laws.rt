@@ -115,6 +115,10 @@ pub(crate) fn posted_in(number: u64) -> Option<(u64, Verdict, Ending)>
     ensures some { IfSome result (λ p. IsWord (Posted p.0 p.1 p.2) × (number ≡ encode_of (Posted p.0 p.1 p.2))) }
     ensures none { IfNone result (IsUnposted number) }
 {
+    // Whoever looks for what came back finds the other kinds nearly always.
+    if number % VERDICT != POSTED {
+        return None;
+    }
     match decode(number)? {
         Word::Posted(ticket, verdict, ending) => Some((ticket, verdict, ending)),
         _ => None,

@@ -1,5 +1,5 @@
 -- The set of the places that are out follows the seat.
-use Rattle.std.proofs.Common.{◌≡◌, ◌≢◌, ℕ, ◌+◌, ◌<◌, ◌≤◌, ◌⊎◌, ◌↔◌, inl, inr, List, [], ◌∷◌, ◌++◌, refl, ap, sym, ◌∙◌, subst, arith}
+use Rattle.std.proofs.Common.{◌≡◌, ◌≢◌, ℕ, ◌+◌, ◌*◌, ◌<◌, ◌≤◌, ◌⊎◌, ◌↔◌, inl, inr, List, [], ◌∷◌, ◌++◌, refl, ap, sym, ◌∙◌, subst, arith}
 use mathlib.Core.Logic.{dite}
 use native.Mathlib.Decide.{ℕ_discrete}
 use Rattle.verdict.specs.declared.Verdict.{Verdict}
@@ -12,10 +12,13 @@ use Rattle.grant_board.specs.KeeperCalls.{offer_after, Collects}
 use Rattle.grant_board.proofs.Grants.{at_place-yes, at_place-no}
 use Rattle.locked_book.specs.Busy.{IsKept}
 
-pub kept_offer : (view : KeeperView) (places next : List ℕ) (p t : ℕ) (it : Verdict) → IsKept view places → p < view.terms.places → count_at p view.out ≡ 0
-    → ((q : ℕ) → Has next q ↔ ((q ≡ p) ⊎ Has places q)) → IsKept (offer_after view (grant p t it)) next
-kept_offer view places next p t it is low free more = record {
+pub kept_offer : (view : KeeperView) (places next : List ℕ) (blocks p t : ℕ) (it : Verdict)
+    → IsKept view places blocks → p < view.terms.places → count_at p view.out ≡ 0
+    → ((q : ℕ) → Has next q ↔ ((q ≡ p) ⊎ Has places q)) → IsKept (offer_after view (grant p t it)) next blocks
+kept_offer view places next blocks p t it is low free more = record {
   few = is.few;
+  in_blocks = is.in_blocks;
+  few_blocks = is.few_blocks;
   within = λ q some. dite (ℕ_discrete p q) (λ same. subst (λ n. n < view.terms.places) same low)
       (λ other. is.within q (omega (arith, some, count q, at_place-no q (grant p t it) other)));
   once = λ q. dite (ℕ_discrete p q)
@@ -35,10 +38,12 @@ kept_offer view places next p t it is low free more = record {
     count : (q : ℕ) → total (at_place q) (view.out ++ grant p t it ∷ []) ≡ total (at_place q) view.out + at_place q (grant p t it)
     count q = total-push (at_place q) view.out (grant p t it)
 
-pub kept_collect : (old view : KeeperView) (places next : List ℕ) (p : ℕ) (back : Return) → IsKept old places → Collects old view p back
-    → ((q : ℕ) → Has next q ↔ ((q ≢ p) × Has places q)) → IsKept view next
-kept_collect old view places next p back is collects less = record {
+pub kept_collect : (old view : KeeperView) (places next : List ℕ) (blocks p : ℕ) (back : Return) → IsKept old places blocks → Collects old view p back
+    → ((q : ℕ) → Has next q ↔ ((q ≢ p) × Has places q)) → IsKept view next blocks
+kept_collect old view places next blocks p back is collects less = record {
   few = subst (λ (v : KeeperView). v.terms.places ≤ 4096) (sym collects.after) is.few;
+  in_blocks = subst (λ (v : KeeperView). v.terms.places ≤ 64 * blocks) (sym collects.after) is.in_blocks;
+  few_blocks = is.few_blocks;
   within = λ q some. subst (λ (v : KeeperView). q < v.terms.places) (sym collects.after) (is.within q (omega (arith, some, count q)));
   once = λ q. omega (arith, is.once q, count q);
   busy = λ q. (

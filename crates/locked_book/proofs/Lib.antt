@@ -2,3 +2,4 @@ pub mod Busying
 pub mod Paying
 pub mod Events
 pub mod Ends
+mod Walking

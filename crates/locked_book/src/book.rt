@@ -1,11 +1,11 @@
-ghost use Rattle.std.specs.Prelude.{◌≡◌, ◌<◌, ◌≤◌, ◌↔◌, [], length, IfSome, IfNone, IfOk, IfErr, OnOk, OnErr, IsTrue, Some, pos, ◌+ℤ◌};
+ghost use Rattle.std.specs.Prelude.{◌≡◌, ℕ, ◌+◌, ◌*◌, ◌<◌, ◌≤◌, ◌↔◌, List, [], length, IfSome, IfNone, IfOk, IfErr, OnOk, OnErr, IsTrue, Some, pos, ◌+ℤ◌};
 ghost use Rattle.dispatch_log.specs.declared.entry.Entry.TheVariants.{Arrive, Abort, Tick, Check, Limit};
 ghost use Rattle.dispatch_log.specs.declared.refusal.Refusal.TheVariants.{LogFull};
 ghost use Rattle.dispatch_log.specs.Dispatch.{bound_by};
 ghost use Rattle.dispatch_log.specs.Rows.{served};
 ghost use Rattle.list_facts.specs.Weights.{AreIn};
 ghost use Rattle.outstanding.specs.Outstanding.{outstanding};
-ghost use Rattle.outstanding.specs.Turns.{VisitsSome, Turns};
+ghost use Rattle.outstanding.specs.Turns.{VisitsFrom, VisitsSome, Walks, Turns};
 ghost use Rattle.locked_book.specs.Ends.{IsAcceptable};
 ghost use Rattle.dispatch_log.specs.Histories.{first_window, next_window, state_of, effective, refuses_arrival, refuses_abort, refuses_tick, refuses_check, refuses_limit, SomeExpires, RefusedOrNoMemory};
 ghost use Rattle.dispatch_log.specs.Legal.{AddsEvent, IsLegal};
@@ -74,11 +74,10 @@ impl<Q: PendQueue<Key, usize>, N: BoardName> Book<Q, N> {
         requires running { IsNew running (length core.setup.servers) }
         ensures { result ≡ record { history = core; view = seat.view } }
     {
-        // Says that there are at most 4,096 places, which is what the set of those that are out has room for.
-        core.places();
+        let places = core.places();
         Book {
             core: ReportingCore::new(core, running),
-            keeping: Keeping::new(seat),
+            keeping: Keeping::new(seat, places),
             of: PhantomData,
         }
     }
@@ -186,13 +185,28 @@ impl<Q: PendQueue<Key, usize>, N: BoardName> Book<Q, N> {
         if !self.core.has_room() {
             return Err(Refusal::LogFull);
         }
-        let Some(back) = self.keeping.collect(board, place) else {
-            return Ok(None);
-        };
+        Ok(self.take_at(board, moment, place, woken))
+    }
+
+    // The same where the log has room.
+    fn take_at(
+        &mut self,
+        board: &Board,
+        moment: Moment,
+        place: usize,
+        woken: &mut PlaceSet,
+    ) -> Option<Return>
+        requires board { board.now ≡ N.board }
+        requires in_range { place < N.terms.places }
+        requires room { HasEntryRoom self.old.history }
+        ensures some { IfSome result (λ back. TakesBack self.old self.new place (effective self.old.history moment) back woken.old woken.new) }
+        ensures none { IfNone result ((self.new.history ≡ self.old.history) × FindsUnposted self.old.view self.new.view place × (woken.new ≡ woken.old)) }
+    {
+        let back = self.keeping.collect(board, place)?;
         let from = self.core.log().len();
         note_end(&mut self.core, moment, back);
         offer_from(&self.core, &mut self.keeping, board, from, woken);
-        Ok(Some(back))
+        Some(back)
     }
 
     /// A server's limit is set: the event, then the server's bound at the board, then the offers. No request that is out is called back. Refused as
@@ -285,13 +299,38 @@ impl<Q: PendQueue<Key, usize>, N: BoardName> Book<Q, N> {
         ensures err { IfErr result (λ refusal. (refusal ≡ LogFull) × (refuses_tick self.new.history ≡ Some LogFull)) }
         ensures stopped { OnErr result (VisitsSome moment self.old woken.old self.new woken.new) }
     {
-        let mut from = 0;
-        while let Some(place) = self.keeping.next(from) {
-            self.collect_at(board, moment, place, woken)?;
-            from = place + 1;
+        for number in 0..self.keeping.blocks() {
+            self.turn_block(board, moment, number, woken)?;
         }
         if self.core.expired(moment) {
             self.tick(board, moment, woken)?;
+        }
+        Ok(())
+    }
+
+    // The part of a turn that passes a block's places. Those that were out before it are known at once, so that each look is little more than a load.
+    fn turn_block(
+        &mut self,
+        board: &Board,
+        moment: Moment,
+        number: usize,
+        woken: &mut PlaceSet,
+    ) -> Result<(), Refusal>
+        requires board { board.now ≡ N.board }
+        requires in_range { number < 64 }
+        ensures ok { OnOk result (Walks moment (64 * number) (64 * number + 64) self.old woken.old self.new woken.new) }
+        ensures err { IfErr result (λ refusal. (refusal ≡ LogFull) × (refuses_tick self.new.history ≡ Some LogFull)) }
+        ensures stopped { OnErr result ((places : List ℕ) × VisitsFrom moment (64 * number) places self.old woken.old self.new woken.new) }
+    {
+        let mut ahead = self.keeping.block(number);
+        let mut room = self.core.has_room();
+        while let Some(place) = ahead.take_first() {
+            if !room {
+                return Err(Refusal::LogFull);
+            }
+            if self.take_at(board, moment, place, woken).is_some() {
+                room = self.core.has_room();
+            }
         }
         Ok(())
     }

@@ -1,11 +1,11 @@
-ghost use Rattle.std.specs.Prelude.{◌≡◌, ◌+◌, ◌<◌, ◌≤◌, ◌^◌, ◌∷◌, [], IfSome, IfNone, MatchOption, length};
+ghost use Rattle.std.specs.Prelude.{◌≡◌, ℕ, ◌*◌, ◌/◌, ◌<◌, ◌≤◌, ◌^◌, ◌↔◌, ◌∷◌, [], IfSome, IfNone, length};
 ghost use Rattle.grant_board.specs.Views.{grant, count_at};
 ghost use Rattle.grant_board.specs.KeeperCalls.{HasRoom, offer_after, Collects, FindsUnposted, MayLimit, limit_after, Vouches};
 ghost use Rattle.outstanding.specs.Calls.{Wakes};
-ghost use Rattle.locked_book.specs.Busy.{IsBusyNext};
+ghost use Rattle.place_set.specs.Sets.{HasAhead};
 
 use grant_board::{Board, KeeperSeat, RelaySeat, Return};
-use place_set::PlaceSet;
+use place_set::{Block, PlaceSet};
 use std::marker::Model;
 use verdict::Verdict;
 
@@ -14,6 +14,7 @@ use verdict::Verdict;
 pub struct Keeping {
     seat: KeeperSeat,
     out: PlaceSet,
+    blocks: usize,
 }
 
 impl Model for Keeping {
@@ -24,29 +25,39 @@ impl Model for Keeping {
 
     ghost view = { λ it. it.seat };
 
-    ghost invariant = { λ it. IsKept it.seat.view it.out };
+    ghost invariant = { λ it. IsKept it.seat.view it.out it.blocks };
 }
 
 impl Keeping {
-    /// A seat that has nothing out.
-    pub fn new(seat: KeeperSeat) -> Keeping
+    /// A seat of so many places that has nothing out.
+    pub fn new(seat: KeeperSeat, places: usize) -> Keeping
         requires none { seat.view.out ≡ [] }
-        requires few { seat.view.terms.places ≤ 4096 }
+        requires places { places ≡ seat.view.terms.places }
+        requires few { places ≤ 4096 }
         ensures { result ≡ seat }
     {
         Keeping {
             seat,
             out: PlaceSet::new(),
+            blocks: places.div_ceil(64),
         }
     }
 
-    /// The first place from one on that is out.
-    pub fn next(&self, from: usize) -> Option<usize>
-        ensures next { IsBusyNext self.now.view.out from result }
-        ensures in_range { IfSome result (λ place. place < self.now.view.terms.places) }
-        ensures fits { IfSome result (λ place. place < 4096) }
+    /// How many blocks of 64 places there are that may be out.
+    pub fn blocks(&self) -> usize
+        ensures all { (place : ℕ) → 0 < count_at place self.now.view.out → place < 64 * result }
+        ensures few { result ≤ 64 }
     {
-        self.out.next(from)
+        self.blocks
+    }
+
+    /// Those of a block's places that are out.
+    pub fn block(&self, number: usize) -> Block
+        requires { number < 64 }
+        ensures ahead { (place : ℕ) → HasAhead result place ↔ ((place / 64 ≡ number) × (0 < count_at place self.now.view.out)) }
+        ensures in_range { (place : ℕ) → HasAhead result place → place < self.now.view.terms.places }
+    {
+        self.out.block(number)
     }
 
     /// Offers a verdict, and notes its place among those that are to be woken.
@@ -102,7 +113,11 @@ impl Keeping {
     pub fn into_seat(self) -> KeeperSeat
         ensures { result ≡ self }
     {
-        let Keeping { seat, out: _ } = self;
+        let Keeping {
+            seat,
+            out: _,
+            blocks: _,
+        } = self;
         seat
     }
 }

@@ -1,14 +1,12 @@
 -- What one entry does to what is outstanding: what it takes away was owed by its event, and what it adds is its verdict.
-use Rattle.std.proofs.Common.{◌≡◌, ◌≢◌, ℕ, zero, suc, ◌+◌, ◌==◌, Bool, true, false, cond, IsTrue, List, []}
-use Rattle.std.proofs.Common.{◌∷◌, Option, None, Some, length, slice_get, map, refl, ap, sym, ◌∙◌, subst, arith}
-use Rattle.std.proofs.Math.ListN.{set}
+use Rattle.std.proofs.Common.{◌≡◌, ℕ, ◌+◌, true, false, IsTrue, []}
+use Rattle.std.proofs.Common.{◌∷◌, Option, None, Some, refl, ap, sym, ◌∙◌, subst, arith}
 use Rattle.std.proofs.lemmas.Bool.Decides.{Decides-eqb}
 use Rattle.verdict.specs.declared.Verdict.{Verdict}
 use Rattle.verdict.specs.declared.Verdict.TheVariants as verdict
-use Rattle.verdict.specs.declared.cause.Cause.{Cause}
 use Rattle.verdict.specs.declared.cause.Cause.TheVariants.{Aborted, Timeout, Retries, NoServer}
 use Rattle.list_facts.specs.Weights.{total}
-use Rattle.list_facts.proofs.Never.{false_true, none_some}
+use Rattle.list_facts.proofs.Never.{false_true}
 use Rattle.list_facts.proofs.Places.{get-set_same}
 use Rattle.grant_board.specs.Views.{Grant, grant}
 use Rattle.dispatch_log.specs.declared.entry.Entry.{Entry}
@@ -22,12 +20,12 @@ use Rattle.dispatch_log.specs.declared.row.Row.{Row}
 use Rattle.dispatch_log.specs.declared.setup.Setup.{Setup}
 use Rattle.dispatch_log.specs.Histories.{begins_event}
 use Rattle.dispatch_log.specs.Judgement.{Stage, placing, returning, ending, failing, freed_by_failure, aborting, telling, checking, falling}
-use Rattle.dispatch_log.specs.Judgement.{granting, HasSlot, IsTold, MayGrant, IsPut, MayCome, IsOver, HasExpired, next_stage}
+use Rattle.dispatch_log.specs.Judgement.{granting, MayGrant, IsPut, MayCome, IsOver, HasExpired, next_stage}
 use Rattle.dispatch_log.specs.Refusals.{is_waiting}
-use Rattle.dispatch_log.specs.Rows.{Rows, StandsAt, changed, in_phase, in_backend_since, gone, phase_waits_in, phase_is_served_by, phase_is_told}
+use Rattle.dispatch_log.specs.Rows.{Rows, StandsAt, changed, in_phase, in_backend_since, gone, phase_waits_in, phase_is_served_by}
 use Rattle.dispatch_log.specs.States.{State, scene, after}
 use Rattle.dispatch_log.specs.Scenes.{Scene}
-use Rattle.dispatch_log.proofs.Consistency.{IsConsistent, IsLoose, loose_ticket}
+use Rattle.dispatch_log.proofs.Consistency.{IsConsistent, loose_ticket}
 use Rattle.dispatch_log.proofs.Judged.{consistent_after}
 use Rattle.dispatch_log.proofs.RowLemmas.{HaveOwnTickets, changed_at}
 use Rattle.outstanding.specs.Outstanding.{verdict_at, granted, outstanding, place_in, grants_of}

@@ -1,8 +1,8 @@
 -- What a book owes within a call, and what it pays by offers.
-use Rattle.std.proofs.Common.{◌≡◌, ◌≢◌, ℕ, zero, suc, ◌+◌, ◌<◌, ◌≤◌, ◌^◌, Bool, true, false, List, [], ◌∷◌, ◌++◌}
+use Rattle.std.proofs.Common.{◌≡◌, ℕ, zero, suc, ◌+◌, ◌<◌, ◌≤◌, ◌^◌, true, false, List, [], ◌∷◌, ◌++◌}
 use Rattle.std.proofs.Common.{All, Contains, Option, None, Some, length, map, slice_get, slice_index, refl, ap, sym, ◌∙◌, subst, arith}
 use Rattle.std.specs.Option.{option_map_or}
-use Rattle.std.specs.List.{filter_map, cons_option}
+use Rattle.std.specs.List.{cons_option}
 use Rattle.std.proofs.lemmas.Option.{slice_get_within}
 use Rattle.std.proofs.lemmas.List.{append_assoc, append-nil, map-append, length-map}
 use Rattle.std.proofs.lemmas.List.Elements.{All-head, All-tail, filter_map-append}
@@ -18,7 +18,7 @@ use Rattle.grant_board.specs.KeeperCalls.{HasRoom, offer_after, Collects}
 use Rattle.grant_board.proofs.Grants.{at_place-yes, serves_at-same, same_grant, grants_tell}
 use Rattle.dispatch_log.specs.declared.allowance.Allowance.{Allowance}
 use Rattle.dispatch_log.specs.declared.entry.Entry.{Entry}
-use Rattle.dispatch_log.specs.declared.entry.Entry.TheVariants.{Arrive, Done, Fail, Abort, Tick, Check, Limit}
+use Rattle.dispatch_log.specs.declared.entry.Entry.TheVariants.{Done, Fail}
 use Rattle.dispatch_log.specs.declared.row.Phase.{Phase}
 use Rattle.dispatch_log.specs.declared.row.Phase.TheVariants.{Loose, Waiting, Serving}
 use Rattle.dispatch_log.specs.declared.row.Row.{Row}
@@ -30,7 +30,7 @@ use Rattle.dispatch_log.specs.Judgement.{granting}
 use Rattle.dispatch_log.specs.Legal.{IsLegal, AddsEvent}
 use Rattle.dispatch_log.specs.Rows.{Rows, StandsAt, served}
 use Rattle.dispatch_log.specs.States.{State, after_all}
-use Rattle.dispatch_log.proofs.Consistency.{IsConsistent, at_stage}
+use Rattle.dispatch_log.proofs.Consistency.{at_stage}
 use Rattle.dispatch_log.proofs.Dispatched.{dispatched, legal_consistent}
 use Rattle.dispatch_log.proofs.Judged.{over_none}
 use Rattle.dispatch_log.proofs.RowLemmas.{HaveOwnTickets}
@@ -39,7 +39,7 @@ use Rattle.dispatch_log.proofs.Within.{within}
 use Rattle.outstanding.specs.Books.{terms_of, unplaced, returned, IsBook, IsOwing}
 use Rattle.outstanding.specs.Outstanding.{verdict_at, granted, outstanding, place_in, grants_of}
 use Rattle.outstanding.specs.Verdicts.{verdict_in, verdicts, ending_in, endings}
-use Rattle.outstanding.proofs.Weighing.{weigh, only, of_ticket, once_at, count_of_served, IsOutAt, is_out, place_at}
+use Rattle.outstanding.proofs.Weighing.{weigh, only, of_ticket, once_at, count_of_served, IsOutAt, is_out}
 use Rattle.outstanding.proofs.Turning.{back, turned}
 
 -- the state after an event is what its entries leave of the one before

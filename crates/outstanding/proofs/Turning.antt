@@ -1,11 +1,8 @@
 -- What one event does to what is outstanding: its verdicts are added, and what the event was about is taken away.
-use Rattle.std.proofs.Common.{◌≡◌, ◌≢◌, ℕ, zero, suc, ◌+◌, ◌==◌, Bool, true, false, cond, IsTrue, List, []}
-use Rattle.std.proofs.Common.{◌∷◌, ◌++◌, All, Option, None, Some, slice_get, map, refl, ap, sym, ◌∙◌, subst, arith}
-use Rattle.std.proofs.Math.ListN.{set}
-use Rattle.std.specs.List.{filter_map, cons_option}
-use Rattle.std.proofs.lemmas.Bool.Decides.{Decides-eqb}
+use Rattle.std.proofs.Common.{◌≡◌, ℕ, suc, ◌+◌, ◌==◌, Bool, true, false, cond, List, []}
+use Rattle.std.proofs.Common.{◌∷◌, All, Option, None, Some, refl, ap, sym, ◌∙◌, arith}
+use Rattle.std.specs.List.{cons_option}
 use Rattle.std.proofs.lemmas.List.Elements.{All-head, All-tail}
-use Rattle.std.proofs.lemmas.Option.{same_Some}
 use Rattle.verdict.specs.declared.Verdict.{Verdict}
 use Rattle.verdict.specs.declared.cause.Cause.TheVariants.{Aborted, Timeout, Retries, NoServer}
 use Rattle.list_facts.specs.Weights.{total}
@@ -21,9 +18,9 @@ use Rattle.dispatch_log.specs.declared.row.Row.{Row}
 use Rattle.dispatch_log.specs.declared.setup.Setup.{Setup}
 use Rattle.dispatch_log.specs.Histories.{begins_event}
 use Rattle.dispatch_log.specs.Judgement.{Stage, placing, returning, ending, failing, freed_by_failure, aborting, telling, checking}
-use Rattle.dispatch_log.specs.Judgement.{falling, granting, MayGrant, MayBegin, MayCome, AllMayCome, IsOver, next_stage, stage_after}
+use Rattle.dispatch_log.specs.Judgement.{falling, granting, MayCome, AllMayCome, IsOver, next_stage, stage_after}
 use Rattle.dispatch_log.specs.Retries.{failed}
-use Rattle.dispatch_log.specs.Rows.{Rows, StandsAt, with_change, changed, in_phase, in_backend_since, has_ticket}
+use Rattle.dispatch_log.specs.Rows.{Rows, with_change, changed, in_phase, in_backend_since, has_ticket}
 use Rattle.dispatch_log.specs.States.{State, after, after_all, arrived}
 use Rattle.dispatch_log.proofs.Consistency.{IsConsistent}
 use Rattle.dispatch_log.proofs.Judged.{consistent_after}

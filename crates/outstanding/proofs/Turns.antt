@@ -1,11 +1,10 @@
 -- Places that are visited one after the other.
-use Rattle.std.proofs.Common.{◌≡◌, ◌≢◌, ◌⊎◌, inl, inr, ℕ, ◌+◌, ◌<◌, ◌≤◌, nat_lt, Bool, true}
+use Rattle.std.proofs.Common.{◌≡◌, ◌≢◌, inl, inr, ℕ, ◌+◌, ◌<◌, ◌≤◌, nat_lt, Bool, true}
 use Rattle.std.proofs.Common.{false, List, [], ◌∷◌, ◌++◌, Contains, refl, ap, sym, ◌∙◌, subst, arith}
 use mathlib.Core.Logic.{dite}
 use native.Mathlib.Decide.{ℕ_discrete}
 use Rattle.std.proofs.lemmas.Bool.Decides.{nat_tests}
 use Rattle.std.proofs.lemmas.List.Elements.{Contains-append_left, Contains-append_right, Contains-append_cases}
-use Rattle.list_facts.specs.Weights.{total}
 use Rattle.list_facts.proofs.Members.{Contains-nil, Contains-head, Contains-tail, Contains-cases}
 use Rattle.list_facts.proofs.Totals.{total-append}
 use Rattle.grant_board.specs.Views.{KeeperView, grant, at_place, count_at}
@@ -15,32 +14,7 @@ use Rattle.grant_board.specs.declared.returned.Return.{Return}
 use Rattle.grant_board.specs.KeeperCalls.{FindsUnposted}
 use Rattle.dispatch_log.specs.Histories.{effective}
 use Rattle.outstanding.specs.Calls.{Booked, TakesBack, grants_in, added}
-use Rattle.outstanding.specs.Turns.{Visits, VisitsFrom, VisitsSome}
-
--- one more, above all of them
-pub push_visit : (m : ℕ) (places : List ℕ) (first p : ℕ) (old : Booked) (woken : List ℕ) (mid : Booked) (woken_mid : List ℕ) (new : Booked)
-    (woken_then : List ℕ) → first ≤ p → ((q : ℕ) → Contains places q → q < p)
-    → VisitsFrom m first places old woken mid woken_mid → Visits m p mid woken_mid new woken_then
-    → VisitsFrom m first (places ++ p ∷ []) old woken new woken_then
-push_visit m [] first p old woken mid woken_mid new woken_then low below are one = (
-  low,
-  (
-    new,
-    woken_then,
-    subst (λ (b : Booked). Visits m p b woken new woken_then) are.0 (subst (λ l. Visits m p mid l new woken_then) are.1 one),
-    (refl, refl),
-  ),
-)
-push_visit m (q ∷ places) first p old woken mid woken_mid new woken_then low below are one = (
-  are.0,
-  (
-    are.1.0,
-    are.1.1,
-    are.1.2,
-    push_visit m places (q + 1) p are.1.0 are.1.1 mid woken_mid new woken_then
-        (let less = below q (Contains-head q places) in omega (arith, less)) (λ r there. below r (Contains-tail q places r there)) are.1.3 one,
-  ),
-)
+use Rattle.outstanding.specs.Turns.{Visits, VisitsFrom, Walks}
 
 -- a visit leaves the other places out
 pub visit_keeps : (m p q : ℕ) (old : Booked) (woken : List ℕ) (new : Booked) (woken_then : List ℕ) → q ≢ p → Visits m p old woken new woken_then
@@ -56,56 +30,106 @@ visit_keeps m p q old woken new woken_then apart visit out =
       | inr none ↦ subst (λ (v : KeeperView). 0 < count_at q v.out) (sym none.1.after) out
     ]
 
--- how far a turn has come: all places below a number are done with, and those from it on are out as they were
-pub record IsTurning (m : ℕ) (first : Booked) (before : List ℕ) (now : Booked) (places_now : List ℕ) (from : ℕ) : Type 0 where
-  pub places : List ℕ
-  pub visits : VisitsFrom m 0 places first before now places_now
-  pub below : (q : ℕ) → Contains places q → q < from
-  pub seen : (q : ℕ) → q < from → 0 < count_at q first.view.out → Contains places q
-  pub still : (q : ℕ) → from ≤ q → 0 < count_at q first.view.out → 0 < count_at q now.view.out
+-- more visits, above all of them
+pub visits_after : (m : ℕ) (places others : List ℕ) (first mid : ℕ) (a : Booked) (woken_a : List ℕ) (b : Booked) (woken_b : List ℕ) (c : Booked)
+    (woken_c : List ℕ) → first ≤ mid → ((q : ℕ) → Contains places q → q < mid)
+    → VisitsFrom m first places a woken_a b woken_b → VisitsFrom m mid others b woken_b c woken_c
+    → VisitsFrom m first (places ++ others) a woken_a c woken_c
+visits_after m [] [] first mid a woken_a b woken_b c woken_c low below some more = (more.0 ∙ some.0, more.1 ∙ some.1)
+visits_after m [] (p ∷ others) first mid a woken_a b woken_b c woken_c low below some more =
+    subst (λ (it : Booked). VisitsFrom m first (p ∷ others) it woken_a c woken_c) some.0
+    (subst (λ l. VisitsFrom m first (p ∷ others) b l c woken_c) some.1 (let up = more.0 in omega (arith, low, up), more.1))
+visits_after m (q ∷ places) others first mid a woken_a b woken_b c woken_c low below some more = (
+  some.0,
+  (
+    some.1.0,
+    some.1.1,
+    some.1.2,
+    visits_after m places others (q + 1) mid some.1.0 some.1.1 b woken_b c woken_c
+        (let less = below q (Contains-head q places) in omega (arith, less)) (λ r there. below r (Contains-tail q places r there)) some.1.3 more,
+  ),
+)
 
-pub turn_begins : (m : ℕ) (first : Booked) (before : List ℕ) → IsTurning m first before first before 0
-turn_begins m first before = record {
+-- visits of places below a number leave those from it on out
+pub visits_keep : (m : ℕ) (places : List ℕ) (first mid q : ℕ) (a : Booked) (woken_a : List ℕ) (b : Booked) (woken_b : List ℕ)
+    → ((p : ℕ) → Contains places p → p < mid) → mid ≤ q → VisitsFrom m first places a woken_a b woken_b
+    → 0 < count_at q a.view.out → 0 < count_at q b.view.out
+visits_keep m [] first mid q a woken_a b woken_b below high some out = subst (λ (it : Booked). 0 < count_at q it.view.out) (sym some.0) out
+visits_keep m (p ∷ places) first mid q a woken_a b woken_b below high some out =
+    visits_keep m places (p + 1) mid q some.1.0 some.1.1 b woken_b (λ r there. below r (Contains-tail p places r there)) high some.1.3
+    (visit_keeps m p q a woken_a some.1.0 some.1.1 (λ same. let less = below p (Contains-head p places) in absurd (omega (arith, same, less, high)))
+    some.1.2 out)
+
+pub walks_none : (m low high : ℕ) (a : Booked) (woken_a : List ℕ) → ((q : ℕ) → low ≤ q → q < high → 0 < count_at q a.view.out → ⊥)
+    → Walks m low high a woken_a a woken_a
+walks_none m low high a woken_a none = record {
   places = [];
   visits = (refl, refl);
   below = λ q there. absurd (Contains-nil q there);
-  seen = λ q low out. absurd (omega arith);
-  still = λ q high out. out;
+  all = λ q from to out. absurd (none q from to out);
 }
 
-pub turn_goes : (m : ℕ) (first : Booked) (before : List ℕ) (now : Booked) (places_now : List ℕ) (from p : ℕ) (next : Booked) (places_next : List ℕ)
-    → IsTurning m first before now places_now from → from ≤ p
-    → ((other : ℕ) → from ≤ other → other < p → count_at other now.view.out ≡ 0) → Visits m p now places_now next places_next
-    → IsTurning m first before next places_next (p + 1)
-turn_goes m first before now places_now from p next places_next is low none visit = record {
+-- a walk has all that was out as far as no other place was
+all_further : (m low mid high : ℕ) (a : Booked) (woken_a : List ℕ) (b : Booked) (woken_b : List ℕ)
+    → ((q : ℕ) → mid ≤ q → q < high → 0 < count_at q a.view.out → ⊥) → (is : Walks m low mid a woken_a b woken_b)
+    → (q : ℕ) → low ≤ q → q < high → 0 < count_at q a.view.out → Contains is.places q
+all_further m low mid high a woken_a b woken_b none is q from to out = by_place (nat_lt q mid) refl
+  where
+    by_place : (b : Bool) → nat_lt q mid ≡ b → Contains is.places q
+    by_place true e = is.all q from (grind (arith, nat_tests)) out
+    by_place false e = absurd (none q (grind (arith, nat_tests)) to out)
+
+pub walks_further : (m low mid high : ℕ) (a : Booked) (woken_a : List ℕ) (b : Booked) (woken_b : List ℕ) → mid ≤ high
+    → ((q : ℕ) → mid ≤ q → q < high → 0 < count_at q a.view.out → ⊥)
+    → Walks m low mid a woken_a b woken_b → Walks m low high a woken_a b woken_b
+walks_further m low mid high a woken_a b woken_b up none is = record {
+  places = is.places;
+  visits = is.visits;
+  below = λ q there. let less = is.below q there in omega (arith, less, up);
+  all = all_further m low mid high a woken_a b woken_b none is;
+}
+
+-- one place more, and none that was out is between
+pub walks_on : (m low mid p : ℕ) (a : Booked) (woken_a : List ℕ) (b : Booked) (woken_b : List ℕ) (c : Booked) (woken_c : List ℕ) → low ≤ mid → mid ≤ p
+    → ((q : ℕ) → mid ≤ q → q < p → 0 < count_at q a.view.out → ⊥)
+    → Walks m low mid a woken_a b woken_b → Visits m p b woken_b c woken_c → Walks m low (p + 1) a woken_a c woken_c
+walks_on m low mid p a woken_a b woken_b c woken_c from up none is one = record {
   places = is.places ++ p ∷ [];
-  visits = push_visit m is.places 0 p first before now places_now next places_next (omega arith) (λ q there. let less = is.below q there in
-      omega (arith, less, low)) is.visits visit;
+  visits = visits_after m is.places (p ∷ []) low mid a woken_a b woken_b c woken_c from is.below is.visits (up, (c, woken_c, one, (refl, refl)));
   below = λ q there. elim (Contains-append_cases is.places (p ∷ []) q there) [
-    | inl old ↦ let less = is.below q old in omega (arith, less, low)
+    | inl old ↦ let less = is.below q old in omega (arith, less, up)
     | inr new ↦ elim (Contains-cases p [] q new) [ inl same ↦ omega (arith, same) | inr nil ↦ absurd (Contains-nil q nil) ]
   ];
-  seen = λ q less out. by_place q less out (nat_lt q from) refl;
-  still = λ q high out. visit_keeps m p q now places_now next places_next (λ same. absurd (omega (arith, same, high))) visit
-      (is.still q (omega (arith, low, high)) out);
+  all = λ q after less out. dite (ℕ_discrete q p)
+      (λ same. Contains-append_right is.places (p ∷ []) q (subst (Contains (p ∷ [])) (sym same) (Contains-head p [])))
+      (λ apart. Contains-append_left is.places (p ∷ []) q
+      (all_further m low mid p a woken_a b woken_b none is q after (omega (arith, less, apart)) out));
+}
+
+-- one walk after the other
+pub walks_after : (m low mid high : ℕ) (a : Booked) (woken_a : List ℕ) (b : Booked) (woken_b : List ℕ) (c : Booked) (woken_c : List ℕ)
+    → low ≤ mid → mid ≤ high → Walks m low mid a woken_a b woken_b → Walks m mid high b woken_b c woken_c → Walks m low high a woken_a c woken_c
+walks_after m low mid high a woken_a b woken_b c woken_c from up is more = record {
+  places = is.places ++ more.places;
+  visits = visits_after m is.places more.places low mid a woken_a b woken_b c woken_c from is.below is.visits more.visits;
+  below = λ q there. elim (Contains-append_cases is.places more.places q there) [
+    | inl old ↦ let less = is.below q old in omega (arith, less, up)
+    | inr new ↦ more.below q new
+  ];
+  all = λ q after less out. by_place q after less out (nat_lt q mid) refl;
 }
   where
-    by_place : (q : ℕ) → q < p + 1 → 0 < count_at q first.view.out → (b : Bool) → nat_lt q from ≡ b → Contains (is.places ++ p ∷ []) q
-    by_place q less out true e = Contains-append_left is.places (p ∷ []) q (is.seen q (grind (arith, nat_tests)) out)
-    by_place q less out false e =
-        let high : from ≤ q = grind (arith, nat_tests) in
-        dite (ℕ_discrete q p)
-        (λ same. Contains-append_right is.places (p ∷ []) q (subst (Contains (p ∷ [])) (sym same) (Contains-head p [])))
-        (λ apart. let some = is.still q high out in absurd (omega (arith, some, none q high (omega (arith, less, apart)))))
+    by_place : (q : ℕ) → low ≤ q → q < high → 0 < count_at q a.view.out → (b : Bool) → nat_lt q mid ≡ b → Contains (is.places ++ more.places) q
+    by_place q after less out true e = Contains-append_left is.places more.places q (is.all q after (grind (arith, nat_tests)) out)
+    by_place q after less out false e =
+        let high_enough : mid ≤ q = grind (arith, nat_tests) in
+        Contains-append_right is.places more.places q
+        (more.all q high_enough less (visits_keep m is.places low mid q a woken_a b woken_b is.below high_enough is.visits out))
 
-pub turn_ends : (m : ℕ) (first : Booked) (before : List ℕ) (now : Booked) (places_now : List ℕ) (from : ℕ) → (is : IsTurning m first before now places_now from)
-    → ((p : ℕ) → from ≤ p → count_at p now.view.out ≡ 0)
-    → (q : ℕ) → 0 < count_at q first.view.out → Contains is.places q
-turn_ends m first before now places_now from is none q out = by_place (nat_lt q from) refl
-  where
-    by_place : (b : Bool) → nat_lt q from ≡ b → Contains is.places q
-    by_place true e = is.seen q (grind (arith, nat_tests)) out
-    by_place false e = let high : from ≤ q = grind (arith, nat_tests) in let some = is.still q high out in absurd (omega (arith, some, none q high))
+-- what was out when a part of a walk was done is out after it, from its end on
+pub walks_keep : (m low high q : ℕ) (a : Booked) (woken_a : List ℕ) (b : Booked) (woken_b : List ℕ) → high ≤ q → Walks m low high a woken_a b woken_b
+    → 0 < count_at q a.view.out → 0 < count_at q b.view.out
+walks_keep m low high q a woken_a b woken_b after is out = visits_keep m is.places low high q a woken_a b woken_b is.below after is.visits out
 
 -- a look that found something, or nothing
 pub visit_of : (m p : ℕ) (old : Booked) (woken : List ℕ) (new : Booked) (woken_then : List ℕ) (found : Option Return) → 0 < count_at p old.view.out
@@ -115,10 +139,9 @@ pub visit_of : (m p : ℕ) (old : Booked) (woken : List ℕ) (new : Booked) (wok
 visit_of m p old woken new woken_then None out some none = record { out = out; found = inr none }
 visit_of m p old woken new woken_then (Some back) out some none = record { out = out; found = inl (back, some) }
 
--- a turn that stopped after some visits
-pub stopped : (m : ℕ) (first : Booked) (before : List ℕ) (now : Booked) (places_now : List ℕ) (from : ℕ) (end : Booked) (places_end : List ℕ)
-    → IsTurning m first before now places_now from → end ≡ now → places_end ≡ places_now
-    → VisitsSome m first before end places_end
-stopped m first before now places_now from end places_end is same same_places =
-    subst (λ (b : Booked). VisitsSome m first before b places_end) (sym same)
-    (subst (λ l. VisitsSome m first before now l) (sym same_places) (is.places, is.visits))
+-- a walk that stopped before its next part, or within it
+pub stopped : (m low : ℕ) (a : Booked) (woken_a : List ℕ) (b : Booked) (woken_b : List ℕ) (c : Booked) (woken_c : List ℕ) (others : List ℕ) (mid : ℕ)
+    → low ≤ mid → Walks m low mid a woken_a b woken_b → VisitsFrom m mid others b woken_b c woken_c
+    → (places : List ℕ) × VisitsFrom m low places a woken_a c woken_c
+stopped m low a woken_a b woken_b c woken_c others mid from is more =
+    (is.places ++ others, visits_after m is.places others low mid a woken_a b woken_b c woken_c from is.below is.visits more)

@@ -1,17 +1,16 @@
 -- What is outstanding, by weight.
-use Rattle.std.proofs.Common.{◌≡◌, ◌≢◌, ℕ, zero, suc, ◌+◌, ◌<◌, ◌≤◌, ◌==◌, Bool, true, false, cond, List, [], ◌∷◌}
-use Rattle.std.proofs.Common.{◌++◌, Option, None, Some, Contains, length, slice_get, count_by, refl, ap, sym, ◌∙◌, subst, arith, inl, inr}
+use Rattle.std.proofs.Common.{◌≡◌, ◌≢◌, ℕ, zero, suc, ◌+◌, ◌<◌, ◌≤◌, ◌==◌, Bool, true, false, cond, [], ◌∷◌}
+use Rattle.std.proofs.Common.{Option, None, Some, Contains, length, slice_get, refl, ap, sym, ◌∙◌, arith, inl, inr}
 use Rattle.std.proofs.Math.ListN.{set}
 use Rattle.std.proofs.lemmas.Bool.Decides.{Decides-eqb}
 use Rattle.std.proofs.lemmas.List.Elements.{Contains-append_cases}
 use Rattle.std.proofs.lemmas.List.Sums.{sum_by-cons}
 use Rattle.std.proofs.lemmas.Option.{same_Some}
 use Rattle.verdict.specs.declared.Verdict.{Verdict}
-use Rattle.verdict.specs.declared.Verdict.TheVariants.{Serve}
 use Rattle.list_facts.specs.Weights.{total}
 use Rattle.list_facts.proofs.Never.{none_some}
-use Rattle.list_facts.proofs.Places.{tally, get-set_same, get-set_cases}
-use Rattle.list_facts.proofs.Totals.{total-append, has_le}
+use Rattle.list_facts.proofs.Places.{tally, get-set_cases}
+use Rattle.list_facts.proofs.Totals.{total-append}
 use Rattle.grant_board.specs.Views.{Grant, grant, at_place, serves_at, count_at, count_of}
 use Rattle.grant_board.proofs.Grants.{at_place-no, at_place-one}
 use Rattle.dispatch_log.specs.declared.row.Phase.{Phase}

@@ -1,5 +1,5 @@
 -- What is outstanding: place by place, the requests that have a slot or were told why not, until they end.
-use Rattle.std.specs.Prelude.{ℕ, zero, suc, List, [], ◌∷◌, ◌++◌, Option, None, Some, map, if◌then◌else◌}
+use Rattle.std.specs.Prelude.{ℕ, suc, List, [], ◌∷◌, ◌++◌, Option, None, Some, map, if◌then◌else◌}
 use Rattle.verdict.specs.declared.Verdict.{Verdict}
 use Rattle.verdict.specs.declared.Verdict.TheVariants as verdict
 use Rattle.grant_board.specs.Views.{Grant, grant}

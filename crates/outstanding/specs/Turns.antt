@@ -21,6 +21,13 @@ VisitsFrom moment first (place ∷ places) old woken new woken_then =
     (first ≤ place) × ((next : Booked) × (woken_next : List ℕ) × Visits moment place old woken next woken_next
     × VisitsFrom moment (place + 1) places next woken_next new woken_then)
 
+-- The part of a turn that passes the places from one number on and below another: each of them that was out at first was visited
+pub record Walks (moment low high : ℕ) (old : Booked) (woken : List ℕ) (new : Booked) (woken_then : List ℕ) : Type 0 where
+  pub places : List ℕ
+  pub visits : VisitsFrom moment low places old woken new woken_then
+  pub below : (place : ℕ) → Contains places place → place < high
+  pub all : (place : ℕ) → low ≤ place → place < high → 0 < count_at place old.view.out → Contains places place
+
 -- some places were
 abbrev pub VisitsSome : ℕ → Booked → List ℕ → Booked → List ℕ → Type 0
 VisitsSome moment old woken new woken_then = (places : List ℕ) × VisitsFrom moment 0 places old woken new woken_then

@@ -9,6 +9,7 @@ use native.Mathlib.Decide.{ℕ_discrete}
 use Rattle.std.specs.Int.{bit_at, bit_not, trailing_zeros}
 use Rattle.std.proofs.Math.Nat.{mod-add-div'}
 use Rattle.std.proofs.lemmas.List.{get_or-set_same, get_or-set_other, get_or_past}
+use Rattle.std.proofs.lemmas.Nat.Bits.{bit_at_lowest, bit_at-suc, bit_at_and}
 use Rattle.std.proofs.lemmas.Nat.Bits.{bit_at-zero, bit_at_set_same, bit_at_set_other, bit_at_clear_same}
 use Rattle.std.proofs.lemmas.Nat.Bits.{bit_at_clear_other, bit_at-trailing_zeros, bit_at_above}
 use Rattle.place_set.specs.Sets.{Has, IsNext}
@@ -176,3 +177,52 @@ none_here words from low fits empty other after before has =
     let none : bit_at (slice_index words (from / 64) / 2 ^ (from % 64)) (other - from) ≡ 0 = ap (λ n. bit_at n (other - from)) empty
     ∙ bit_at-zero (other - from) in
     absurd (omega (arith, here, none, shifted (slice_index words (from / 64)) (from % 64) (other - from)))
+
+-- a number without its lowest 1
+less_one : (low n : ℕ) → bit_at n low ≡ 1 → ((i : ℕ) → i < low → bit_at n i ≡ 0) → (bit_at (n - 1) low ≡ 0) × ((i : ℕ) → low < i
+    → bit_at (n - 1) i ≡ bit_at n i)
+less_one zero n one none = (omega (arith, one, bit_at_lowest n, bit_at_lowest (n - 1)), λ i after. above i after)
+  where
+    above : (i : ℕ) → 0 < i → bit_at (n - 1) i ≡ bit_at n i
+    above zero after = absurd (omega (arith, after))
+    above (suc i) after =
+        let half : (n - 1) / 2 ≡ n / 2 = omega (arith, one, bit_at_lowest n) in
+        bit_at-suc (n - 1) i ∙ ap (λ m. bit_at m i) half ∙ sym (bit_at-suc n i)
+less_one (suc low) n one none =
+    let even : n % 2 ≡ 0 = sym (bit_at_lowest n) ∙ none 0 (omega arith) in
+    let half : (n - 1) / 2 ≡ n / 2 - 1 = omega (arith, even) in
+    let rest = less_one low (n / 2) (sym (bit_at-suc n low) ∙ one) (λ i less. sym (bit_at-suc n i) ∙ none (suc i) (omega (arith, less))) in
+    (bit_at-suc (n - 1) low ∙ ap (λ m. bit_at m low) half ∙ rest.0, λ i after. above half rest.1 i after)
+  where
+    above : (n - 1) / 2 ≡ n / 2 - 1 → ((i : ℕ) → low < i → bit_at (n / 2 - 1) i ≡ bit_at (n / 2) i) → (i : ℕ) → suc low < i → bit_at (n - 1) i ≡ bit_at n i
+    above half rest zero after = absurd (omega (arith, after))
+    above half rest (suc i) after =
+        bit_at-suc (n - 1) i ∙ ap (λ m. bit_at m i) half ∙ rest i (omega (arith, after)) ∙ sym (bit_at-suc n i)
+
+pub lowest_gone : (low n : ℕ) → bit_at n low ≡ 1 → ((i : ℕ) → i < low → bit_at n i ≡ 0) → (i : ℕ)
+    → (bit_at (bit_and n (n - 1)) i ≡ 1) ↔ ((i ≢ low) × (bit_at n i ≡ 1))
+lowest_gone low n one none i =
+    let less = less_one low n one none in
+    let both = bit_at_and n (n - 1) i in (
+      λ has. (
+        λ same. let gone : bit_at (n - 1) i ≡ 0 = ap (λ j. bit_at (n - 1) j) same ∙ less.0 in absurd (omega (arith, has, both, gone)),
+        omega (arith, has, both, bit_at_below n i, bit_at_below (n - 1) i),
+      ),
+      λ had. elim (apart_cases i low had.0) [
+        | inl before ↦ let zero : bit_at n i ≡ 0 = none i before in absurd (omega (arith, zero, had.1))
+        | inr after ↦ omega (arith, both, had.1, less.1 i after)
+      ],
+    )
+  where
+    bit_at_below : (m j : ℕ) → bit_at m j < 2
+    bit_at_below m j = omega arith
+
+    apart_cases : (a b : ℕ) → a ≢ b → (a < b) ⊎ (b < a)
+    apart_cases a b apart = by_test (nat_lt a b) refl
+      where
+        by_test : (c : Bool) → nat_lt a b ≡ c → (a < b) ⊎ (b < a)
+        by_test true e = inl (grind (arith, nat_tests))
+        by_test false e = let high : b ≤ a = grind (arith, nat_tests) in inr (by_order high)
+          where
+            by_order : b ≤ a → b < a
+            by_order high = dite (ℕ_discrete a b) (λ same. absurd (apart same)) (λ other. omega (arith, high, other))

@@ -1,5 +1,5 @@
 -- Sets of places: a set is a list of words, and a place is one of its bits.
-use Rattle.std.specs.Prelude.{◌≡◌, ℕ, ◌/◌, ◌%◌, ◌<◌, ◌≤◌, List, slice_index}
+use Rattle.std.specs.Prelude.{◌≡◌, ℕ, ◌-◌, ◌/◌, ◌%◌, ◌<◌, ◌≤◌, List, slice_index}
 use Rattle.std.specs.Int.{bit_at}
 
 -- the place is in the set
@@ -12,3 +12,18 @@ pub record IsNext (words : List ℕ) (from place : ℕ) : Type 0 where
   pub there : Has words place
   pub no_lower : from ≤ place
   pub first : (other : ℕ) → from ≤ other → other < place → Has words other → ⊥
+
+-- places that a walk has still to come to: those of a number's bits, of which the first bit is this place's
+pub record Ahead : Type 0 where
+  pub first : ℕ
+  pub bits : ℕ
+
+-- the place is one of them
+abbrev pub HasAhead : Ahead → ℕ → Type 0
+HasAhead ahead place = (ahead.first ≤ place) × (bit_at ahead.bits (place - ahead.first) ≡ 1)
+
+-- the first of them
+pub record IsFirstAhead (ahead : Ahead) (place : ℕ) : Type 0 where
+  pub in_range : place < 4096
+  pub there : HasAhead ahead place
+  pub first : (other : ℕ) → HasAhead ahead other → place ≤ other

@@ -1,6 +1,7 @@
-ghost use Rattle.std.specs.Prelude.{◌≡◌, ◌≢◌, ℕ, ◌*◌, ◌<◌, ◌≤◌, ◌⊎◌, ◌↔◌, IsTrue, MatchOption};
-ghost use Rattle.place_set.specs.Sets.{Has, IsNext};
+ghost use Rattle.std.specs.Prelude.{◌≡◌, ◌≢◌, ℕ, ◌*◌, ◌<◌, ◌≤◌, ◌⊎◌, ◌↔◌, ◌/◌, IsTrue, MatchOption};
+ghost use Rattle.place_set.specs.Sets.{Has, IsNext, HasAhead};
 
+use crate::block::Block;
 use std::marker::Model;
 
 const WORDS: usize = 64;
@@ -51,6 +52,17 @@ impl PlaceSet {
         ensures { (other : ℕ) → Has self.new other ↔ ((other ≢ place) × Has self.old other) }
     {
         self.words[place / 64] &= !(1 << (place % 64));
+    }
+
+    /// Those of its places from 64 times a number on, as far as the next 63. `O(1)`.
+    pub fn block(&self, number: usize) -> Block
+        requires { number < 64 }
+        ensures { (place : ℕ) → HasAhead result place ↔ ((place / 64 ≡ number) × Has self.now place) }
+    {
+        Block {
+            first: number * 64,
+            bits: self.words[number],
+        }
     }
 
     /// The first of its places that isn't below a number. At most 64 words are looked at.

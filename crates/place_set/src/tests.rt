@@ -16,3 +16,18 @@ fn places_come_by_rising_number(rt: HostRuntime) {
     set.remove(70);
     assert_eq!(rt; set.next(4), Some(4095));
 }
+
+#[test]
+fn a_block_is_walked_by_rising_number(rt: HostRuntime) {
+    let mut set = PlaceSet::new();
+    set.insert(63);
+    set.insert(64);
+    set.insert(70);
+    set.insert(127);
+    set.insert(128);
+    let mut block = set.block(1);
+    assert_eq!(rt; block.take_first(), Some(64));
+    assert_eq!(rt; block.take_first(), Some(70));
+    assert_eq!(rt; block.take_first(), Some(127));
+    assert_eq!(rt; block.take_first(), None);
+}

@@ -1,3 +1,4 @@
+pub mod Asides
 pub mod Emissions
 pub mod Failures
 pub mod Faults

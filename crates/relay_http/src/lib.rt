@@ -1,6 +1,7 @@
 //! Messages handed on: from the bytes of a client to those of a server, and back.
 #![tactic(auto)]
 
+mod aside;
 mod calls;
 mod exchange;
 mod fault;
@@ -16,6 +17,7 @@ mod reading;
 mod refusing;
 mod steps;
 
+pub use aside::Aside;
 pub use exchange::{Exchange, Stage};
 pub use fault::Fault;
 pub use framings::request_framing;

@@ -5,11 +5,11 @@ ghost use Rattle.relay_workers.specs.Tallies.{of_both};
 
 use crate::checking::checker;
 use crate::gate::{Gate, Pause};
-use crate::idle::Idle;
 use crate::proxy::Proxy;
 use crate::tally::Tally;
 use crate::working::{Stopped, worker};
 use grant_board::{BoardName, RelaySeat};
+use pass_seat::Idle;
 use std::sync::Wait;
 use std::sync::atomic::{AtomicBool, Ordering};
 use std::thread::{Scope, Threads};

@@ -12,6 +12,7 @@ use due_key::Moment;
 use grant_board::{Board, BoardName, Closing, KeeperSeat, Pass, RelaySeat};
 use grant_desk::{Desk, Queues};
 use late_cert::Running;
+use pass_seat::Idle;
 use proxy_config::{Config, read};
 use reporting_core::Window;
 use std::alloc::Global;

@@ -1,4 +1,4 @@
-use Rattle.std.proofs.Common.{ℕ, ◌≡◌, ◌⊎◌, ◌↔◌, ◌/◌, ◌%◌, ◌*◌, ◌^◌, List, length, slice_index, slice_set, bit_or, subst, arith}
+use Rattle.std.proofs.Common.{ℕ, ◌≡◌, ◌⊎◌, ◌↔◌, ◌/◌, ◌%◌, ◌*◌, ◌^◌, List, slice_index, slice_set, bit_or, subst, arith}
 use Rattle.place_set.specs.Sets.{Has}
 use Rattle.place_set.proofs.Bits.{inserted}
 use Rattle.place_set.proofs.set.PlaceSet.insert.Goals as goal

@@ -1,5 +1,5 @@
 use Rattle.std.proofs.Common.{rules, ℕ, ◌≡◌, ◌+◌, ◌*◌, ◌/◌, ◌%◌, ◌^◌, ◌<◌, ◌≤◌, nat_lt, Bool, true, false}
-use Rattle.std.proofs.Common.{List, Option, None, Some, MatchOption, length, slice_index, w64, refl, ap, sym, ◌∙◌, subst, arith}
+use Rattle.std.proofs.Common.{List, Option, None, Some, MatchOption, slice_index, w64, refl, ap, sym, ◌∙◌, subst, arith}
 use Rattle.std.specs.Int.{trailing_zeros}
 use Rattle.std.proofs.lemmas.Bool.Decides.{nat_tests}
 use Rattle.place_set.specs.Sets.{Has, IsNext}

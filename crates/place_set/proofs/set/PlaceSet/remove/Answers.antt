@@ -1,4 +1,4 @@
-use Rattle.std.proofs.Common.{ℕ, ◌≢◌, ◌↔◌, ◌/◌, ◌%◌, ◌*◌, ◌^◌, List, length, slice_index, slice_set, bit_and, w64, subst, arith}
+use Rattle.std.proofs.Common.{ℕ, ◌≢◌, ◌↔◌, ◌/◌, ◌%◌, ◌*◌, ◌^◌, List, slice_index, slice_set, bit_and, w64, subst, arith}
 use Rattle.std.specs.Int.{bit_not}
 use Rattle.place_set.specs.Sets.{Has}
 use Rattle.place_set.proofs.Bits.{removed}

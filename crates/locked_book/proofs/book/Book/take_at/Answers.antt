@@ -2,23 +2,24 @@ use Rattle.std.proofs.Common.{◌≡◌, ℕ, drop, length, true, ap, sym, ◌�
 use Rattle.grant_board.specs.Views.{KeeperView}
 use Rattle.grant_board.specs.KeeperCalls.{Keeper}
 use Rattle.dispatch_log.specs.Histories.{effective}
+use Rattle.dispatch_trace.specs.Histories.{HasEntryRoom}
 use Rattle.outstanding.specs.Books.{IsOwing}
 use Rattle.outstanding.specs.Calls.{Booked, TakesBack}
 use Rattle.locked_book.proofs.Events.{kept_again}
 use Rattle.locked_book.proofs.Ends.{acceptable, end_owes, takes_back}
-use Rattle.locked_book.proofs.book.Book.collect_at.Given as given
-use Rattle.locked_book.proofs.book.Book.collect_at.Goals as goal
+use Rattle.locked_book.proofs.book.Book.take_at.Given as given
+use Rattle.locked_book.proofs.book.Book.take_at.Goals as goal
 
 pub note_end-requires : goal.note_end-requires
-note_end-requires g c = acceptable c.self.inside.core c.self.inside.keeping.view c.collect.new.self.view c.args.place c.in-Some.back c.log.ensures.legal
-    c.self.invariant.book c.in-Some.ensures.some (c.has_room.ensures.0 c.if-not-has_room.false)
+note_end-requires g c = acceptable c.self.inside.core c.self.inside.keeping.view c.collect.new.self.view c.args.place c.in_ok-back.back c.log.ensures.legal
+    c.self.invariant.book c.in_ok-back.ensures.some (subst (λ (b : Booked). HasEntryRoom b.history) (sym c.self.view_is) c.requires.room)
 
 pub offer_from-requires-clause-owing : goal.offer_from-requires-clause-owing
 offer_from-requires-clause-owing g c =
     subst (λ n. IsOwing c.note_end.new.core c.collect.new.self.view (drop n c.note_end.new.core.log))
     (sym (c.len-from.ensures ∙ ap length c.log.ensures.entries))
     (end_owes c.self.inside.core c.note_end.new.core c.self.inside.keeping.view c.collect.new.self.view c.args.place
-    (effective c.self.inside.core c.args.moment) c.in-Some.back c.log.ensures.legal c.self.invariant.book c.in-Some.ensures.some c.note_end.ensures)
+    (effective c.self.inside.core c.args.moment) c.in_ok-back.back c.log.ensures.legal c.self.invariant.book c.in_ok-back.ensures.some c.note_end.ensures)
 
 pub invariant_of-self-2 : goal.invariant_of-self-2
 invariant_of-self-2 g c =
@@ -27,16 +28,16 @@ invariant_of-self-2 g c =
     (subst (λ n. IsOwing c.note_end.new.core c.collect.new.self.view (drop n c.note_end.new.core.log))
     (sym (c.len-from.ensures ∙ ap length c.log.ensures.entries))
     (end_owes c.self.inside.core c.note_end.new.core c.self.inside.keeping.view c.collect.new.self.view c.args.place
-    (effective c.self.inside.core c.args.moment) c.in-Some.back c.log.ensures.legal c.self.invariant.book
-    c.in-Some.ensures.some c.note_end.ensures))
-    (c.in-Some.ensures.board ∙ c.self.invariant.named) (ap (λ (v : KeeperView). v.terms) c.in-Some.ensures.some.after
+    (effective c.self.inside.core c.args.moment) c.in_ok-back.back c.log.ensures.legal c.self.invariant.book
+    c.in_ok-back.ensures.some c.note_end.ensures))
+    (c.in_ok-back.ensures.board ∙ c.self.invariant.named) (ap (λ (v : KeeperView). v.terms) c.in_ok-back.ensures.some.after
     ∙ c.self.invariant.of_terms) c.offer_from.ensures.offered
 
 pub returns-clause-some : goal.returns-clause-some
 returns-clause-some g c =
     subst (λ (b : Booked). TakesBack c.args.self.now (record { history = c.note_end.new.core; view = c.offer_from.new.keeping.view }) c.args.place
-    (effective b.history c.args.moment) c.in-Some.back c.args.woken.now c.offer_from.new.woken) c.self.view_is
+    (effective b.history c.args.moment) c.in_ok-back.back c.args.woken.now c.offer_from.new.woken) c.self.view_is
     (takes_back c.args.self.now c.self.inside.core c.note_end.new.core c.self.inside.keeping c.collect.new.self c.offer_from.new.keeping c.args.place
-    (effective c.self.inside.core c.args.moment) c.in-Some.back c.args.woken.now
+    (effective c.self.inside.core c.args.moment) c.in_ok-back.back c.args.woken.now
     c.offer_from.new.woken c.len-from.result c.self.view_is (c.len-from.ensures
-    ∙ ap length c.log.ensures.entries) c.in-Some.ensures.some c.note_end.ensures c.offer_from.ensures.offered c.offer_from.ensures.woken)
+    ∙ ap length c.log.ensures.entries) c.in_ok-back.ensures.some c.note_end.ensures c.offer_from.ensures.offered c.offer_from.ensures.woken)

@@ -6,7 +6,7 @@ use std::marker::PhantomData;
 /// A relay's seat of the board that N names, without a pass.
 #[derive(Drop)]
 pub struct Idle<N: BoardName> {
-    pub(crate) seat: RelaySeat,
+    pub seat: RelaySeat,
     name: PhantomData<N>,
     ghost named: { seat.board ≡ N.board },
     ghost terms: { seat.view.terms ≡ N.terms },

@@ -1,0 +1,15 @@
+-- What a seat without a pass is after it asked for a ticket: a seat, and what that was told.
+use Rattle.grant_board.specs.declared.board.BoardName.{Ghosts}
+use Rattle.grant_board.specs.RelayCalls.{Relay}
+use Rattle.grant_board.specs.declared.pass.Taking.{Taking}
+use Rattle.grant_board.specs.declared.pass.Taking.TheVariants as taking
+use Rattle.pass_seat.specs.declared.asking.Asked.{Asked}
+use Rattle.pass_seat.specs.declared.asking.Asked.TheVariants.{Held, NotYet}
+
+abbrev pub seat_of : {N : Type 0} {G : Ghosts N} → Asked N G → Relay
+seat_of (Held held) = held.seat
+seat_of (NotYet idle) = idle.seat
+
+abbrev pub taking_of : {N : Type 0} {G : Ghosts N} → Asked N G → Taking
+taking_of (Held held) = taking.Taken held.pass
+taking_of (NotYet idle) = taking.NotYet

@@ -1,0 +1,37 @@
+ghost use Rattle.std.specs.Prelude.{◌≡◌, ◌<◌};
+ghost use Rattle.grant_board.specs.RelayCalls.{Answers};
+ghost use Rattle.grant_board.specs.Ruled.{RelayRuled};
+ghost use Rattle.pass_seat.specs.Asking.{seat_of, taking_of};
+
+use crate::held::Held;
+use crate::idle::Idle;
+use grant_board::{Board, BoardName, Taking};
+use std::marker::PhantomData;
+
+/// What a seat without a pass is after it asked for a ticket.
+pub enum Asked<N: BoardName> {
+    /// It has the pass.
+    Held(Held<N>),
+    /// The ticket wasn't found offered, or another seat was faster.
+    NotYet(Idle<N>),
+}
+
+impl<N: BoardName> Idle<N> {
+    /// Takes the pass of the ticket, if it is found offered at the place. Two steps at most, and no memory.
+    pub fn take(self, board: &Board, place: usize, ticket: u64) -> Asked<N>
+        requires same_board { board.now ≡ N.board }
+        requires in_range { place < N.terms.places }
+        ensures answer { Answers self.seat.view (seat_of result).view place ticket (taking_of result) }
+        ensures ruled { RelayRuled (seat_of result).view }
+    {
+        let mut seat = self.seat();
+        match seat.try_take(board, place, ticket) {
+            Taking::Taken(pass) => Asked::Held(Held {
+                seat,
+                pass,
+                name: PhantomData,
+            }),
+            Taking::NotYet => Asked::NotYet(Idle::new(seat)),
+        }
+    }
+}

@@ -1,0 +1,75 @@
+ghost use Rattle.std.specs.Prelude.{◌≡◌, [], ◌∷◌};
+ghost use Rattle.grant_board.specs.BoardWords.{MayEnd};
+ghost use Rattle.grant_board.specs.RelayCalls.{post_after};
+ghost use Rattle.grant_board.specs.Ruled.{RelayRuled};
+
+use crate::idle::Idle;
+use grant_board::{Board, BoardName, Pass, RelaySeat};
+use std::marker::PhantomData;
+use verdict::{Ending, Verdict};
+
+/// A relay's seat of the board that N names, with its pass, which is the only one that it has. It has no `Drop`, as the pass has none: it is posted, or
+/// taken apart.
+pub struct Held<N: BoardName> {
+    pub(crate) seat: RelaySeat,
+    pub(crate) pass: Pass,
+    pub(crate) name: PhantomData<N>,
+    ghost named: { seat.board ≡ N.board },
+    ghost terms: { seat.view.terms ≡ N.terms },
+    ghost held: { seat.view.passes ≡ pass ∷ [] },
+}
+
+impl<N: BoardName> Held<N> {
+    pub fn place(&self) -> usize
+        ensures { result ≡ self.now.pass.place }
+    {
+        self.pass.place()
+    }
+
+    pub fn ticket(&self) -> u64
+        ensures { result ≡ self.now.pass.ticket }
+    {
+        self.pass.ticket()
+    }
+
+    pub fn verdict(&self) -> Verdict
+        ensures { result ≡ self.now.pass.verdict }
+    {
+        self.pass.verdict()
+    }
+
+    /// The pass, to be lent to calls that ask for one. While it is lent it can't be posted.
+    pub fn pass(&self) -> &Pass
+        ensures { result.now ≡ self.now.pass }
+    {
+        &self.pass
+    }
+
+    /// Spends the pass: says how its exchange ended. One step, and no memory.
+    pub fn post(self, board: &Board, ending: Ending) -> Idle<N>
+        requires same_board { board.now ≡ N.board }
+        requires may_end { MayEnd self.pass.verdict ending }
+        ensures posted { result.seat.view ≡ post_after self.seat.view self.pass ending }
+        ensures ruled { RelayRuled result.seat.view }
+    {
+        let (mut seat, pass) = self.into_parts();
+        seat.post(board, pass, ending);
+        Idle::new(seat)
+    }
+
+    /// The seat and its pass, as they are, for a call that spends the pass. `Idle::new` is the way back.
+    pub fn into_parts(self) -> (RelaySeat, Pass)
+        ensures seat { result.0 ≡ self.seat }
+        ensures pass { result.1 ≡ self.pass }
+        ensures named { result.0.board ≡ N.board }
+        ensures terms { result.0.view.terms ≡ N.terms }
+        ensures holds { result.0.view.passes ≡ result.1 ∷ [] }
+    {
+        let Held {
+            seat,
+            pass,
+            name: _,
+        } = self;
+        (seat, pass)
+    }
+}

@@ -1,0 +1,44 @@
+ghost use Rattle.std.specs.Prelude.{◌≡◌, [], false};
+ghost use Rattle.grant_board.specs.Views.{Grant};
+ghost use Rattle.relay_http.specs.Asides.{stage_of};
+ghost use Rattle.relay_http.specs.States as states;
+ghost use Rattle.relay_http.specs.States.{IsFresh};
+
+use crate::exchange::{Exchange, Stage};
+use verdict::Verdict;
+
+/// What an exchange whose request was handed on keeps until the answer comes.
+#[derive(Clone, Copy, Debug, PartialEq, Eq)]
+pub struct Aside {
+    ticket: u64,
+    verdict: Verdict,
+}
+
+impl Exchange {
+    /// What another exchange goes on with, where this one is renewed for other clients between the request and its answer.
+    pub fn set_aside(&self) -> Aside
+        requires forwarded { (pass : Grant) × (self.now.stage ≡ states.forwarded_on pass) }
+        requires unbegun { self.now.begun ≡ false }
+        ensures { stage_of result ≡ self.now.stage }
+    {
+        match self.stage {
+            Stage::Forwarded { ticket, verdict } => Aside { ticket, verdict },
+            _ => unreachable!(),
+        }
+    }
+
+    /// Makes a new exchange one whose request was handed on elsewhere: it asks for a pass like that one's, for the answer.
+    pub fn resume(&mut self, aside: &Aside)
+        requires fresh { IsFresh self.old.most self.old }
+        ensures stage { self.new.stage ≡ stage_of aside.now }
+        ensures held { self.new.pipe.inbox ≡ [] }
+        ensures turns { self.new.pipe.turns ≡ self.old.most }
+        ensures most { self.new.most ≡ self.old.most }
+        ensures begun { self.new.begun ≡ false }
+    {
+        self.stage = Stage::Forwarded {
+            ticket: aside.ticket,
+            verdict: aside.verdict,
+        };
+    }
+}

@@ -11,6 +11,3 @@ pub use crate::dispatcher::Core;
 pub use dispatch_log::{Phase, Queue, Refusal, ServerSet, Servers, Setup};
 pub use dispatch_trace::Ticketed;
 pub use readable_log::Log;
-
-#[cfg(test)]
-mod tests;

@@ -21,6 +21,3 @@ pub use queue::{Queue, order_of_queues};
 pub use refusal::Refusal;
 pub use row::{Phase, Row};
 pub use setup::{ServerSet, Servers, Setup};
-
-#[cfg(test)]
-mod tests;

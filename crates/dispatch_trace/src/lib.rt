@@ -12,8 +12,6 @@ mod leaving;
 mod moving;
 mod position;
 mod serving;
-#[cfg(test)]
-mod tests;
 mod trace;
 mod windows;
 

@@ -1,7 +1,5 @@
 -- The statuses that the program ends with.
 use Rattle.std.specs.Prelude.{ℕ, Result, Ok, Err}
-use Rattle.dueproxy.specs.declared.check.Checked.{Checked}
-use Rattle.dueproxy.specs.declared.check.Checked.TheVariants as checks
 use Rattle.dueproxy.specs.declared.input.InputFault.{InputFault}
 use Rattle.dueproxy.specs.declared.input.InputFault.TheVariants as inputs
 use Rattle.proxy_run.specs.declared.fault.RunFault.{RunFault}
@@ -16,13 +14,6 @@ status_of (Err NoMemory) = 1
 status_of (Err (Script line)) = 5
 status_of (Err Read) = 1
 status_of (Err Write) = 1
-
--- 0; 1 where memory or the reading of the file failed; 3 where the configuration is faulty
-abbrev pub status_of_check : Checked → ℕ
-status_of_check (checks.Good servers) = 0
-status_of_check (checks.Faulty fault) = 3
-status_of_check checks.NoMemory = 1
-status_of_check checks.Unread = 1
 
 -- 1 where memory, a read or a write failed; 5 where the script or the trace is faulty
 abbrev pub status_of_input : InputFault → ℕ

@@ -7,17 +7,14 @@
 ghost use Rattle.std.specs.Prelude.{◌≡◌};
 ghost use Rattle.dueproxy.specs.Statuses.{status_of, status_of_input};
 
-mod advice;
-mod check;
 mod command;
-mod explain;
 mod input;
 mod picture;
 mod serve;
 mod tale;
 
-use check::{check, check_in_full};
 use command::{Asked, ask};
+use config_check::{check, check_in_full};
 use input::InputFault;
 use picture::{DrawFault, Only, draw};
 use replay::{Fault, replay};

@@ -3,8 +3,8 @@
 ghost use Rattle.std.specs.Prelude.{◌≡◌};
 ghost use Rattle.dueproxy.specs.Statuses.{status_of_run};
 
-use crate::check::read_file;
 use clap::{Arg, ArgAction, ArgMatches, Command};
+use config_check::read_file;
 use proxy_run::{RunFault, ServeFault, Sizes, run};
 use proxy_words::number;
 use std::alloc::{AllocError, Global};

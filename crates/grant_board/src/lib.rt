@@ -25,6 +25,3 @@ pub use opening::Closing;
 pub use pass::{Pass, Taking};
 pub use relay::{Met, RelaySeat};
 pub use returned::Return;
-
-#[cfg(test)]
-mod tests;

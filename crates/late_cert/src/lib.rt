@@ -20,6 +20,3 @@ pub use making::certify;
 pub use readable_log::Stay;
 pub use report::{Report, Reports, Stays};
 pub use table::Running;
-
-#[cfg(test)]
-mod tests;

@@ -11,6 +11,3 @@ mod idle;
 pub use asking::Asked;
 pub use held::Held;
 pub use idle::Idle;
-
-#[cfg(test)]
-mod tests;

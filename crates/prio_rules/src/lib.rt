@@ -7,8 +7,6 @@ mod conditions;
 mod fields;
 pub mod laws;
 mod samples;
-#[cfg(test)]
-mod tests;
 mod wish;
 
 pub use wish::{Wish, decide};

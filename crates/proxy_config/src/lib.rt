@@ -15,8 +15,6 @@ mod reading;
 mod rules;
 mod samples;
 mod settings;
-#[cfg(test)]
-mod tests;
 mod values;
 mod wishes;
 

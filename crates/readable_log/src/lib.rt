@@ -16,6 +16,3 @@ pub use laws::{
 };
 pub use log::Log;
 pub use read::Unreadable;
-
-#[cfg(test)]
-mod tests;

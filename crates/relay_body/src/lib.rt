@@ -25,6 +25,3 @@ pub use laws::texts_of_parts_are_comparable;
 pub use outbox::OUTBOX_BYTES;
 pub use pipe::Pipe;
 pub use trailers::TRAILER_BYTES;
-
-#[cfg(test)]
-mod tests;

@@ -26,6 +26,3 @@ pub use messages::MOST_INTERIMS;
 pub use plans::{Plan, answer_plan};
 pub use refusing::Code;
 pub use relay_body::Framing;
-
-#[cfg(test)]
-mod tests;

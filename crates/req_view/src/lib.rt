@@ -11,8 +11,6 @@ mod refusal;
 mod request;
 mod section;
 mod target;
-#[cfg(test)]
-mod tests;
 mod values;
 mod version;
 mod viewing;

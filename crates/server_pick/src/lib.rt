@@ -17,6 +17,3 @@ pub use heads::Heads;
 pub use placement::{Placement, place};
 pub use server_set::Set64;
 pub use takers::{next_queue, next_taker};
-
-#[cfg(test)]
-mod tests;

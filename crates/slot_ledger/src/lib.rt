@@ -9,6 +9,3 @@ mod tickets;
 
 pub use ledger::Ledger;
 pub use places::Slot;
-
-#[cfg(test)]
-mod tests;

@@ -18,6 +18,3 @@ pub use forwarding::forward_whole;
 pub use progress::Progress;
 pub use reading::read_head;
 pub use refusing::refusal;
-
-#[cfg(test)]
-mod tests;

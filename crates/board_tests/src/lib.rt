@@ -1,0 +1,7 @@
+//! Tests of the board and of seats that go from thread to thread: a crate of their own, so that what they test isn't proved once more with them.
+#![tactic(auto)]
+
+#[cfg(test)]
+mod boards;
+#[cfg(test)]
+mod seats;

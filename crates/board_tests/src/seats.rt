@@ -1,0 +1,149 @@
+ghost use Rattle.std.specs.Prelude.{◌≡◌, ◌<◌, ◌≤◌, [], IfOk};
+
+use pass_seat::*;
+use grant_board::{Board, BoardName, RelaySeat, Return};
+use std::alloc::Global;
+use std::collections::VecDeque;
+use std::marker::Brand;
+use std::sync::{Mutex, Wait};
+use std::test::Fail;
+use std::thread::{Threads, join};
+use verdict::{Ending, Verdict};
+
+const TICKET: u64 = 7;
+
+const SERVE: Verdict = Verdict::Serve(0);
+
+type Mail<N> = Mutex<VecDeque<Held<N>>>;
+
+/// What a pass was of that a thread posted.
+type Seen = (usize, u64, Verdict);
+
+// A seat takes a pass and goes with it into the mail. It comes back without one.
+fn take_into<R: Wait, N: BoardName>(
+    rt: &R,
+    board: &Board,
+    mail: &Mail<N>,
+    idle: Idle<N>,
+    place: usize,
+) -> Option<Idle<N>>
+    requires { (board.now ≡ N.board) × (place < N.terms.places) }
+{
+    match idle.take(board, place, TICKET) {
+        Asked::Held(held) => {
+            let pushed = mail.lock(rt).push_back(held);
+            match pushed {
+                Ok(()) => None,
+                Err(refused) => Some(refused.value.post(board, Ending::Done)),
+            }
+        }
+        Asked::NotYet(idle) => Some(idle),
+    }
+}
+
+// A seat with its pass comes out of the mail, and posts it.
+fn post_from<R: Wait, N: BoardName>(
+    rt: &R,
+    board: &Board,
+    mail: &Mail<N>,
+) -> Option<(Idle<N>, Seen)>
+    requires { board.now ≡ N.board }
+{
+    let taken = mail.lock(rt).pop_front();
+    match taken {
+        None => None,
+        Some(held) => {
+            let seen = (held.place(), held.ticket(), held.pass().verdict());
+            Some((held.post(board, Ending::Done), seen))
+        }
+    }
+}
+
+// Two threads take a pass each, and then two others post them. None where a seat didn't get its pass.
+fn exchange_passes<R: Threads + Wait + Sync, N: BoardName + Send + Sync>(
+    rt: &R,
+    board: &Board,
+    mail: &Mail<N>,
+    one: Idle<N>,
+    two: Idle<N>,
+) -> (Option<(Idle<N>, Seen)>, Option<(Idle<N>, Seen)>)
+    requires { (board.now ≡ N.board) × (2 ≤ N.terms.places) }
+{
+    join(
+        rt,
+        || -> Option<Idle<N>>
+            requires { (board.now ≡ N.board) × (2 ≤ N.terms.places) }
+        { take_into(rt, board, mail, one, 0) },
+        || -> Option<Idle<N>>
+            requires { (board.now ≡ N.board) × (2 ≤ N.terms.places) }
+        { take_into(rt, board, mail, two, 1) },
+    );
+    join(
+        rt,
+        || -> Option<(Idle<N>, Seen)>
+            requires { board.now ≡ N.board }
+        { post_from(rt, board, mail) },
+        || -> Option<(Idle<N>, Seen)>
+            requires { board.now ≡ N.board }
+        { post_from(rt, board, mail) },
+    )
+}
+
+// What is left in the mail is posted.
+fn post_rest<N: BoardName>(board: &Board, held: VecDeque<Held<N>>)
+    requires { board.now ≡ N.board }
+{
+    let mut held = held;
+    while let Some(one) = held.pop_front() {
+        one.post(board, Ending::Done);
+    }
+    held.destroy_empty();
+}
+
+// The passes that the two threads posted.
+fn posted<R: Threads + Wait + Sync, N: BoardName + Send + Sync>(
+    rt: &R,
+    alloc: Global,
+    board: &Board,
+    first: RelaySeat,
+    second: RelaySeat,
+) -> Result<(RelaySeat, RelaySeat, (Seen, Seen)), Fail>
+    requires board { (board.now ≡ N.board) × (2 ≤ N.terms.places) }
+    requires first { (first.board ≡ N.board) × (first.view.terms ≡ N.terms) × (first.view.passes ≡ []) }
+    requires second { (second.board ≡ N.board) × (second.view.terms ≡ N.terms) × (second.view.passes ≡ []) }
+    ensures { IfOk result (λ it. (it.0.board ≡ N.board) × (it.1.board ≡ N.board)) }
+{
+    let mail = Mutex::new(VecDeque::new(alloc));
+    let (one, two) = exchange_passes::<R, N>(rt, board, &mail, Idle::new(first), Idle::new(second));
+    post_rest(board, mail.into_inner());
+    let Some((one, first)) = one else {
+        return Err(Fail::from("no first pass"));
+    };
+    let Some((two, second)) = two else {
+        return Err(Fail::from("no second pass"));
+    };
+    Ok((one.seat(), two.seat(), (first, second)))
+}
+
+#[test]
+fn passes_are_posted_by_other_threads(rt: HostRuntime) -> Result<(), Fail> {
+    let (board, mut keeper, mut first) = Board::open(rt.alloc(), 2, &[2])?;
+    keeper.offer(&board, 0, TICKET, SERVE);
+    keeper.offer(&board, 1, TICKET, SERVE);
+    let second = first.split(&board);
+    let (one, two, seen) = posted::<HostRuntime, Brand>(&rt, rt.alloc(), &board, first, second)?;
+    assert!(rt; one.first() != two.first());
+    let (first, second) = ((0, TICKET, SERVE), (1, TICKET, SERVE));
+    assert!(rt; seen == (first, second) || seen == (second, first));
+    assert_eq!(rt; keeper.collect(&board, 0), Some(done_at(0)));
+    assert_eq!(rt; keeper.collect(&board, 1), Some(done_at(1)));
+    Ok(())
+}
+
+fn done_at(place: usize) -> Return {
+    Return {
+        place,
+        ticket: TICKET,
+        ending: Ending::Done,
+    }
+}

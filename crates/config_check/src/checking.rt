@@ -1,0 +1,133 @@
+ghost use Rattle.proxy_config.specs.File.{reading};
+ghost use Rattle.std.specs.Prelude.{◌≡◌};
+ghost use Rattle.config_check.specs.Checks.{IsCheckOf, status_of_check};
+
+use crate::explaining::{Explanation, explain};
+use proxy_config::{ConfigFault, ReadError, read};
+use std::alloc::Global;
+use std::io::{ErrorKind, Read};
+use std::rt::Files;
+use std::{fs, io};
+use thiserror::Error;
+
+/// What a look at a configuration came to.
+#[derive(Clone, Copy, Debug, PartialEq, Eq, Error)]
+pub(crate) enum Checked {
+    #[error("ok servers {0}")]
+    Good(usize),
+    #[error("config {0}")]
+    Faulty(ConfigFault),
+    #[error("no memory")]
+    NoMemory,
+    #[error("read fault")]
+    Unread,
+}
+
+/// Looks at the configuration in a file, prints what it is, and answers the status: 0, 3 where the configuration is faulty, 1 where anything else went wrong.
+pub fn check<R: Files + Print + Eprint + AllocGlobal>(rt: &R, file: &str) -> u8 {
+    let checked = match read_file(rt, file) {
+        Ok(bytes) => check_bytes(rt.alloc(), &bytes),
+        Err(error) if error.kind() == ErrorKind::OutOfMemory => Checked::NoMemory,
+        Err(_) => Checked::Unread,
+    };
+    print(rt, checked)
+}
+
+/// The same, with every faulty line and what takes its place before it.
+pub fn check_in_full<R: Files + Print + Eprint + AllocGlobal>(rt: &R, file: &str) -> u8 {
+    let explained = match read_file(rt, file) {
+        Ok(bytes) => explain(rt.alloc(), &bytes),
+        Err(error) if error.kind() == ErrorKind::OutOfMemory => {
+            return print(rt, Checked::NoMemory);
+        }
+        Err(_) => return print(rt, Checked::Unread),
+    };
+    match explained {
+        Err(_) => print(rt, Checked::NoMemory),
+        Ok(Explanation { whole: true, .. }) => check(rt, file),
+        Ok(
+            Explanation {
+                faulty,
+                text,
+                whole: false,
+            },
+        ) => print_all(rt, faulty, &text),
+    }
+}
+
+// The explanation, and how many lines would have to change.
+fn print_all(rt: &(impl Print + Eprint), faulty: usize, text: &str) -> u8 {
+    if rt.print(text).is_err() || println!(rt; "lines to change: {faulty}").is_err() {
+        let _ = rt.eprintln("write fault");
+        return 1;
+    }
+    3
+}
+
+/// All bytes of a file.
+pub fn read_file<R: Files + AllocGlobal>(rt: &R, file: &str) -> io::Result<Vec<u8>> {
+    let mut opened = fs::open(rt, file)?;
+    let mut bytes = Vec::new(rt.alloc());
+    opened.read_to_end(&mut bytes)?;
+    Ok(bytes)
+}
+
+fn check_bytes(alloc: Global, bytes: &[u8]) -> Checked
+    ensures { IsCheckOf (reading bytes.now) result }
+{
+    match read(alloc, bytes) {
+        Ok(config) => Checked::Good(config.servers.len()),
+        Err(ReadError::Fault(fault)) => Checked::Faulty(fault),
+        Err(ReadError::NoMemory) => Checked::NoMemory,
+    }
+}
+
+// What was asked for goes to standard output, other faults to standard error.
+fn print(rt: &(impl Print + Eprint), checked: Checked) -> u8 {
+    let printed = match checked {
+        Checked::Good(_) | Checked::Faulty(_) => rt.println(checked),
+        Checked::NoMemory | Checked::Unread => rt.eprintln(checked),
+    };
+    if printed.is_err() {
+        let _ = rt.eprintln("write fault");
+        return 1;
+    }
+    status_of(checked)
+}
+
+fn status_of(checked: Checked) -> u8
+    ensures { result ≡ status_of_check checked }
+{
+    match checked {
+        Checked::Good(_) => 0,
+        Checked::Faulty(_) => 3,
+        Checked::NoMemory | Checked::Unread => 1,
+    }
+}
+
+#[cfg(test)]
+mod tests {
+    use super::*;
+    use proxy_config::FaultCause;
+    use std::test::Fail;
+
+    #[test]
+    fn each_end_has_its_line_and_status(rt: HostRuntime) -> Result<(), Fail> {
+        let fault = ConfigFault {
+            line: 7,
+            cause: FaultCause::Keyword,
+        };
+        let rows = [
+            (Checked::Good(3), "ok servers 3", 0),
+            (Checked::Faulty(fault), "config line 7: keyword", 3),
+            (Checked::NoMemory, "no memory", 1),
+            (Checked::Unread, "read fault", 1),
+        ];
+        for (checked, line, status) in rows {
+            let text = format!(in rt.alloc(); "{checked}")?;
+            assert_eq!(rt; text.as_str(), line);
+            assert_eq!(rt; status_of(checked), status);
+        }
+        Ok(())
+    }
+}

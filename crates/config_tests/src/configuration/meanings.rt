@@ -1,0 +1,220 @@
+use super::*;
+use std::test::Fail;
+
+#[test]
+fn a_time_is_rounded_up_and_the_rest_is_built_in(rt: HostRuntime) -> Result<(), Fail> {
+    let text =
+        b"global\n  daemon \"x\"\ndefaults\n  timeout queue 1500us\nlisten web\n  bind 127.0.0.1:8080\n  server a 127.0.0.1:9001 maxconn 1 check\n";
+    let config = read(rt.alloc(), text)?;
+    has_built_in_values(&rt, &config);
+    has_a_checked_server(&rt, &config);
+    Ok(())
+}
+
+fn has_built_in_values(rt: &impl Abort, config: &Config) {
+    assert_eq!(rt;
+        config.bind,
+        Bind {
+            ip: Some([127, 0, 0, 1]),
+            port: 8080
+        }
+    );
+    assert_eq!(rt; config.queue_timeout, Some(2));
+    assert_eq!(rt; config.retries, 3);
+    assert!(rt; !config.redispatch && !config.abortonclose);
+}
+
+fn has_a_checked_server(rt: &impl Abort, config: &Config) {
+    let servers = config.servers.as_slice();
+    assert_eq!(rt; servers.len(), 1);
+    let server = &servers[0];
+    assert_eq!(rt; server.name.as_slice(), b"a".as_slice());
+    let Host::Ip(ip) = &server.address.host else {
+        panic!(rt; "a name")
+    };
+    assert_eq!(rt; *ip, [127, 0, 0, 1]);
+    assert_eq!(rt; server.address.port, 9001);
+    assert_eq!(rt; server.maxconn, 1);
+    assert_eq!(rt; server.maxqueue, 0);
+    assert_eq!(rt; server.weight, 1);
+    assert_eq!(rt;
+        server.check,
+        Some(Checks {
+            inter: 2000,
+            rise: 2,
+            fall: 3
+        })
+    );
+}
+
+#[test]
+fn of_a_repeated_setting_the_last_stands(rt: HostRuntime) -> Result<(), Fail> {
+    let text = b"listen w\nbind :80\nserver a h:80 maxconn 2 maxconn 3 # x";
+    let config = read(rt.alloc(), text)?;
+    let servers = config.servers.as_slice();
+    assert_eq!(rt; servers.len(), 1);
+    assert_eq!(rt; servers[0].maxconn, 3);
+    assert_eq!(rt; servers[0].check, None);
+    assert_eq!(rt; config.bind, Bind { ip: None, port: 80 });
+    Ok(())
+}
+
+#[test]
+fn settings_stand_in_any_order(rt: HostRuntime) -> Result<(), Fail> {
+    let text =
+        b"listen w\r\nbind *:1\r\nserver a 01.2.3.004:00080 fall 9 rise 8 inter 1us check maxqueue 7 weight 256\r\n";
+    let config = read(rt.alloc(), text)?;
+    let servers = config.servers.as_slice();
+    assert_eq!(rt; servers.len(), 1);
+    let server = &servers[0];
+    let Host::Ip(ip) = &server.address.host else {
+        panic!(rt; "a name")
+    };
+    assert_eq!(rt; *ip, [1, 2, 3, 4]);
+    assert_eq!(rt; server.weight, 256);
+    assert_eq!(rt; server.maxqueue, 7);
+    assert_eq!(rt;
+        server.check,
+        Some(Checks {
+            inter: 1,
+            rise: 8,
+            fall: 9
+        })
+    );
+    Ok(())
+}
+
+#[test]
+fn listen_takes_the_values_of_defaults(rt: HostRuntime) -> Result<(), Fail> {
+    let text =
+        b"defaults\nretries 9\noption abortonclose\ndefaults x\nretries 5\noption redispatch\ntimeout connect 4s\ntimeout queue 3\nlisten w\ntimeout queue 0\nbind :80\nserver a h:80\ndefaults\nretries 1\n";
+    let config = read(rt.alloc(), text)?;
+    assert_eq!(rt; config.retries, 5);
+    assert!(rt; config.redispatch && !config.abortonclose);
+    assert_eq!(rt; config.queue_timeout, Some(4000));
+    Ok(())
+}
+
+#[test]
+fn each_timeout_is_kept(rt: HostRuntime) -> Result<(), Fail> {
+    let text =
+        b"defaults\ntimeout connect 4s\ntimeout client 5s\nlisten w\nbind :80\nserver a h:80\ntimeout server 6s\n";
+    let config = read(rt.alloc(), text)?;
+    assert_eq!(rt; config.queue_timeout, Some(4000));
+    assert_eq!(rt; config.connect_timeout, Some(4000));
+    assert_eq!(rt; config.client_timeout, Some(5000));
+    assert_eq!(rt; config.server_timeout, Some(6000));
+    Ok(())
+}
+
+#[test]
+fn no_timeout_is_no_limit(rt: HostRuntime) -> Result<(), Fail> {
+    let config = read(
+        rt.alloc(),
+        b"listen w\nbind :80\nserver a h:80\ntimeout queue 0\ntimeout connect 0\n",
+    )?;
+    assert_eq!(rt; config.queue_timeout, None);
+    assert_eq!(rt; config.connect_timeout, None);
+    assert_eq!(rt; config.client_timeout, None);
+    assert_eq!(rt; config.server_timeout, None);
+    Ok(())
+}
+
+#[test]
+fn rules_name_acls_and_servers(rt: HostRuntime) -> Result<(), Fail> {
+    let text =
+        b"listen w\nbind :80\nacl slow hdr(x-t) -i slow later\nuse-server b if slow or !{ method POST } !slow\nacl slow path_beg /s\nserver a h:80\nserver b h:81\nhttp-request set-priority-class int(-9999)\nhttp-request set-priority-offset req.hdr_val(x-due) unless { path_end a } || slow\n";
+    let config = read(rt.alloc(), text)?;
+    has_acls(&rt, &config);
+    has_pins(&rt, &config);
+    has_rules(&rt, &config);
+    Ok(())
+}
+
+fn has_acls(rt: &impl Abort, config: &Config) {
+    let acls = config.acls.as_slice();
+    assert_eq!(rt; acls.len(), 1);
+    assert_eq!(rt; acls[0].name.as_slice(), b"slow".as_slice());
+    let tests = acls[0].tests.as_slice();
+    assert_eq!(rt; tests.len(), 2);
+    assert!(rt; tests[0].ignore_case && !tests[1].ignore_case);
+    assert!(rt; matches!(tests[1].subject, Subject::PathBegin));
+    assert_eq!(rt; tests[0].values.len(), 2);
+}
+
+fn has_pins(rt: &impl Abort, config: &Config) {
+    let pins = config.pins.as_slice();
+    assert_eq!(rt; pins.len(), 1);
+    assert_eq!(rt; pins[0].server, 1);
+    let Guard::If(condition) = &pins[0].guard else {
+        panic!(rt; "not if")
+    };
+    let alternatives = condition.alternatives.as_slice();
+    assert_eq!(rt; alternatives.len(), 2);
+    assert_eq!(rt; alternatives[0].len(), 1);
+    let terms = alternatives[1].as_slice();
+    assert_eq!(rt; terms.len(), 2);
+    assert!(rt; terms[0].negated && matches!(terms[0].operand, Operand::Test(_)));
+    assert!(rt; terms[1].negated && matches!(terms[1].operand, Operand::Acl(0)));
+}
+
+fn has_rules(rt: &impl Abort, config: &Config) {
+    let rules = config.rules.as_slice();
+    assert_eq!(rt; rules.len(), 2);
+    assert_eq!(rt; rules[0].action, Action::SetPriorityClass);
+    assert!(rt; matches!(rules[0].value, Expression::Int(-9999)) && rules[0].guard.is_none());
+    let Expression::HeaderValue(field) = &rules[1].value else {
+        panic!(rt; "no field")
+    };
+    assert_eq!(rt; field.as_slice(), b"x-due".as_slice());
+    let Some(Guard::Unless(condition)) = &rules[1].guard else {
+        panic!(rt; "not unless")
+    };
+    assert_eq!(rt; condition.alternatives.len(), 2);
+}
+
+#[test]
+fn what_is_accepted(rt: HostRuntime) {
+    good_line(&rt, rt.alloc(), "mode http");
+    good_line(&rt, rt.alloc(), "balance leastconn");
+    good_line(&rt, rt.alloc(), "log");
+    good_line(&rt, rt.alloc(), "log 127.0.0.1 local0 info");
+    good_line(&rt, rt.alloc(), "description");
+    good_line(&rt, rt.alloc(), "option httplog");
+    good_line(&rt, rt.alloc(), "option dontlognull");
+    good_line(&rt, rt.alloc(), "timeout client 5s");
+    good_line(&rt, rt.alloc(), "timeout server 5s # \"x\"");
+    good_line(&rt, rt.alloc(), "server b 256.1.1.1:1");
+    good_line(&rt, rt.alloc(), "server b 1.2.3:65535 weight 0 maxconn 0");
+    good_line(&rt, rt.alloc(), "acl known method GET");
+    good_line(&rt, rt.alloc(), "acl x path {");
+    good_line(&rt, rt.alloc(), "acl x path }");
+    good_line(
+        &rt,
+        rt.alloc(),
+        "http-request set-priority-class int(1) if known known or ! known || known",
+    );
+    good_line(
+        &rt,
+        rt.alloc(),
+        "http-request set-priority-class int(-0) unless { path { } known",
+    );
+    good_line(
+        &rt,
+        rt.alloc(),
+        "http-request set-priority-class int(1) if { path or }",
+    );
+    good_line(
+        &rt,
+        rt.alloc(),
+        "http-request set-priority-class req.hdr_val(a^_|~`!$%&*+-.) if !{ hdr(x) -i y }",
+    );
+    good_line(&rt, rt.alloc(), "use-server a unless !known");
+}
+
+#[test]
+fn the_sample_is_accepted(rt: HostRuntime) -> Result<(), Fail> {
+    let config = read(rt.alloc(), sample::SAMPLE.as_bytes())?;
+    assert_eq!(rt; config.servers.len(), 3);
+    Ok(())
+}

@@ -1,0 +1,21 @@
+use late_cert::Running;
+use dispatch_log::Queue;
+use due_key::Class;
+use std::test::Fail;
+
+#[test]
+fn the_greatest_lateness_is_kept(rt: HostRuntime) -> Result<(), Fail> {
+    let alloc = rt.alloc();
+    let class = Class::clamp(1);
+    let mut running = Running::new(alloc, 1)?;
+    running.reserve(alloc, class)?;
+    running.granted(Queue::Server(0), class, -3);
+    running.granted(Queue::Server(0), class, 19);
+    running.granted(Queue::Server(0), class, 5);
+    assert_eq!(rt; running.worst(Queue::Server(0), class), Some(19));
+    assert_eq!(rt; running.worst(Queue::Backend, class), None);
+    assert_eq!(rt; running.worst(Queue::Server(0), Class::clamp(0)), None);
+    running.clear();
+    assert_eq!(rt; running.worst(Queue::Server(0), class), None);
+    Ok(())
+}

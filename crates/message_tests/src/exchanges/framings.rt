@@ -1,0 +1,150 @@
+use relay_http::{Framing, Plan, answer_plan, request_framing};
+use req_view::{Viewed, answer_head, view};
+use std::alloc::Global;
+use std::test::Fail;
+
+// the framing of a request of version 1.1 with these lines
+fn framing(alloc: Global, lines: &[u8]) -> Result<Option<Framing>, Fail> {
+    let mut head = Vec::from_slice(alloc, b"POST / HTTP/1.1\r\nHost: h\r\n")?;
+    head.extend_from_slice(lines)?;
+    head.extend_from_slice(b"\r\n")?;
+    match view(alloc, head.as_slice()) {
+        Viewed::Whole(head, _) => Ok(request_framing(&head)),
+        _ => Err(Fail::from("no head")),
+    }
+}
+
+#[test]
+fn framings_of_requests(rt: HostRuntime) -> Result<(), Fail> {
+    let rows: [(&[u8], Option<Framing>); 20] = [
+        (b"", Some(Framing::Empty)),
+        (b"Content-Length: 3\r\n", Some(Framing::Length(3))),
+        (b"content-length: 003\r\n", Some(Framing::Length(3))),
+        (
+            b"Content-Length: 5, 05\r\nContent-Length: 5\r\n",
+            Some(Framing::Length(5)),
+        ),
+        (
+            b"Content-Length: 999999999999999999\r\n",
+            Some(Framing::Length(999_999_999_999_999_999)),
+        ),
+        (b"Content-Length: 1000000000000000000\r\n", None),
+        (b"Content-Length: 3\r\nContent-Length: 4\r\n", None),
+        (b"Content-Length: 3, 4\r\n", None),
+        (b"Content-Length: +3\r\n", None),
+        (b"Content-Length: -3\r\n", None),
+        (b"Content-Length: 3 3\r\n", None),
+        (b"Content-Length: 0x3\r\n", None),
+        (b"Content-Length:\r\n", None),
+        (b"Content-Length: 3,\r\n", None),
+        (b"Transfer-Encoding: chunked\r\n", Some(Framing::Chunked)),
+        (
+            b"transfer-encoding: \t CHUNKED \r\n",
+            Some(Framing::Chunked),
+        ),
+        (b"Transfer-Encoding: chunked\r\nContent-Length: 3\r\n", None),
+        (b"Content-Length: 3\r\nTransfer-Encoding: chunked\r\n", None),
+        (
+            b"Transfer-Encoding: chunked\r\nTransfer-Encoding: chunked\r\n",
+            None,
+        ),
+        (b"Transfer-Encoding: gzip, chunked\r\n", None),
+    ];
+    for (lines, expected) in rows {
+        assert_eq!(rt; framing(rt.alloc(), lines)?, expected);
+    }
+    Ok(())
+}
+
+// the plan of an answer with this head
+fn plan(alloc: Global, method: &[u8], head: &[u8]) -> Result<Option<Plan>, Fail> {
+    match answer_head(alloc, head) {
+        Viewed::Whole(head, _) => Ok(answer_plan(method, &head)),
+        _ => Err(Fail::from("no head")),
+    }
+}
+
+fn planned(body: Framing, stated: Framing) -> Option<Plan> {
+    Some(Plan { body, stated })
+}
+
+#[test]
+fn plans_of_answers(rt: HostRuntime) -> Result<(), Fail> {
+    let rows: [(&[u8], Option<Plan>); 5] = [
+        (
+            b"HTTP/1.1 200 OK\r\n\r\n",
+            planned(Framing::ToEnd, Framing::ToEnd),
+        ),
+        (
+            b"HTTP/1.1 200 OK\r\nContent-Length: 3\r\n\r\n",
+            planned(Framing::Length(3), Framing::Length(3)),
+        ),
+        (
+            b"HTTP/1.1 200 OK\r\nTransfer-Encoding: chunked\r\n\r\n",
+            planned(Framing::Chunked, Framing::Chunked),
+        ),
+        (
+            b"HTTP/1.0 200 OK\r\nTransfer-Encoding: chunked\r\n\r\n",
+            None,
+        ),
+        (
+            b"HTTP/1.1 200 OK\r\nContent-Length: 3\r\nTransfer-Encoding: chunked\r\n\r\n",
+            None,
+        ),
+    ];
+    for (head, expected) in rows {
+        assert_eq!(rt; plan(rt.alloc(), b"GET", head)?, expected);
+    }
+    Ok(())
+}
+
+#[test]
+fn plans_of_answers_by_their_status(rt: HostRuntime) -> Result<(), Fail> {
+    let rows: [(&[u8], Option<Plan>); 4] = [
+        (
+            b"HTTP/1.1 304 No\r\nContent-Length: 5\r\n\r\n",
+            planned(Framing::Empty, Framing::Length(5)),
+        ),
+        (
+            b"HTTP/1.1 204 No\r\nContent-Length: x\r\n\r\n",
+            planned(Framing::Empty, Framing::Empty),
+        ),
+        (
+            b"HTTP/1.1 103 X\r\nContent-Length: 5\r\n\r\n",
+            planned(Framing::Empty, Framing::Empty),
+        ),
+        (b"HTTP/1.1 101 X\r\n\r\n", None),
+    ];
+    for (head, expected) in rows {
+        assert_eq!(rt; plan(rt.alloc(), b"GET", head)?, expected);
+    }
+    Ok(())
+}
+
+#[test]
+fn plans_of_answers_to_head(rt: HostRuntime) -> Result<(), Fail> {
+    let rows: [(&[u8], Option<Plan>); 4] = [
+        (b"HTTP/1.0 204 OK\r\nTransfer-Encoding: x\r\n\r\n", None),
+        (
+            b"HTTP/1.1 200 OK\r\nTransfer-Encoding: chunked\r\n\r\n",
+            planned(Framing::Empty, Framing::Empty),
+        ),
+        (
+            b"HTTP/1.1 200 OK\r\nContent-Length: 7\r\n\r\n",
+            planned(Framing::Empty, Framing::Length(7)),
+        ),
+        (b"HTTP/1.1 200 OK\r\nContent-Length: x\r\n\r\n", None),
+    ];
+    for (head, expected) in rows {
+        assert_eq!(rt; plan(rt.alloc(), b"HEAD", head)?, expected);
+    }
+    Ok(())
+}
+
+#[test]
+fn a_method_is_told_by_the_case_of_its_letters(rt: HostRuntime) -> Result<(), Fail> {
+    let head = b"HTTP/1.1 200 OK\r\nContent-Length: 7\r\n\r\n";
+    let expected = planned(Framing::Length(7), Framing::Length(7));
+    assert_eq!(rt; plan(rt.alloc(), b"head", head)?, expected);
+    Ok(())
+}

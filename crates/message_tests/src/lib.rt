@@ -1,0 +1,9 @@
+//! Tests of messages that are handed on: a crate of their own, so that what they test isn't proved once more with them.
+#![tactic(auto)]
+
+#[cfg(test)]
+mod bodies;
+#[cfg(test)]
+mod exchanges;
+#[cfg(test)]
+mod wholes;

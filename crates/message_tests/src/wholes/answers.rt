@@ -1,0 +1,154 @@
+use crate::wholes::relays::{GET, Row, TURNS, answered};
+use whole_messages::{Progress, refusal};
+use relay_http::{Code, Exchange, Fault};
+use std::test::Fail;
+
+const HEAD: &[u8] = b"HEAD / HTTP/1.1\r\nHost: h\r\n\r\n";
+
+const BY_LENGTH: &[u8] = b"HTTP/1.1 200 OK\r\nContent-Length: 3\r\n\r\nabc";
+
+const BY_LENGTH_TEXT: &[u8] =
+    b"HTTP/1.1 200 OK\r\nContent-Length: 3\r\nConnection: close\r\n\r\nabc";
+
+const CHUNKS: &[u8] =
+    b"HTTP/1.1 200 OK\r\nTransfer-Encoding: chunked\r\n\r\n3;x\r\nabc\r\n0\r\nT: 1\r\n\r\n";
+
+const CHUNKS_TEXT: &[u8] =
+    b"HTTP/1.1 200 OK\r\nTransfer-Encoding: chunked\r\nConnection: close\r\n\r\n3\r\nabc\r\n0\r\n\r\n";
+
+const INTERIM: &[u8] =
+    b"HTTP/1.1 100 Continue\r\n\r\nHTTP/1.1 103 X\r\nLink: a\r\n\r\nHTTP/1.1 200 OK\r\nContent-Length: 0\r\n\r\n";
+
+const INTERIM_TEXT: &[u8] =
+    b"HTTP/1.1 103 X\r\nLink: a\r\n\r\nHTTP/1.1 200 OK\r\nContent-Length: 0\r\nConnection: close\r\n\r\n";
+
+// answers that their own bytes end
+const WHOLE: [Row; 6] = [
+    ("a length", BY_LENGTH, Progress::Whole(BY_LENGTH_TEXT)),
+    ("chunks", CHUNKS, Progress::Whole(CHUNKS_TEXT)),
+    ("heads before it", INTERIM, Progress::Whole(INTERIM_TEXT)),
+    (
+        "bytes behind it",
+        b"HTTP/1.1 200 OK\r\nContent-Length: 1\r\n\r\nabc",
+        Progress::Whole(b"HTTP/1.1 200 OK\r\nContent-Length: 1\r\nConnection: close\r\n\r\na"),
+    ),
+    (
+        "not modified",
+        b"HTTP/1.1 304 No\r\nContent-Length: 5\r\n\r\n",
+        Progress::Whole(b"HTTP/1.1 304 No\r\nContent-Length: 5\r\nConnection: close\r\n\r\n"),
+    ),
+    (
+        "no content",
+        b"HTTP/1.1 204 No\r\n\r\n",
+        Progress::Whole(b"HTTP/1.1 204 No\r\nConnection: close\r\n\r\n"),
+    ),
+];
+
+// bytes that are no answer, whatever comes
+const FAULTS: [Row; 4] = [
+    (
+        "no head at all",
+        b"SSH-2.0-x\r\n",
+        Progress::Refused(Fault::Head),
+    ),
+    (
+        "another protocol",
+        b"HTTP/1.1 101 X\r\nUpgrade: h2c\r\n\r\n",
+        Progress::Refused(Fault::Framing),
+    ),
+    (
+        "another coding",
+        b"HTTP/1.1 200 OK\r\nTransfer-Encoding: gzip\r\n\r\n",
+        Progress::Refused(Fault::Framing),
+    ),
+    (
+        "a line feed behind the data",
+        b"HTTP/1.1 200 OK\r\nTransfer-Encoding: chunked\r\n\r\n3\r\nabc\n0\r\n\r\n",
+        Progress::Refused(Fault::Framing),
+    ),
+];
+
+#[test]
+fn answers_that_came(rt: HostRuntime) -> Result<(), Fail> {
+    for ended in [false, true] {
+        for rows in [WHOLE.as_slice(), FAULTS.as_slice()] {
+            for (what, input, expected) in rows {
+                let seen = answered(rt.alloc(), GET, input, ended)?;
+                assert_eq!(rt; seen.outcome(), Some(*expected), "{what}");
+            }
+        }
+    }
+    Ok(())
+}
+
+// Until its last byte came, an answer waits, or it ended too early.
+#[test]
+fn answers_in_two_pieces(rt: HostRuntime) -> Result<(), Fail> {
+    for input in [BY_LENGTH, CHUNKS, INTERIM] {
+        for len in 0..input.len() {
+            let seen = answered(rt.alloc(), GET, &input[..len], false)?;
+            assert_eq!(rt; seen.outcome(), Some(Progress::More), "{len}");
+            let seen = answered(rt.alloc(), GET, &input[..len], true)?;
+            let expected = Progress::Refused(Fault::Read);
+            assert_eq!(rt; seen.outcome(), Some(expected), "{len}");
+        }
+    }
+    Ok(())
+}
+
+#[test]
+fn answers_to_the_end(rt: HostRuntime) -> Result<(), Fail> {
+    let input = b"HTTP/1.1 200 OK\r\n\r\nabc";
+    let seen = answered(rt.alloc(), GET, input, false)?;
+    assert_eq!(rt; seen.outcome(), Some(Progress::More));
+    let seen = answered(rt.alloc(), GET, input, true)?;
+    let text = b"HTTP/1.1 200 OK\r\nConnection: close\r\n\r\nabc".as_slice();
+    assert_eq!(rt; seen.outcome(), Some(Progress::Whole(text)));
+    let seen = answered(rt.alloc(), HEAD, input, false)?;
+    let text = b"HTTP/1.1 200 OK\r\nConnection: close\r\n\r\n".as_slice();
+    assert_eq!(rt; seen.outcome(), Some(Progress::Whole(text)));
+    Ok(())
+}
+
+#[test]
+fn answers_to_head(rt: HostRuntime) -> Result<(), Fail> {
+    let input = b"HTTP/1.1 200 OK\r\nContent-Length: 7\r\n\r\n";
+    let seen = answered(rt.alloc(), HEAD, input, false)?;
+    let text = b"HTTP/1.1 200 OK\r\nContent-Length: 7\r\nConnection: close\r\n\r\n".as_slice();
+    assert_eq!(rt; seen.outcome(), Some(Progress::Whole(text)));
+    Ok(())
+}
+
+// More than an exchange's buffers hold.
+#[test]
+fn a_long_answer(rt: HostRuntime) -> Result<(), Fail> {
+    let mut input = Vec::from_slice(
+        rt.alloc(),
+        b"HTTP/1.1 200 OK\r\nContent-Length: 200000\r\n\r\n",
+    )?;
+    let head = input.len();
+    input.resize(head + 200_000, b'x')?;
+    let seen = answered(rt.alloc(), GET, input.as_slice(), false)?;
+    match seen.outcome() {
+        Some(Progress::Whole(text)) => {
+            assert_eq!(rt; text.len(), head + b"Connection: close\r\n".len() + 200_000);
+        }
+        _ => return Err(Fail::from("no answer")),
+    }
+    input.pop();
+    let seen = answered(rt.alloc(), GET, input.as_slice(), false)?;
+    assert_eq!(rt; seen.outcome(), Some(Progress::More));
+    Ok(())
+}
+
+#[test]
+fn refusals(rt: HostRuntime) -> Result<(), Fail> {
+    let mut exchange = Exchange::new(rt.alloc(), TURNS)?;
+    let mut out = Vec::from_slice(rt.alloc(), b"before ")?;
+    refusal(&mut exchange, Code::BadGateway, &mut out)?;
+    assert_eq!(rt;
+        out.as_slice(),
+        b"before HTTP/1.1 502 Bad Gateway\r\nContent-Length: 0\r\nConnection: close\r\n\r\n".as_slice()
+    );
+    Ok(())
+}

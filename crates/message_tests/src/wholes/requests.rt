@@ -1,0 +1,108 @@
+use crate::wholes::relays::{GET, Row, TURNS, forwarded};
+use whole_messages::{Progress, read_head};
+use relay_http::{Exchange, Fault, Stage};
+use std::test::Fail;
+
+// a request by length, its head 73 bytes
+const POST: &[u8] =
+    b"POST /a HTTP/1.1\r\nHost: h\r\nConnection: x-a\r\nX-A: 1\r\nContent-Length: 3\r\n\r\nabc";
+
+const POST_TEXT: &[u8] =
+    b"POST /a HTTP/1.1\r\nHost: h\r\nContent-Length: 3\r\nConnection: close\r\n\r\nabc";
+
+// and one in chunks
+const CHUNKS: &[u8] =
+    b"POST / HTTP/1.1\r\nHost: h\r\nTransfer-Encoding: chunked\r\n\r\n3;x\r\nabc\r\n0\r\nT: 1\r\n\r\n";
+
+const CHUNKS_TEXT: &[u8] =
+    b"POST / HTTP/1.1\r\nHost: h\r\nTransfer-Encoding: chunked\r\nConnection: close\r\n\r\n3\r\nabc\r\n0\r\n\r\n";
+
+const ROWS: [Row; 8] = [
+    (
+        "no body",
+        GET,
+        Progress::Whole(b"GET / HTTP/1.1\r\nHost: h\r\nConnection: close\r\n\r\n"),
+    ),
+    (
+        "bytes behind the body",
+        b"POST / HTTP/1.1\r\nHost: h\r\nContent-Length: 1\r\n\r\naGET /",
+        Progress::Whole(
+            b"POST / HTTP/1.1\r\nHost: h\r\nContent-Length: 1\r\nConnection: close\r\n\r\na",
+        ),
+    ),
+    (
+        "a body that waits for leave",
+        b"POST / HTTP/1.1\r\nHost: h\r\nContent-Length: 3\r\nExpect: 100-continue\r\n\r\n",
+        Progress::More,
+    ),
+    (
+        "a head without an end",
+        b"GET / HTTP/1.1\r\nHost: h\r\n",
+        Progress::More,
+    ),
+    (
+        "no head at all",
+        b"SSH-2.0-x\r\n",
+        Progress::Refused(Fault::Head),
+    ),
+    (
+        "no host",
+        b"GET / HTTP/1.1\r\n\r\n",
+        Progress::Refused(Fault::Head),
+    ),
+    (
+        "a bad length",
+        b"GET / HTTP/1.1\r\nHost: h\r\nContent-Length: x\r\n\r\n",
+        Progress::Refused(Fault::Framing),
+    ),
+    (
+        "a bad chunk",
+        b"GET / HTTP/1.1\r\nHost: h\r\nTransfer-Encoding: chunked\r\n\r\nx",
+        Progress::Refused(Fault::Framing),
+    ),
+];
+
+#[test]
+fn requests_that_came(rt: HostRuntime) -> Result<(), Fail> {
+    for (what, input, expected) in ROWS {
+        let seen = forwarded(rt.alloc(), input)?;
+        assert_eq!(rt; seen.outcome(), Some(expected), "{what}");
+    }
+    Ok(())
+}
+
+// Until its last byte came, a request waits, in its head as in its body.
+#[test]
+fn requests_in_two_pieces(rt: HostRuntime) -> Result<(), Fail> {
+    for (input, text) in [(POST, POST_TEXT), (CHUNKS, CHUNKS_TEXT)] {
+        for len in 0..input.len() {
+            let seen = forwarded(rt.alloc(), &input[..len])?;
+            assert_eq!(rt; seen.outcome(), Some(Progress::More), "{len}");
+        }
+        let seen = forwarded(rt.alloc(), input)?;
+        assert_eq!(rt; seen.outcome(), Some(Progress::Whole(text)));
+    }
+    Ok(())
+}
+
+#[test]
+fn a_head_that_came(rt: HostRuntime) -> Result<(), Fail> {
+    let mut exchange = Exchange::new(rt.alloc(), TURNS)?;
+    match read_head(&mut exchange, rt.alloc(), POST, false) {
+        Progress::Whole(view) => assert_eq!(rt; view.method(), b"POST".as_slice()),
+        _ => return Err(Fail::from("no request")),
+    }
+    assert_eq!(rt; exchange.stage(), Stage::Asked);
+    assert_eq!(rt; exchange.held(), b"abc".as_slice());
+    Ok(())
+}
+
+#[test]
+fn an_input_that_ended_in_a_head(rt: HostRuntime) -> Result<(), Fail> {
+    let mut exchange = Exchange::new(rt.alloc(), TURNS)?;
+    for len in 0..GET.len() {
+        let told = read_head(&mut exchange, rt.alloc(), &GET[..len], true);
+        assert!(rt; matches!(told, Progress::Refused(Fault::Read)), "{len}");
+    }
+    Ok(())
+}

@@ -100,7 +100,8 @@ impl Exchange {
         self.pipe.turns()
     }
 
-    pub(crate) fn is_closed(&self) -> bool
+    /// Whether a fault closed it. Until it is renewed, every call but `refuse` then answers `Closed`.
+    pub fn is_closed(&self) -> bool
         ensures { IsTrue result ↔ (self.now.stage ≡ Stage.Failed) }
     {
         matches!(self.stage, Stage::Failed)

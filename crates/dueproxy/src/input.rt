@@ -1,12 +1,15 @@
 //! What `draw` and `explain` look at: a script, which is replayed first, or a trace.
 
+use binom_queue::BinomQueue;
 use dispatch_log::Queue;
-use replay::{Fault, replay};
+use due_key::Key;
+use proxy_words::{Lines, Words};
+use replay::{Fault, Replayed, replay, replay_events, reports_of};
 use script::{Names, ScriptError};
 use std::alloc::Global;
 use std::io::Read;
 use thiserror::Error;
-use trace_lines::{Cause, MOST_BYTES, Trace, TraceError, is_trace, read_trace};
+use trace_lines::{Cause, MOST_BYTES, Trace, TraceError, is_trace, read_trace, trace_of_window};
 
 /// How many bytes are read at once.
 const PIECE: usize = 65_536;
@@ -32,9 +35,39 @@ pub(crate) fn read_input<R: Read>(alloc: Global, reader: &mut R) -> Result<Trace
     if is_trace(&bytes) {
         return read_lines(alloc, Vec::new(alloc), &bytes);
     }
+    if !has_roll(&bytes) {
+        return window_of(alloc, &bytes);
+    }
     let names = names_in(alloc, &bytes)?;
     let trace = replayed(alloc, &bytes)?;
     read_lines(alloc, names, &trace)
+}
+
+// Whether a script begins a second window: its dispatcher then keeps the entries of the last one alone.
+fn has_roll(script: &[u8]) -> bool {
+    for line in Lines::new(script) {
+        if let Some(b"roll") = Words::new(line).next() {
+            return true;
+        }
+    }
+    false
+}
+
+// The one window of a script, as its dispatcher has it.
+fn window_of(alloc: Global, script: &[u8]) -> Result<Trace, InputFault> {
+    let Replayed { core, names, .. } = match replay_events::<BinomQueue<Key, usize>>(
+        alloc, script,
+    ) {
+        Ok(all) => all,
+        Err(fault) => return Err(fault_of(fault)),
+    };
+    let Ok(reports) = reports_of(alloc, &core) else {
+        return Err(InputFault::NoMemory);
+    };
+    match trace_of_window(alloc, names, core.log().entries(), reports.as_slice()) {
+        Ok(trace) => Ok(trace),
+        Err(_) => Err(InputFault::NoMemory),
+    }
 }
 
 // One byte more than a trace may have is enough to tell that there are too many.
@@ -93,9 +126,15 @@ fn replayed(alloc: Global, bytes: &[u8]) -> Result<Vec<u8>, InputFault> {
     let mut trace = Vec::new(alloc);
     match replay(alloc, &mut rest, &mut trace) {
         Ok(()) => Ok(trace),
-        Err(Fault::Script { line }) => Err(InputFault::Script { line }),
+        Err(fault) => Err(fault_of(fault)),
+    }
+}
+
+fn fault_of(fault: Fault) -> InputFault {
+    match fault {
+        Fault::Script { line } => InputFault::Script { line },
         // a list of bytes gives all that it has, and takes all that there is memory for
-        Err(Fault::NoMemory | Fault::Read | Fault::Write) => Err(InputFault::NoMemory),
+        Fault::NoMemory | Fault::Read | Fault::Write => InputFault::NoMemory,
     }
 }
 

@@ -8,6 +8,8 @@ use trace_lines::Cause;
 
 const SCRIPT: &str = "0 arrive 0 0\n1 arrive 0 0\n2 arrive 0 -5\n10 done 1\n20 done 3\n";
 
+const ROLLED: &str = "0 arrive 0 0\n1 arrive 0 0\nroll\n10 done 1\n20 done 2\n";
+
 fn drawn(alloc: Global, input: &str, only: &Option<Only>) -> Result<Vec<u8>, DrawFault> {
     let mut rest = input.as_bytes();
     let mut picture = Vec::new(alloc);
@@ -17,15 +19,17 @@ fn drawn(alloc: Global, input: &str, only: &Option<Only>) -> Result<Vec<u8>, Dra
 
 #[test]
 fn a_script_and_its_trace_have_one_picture(rt: HostRuntime) -> Result<(), Fail> {
-    let of_script = drawn(rt.alloc(), SCRIPT, &None)?;
-    let mut rest = SCRIPT.as_bytes();
-    let mut trace = Vec::new(rt.alloc());
-    replay::replay(rt.alloc(), &mut rest, &mut trace)?;
-    let trace = std::str::from_utf8(&trace)?;
-    assert_eq!(rt;
-        of_script.as_slice(),
-        drawn(rt.alloc(), trace, &None)?.as_slice()
-    );
+    for script in [SCRIPT, ROLLED] {
+        let of_script = drawn(rt.alloc(), script, &None)?;
+        let mut rest = script.as_bytes();
+        let mut trace = Vec::new(rt.alloc());
+        replay::replay(rt.alloc(), &mut rest, &mut trace)?;
+        let trace = std::str::from_utf8(&trace)?;
+        assert_eq!(rt;
+            of_script.as_slice(),
+            drawn(rt.alloc(), trace, &None)?.as_slice()
+        );
+    }
     Ok(())
 }
 

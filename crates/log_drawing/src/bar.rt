@@ -41,7 +41,7 @@ pub(crate) fn bars_of(
     course: &Course,
     palette: &Palette,
 ) -> Result<Vec<Bar>, AllocError> {
-    let mut bars = Vec::new(alloc);
+    let mut bars = Vec::with_capacity(alloc, course.stretches().len())?;
     for stretch in course.stretches() {
         if is_asked_for(subject, course, stretch) {
             bars.push(bar_of(course, palette, *stretch))?;

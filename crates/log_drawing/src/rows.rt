@@ -41,9 +41,12 @@ pub(crate) fn lay_rows(
 // The position up to which a bar takes its row.
 fn end_of(course: &Course, bar: &Bar, few: bool) -> usize {
     let end = bar.stretch.to.unwrap_or(usize::MAX);
+    if !few {
+        return end;
+    }
     match bar.early_due(course) {
-        Some(due) if few => end.max(position_after(course, due)),
-        _ => end,
+        Some(due) => end.max(position_after(course, due)),
+        None => end,
     }
 }
 

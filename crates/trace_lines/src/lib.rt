@@ -10,12 +10,14 @@ mod report;
 mod servers;
 mod timed;
 mod trace;
+mod window;
 
 pub use fault::{Cause, TraceError};
 pub use kind::is_trace;
 pub use reader::{MOST_BYTES, read_trace};
 pub use report::ReportLine;
 pub use trace::Trace;
+pub use window::trace_of_window;
 
 #[cfg(test)]
 mod tests;

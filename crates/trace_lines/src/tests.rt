@@ -1,5 +1,9 @@
-use crate::{Cause, TraceError, is_trace, read_trace};
-use script::push_entries;
+use crate::{Cause, TraceError, is_trace, read_trace, trace_of_window};
+use dispatch_log::{Entry, Queue};
+use due_key::{Class, Due, Moment, Offset};
+use late_cert::{Report, Stays};
+use readable_log::Stay;
+use script::{Names, push_entries};
 use std::test::Fail;
 
 const OVERTAKING: &str = "0 arrive 1 0 0
@@ -47,5 +51,32 @@ fn a_script_is_no_trace(rt: HostRuntime) -> Result<(), Fail> {
             })
         )
     );
+    Ok(())
+}
+
+#[test]
+fn a_window_is_told_as_it_is(rt: HostRuntime) -> Result<(), Fail> {
+    let alloc = rt.alloc();
+    let due = Due::of(Moment::zero(), Offset::clamp(0));
+    let stay = Stay {
+        ticket: 7,
+        joined: 2,
+        slot: 3,
+        due,
+    };
+    let report = Report {
+        queue: Queue::Backend,
+        class: Class::clamp(0),
+        granted: 1,
+        worst: 0,
+        due,
+        after: 0,
+        to: 3,
+        critical: Stays::copied(alloc, &[stay])?,
+    };
+    let entries = [Entry::Tick(Moment::zero())];
+    let told = trace_of_window(alloc, Names::new(Vec::new(alloc)), &entries, &[report])?;
+    assert_eq!(rt; told.entries.as_slice(), entries.as_slice());
+    assert_eq!(rt; told.reports[0].critical.as_slice(), [7].as_slice());
     Ok(())
 }

@@ -1,0 +1,50 @@
+-- What is told of the reports of a log's first window.
+use Rattle.std.specs.Prelude.{ℕ, ℤ, List, map}
+use Rattle.dispatch_log.specs.declared.queue.Queue.{Queue}
+use Rattle.late_cert.specs.declared.report.Report.{Report}
+use Rattle.readable_log.specs.declared.grant.Stay.{Stay}
+use Rattle.trace_lines.specs.declared.report.ReportLine.{ReportLine}
+
+-- what is told of a report; of its critical stays the tickets, in order
+pub record Told : Type 0 where
+  pub before : ℕ
+  pub queue : Queue
+  pub class : ℤ
+  pub granted : ℕ
+  pub worst : ℤ
+  pub due : ℤ
+  pub after : ℕ
+  pub to : ℕ
+  pub critical : List ℕ
+
+abbrev pub ticket_of : Stay → ℕ
+ticket_of stay = stay.ticket
+
+-- before the first window no entry stands
+abbrev pub told_of : Report → Told
+told_of report =
+    record {
+      before = 0;
+      queue = report.queue;
+      class = report.class;
+      granted = report.granted;
+      worst = report.worst;
+      due = report.due;
+      after = report.after;
+      to = report.to;
+      critical = map ticket_of report.critical;
+    }
+
+abbrev pub told_by : ReportLine → Told
+told_by line =
+    record {
+      before = line.before;
+      queue = line.queue;
+      class = line.class;
+      granted = line.granted;
+      worst = line.worst;
+      due = line.due;
+      after = line.after;
+      to = line.to;
+      critical = line.critical.items;
+    }

@@ -16,3 +16,6 @@ pub use laws::a_script_has_one_trace;
 pub use reports::reports_of;
 pub use streams::{replay, replay_between};
 pub use transfers::MOST_READS;
+
+#[cfg(test)]
+mod tests;

@@ -1,5 +1,5 @@
 use super::trace_of;
-use replay::{Fault, replay};
+use crate::{Fault, replay};
 use script::MOST_BYTES;
 use std::alloc::Global;
 use std::io;

@@ -8,7 +8,7 @@ mod waiting;
 mod windows;
 mod worked;
 
-use replay::{Fault, replay, streams};
+use crate::{Fault, replay, streams};
 use due_key::Key;
 use pend_queue::ListQueue;
 use std::alloc::Global;

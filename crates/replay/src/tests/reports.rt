@@ -1,4 +1,4 @@
-use replay::reports_of;
+use crate::reports_of;
 use dispatch_core::{Core, ServerSet, Servers, Setup};
 use due_key::{Class, Key, Moment, Offset};
 use pend_queue::ListQueue;

@@ -1,5 +1,5 @@
 use super::trace_of;
-use replay::Fault;
+use crate::Fault;
 use std::alloc::Global;
 use std::process::Abort;
 use std::test::Fail;

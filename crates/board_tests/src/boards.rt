@@ -1,7 +1,7 @@
 ghost use Rattle.std.specs.Prelude.{◌≡◌, ◌<◌};
 
-use grant_board::*;
 use grant_board::laws::{Word, decode, decode_encode, encode};
+use grant_board::*;
 use std::marker::Brand;
 use std::test::*;
 use verdict::{Cause, Ending, Verdict};

@@ -1,7 +1,7 @@
 ghost use Rattle.std.specs.Prelude.{◌≡◌, ◌<◌, ◌≤◌, [], IfOk};
 
-use pass_seat::*;
 use grant_board::{Board, BoardName, RelaySeat, Return};
+use pass_seat::*;
 use std::alloc::Global;
 use std::collections::VecDeque;
 use std::marker::Brand;

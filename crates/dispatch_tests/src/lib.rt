@@ -2,7 +2,7 @@
 #![tactic(auto)]
 
 #[cfg(test)]
-mod core;
+mod dispatcher;
 #[cfg(test)]
 mod ledger;
 #[cfg(test)]

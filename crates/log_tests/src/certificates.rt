@@ -1,8 +1,8 @@
 ghost use Rattle.std.specs.Prelude.{◌≡◌, IfOk, length};
 
-use late_cert::{Report, Reports, Stays, audit, certify};
 use dispatch_log::{Arrival, Entry, Phase, Queue, Row, ServerSet, Servers, Setup};
 use due_key::{Class, Due, Key, Moment, Offset};
+use late_cert::{Report, Reports, Stays, audit, certify};
 use readable_log::{Base, Log, SlotGrant, Stay};
 use std::alloc::{AllocError, Global};
 use std::test::Fail;

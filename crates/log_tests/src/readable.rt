@@ -1,10 +1,10 @@
 ghost use Rattle.std.specs.Prelude.{◌≡◌, ◌<◌, IfOk, None, length, replicate};
 ghost use Rattle.dispatch_log.specs.Setups.{IsSound};
 
-use readable_log::{Base, BaseRow, Log, SlotGrant, Stay, Unreadable};
 use check_state::Health;
 use dispatch_log::{Allowance, Arrival, Entry, Phase, Queue, Row, ServerSet, Servers, Setup};
 use due_key::{Class, Due, Key, Moment, Offset};
+use readable_log::{Base, BaseRow, Log, SlotGrant, Stay, Unreadable};
 use std::alloc::Global;
 use std::test::Fail;
 

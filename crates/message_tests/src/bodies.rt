@@ -1,5 +1,5 @@
-use relay_body::{Fault, Framing, INBOX_BYTES, Pipe, SIZE_LINE_BYTES, TRAILER_BYTES};
 use counted_io::Counted;
+use relay_body::{Fault, Framing, INBOX_BYTES, Pipe, SIZE_LINE_BYTES, TRAILER_BYTES};
 use std::alloc::{AllocError, Global};
 use std::io;
 use std::io::{Read, Write};

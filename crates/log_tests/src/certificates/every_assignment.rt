@@ -1,9 +1,9 @@
 //! Reports compared with a plain program that tries every assignment.
 
 use super::{moment, opening};
-use late_cert::{Report, audit, certify};
 use dispatch_log::{Arrival, Entry, Queue};
 use due_key::{Class, Due, Key, Offset};
+use late_cert::{Report, audit, certify};
 use readable_log::{Log, SlotGrant};
 use std::alloc::{AllocError, Global};
 use std::test::Fail;

@@ -1,6 +1,6 @@
-use late_cert::Running;
 use dispatch_log::Queue;
 use due_key::Class;
+use late_cert::Running;
 use std::test::Fail;
 
 #[test]

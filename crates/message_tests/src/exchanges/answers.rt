@@ -1,5 +1,5 @@
-use relay_http::Fault;
 use crate::exchanges::streams::{GET, OLD_GET, Row, answered};
+use relay_http::Fault;
 use std::test::Fail;
 
 const HEAD: &[u8] = b"HEAD / HTTP/1.1\r\nHost: h\r\n\r\n";

@@ -1,5 +1,5 @@
-use relay_http::Fault;
 use crate::exchanges::streams::{Row, forwarded};
+use relay_http::Fault;
 use std::test::Fail;
 
 // first lines (RFC 9112, sections 2.2 and 3)

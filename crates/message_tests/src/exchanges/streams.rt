@@ -1,7 +1,7 @@
 ghost use Rattle.relay_http.specs.States.{IsAt, Serves};
 
-use relay_http::{Exchange, Fault, Stage};
 use grant_board::{Board, Pass, Taking};
+use relay_http::{Exchange, Fault, Stage};
 use req_view::View;
 use std::alloc::{AllocError, Global};
 use std::io;

@@ -1,7 +1,7 @@
 use crate::wholes::relays::{GET, Row, TURNS, answered};
-use whole_messages::{Progress, refusal};
 use relay_http::{Code, Exchange, Fault};
 use std::test::Fail;
+use whole_messages::{Progress, refusal};
 
 const HEAD: &[u8] = b"HEAD / HTTP/1.1\r\nHost: h\r\n\r\n";
 

@@ -1,13 +1,13 @@
 ghost use Rattle.std.specs.Prelude.{◌≤◌, length};
 ghost use Rattle.relay_http.specs.States.{Serves};
 
-use whole_messages::{Arrived, HandedOn, Progress, answer_whole, forward_whole, read_head};
 use grant_board::{Board, Pass, Taking};
 use relay_body::INBOX_BYTES;
 use relay_http::{Aside, Exchange, Fault};
 use std::alloc::{AllocError, Global};
 use std::test::Fail;
 use verdict::{Ending, Verdict};
+use whole_messages::{Arrived, HandedOn, Progress, answer_whole, forward_whole, read_head};
 
 /// What a message is, its bytes, and what becomes of it.
 pub(crate) type Row = (&'static str, &'static [u8], Progress<&'static [u8]>);

@@ -1,7 +1,7 @@
 use crate::wholes::relays::{GET, Row, TURNS, forwarded};
-use whole_messages::{Progress, read_head};
 use relay_http::{Exchange, Fault, Stage};
 use std::test::Fail;
+use whole_messages::{Progress, read_head};
 
 // a request by length, its head 73 bytes
 const POST: &[u8] =

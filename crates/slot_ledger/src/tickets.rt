@@ -1,4 +1,4 @@
-ghost use Rattle.std.specs.Prelude.{◌≡◌, ℕ, ◌<◌, ◌≤◌, [], ◌∷◌, ◌++◌, true, IfOk, All, Contains, MatchOption, filter, length, vec_len, vec_capacity};
+ghost use Rattle.std.specs.Prelude.{◌≡◌, ℕ, ◌<◌, ◌≤◌, [], ◌∷◌, ◌++◌, true, IfOk, All, Contains, MatchOption, IfSome, filter, length, vec_len, vec_capacity};
 ghost use Rattle.slot_ledger.specs.Tickets.{AreStretches, HasTicketAmong, IsAboveLast, IsAbsent, IsInStretches, IsRising, IsWithin, SweepsOneOn, Removes, has_place, pairs_in, stretches};
 
 use std::alloc::{AllocError, Global};
@@ -157,6 +157,9 @@ fn position(entries: &[TicketPlace], kept: usize, next: usize, ticket: u64) -> O
     requires { AreStretches kept next entries.now }
     ensures { MatchOption result (IsAbsent ticket (pairs_in (stretches kept next entries.now))) (λ at. IsInStretches ticket kept next entries.now at) }
 {
+    if let Some(ahead) = guess(&entries[next..], ticket) {
+        return Some(next + ahead);
+    }
     if let Some(at) = search(&entries[..kept], ticket) {
         return Some(at);
     }
@@ -169,7 +172,22 @@ fn search(entries: &[TicketPlace], ticket: u64) -> Option<usize>
     requires { IsRising entries.now }
     ensures { MatchOption result (IsAbsent ticket (pairs_in entries.now)) (λ at. HasTicketAmong ticket entries.now at) }
 {
+    if let Some(at) = guess(entries, ticket) {
+        return Some(at);
+    }
     entries
         .binary_search_by_key(&ticket, |entry| entry.ticket)
         .ok()
+}
+
+// The same at once where no ticket is missing from the first to it, as where requests end in the order in which they came.
+fn guess(entries: &[TicketPlace], ticket: u64) -> Option<usize>
+    ensures { IfSome result (λ at. HasTicketAmong ticket entries.now at) }
+{
+    let at = ticket.checked_sub(entries.first()?.ticket)? as usize;
+    if entries.get(at)?.ticket == ticket {
+        Some(at)
+    } else {
+        None
+    }
 }

@@ -328,9 +328,10 @@ impl<Q: PendQueue<Key, usize>, N: BoardName> Book<Q, N> {
             if !room {
                 return Err(Refusal::LogFull);
             }
-            if self.take_at(board, moment, place, woken).is_some() {
-                room = self.core.has_room();
-            }
+            room = match self.take_at(board, moment, place, woken) {
+                Some(_) => self.core.has_room(),
+                None => room,
+            };
         }
         Ok(())
     }

@@ -1,14 +1,12 @@
-use Rattle.std.proofs.Common.{◌≡◌, ◌↔◌, ℕ, ◌+◌, ◌*◌, ◌/◌, ◌<◌, IsTrue, Option, None, Some, IfNone, is_some, false, ap, sym, ◌∙◌, subst}
-use mathlib.Core.Bool.{true≢false}
-use Rattle.grant_board.specs.Views.{KeeperView, Terms, count_at}
-use Rattle.grant_board.specs.KeeperCalls.{FindsUnposted}
+use Rattle.std.proofs.Common.{◌≡◌, ◌↔◌, ◌+◌, ◌*◌, ◌/◌, ◌<◌, IsTrue, sym, subst}
+use Rattle.grant_board.specs.Views.{Terms, count_at}
 use Rattle.place_set.specs.Sets.{HasAhead}
 use Rattle.dispatch_trace.specs.Histories.{HasEntryRoom}
 use Rattle.outstanding.specs.Calls.{Booked}
 use Rattle.outstanding.proofs.Turns.{visit_of}
-use Rattle.locked_book.proofs.Walking.{IsWalking, walking_begins, walking_goes, walking_ends}
-use Rattle.locked_book.proofs.book.Book.turn_block.Given as given
+use Rattle.locked_book.proofs.Walking.{walking_begins, walking_goes, walking_ends}
 use Rattle.locked_book.proofs.book.Book.turn_block.Goals as goal
+use Rattle.locked_book.proofs.book.Book.turn_block.Goals.{in-Some-take_at, in-None}
 
 pub loop-place-init : goal.loop-place-init
 loop-place-init g c = (
@@ -19,8 +17,8 @@ loop-place-init g c = (
   subst (λ (b : Booked). IsTrue c.has_room-room.result ↔ HasEntryRoom b.history) c.self.view_is c.has_room-room.ensures,
 )
 
-pub loop-place-preserved-then-is_some : goal.loop-place-preserved-then-is_some
-loop-place-preserved-then-is_some g c =
+pub loop-place-preserved : goal.loop-place-preserved
+loop-place-preserved g c =
     let is = c.loop-place.invariant.0 in
     let at = c.in-Some.ensures.some in (
       walking_goes c.args.moment (64 * c.args.number) (64 * c.args.number + 64) g.N.BoardName.terms.places c.args.self.now c.args.woken.now
@@ -28,28 +26,14 @@ loop-place-preserved-then-is_some g c =
           at c.in-Some.ensures.later
           (visit_of c.args.moment c.in-Some.place c.loop-place.self c.loop-place.woken c.take_at.new.self c.take_at.new.woken c.take_at.result
           (is.out c.in-Some.place at.there) c.take_at.ensures.some c.take_at.ensures.none),
-      subst (λ (b : Booked). IsTrue c.has_room-room-then-is_some.result ↔ HasEntryRoom b.history) c.self-in-Some.view_is
-          c.has_room-room-then-is_some.ensures,
-    )
-
--- nothing was found
-if_not_some : {A : Type 0} (found : Option A) (P : Type 0) → is_some found ≡ false → IfNone found P → P
-if_not_some None P none p = p
-if_not_some (Some it) P none p = absurd (true≢false none)
-
-pub loop-place-preserved : goal.loop-place-preserved
-loop-place-preserved g c =
-    let is = c.loop-place.invariant.0 in
-    let at = c.in-Some.ensures.some in
-    let none = if_not_some c.take_at.result
-    ((c.take_at.new.self.history ≡ c.loop-place.self.history) × FindsUnposted c.loop-place.self.view c.take_at.new.self.view c.in-Some.place
-    × (c.take_at.new.woken ≡ c.loop-place.woken)) (sym c.is_some.ensures ∙ c.if-is_some.false) c.take_at.ensures.none in (
-      walking_goes c.args.moment (64 * c.args.number) (64 * c.args.number + 64) g.N.BoardName.terms.places c.args.self.now c.args.woken.now
-          c.loop-place.self c.loop-place.woken c.loop-place.ahead is c.in-Some.place c.take_first.new.self c.take_at.new.self c.take_at.new.woken
-          at c.in-Some.ensures.later
-          (visit_of c.args.moment c.in-Some.place c.loop-place.self c.loop-place.woken c.take_at.new.self c.take_at.new.woken c.take_at.result
-          (is.out c.in-Some.place at.there) c.take_at.ensures.some c.take_at.ensures.none),
-      subst (λ h. IsTrue c.loop-place.room ↔ HasEntryRoom h) (sym none.0) c.loop-place.invariant.1,
+      elim c.match-take_at.branch [
+        | in-Some-take_at w ↦ subst (λ room. IsTrue room ↔ HasEntryRoom c.take_at.new.self.history) (sym w.room-is)
+            (subst (λ (b : Booked). IsTrue w.has_room-room-in-Some-take_at.result ↔ HasEntryRoom b.history) c.self-in-Some.view_is
+            w.has_room-room-in-Some-take_at.ensures)
+        | in-None w ↦ let none = w.in-None.ensures.none in
+            subst (λ room. IsTrue room ↔ HasEntryRoom c.take_at.new.self.history) (sym w.room-is)
+            (subst (λ h. IsTrue c.loop-place.room ↔ HasEntryRoom h) (sym none.0) c.loop-place.invariant.1)
+      ],
     )
 
 pub returns-clause-ok : goal.returns-clause-ok

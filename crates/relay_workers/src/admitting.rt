@@ -81,9 +81,11 @@ pub fn arrive<R: Wait, N: BoardName, G: Gate>(
     };
     let moment = gate.moment();
     proxy.with_room(rt, gate, || {
-        proxy
+        let mut woken = PlaceSet::new();
+        let arrived = proxy
             .desk
-            .arrive(rt, proxy.alloc, moment, wanted, &mut PlaceSet::new())
+            .arrive(rt, proxy.alloc, moment, wanted, &mut woken);
+        (arrived, woken)
     })
 }
 

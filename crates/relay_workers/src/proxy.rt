@@ -1,3 +1,5 @@
+ghost use Rattle.std.specs.Prelude.{◌<◌, ℕ, List};
+
 use crate::gate::{Gate, Pause};
 use dispatch_log::Refusal;
 use grant_board::BoardName;
@@ -31,11 +33,23 @@ pub struct Hand<G: Gate + Drop, P: Pause + Drop> {
 }
 
 impl<N: BoardName> Proxy<N> {
-    // A turn of the desk. One that is refused is as one that found nothing.
-    pub(crate) fn turn<R: Wait, G: Gate>(&self, rt: &R, gate: &mut G) {
+    /// A turn of the desk: it looks at each place that is out. One that is refused is as one that found nothing.
+    pub fn turn<R: Wait, G: Gate>(&self, rt: &R, gate: &mut G) {
         let moment = gate.moment();
         let _ = self.with_room(rt, gate, || {
-            self.desk.turn(rt, moment, &mut PlaceSet::new())
+            let mut woken = PlaceSet::new();
+            (self.desk.turn(rt, moment, &mut woken), woken)
+        });
+    }
+
+    /// What was posted at one place is taken, without a look at any other. Where it is refused it stays on the board, for a turn.
+    pub fn collect<R: Wait, G: Gate>(&self, rt: &R, gate: &mut G, place: usize)
+        requires in_range { place < N.terms.places }
+    {
+        let moment = gate.moment();
+        let _ = self.with_room(rt, gate, || {
+            let mut woken = PlaceSet::new();
+            (self.desk.collect_at(rt, moment, place, &mut woken), woken)
         });
     }
 
@@ -49,31 +63,34 @@ impl<N: BoardName> Proxy<N> {
     ) {
         let moment = gate.moment();
         let _ = self.with_room(rt, gate, || {
-            self.desk
-                .check(rt, moment, server, ok, &mut PlaceSet::new())
+            let mut woken = PlaceSet::new();
+            (self.desk.check(rt, moment, server, ok, &mut woken), woken)
         });
     }
 
-    // A request that waits is given up. Where that is refused, it has its verdict.
-    pub(crate) fn give_up<R: Wait, G: Gate>(&self, rt: &R, gate: &mut G, ticket: u64) {
+    /// A request that waits is given up. Where that is refused, it has its verdict.
+    pub fn give_up<R: Wait, G: Gate>(&self, rt: &R, gate: &mut G, ticket: u64) {
         let moment = gate.moment();
         let _ = self.with_room(rt, gate, || {
-            self.desk.abort(rt, moment, ticket, &mut PlaceSet::new())
+            let mut woken = PlaceSet::new();
+            (self.desk.abort(rt, moment, ticket, &mut woken), woken)
         });
     }
 
-    // A call of the desk. Where the log is full the next window begins, the gate has the one that ended, and the call is made once more; where there is no
-    // memory for that, it stays refused.
-    pub(crate) fn with_room<R: Wait, G: Gate, T, F: Fn() -> Result<T, Refusal>>(
+    // A call of the desk, and the gate is told at which places it offered. Where the log is full the next window begins, the gate has the one that ended, and
+    // the call is made once more; where there is no memory for that, it stays refused.
+    pub(crate) fn with_room<R: Wait, G: Gate, T, F: Fn() -> (Result<T, Refusal>, PlaceSet)>(
         &self,
         rt: &R,
         gate: &mut G,
         call: F,
     ) -> Result<T, Refusal>
         requires { F.IsAlwaysCallable call }
-        ensures { F.post call result }
+        ensures { (woken : List ℕ) × F.post call (result, woken) }
     {
-        match call() {
+        let (answer, woken) = call();
+        gate.wake(&woken);
+        match answer {
             Err(Refusal::LogFull) => {}
             answer => return answer,
         }
@@ -82,6 +99,8 @@ impl<N: BoardName> Proxy<N> {
             Ok(None) => {}
             Err(_) => return Err(Refusal::LogFull),
         }
-        call()
+        let (answer, woken) = call();
+        gate.wake(&woken);
+        answer
     }
 }

@@ -168,6 +168,8 @@ impl<'a> Gate for Fake<'a> {
     fn window(&mut self, _window: Window) {
         self.seen.windows.fetch_add(1, Ordering::SeqCst);
     }
+
+    fn wake(&mut self, _places: &PlaceSet) {}
 }
 
 impl<'a> Fake<'a> {

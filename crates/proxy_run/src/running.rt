@@ -6,7 +6,7 @@ ghost use Rattle.proxy_run.specs.Parts.{AreNew};
 ghost use Rattle.outstanding.specs.Books.{terms_of};
 ghost use Rattle.dispatch_log.specs.declared.setup.Setup.{Setup};
 
-use crate::crew::{Sizes, checks_of, crew_of, front_of};
+use crate::crew::{Sizes, front_of};
 use crate::fault::{RunFault, ServeFault};
 use crate::opening::{announce, open};
 use crate::parts::{Parts, parts_of};
@@ -14,13 +14,16 @@ use crate::telling::tell_all;
 use grant_board::{BoardName, RelaySeat};
 use grant_desk::Desk;
 use proxy_config::{Config, ReadError, read};
-use relay_workers::{Proxy, serve};
+use relay_workers::Proxy;
 use socket_gate::Front;
 use std::marker::Brand;
 use std::net::{Net, TcpListener, TcpStream};
 use std::sync::Wait;
 use std::thread::Threads;
 use std::time::Clock;
+
+/// So many loops.
+const LOOPS: usize = 4;
 
 /// Serves as a configuration says, and prints what came of it. It ends once so many clients were served, where they are counted.
 pub fn run<
@@ -114,7 +117,7 @@ fn serve_on<
         config,
     };
     let front = front_of(alloc, rt, &proxy.config, listener, sizes.requests)?;
-    let ended = serve_clients(rt, &proxy, &front, relay, sizes.workers);
+    let ended = serve_clients(rt, &proxy, &front, relay, sizes);
     let Front { names, told, .. } = front;
     tell_all(rt, &proxy, &names, told.into_inner())?;
     ended
@@ -129,15 +132,18 @@ fn serve_clients<
     proxy: &Proxy<N>,
     front: &Front<'_>,
     relay: RelaySeat,
-    workers: usize,
+    sizes: Sizes,
 ) -> Result<(), ServeFault>
     requires named { (relay.board ≡ N.board) × (relay.view.terms ≡ N.terms) }
     requires first { relay.view.first ≡ true }
     requires idle { relay.view.passes ≡ [] }
 {
-    let crew = crew_of(proxy.alloc, rt, front, workers)?;
-    let checks = checks_of(proxy.alloc, rt, front)?;
-    let (_, served) = serve(rt, proxy, relay, crew, checks);
+    let loops = relay_loops::Sizes {
+        loops: LOOPS,
+        runners: sizes.workers,
+        places: sizes.places,
+    };
+    let (_, served) = relay_loops::serve(rt, proxy, front, relay, loops);
     served?;
     if front.clients.are_given_up() {
         Err(ServeFault::Read)

@@ -2,7 +2,7 @@
 
 use crate::jobs::Job;
 use crate::looping::Looper;
-use crate::parts::Underway;
+use crate::parts::{Granted, Underway};
 use crate::sockets::{Heard, hear, say};
 use grant_board::BoardName;
 use relay_body::INBOX_BYTES;
@@ -51,13 +51,9 @@ impl<
     }
 
     // The connection is lost before the request was taken whole.
-    fn lose(&mut self, underway: Underway<N>) {
-        let Underway {
-            held,
-            waiting,
-            sent,
-            ..
-        } = underway;
+    pub(crate) fn lose(&mut self, underway: Underway<N>) {
+        let sent = underway.sent;
+        let Granted { held, waiting } = underway.into_granted();
         match held.verdict() {
             Verdict::Serve(server) if !sent => self.fail(held, waiting, server),
             _ => self.end(held, waiting, Outcome::Refused(Code::BadGateway)),
@@ -96,6 +92,7 @@ impl<
                 }
             }
         }
+        self.keep(underway);
     }
 
     // Whether what came is a whole answer: then its text is there.
@@ -117,13 +114,13 @@ impl<
     }
 
     fn end_with(&mut self, underway: Underway<N>, outcome: Outcome) {
-        let Underway { held, waiting, .. } = underway;
+        let Granted { held, waiting } = underway.into_granted();
         self.end(held, waiting, outcome);
     }
 
     // The exchange is over and what it freed goes on; then its client is told, by one write.
     fn deliver(&mut self, underway: Underway<N>) {
-        let Underway { held, waiting, .. } = underway;
+        let Granted { held, waiting } = underway.into_granted();
         let place = held.place();
         let idle = held.post(self.hall.proxy.desk.board(), Ending::Done);
         self.settle(place, idle);

@@ -169,10 +169,10 @@ impl<
                 self.end(held, waiting, Outcome::Refused(Code::Unavailable));
             }
             Some(Job::Answer(underway)) => {
-                let Underway { held, waiting, .. } = underway;
+                let Granted { held, waiting } = underway.into_granted();
                 self.end(held, waiting, Outcome::Refused(Code::Unavailable));
             }
-            Some(Job::Deliver(..)) => self.hall.note_end(self.rt),
+            Some(Job::Deliver(_, _)) => self.hall.note_end(self.rt),
         }
     }
 }

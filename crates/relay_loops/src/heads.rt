@@ -124,7 +124,7 @@ impl<
     }
 
     // It is gone on with once more has come.
-    fn keep_reading(&mut self, reading: Reading) {
+    pub(crate) fn keep_reading(&mut self, reading: Reading) {
         let known = reading.key;
         match self.heads.insert(reading) {
             Err(refused) => self.tell(refused.value.client, Outcome::Refused(Code::Unavailable)),

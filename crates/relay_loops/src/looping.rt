@@ -82,17 +82,28 @@ impl<
         let mut looper = self;
         looper.run(poll, home);
         let Looper {
-            hall,
             rt,
+            hall,
+            registry: _,
+            gate: _,
+            exchange: _,
+            heads: _,
             exchanges,
-            ..
+            input: _,
+            request: _,
+            answer: _,
+            short: _,
+            looked: _,
         } = looper;
-        let Table { entries, .. } = exchanges;
+        let Table { entries, free: _ } = exchanges;
         let mut entries = entries;
         while let Some(entry) = entries.pop() {
-            if let Some(underway) = entry {
-                let Underway { held, .. } = underway;
-                hall.sit_down(rt, held.post(hall.proxy.desk.board(), Ending::Done));
+            match entry {
+                None => {}
+                Some(underway) => {
+                    let held = underway.into_granted().into_held();
+                    hall.sit_down(rt, held.post(hall.proxy.desk.board(), Ending::Done));
+                }
             }
         }
         entries.destroy_empty();

@@ -53,3 +53,33 @@ pub(crate) struct Underway<N: BoardName> {
     ghost serves: { Serves held.pass.verdict },
     ghost same_pass: { stage_of aside ≡ forwarded_on held.pass },
 }
+
+impl<N: BoardName> Underway<N> {
+    /// Lets go of all but the pass and the request.
+    pub(crate) fn into_granted(self) -> Granted<N>
+        ensures held { result.held ≡ self.held }
+        ensures waiting { result.waiting ≡ self.waiting }
+    {
+        let Underway {
+            held,
+            waiting,
+            server: _,
+            aside: _,
+            unsent: _,
+            sent: _,
+            got: _,
+            since: _,
+        } = self;
+        Granted { held, waiting }
+    }
+}
+
+impl<N: BoardName> Granted<N> {
+    /// Lets go of the request.
+    pub(crate) fn into_held(self) -> Held<N>
+        ensures { result ≡ self.held }
+    {
+        let Granted { held, waiting: _ } = self;
+        held
+    }
+}

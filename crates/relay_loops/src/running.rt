@@ -103,8 +103,9 @@ fn answer_job<
         server,
         aside,
         unsent,
+        sent: _,
         got,
-        ..
+        since: _,
     } = underway;
     let config = &hall.proxy.config;
     let mut server = waiting_stream(server, config.server_timeout);

@@ -7,14 +7,13 @@ use crate::hall::Hall;
 use crate::jobs::{Counter, Job, Jobs};
 use crate::looping::{LISTENER, Looper, WAKER};
 use crate::mail::Mailbox;
-use crate::parts::{Granted, Underway};
 use crate::running::run_jobs;
 use crate::table::Table;
 use due_key::Moment;
 use grant_board::{BoardName, RelaySeat};
 use mio::unix::SourceFd;
 use mio::{Interest, Poll, Token, Waker};
-use pass_seat::Idle;
+use pass_seat::{Held, Idle};
 use place_set::PlaceSet;
 use relay_body::INBOX_BYTES;
 use relay_http::Exchange;
@@ -172,9 +171,23 @@ fn serve_in<
         over: AtomicBool::new(false),
     };
     run_all(rt, &hall, polls, sizes.runners);
-    let Hall { idle, counter, .. } = hall;
+    let Hall {
+        proxy: _,
+        front: _,
+        spots: _,
+        idle,
+        counter,
+        mail: _,
+        ended: _,
+        over: _,
+    } = hall;
+    let Counter {
+        jobs,
+        bell: _,
+        closed: _,
+    } = counter;
     let mut idle = idle.into_inner();
-    let Jobs { queue, .. } = counter.jobs.into_inner();
+    let Jobs { queue, over: _ } = jobs.into_inner();
     post_rest(proxy, queue, &mut idle);
     (idle, Ok(()))
 }
@@ -183,14 +196,17 @@ fn serve_in<
 fn post_rest<N: BoardName>(proxy: &Proxy<N>, queue: VecDeque<Job<N>>, seats: &mut Vec<Idle<N>>) {
     let mut queue = queue;
     while let Some(job) = queue.pop_front() {
-        let held = match job {
-            Job::Finish(Granted { held, .. }) => held,
-            Job::Answer(Underway { held, .. }) => held,
-            Job::Deliver(..) => continue,
-        };
-        let _ = seats.push(held.post(proxy.desk.board(), Ending::Done));
+        match job {
+            Job::Finish(granted) => post(proxy, granted.into_held(), seats),
+            Job::Answer(underway) => post(proxy, underway.into_granted().into_held(), seats),
+            Job::Deliver(_, _) => {}
+        }
     }
     queue.destroy_empty();
+}
+
+fn post<N: BoardName>(proxy: &Proxy<N>, held: Held<N>, seats: &mut Vec<Idle<N>>) {
+    let _ = seats.push(held.post(proxy.desk.board(), Ending::Done));
 }
 
 // A scope with all threads in it.

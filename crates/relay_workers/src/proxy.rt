@@ -2,7 +2,7 @@ ghost use Rattle.std.specs.Prelude.{◌<◌, ℕ, List};
 
 use crate::gate::{Gate, Pause};
 use dispatch_log::Refusal;
-use grant_board::BoardName;
+use grant_board::{BoardName, Return};
 use grant_desk::Desk;
 use place_set::PlaceSet;
 use proxy_config::Config;
@@ -47,10 +47,16 @@ impl<N: BoardName> Proxy<N> {
         requires in_range { place < N.terms.places }
     {
         let moment = gate.moment();
-        let _ = self.with_room(rt, gate, || {
-            let mut woken = PlaceSet::new();
-            (self.desk.collect_at(rt, moment, place, &mut woken), woken)
-        });
+        let _ = self.with_room(
+            rt,
+            gate,
+            || -> (Result<Option<Return>, Refusal>, PlaceSet)
+                requires { place < N.terms.places }
+            {
+                let mut woken = PlaceSet::new();
+                (self.desk.collect_at(rt, moment, place, &mut woken), woken)
+            },
+        );
     }
 
     // A check of a server is over. A result that the dispatcher refuses is dropped.

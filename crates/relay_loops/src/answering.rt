@@ -11,7 +11,7 @@ use relay_workers::{Gate, Outcome};
 use std::net::{Net, TcpListener, TcpStream};
 use std::sync::Wait;
 use std::time::Clock;
-use verdict::{Ending, Verdict};
+use verdict::Ending;
 use whole_messages::{Arrived, HandedOn, Progress, answer_whole};
 
 impl<
@@ -22,6 +22,8 @@ impl<
     /// The poll told of a server's connection.
     pub(crate) fn hear_server(&mut self, key: usize) {
         if let Some(underway) = self.exchanges.take(key) {
+            let mut underway = underway;
+            underway.key = Some(key);
             if underway.unsent.is_empty() {
                 self.read_answer(underway);
             } else {
@@ -52,11 +54,12 @@ impl<
 
     // The connection is lost before the request was taken whole.
     pub(crate) fn lose(&mut self, underway: Underway<N>) {
-        let sent = underway.sent;
+        let (sent, server) = (underway.sent, underway.number);
         let Granted { held, waiting } = underway.into_granted();
-        match held.verdict() {
-            Verdict::Serve(server) if !sent => self.fail(held, waiting, server),
-            _ => self.end(held, waiting, Outcome::Refused(Code::BadGateway)),
+        if sent {
+            self.end(held, waiting, Outcome::Refused(Code::BadGateway));
+        } else {
+            self.fail(held, waiting, server);
         }
     }
 

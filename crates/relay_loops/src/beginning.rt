@@ -87,12 +87,14 @@ impl<
         self.keep(Underway {
             held,
             waiting,
+            number: server,
             server: stream,
             aside,
             sent: count != 0,
             unsent,
             got: Vec::new(alloc),
             since,
+            key: None,
         });
     }
 
@@ -112,10 +114,11 @@ impl<
         } else {
             Interest::READABLE | Interest::WRITABLE
         };
+        let known = underway.key;
         let fd = underway.server.as_raw_fd();
         match self.exchanges.put(underway) {
             Ok(key) => {
-                if !self.register_exchange(fd, key, interest) {
+                if known != Some(key) && !self.register_exchange(fd, key, interest) {
                     if let Some(underway) = self.exchanges.take(key) {
                         self.hand_to_runner(Job::Answer(underway));
                     }

@@ -27,6 +27,8 @@ pub(crate) struct Hall<'a, N: BoardName> {
     /// So many clients came and went.
     pub(crate) ended: AtomicU64,
     pub(crate) over: AtomicBool,
+    /// It is over because memory was short, or a thread.
+    pub(crate) failed: AtomicBool,
     ghost sized: { vec_len spots ≤ N.terms.places },
 }
 
@@ -104,12 +106,23 @@ impl<N: BoardName> Hall<'_, N> {
         let before = self.ended.fetch_add(1, Ordering::SeqCst);
         let most = self.front.clients.most();
         if most != 0 && most <= before.saturating_add(1) {
-            self.over.store(true, Ordering::SeqCst);
-            self.counter.close(rt);
-            for mail in self.mail.as_slice() {
-                mail.ring();
-            }
+            self.close(rt);
         }
+    }
+
+    /// All is over: each thread is told.
+    pub(crate) fn close<R: Wait>(&self, rt: &R) {
+        self.over.store(true, Ordering::SeqCst);
+        self.counter.close(rt);
+        for mail in self.mail.as_slice() {
+            mail.ring();
+        }
+    }
+
+    /// The same, because there is no memory or no thread to be had.
+    pub(crate) fn give_up<R: Wait>(&self, rt: &R) {
+        self.failed.store(true, Ordering::SeqCst);
+        self.close(rt);
     }
 
     /// Each place is looked at by some loop.

@@ -69,7 +69,7 @@ impl<
             if self.hall.is_over() {
                 return;
             }
-            let wait = self.patience();
+            let wait = self.patience(home);
             let _ = poll.poll(&mut events, wait.map(Duration::from_millis));
             self.attend(&events);
             self.open_mail(home);

@@ -2,7 +2,8 @@
 
 ghost use Rattle.std.specs.Prelude.{◌≡◌, ◌≤◌, vec_len};
 ghost use Rattle.relay_http.specs.Asides.{stage_of};
-ghost use Rattle.relay_http.specs.States.{Serves, forwarded_on};
+ghost use Rattle.relay_http.specs.States.{forwarded_on};
+ghost use Rattle.verdict.specs.declared.Verdict.TheVariants.{Serve};
 
 use dispatch_trace::Ticketed;
 use due_key::Moment;
@@ -41,6 +42,8 @@ pub(crate) struct Granted<N: BoardName> {
 pub(crate) struct Underway<N: BoardName> {
     pub(crate) held: Held<N>,
     pub(crate) waiting: Waiting,
+    /// The server of its pass, and the connection to it.
+    pub(crate) number: usize,
     pub(crate) server: TcpStream,
     pub(crate) aside: Aside,
     /// What of its text the server didn't take yet, and whether it took any.
@@ -50,7 +53,9 @@ pub(crate) struct Underway<N: BoardName> {
     pub(crate) got: Vec<u8>,
     /// When something last went or came.
     pub(crate) since: Moment,
-    ghost serves: { Serves held.pass.verdict },
+    /// The key under which the poll knows it.
+    pub(crate) key: Option<usize>,
+    ghost serves: { held.pass.verdict ≡ Serve number },
     ghost same_pass: { stage_of aside ≡ forwarded_on held.pass },
 }
 
@@ -63,12 +68,14 @@ impl<N: BoardName> Underway<N> {
         let Underway {
             held,
             waiting,
+            number: _,
             server: _,
             aside: _,
             unsent: _,
             sent: _,
             got: _,
             since: _,
+            key: _,
         } = self;
         Granted { held, waiting }
     }

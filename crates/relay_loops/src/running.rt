@@ -100,12 +100,14 @@ fn answer_job<
     let Underway {
         held,
         waiting,
+        number: _,
         server,
         aside,
         unsent,
         sent: _,
         got,
         since: _,
+        key: _,
     } = underway;
     let config = &hall.proxy.config;
     let mut server = waiting_stream(server, config.server_timeout);

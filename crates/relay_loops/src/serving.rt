@@ -169,6 +169,7 @@ fn serve_in<
         mail,
         ended: AtomicU64::new(0),
         over: AtomicBool::new(false),
+        failed: AtomicBool::new(false),
     };
     run_all(rt, &hall, polls, sizes.runners);
     let Hall {
@@ -180,6 +181,7 @@ fn serve_in<
         mail: _,
         ended: _,
         over: _,
+        failed,
     } = hall;
     let Counter {
         jobs,
@@ -189,7 +191,11 @@ fn serve_in<
     let mut idle = idle.into_inner();
     let Jobs { queue, over: _ } = jobs.into_inner();
     post_rest(proxy, queue, &mut idle);
-    (idle, Ok(()))
+    if failed.load(Ordering::SeqCst) {
+        (idle, Err(Stopped::NoMemory))
+    } else {
+        (idle, Ok(()))
+    }
 }
 
 // What was still to be done at the end is over.
@@ -219,7 +225,10 @@ fn run_all<
     let told = &stop;
     thread::scope(thread::scope_env(), rt, move |scope| {
         for _ in 0..runners {
-            let _ = scope.spawn(move || run_runner(rt, shared.hall())).ok();
+            let started = scope.spawn(move || run_runner(rt, shared.hall())).ok();
+            if started.is_none() {
+                shared.hall().give_up(rt);
+            }
         }
         let checking = scope
             .spawn(move || run_checks(rt, shared.hall(), told))
@@ -227,15 +236,19 @@ fn run_all<
         let mut home = 0;
         for poll in polls {
             let number = home;
-            let _ = scope
+            let started = scope
                 .spawn(move || run_loop(rt, shared.hall(), poll, number))
                 .ok();
+            if started.is_none() {
+                shared.hall().give_up(rt);
+            }
             home += 1;
         }
         shared.hall().wait_for_end(rt);
         told.store(true, Ordering::SeqCst);
-        if let Some(handle) = checking {
-            handle.join(rt);
+        match checking {
+            Some(handle) => handle.join(rt),
+            None => shared.hall().give_up(rt),
         }
     })
 }
@@ -246,10 +259,10 @@ fn run_runner<
 >(rt: &R, hall: &Hall<'_, N>) {
     let alloc = hall.proxy.alloc;
     let Ok(gate) = SocketGate::new(alloc, rt, hall.front) else {
-        return;
+        return hall.give_up(rt);
     };
     let Ok(exchange) = Exchange::new(alloc, TURNS) else {
-        return;
+        return hall.give_up(rt);
     };
     run_jobs(rt, hall, Runner { gate, exchange });
 }
@@ -259,7 +272,7 @@ fn run_checks<
     N: BoardName,
 >(rt: &R, hall: &Hall<'_, N>, stop: &AtomicBool) {
     let Ok(gate) = SocketGate::new(hall.proxy.alloc, rt, hall.front) else {
-        return;
+        return hall.give_up(rt);
     };
     let mut gate = Ringing { rt, hall, gate };
     let mut pauses = Pauses::new(rt, CHECK_PAUSES);
@@ -272,16 +285,16 @@ fn run_loop<
 >(rt: &R, hall: &Hall<'_, N>, poll: Poll, home: usize) {
     let alloc = hall.proxy.alloc;
     let Ok(registry) = poll.registry().try_clone() else {
-        return;
+        return hall.give_up(rt);
     };
     let Ok(gate) = SocketGate::new(alloc, rt, hall.front) else {
-        return;
+        return hall.give_up(rt);
     };
     let Ok(exchange) = Exchange::new(alloc, TURNS) else {
-        return;
+        return hall.give_up(rt);
     };
     let Ok(input) = vec![in alloc; 0u8; INBOX_BYTES] else {
-        return;
+        return hall.give_up(rt);
     };
     let looper = Looper {
         rt,
@@ -298,6 +311,7 @@ fn run_loop<
         looked: Moment::zero(),
     };
     looper.run_to_end(poll, home);
+    hall.close(rt);
 }
 
 // What lends the hall to threads. Of a type parameter it is known by a bound alone that it may be shared, so that it is shown of `Hall` once.

@@ -1,4 +1,6 @@
-ghost use Rattle.std.specs.Prelude.{◌≡◌, ◌<◌, vec_len, IfErr, IfSome};
+ghost use Rattle.std.specs.Prelude.{◌≡◌, ◌==◌, vec_len, IfErr};
+
+use std::alloc::Global;
 
 /// Values by keys, without `Drop`: each is put by value and taken by value. A key that is free again is used again, the last one first.
 pub(crate) struct Table<T> {
@@ -7,7 +9,8 @@ pub(crate) struct Table<T> {
 }
 
 impl<T> Table<T> {
-    pub(crate) fn new(alloc: std::alloc::Global) -> Table<T> {
+    /// No value. It takes no memory before the first.
+    pub(crate) fn new(alloc: Global) -> Table<T> {
         Table {
             entries: Vec::new(alloc),
             free: Vec::new(alloc),
@@ -53,6 +56,13 @@ impl<T> Table<T> {
             Some(Some(value)) => Some(value),
             _ => None,
         }
+    }
+
+    /// Whether it has no value.
+    pub(crate) fn is_empty(&self) -> bool
+        ensures { result ≡ (vec_len self.now.entries == vec_len self.now.free) }
+    {
+        self.entries.len() == self.free.len()
     }
 
     /// So many keys were given so far: all are below.

@@ -16,12 +16,16 @@ impl<
     R: Net<Listener = TcpListener, Stream = TcpStream> + Clock + Print + Wait,
 > Looper<'a, N, R> {
     /// How many milliseconds may pass until the loop looks at its limits: an eighth of the least, and a second at most. None where there is nothing
-    /// to look at.
-    pub(crate) fn patience(&self) -> Option<u64> {
+    /// to look at. The first loop looks at the dispatcher's queues, too.
+    pub(crate) fn patience(&self, home: usize) -> Option<u64> {
         if self.short {
             return Some(SOON);
         }
         let config = &self.hall.proxy.config;
+        let has_queues = home == 0 && config.queue_timeout.is_some();
+        if self.heads.is_empty() && self.exchanges.is_empty() && !has_queues {
+            return None;
+        }
         let limits = [
             config.client_timeout,
             config.server_timeout,
@@ -40,7 +44,7 @@ impl<
 
     /// Looks at them once that time has passed.
     pub(crate) fn look_at_limits(&mut self, home: usize) {
-        let Some(patience) = self.patience() else {
+        let Some(patience) = self.patience(home) else {
             return;
         };
         let now = self.gate.moment();

@@ -1,4 +1,4 @@
-ghost use Rattle.std.specs.Prelude.{◌<◌, ℕ, List};
+ghost use Rattle.std.specs.Prelude.{◌<◌};
 
 use crate::gate::{Gate, Pause};
 use dispatch_log::Refusal;
@@ -85,28 +85,27 @@ impl<N: BoardName> Proxy<N> {
 
     // A call of the desk, and the gate is told at which places it offered. Where the log is full the next window begins, the gate has the one that ended, and
     // the call is made once more; where there is no memory for that, it stays refused.
-    pub(crate) fn with_room<R: Wait, G: Gate, T, F: Fn() -> (Result<T, Refusal>, PlaceSet)>(
+    pub(crate) fn with_room<R: Wait, G: Gate, T: Drop, F: Fn() -> (Result<T, Refusal>, PlaceSet)>(
         &self,
         rt: &R,
         gate: &mut G,
         call: F,
-    ) -> Result<T, Refusal>
+    ) -> (Result<T, Refusal>, PlaceSet)
         requires { F.IsAlwaysCallable call }
-        ensures { (woken : List ℕ) × F.post call (result, woken) }
+        ensures { F.post call result }
     {
-        let (answer, woken) = call();
-        gate.wake(&woken);
-        match answer {
-            Err(Refusal::LogFull) => {}
-            answer => return answer,
+        let told = call();
+        gate.wake(&told.1);
+        if !matches!(told.0, Err(Refusal::LogFull)) {
+            return told;
         }
         match self.desk.make_room(rt, self.alloc) {
             Ok(Some(window)) => gate.window(window),
             Ok(None) => {}
-            Err(_) => return Err(Refusal::LogFull),
+            Err(_) => return told,
         }
-        let (answer, woken) = call();
-        gate.wake(&woken);
-        answer
+        let told = call();
+        gate.wake(&told.1);
+        told
     }
 }

@@ -6,7 +6,7 @@ use crate::parts::{Granted, Underway};
 use crate::sockets::{Heard, hear, say};
 use grant_board::BoardName;
 use relay_body::INBOX_BYTES;
-use relay_http::Code;
+use relay_http::{Code, Fault};
 use relay_workers::{Gate, Outcome};
 use std::net::{Net, TcpListener, TcpStream};
 use std::sync::Wait;
@@ -79,7 +79,10 @@ impl<
                         return self.hand_to_runner(Job::Answer(underway));
                     }
                 }
-                Heard::Ended { .. } => {
+                Heard::Ended { well: false } => {
+                    return self.end_with(underway, Outcome::after_answering(Fault::Read));
+                }
+                Heard::Ended { well: true } => {
                     return match self.look_at_answer(&underway, true) {
                         Progress::Whole(()) => self.deliver(underway),
                         Progress::More => self.end_with(underway, Outcome::Refused(Code::BadGateway)),

@@ -71,8 +71,7 @@ impl<
             }
             let wait = self.patience(home);
             let _ = poll.poll(&mut events, wait.map(Duration::from_millis));
-            self.attend(&events);
-            self.open_mail(home);
+            self.attend(&events, home);
             self.look_at_limits(home);
         }
     }
@@ -109,16 +108,21 @@ impl<
         entries.destroy_empty();
     }
 
-    // Servers, clients and parked requests first, then the listener.
-    fn attend(&mut self, events: &Events) {
-        let mut comes = false;
+    // Servers, clients and requests that wait first, then what others were told, the listener last.
+    fn attend(&mut self, events: &Events, home: usize) {
+        let (mut comes, mut has_mail) = (false, false);
         for event in events.iter() {
             let token = event.token().0;
             if token == LISTENER {
                 comes = true;
-            } else if token != WAKER {
+            } else if token == WAKER {
+                has_mail = true;
+            } else {
                 self.handle(token);
             }
+        }
+        if has_mail {
+            self.open_mail(home);
         }
         if comes {
             self.accept_all();

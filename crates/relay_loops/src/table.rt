@@ -23,9 +23,12 @@ impl<T> Table<T> {
     {
         if let Some(key) = self.free.pop() {
             if let Some(entry) = self.entries.get_mut(key) {
-                match entry.replace(value) {
-                    None => return Ok(key),
-                    Some(other) => return Err(other),
+                // A value that is there stays.
+                if entry.is_none() {
+                    return match entry.replace(value) {
+                        None => Ok(key),
+                        Some(other) => Err(other),
+                    };
                 }
             }
             return Err(value);

@@ -85,8 +85,14 @@ impl<
                 Heard::Ended { well: true } => {
                     return match self.look_at_answer(&underway, true) {
                         Progress::Whole(()) => self.deliver(underway),
-                        Progress::More => self.end_with(underway, Outcome::Refused(Code::BadGateway)),
-                        Progress::Refused(fault) => self.end_with(underway, Outcome::after_answering(fault)),
+                        Progress::More => self.end_with(
+                            underway,
+                            Outcome::Refused(Code::BadGateway),
+                        ),
+                        Progress::Refused(fault) => self.end_with(
+                            underway,
+                            Outcome::after_answering(fault),
+                        ),
                     };
                 }
             }

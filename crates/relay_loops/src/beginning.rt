@@ -129,7 +129,10 @@ impl<
     }
 
     fn register_exchange(&self, fd: RawFd, key: usize, interest: Interest) -> bool {
-        let Some(token) = key.checked_mul(4).and_then(|token| token.checked_add(EXCHANGE)) else {
+        let Some(token) = key
+            .checked_mul(4)
+            .and_then(|token| token.checked_add(EXCHANGE))
+        else {
             return false;
         };
         token >> 63 == 0 && watch_fd(&self.registry, fd, token, interest)

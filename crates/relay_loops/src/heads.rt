@@ -84,7 +84,9 @@ impl<
     fn read_on(&mut self, reading: Reading) {
         let mut reading = reading;
         for _ in self.rt.forever() {
-            let room = INBOX_BYTES.saturating_sub(reading.got.len()).min(self.input.len());
+            let room = INBOX_BYTES
+                .saturating_sub(reading.got.len())
+                .min(self.input.len());
             if room == 0 || reading.turned_away {
                 return self.judge(reading, false);
             }
@@ -207,7 +209,12 @@ impl<
         let spot = spot.lock(self.rt);
         if let Some(waiting) = &*spot {
             if waiting.at.ticket == at.ticket {
-                watch(&self.registry, &waiting.request.client, token, Interest::READABLE);
+                watch(
+                    &self.registry,
+                    &waiting.request.client,
+                    token,
+                    Interest::READABLE,
+                );
             }
         }
     }

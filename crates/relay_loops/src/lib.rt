@@ -16,10 +16,12 @@ mod jobs;
 mod looping;
 mod mail;
 mod parts;
+mod rooms;
 mod running;
 mod serving;
 mod sockets;
 mod table;
+mod threads;
 mod watching;
 
 pub use serving::{Sizes, serve};

@@ -4,8 +4,8 @@ use crate::parts::Underway;
 use crate::table::Table;
 use due_key::Moment;
 use grant_board::BoardName;
-use mio::{Events, Interest, Poll, Registry, Token};
 use mio::unix::SourceFd;
+use mio::{Events, Interest, Poll, Registry, Token};
 use pass_seat::Idle;
 use place_set::PlaceSet;
 use relay_http::{Code, Exchange};
@@ -21,12 +21,16 @@ use whole_messages::refusal;
 
 /// A head is this kind of token's, four times its key more; an exchange this one's.
 pub(crate) const HEAD: usize = 2;
+
 pub(crate) const EXCHANGE: usize = 3;
+
 pub(crate) const LISTENER: usize = 0;
+
 pub(crate) const WAKER: usize = 1;
 
 /// A token of a request that waits has this bit, its ticket above its place.
 const WAITING: usize = 1 << 63;
+
 const TICKETS: u64 = 1 << 47;
 
 const EVENTS: usize = 256;

@@ -1,32 +1,19 @@
-//! All threads of a proxy: loops, runners, and one that has servers checked.
+//! A proxy on event loops, from its first client to its last.
 
-ghost use Rattle.std.specs.Prelude.{◌≡◌, ◌≤◌, true, [], vec_len, IfOk};
+ghost use Rattle.std.specs.Prelude.{◌≡◌, ◌≤◌, true, [], vec_len};
 
-use crate::checks::Ringing;
 use crate::hall::Hall;
 use crate::jobs::{Counter, Job, Jobs};
-use crate::looping::{LISTENER, Looper, WAKER};
-use crate::mail::Mailbox;
-use crate::running::run_jobs;
-use crate::table::Table;
-use due_key::Moment;
+use crate::rooms::{Rooms, rooms_of};
+use crate::threads::run_all;
 use grant_board::{BoardName, RelaySeat};
-use mio::unix::SourceFd;
-use mio::{Interest, Poll, Token, Waker};
 use pass_seat::{Held, Idle};
-use place_set::PlaceSet;
-use relay_body::INBOX_BYTES;
-use relay_http::Exchange;
-use relay_workers::{Proxy, Runner, Stopped, TURNS, checker, join_all, split_off};
-use slab::Slab;
-use socket_gate::{Front, Pauses, SocketGate};
-use std::alloc::{AllocError, Global};
+use relay_workers::{Proxy, Stopped, join_all, split_off};
+use socket_gate::Front;
 use std::collections::VecDeque;
 use std::net::{Net, TcpListener, TcpStream};
-use std::os::fd::AsRawFd;
 use std::sync::atomic::{AtomicBool, AtomicU64, Ordering};
 use std::sync::{Condvar, Mutex, Wait};
-use std::thread;
 use std::thread::Threads;
 use std::time::Clock;
 use verdict::Ending;
@@ -38,8 +25,6 @@ pub struct Sizes {
     pub runners: usize,
     pub places: usize,
 }
-
-const CHECK_PAUSES: u64 = 1 << 62;
 
 /// Serves until as many clients as may come were served. The seat is the board's first; each place and each thread has one split off it, which is joined
 /// again.
@@ -76,66 +61,6 @@ pub fn serve<
     };
     join_all(proxy, &mut first, seats);
     (first, served)
-}
-
-/// What is made before the threads.
-#[derive(Drop)]
-struct Rooms {
-    spots: Vec<Mutex<Option<crate::parts::Waiting>>>,
-    mail: Vec<Mailbox>,
-    polls: Vec<Poll>,
-}
-
-fn rooms_of<R: Net<Listener = TcpListener, Stream = TcpStream>, N: BoardName>(
-    rt: &R,
-    proxy: &Proxy<N>,
-    front: &Front<'_>,
-    sizes: Sizes,
-) -> Result<Rooms, AllocError>
-    ensures { IfOk result (λ rooms. vec_len rooms.spots ≡ sizes.places) }
-{
-    let alloc = proxy.alloc;
-    let mut spots = Vec::with_capacity(alloc, sizes.places)?;
-    for _ in 0..sizes.places {
-        spots.push(Mutex::new(None))?;
-    }
-    let (polls, mail) = polls_of(rt, alloc, front, sizes.loops)?;
-    Ok(Rooms { spots, mail, polls })
-}
-
-// A poll for each loop, with the listener in it, and its mailbox.
-fn polls_of<R: Net<Listener = TcpListener, Stream = TcpStream>>(
-    rt: &R,
-    alloc: Global,
-    front: &Front<'_>,
-    loops: usize,
-) -> Result<(Vec<Poll>, Vec<Mailbox>), AllocError> {
-    let mut polls = Vec::with_capacity(alloc, loops)?;
-    let mut mail = Vec::with_capacity(alloc, loops)?;
-    let fd = front.listener.as_raw_fd();
-    let _ = front.listener.set_nonblocking(true);
-    for _ in 0..loops {
-        let Ok(poll) = Poll::new(rt) else {
-            return Err(AllocError);
-        };
-        let registry = poll.registry();
-        let Ok(waker) = Waker::new(registry, Token(WAKER)) else {
-            return Err(AllocError);
-        };
-        let mut source = SourceFd(&fd);
-        if registry
-            .register(&mut source, Token(LISTENER), Interest::READABLE)
-            .is_err()
-        {
-            return Err(AllocError);
-        }
-        mail.push(Mailbox {
-            places: Mutex::new(PlaceSet::new()),
-            waker,
-        })?;
-        polls.push(poll)?;
-    }
-    Ok((polls, mail))
 }
 
 // All threads are run, and the seats come back.
@@ -213,114 +138,4 @@ fn post_rest<N: BoardName>(proxy: &Proxy<N>, queue: VecDeque<Job<N>>, seats: &mu
 
 fn post<N: BoardName>(proxy: &Proxy<N>, held: Held<N>, seats: &mut Vec<Idle<N>>) {
     let _ = seats.push(held.post(proxy.desk.board(), Ending::Done));
-}
-
-// A scope with all threads in it.
-fn run_all<
-    R: Net<Listener = TcpListener, Stream = TcpStream> + Clock + Print + Threads + Wait + Sync,
-    N: BoardName + Send + Sync,
-    S: Lends<N> + Sync,
->(rt: &R, shared: &S, polls: Vec<Poll>, runners: usize) {
-    let stop = AtomicBool::new(false);
-    let told = &stop;
-    thread::scope(thread::scope_env(), rt, move |scope| {
-        for _ in 0..runners {
-            let started = scope.spawn(move || run_runner(rt, shared.hall())).ok();
-            if started.is_none() {
-                shared.hall().give_up(rt);
-            }
-        }
-        let checking = scope
-            .spawn(move || run_checks(rt, shared.hall(), told))
-            .ok();
-        let mut home = 0;
-        for poll in polls {
-            let number = home;
-            let started = scope
-                .spawn(move || run_loop(rt, shared.hall(), poll, number))
-                .ok();
-            if started.is_none() {
-                shared.hall().give_up(rt);
-            }
-            home += 1;
-        }
-        shared.hall().wait_for_end(rt);
-        told.store(true, Ordering::SeqCst);
-        match checking {
-            Some(handle) => handle.join(rt),
-            None => shared.hall().give_up(rt),
-        }
-    })
-}
-
-fn run_runner<
-    R: Net<Listener = TcpListener, Stream = TcpStream> + Clock + Print + Wait,
-    N: BoardName,
->(rt: &R, hall: &Hall<'_, N>) {
-    let alloc = hall.proxy.alloc;
-    let Ok(gate) = SocketGate::new(alloc, rt, hall.front) else {
-        return hall.give_up(rt);
-    };
-    let Ok(exchange) = Exchange::new(alloc, TURNS) else {
-        return hall.give_up(rt);
-    };
-    run_jobs(rt, hall, Runner { gate, exchange });
-}
-
-fn run_checks<
-    R: Net<Listener = TcpListener, Stream = TcpStream> + Clock + Print + Wait,
-    N: BoardName,
->(rt: &R, hall: &Hall<'_, N>, stop: &AtomicBool) {
-    let Ok(gate) = SocketGate::new(hall.proxy.alloc, rt, hall.front) else {
-        return hall.give_up(rt);
-    };
-    let mut gate = Ringing { rt, hall, gate };
-    let mut pauses = Pauses::new(rt, CHECK_PAUSES);
-    checker(rt, hall.proxy, &mut gate, &mut pauses, stop);
-}
-
-fn run_loop<
-    R: Net<Listener = TcpListener, Stream = TcpStream> + Clock + Print + Wait,
-    N: BoardName,
->(rt: &R, hall: &Hall<'_, N>, poll: Poll, home: usize) {
-    let alloc = hall.proxy.alloc;
-    let Ok(registry) = poll.registry().try_clone() else {
-        return hall.give_up(rt);
-    };
-    let Ok(gate) = SocketGate::new(alloc, rt, hall.front) else {
-        return hall.give_up(rt);
-    };
-    let Ok(exchange) = Exchange::new(alloc, TURNS) else {
-        return hall.give_up(rt);
-    };
-    let Ok(input) = vec![in alloc; 0u8; INBOX_BYTES] else {
-        return hall.give_up(rt);
-    };
-    let looper = Looper {
-        rt,
-        hall,
-        registry,
-        gate,
-        exchange,
-        heads: Slab::new(alloc),
-        exchanges: Table::new(alloc),
-        input,
-        request: Vec::new(alloc),
-        answer: Vec::new(alloc),
-        short: false,
-        looked: Moment::zero(),
-    };
-    looper.run_to_end(poll, home);
-    hall.close(rt);
-}
-
-// What lends the hall to threads. Of a type parameter it is known by a bound alone that it may be shared, so that it is shown of `Hall` once.
-trait Lends<N: BoardName> {
-    fn hall(&self) -> &Hall<'_, N>;
-}
-
-impl<N: BoardName> Lends<N> for Hall<'_, N> {
-    fn hall(&self) -> &Hall<'_, N> {
-        self
-    }
 }

@@ -13,6 +13,7 @@ use grant_board::{Board, BoardName, Closing, KeeperSeat, Pass, RelaySeat};
 use grant_desk::{Desk, Queues};
 use late_cert::Running;
 use pass_seat::Idle;
+use place_set::PlaceSet;
 use proxy_config::{Config, read};
 use reporting_core::Window;
 use std::alloc::Global;

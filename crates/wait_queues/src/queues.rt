@@ -115,6 +115,8 @@ impl<Q: PendQueue<Key, usize>> Queues<Q> {
         requires apart { HaveNoCommonKey key_cmp self.old.backend self.old.moved }
         ensures { self.new ≡ gathered self.old }
     {
-        self.backend.merge(&mut self.moved);
+        if !self.moved.is_empty() {
+            self.backend.merge(&mut self.moved);
+        }
     }
 }

@@ -61,7 +61,9 @@ class Server:
             try:
                 client, _ = listener.accept()
             except OSError:
-                return
+                if listener.fileno() < 0:
+                    return
+                continue
             threading.Thread(target=self.serve, args=[client], daemon=True).start()
 
     def serve(self, client):

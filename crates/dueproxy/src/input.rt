@@ -1,6 +1,7 @@
 //! What `draw` and `explain` look at: a script, which is replayed first, or a trace.
 
 use binom_queue::BinomQueue;
+use dispatch_core::Core;
 use dispatch_log::Queue;
 use due_key::Key;
 use proxy_words::{Lines, Words};
@@ -55,13 +56,18 @@ fn has_roll(script: &[u8]) -> bool {
 
 // The one window of a script, as its dispatcher has it.
 fn window_of(alloc: Global, script: &[u8]) -> Result<Trace, InputFault> {
-    let Replayed { core, names, .. } = match replay_events::<BinomQueue<Key, usize>>(
-        alloc, script,
-    ) {
-        Ok(all) => all,
-        Err(fault) => return Err(fault_of(fault)),
-    };
-    let Ok(reports) = reports_of(alloc, &core) else {
+    match replay_events(alloc, script) {
+        Ok(Replayed { core, names, .. }) => told_of(alloc, &core, names),
+        Err(fault) => Err(fault_of(fault)),
+    }
+}
+
+fn told_of(
+    alloc: Global,
+    core: &Core<BinomQueue<Key, usize>>,
+    names: Names,
+) -> Result<Trace, InputFault> {
+    let Ok(reports) = reports_of(alloc, core) else {
         return Err(InputFault::NoMemory);
     };
     match trace_of_window(alloc, names, core.log().entries(), reports.as_slice()) {

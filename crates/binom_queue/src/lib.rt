@@ -13,6 +13,3 @@ mod single;
 
 pub use binom_queue::BinomQueue;
 pub use single::Single;
-
-#[cfg(test)]
-mod tests;

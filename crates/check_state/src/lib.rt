@@ -6,6 +6,3 @@ mod laws;
 
 pub use health::{Change, Health};
 pub use laws::{runs_decide, shortened_lists_stand};
-
-#[cfg(test)]
-mod tests;

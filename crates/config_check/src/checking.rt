@@ -2,7 +2,7 @@ ghost use Rattle.proxy_config.specs.File.{reading};
 ghost use Rattle.std.specs.Prelude.{◌≡◌};
 ghost use Rattle.config_check.specs.Checks.{IsCheckOf, status_of_check};
 
-use crate::explaining::{Explanation, explain};
+use config_advice::{Explanation, explain};
 use proxy_config::{ConfigFault, ReadError, read};
 use std::alloc::Global;
 use std::io::{ErrorKind, Read};
@@ -12,7 +12,7 @@ use thiserror::Error;
 
 /// What a look at a configuration came to.
 #[derive(Clone, Copy, Debug, PartialEq, Eq, Error)]
-pub(crate) enum Checked {
+pub enum Checked {
     #[error("ok servers {0}")]
     Good(usize),
     #[error("config {0}")]
@@ -95,39 +95,13 @@ fn print(rt: &(impl Print + Eprint), checked: Checked) -> u8 {
     status_of(checked)
 }
 
-fn status_of(checked: Checked) -> u8
+/// The status that a look ends with.
+pub fn status_of(checked: Checked) -> u8
     ensures { result ≡ status_of_check checked }
 {
     match checked {
         Checked::Good(_) => 0,
         Checked::Faulty(_) => 3,
         Checked::NoMemory | Checked::Unread => 1,
-    }
-}
-
-#[cfg(test)]
-mod tests {
-    use super::*;
-    use proxy_config::FaultCause;
-    use std::test::Fail;
-
-    #[test]
-    fn each_end_has_its_line_and_status(rt: HostRuntime) -> Result<(), Fail> {
-        let fault = ConfigFault {
-            line: 7,
-            cause: FaultCause::Keyword,
-        };
-        let rows = [
-            (Checked::Good(3), "ok servers 3", 0),
-            (Checked::Faulty(fault), "config line 7: keyword", 3),
-            (Checked::NoMemory, "no memory", 1),
-            (Checked::Unread, "read fault", 1),
-        ];
-        for (checked, line, status) in rows {
-            let text = format!(in rt.alloc(); "{checked}")?;
-            assert_eq!(rt; text.as_str(), line);
-            assert_eq!(rt; status_of(checked), status);
-        }
-        Ok(())
     }
 }

@@ -1,8 +1,6 @@
 //! What `check` says of a configuration: how many servers it has, its first faulty line, or every faulty line and what takes its place.
 #![tactic(auto)]
 
-mod advising;
 mod checking;
-mod explaining;
 
-pub use checking::{check, check_in_full, read_file};
+pub use checking::{Checked, check, check_in_full, read_file, status_of};

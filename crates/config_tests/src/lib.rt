@@ -1,9 +1,16 @@
-//! Tests of the configuration, of requests' heads and of the rules. They are a crate of their own, so that what they test isn't proved once more with them.
+//! Tests of words, those of the command line among them, of the configuration and what `check` says of it, of requests' heads and of the rules. They
+//! are a crate of their own, so that what they test isn't proved once more with them.
 #![tactic(auto)]
 
+#[cfg(test)]
+mod advice;
+#[cfg(test)]
+mod commands;
 #[cfg(test)]
 mod configuration;
 #[cfg(test)]
 mod heads;
 #[cfg(test)]
 mod rules;
+#[cfg(test)]
+mod words;

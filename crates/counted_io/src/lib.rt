@@ -9,6 +9,3 @@ mod streams;
 
 pub use counted::Counted;
 pub use streams::{Failed, Sink, Source};
-
-#[cfg(test)]
-mod tests;

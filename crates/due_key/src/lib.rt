@@ -14,6 +14,3 @@ pub use due::Due;
 pub use key::{Key, order_of_keys};
 pub use moment::Moment;
 pub use offset::Offset;
-
-#[cfg(test)]
-mod tests;

@@ -1,7 +1,7 @@
 -- The statuses that the program ends with.
 use Rattle.std.specs.Prelude.{ℕ, Result, Ok, Err}
-use Rattle.dueproxy.specs.declared.input.InputFault.{InputFault}
-use Rattle.dueproxy.specs.declared.input.InputFault.TheVariants as inputs
+use Rattle.trace_views.specs.declared.input.InputFault.{InputFault}
+use Rattle.trace_views.specs.declared.input.InputFault.TheVariants as inputs
 use Rattle.proxy_run.specs.declared.fault.RunFault.{RunFault}
 use Rattle.proxy_run.specs.declared.fault.RunFault.TheVariants as runs
 use Rattle.replay.specs.declared.fault.Fault.{Fault}

@@ -8,21 +8,17 @@ ghost use Rattle.std.specs.Prelude.{◌≡◌};
 ghost use Rattle.dueproxy.specs.Statuses.{status_of, status_of_input};
 
 mod command;
-mod input;
-mod picture;
 mod serve;
-mod tale;
 
-use command::{Asked, ask};
+use command::{Wanted, ask};
+use command_words::{Asked, Only};
 use config_check::{check, check_in_full};
-use input::InputFault;
-use picture::{DrawFault, Only, draw};
 use replay::{Fault, replay};
 use serve::serve_file;
 use std::env;
 use std::io::{Read, Write};
 use std::process::ExitCode;
-use tale::{TellFault, tell};
+use trace_views::{DrawFault, InputFault, TellFault, draw, tell};
 
 const USAGE: u8 = 2;
 
@@ -35,15 +31,22 @@ fn main(rt: HostRuntime) -> ExitCode {
         return ExitCode::from(end(&rt, Err(Fault::NoMemory)));
     };
     let status = match ask(&rt, &words) {
-        Asked::Replay => replay_streams(&rt, &mut rt.stdin(), &mut rt.stdout()),
-        Asked::Check(file) => check(&rt, &file),
-        Asked::Explain(file) => check_in_full(&rt, &file),
-        Asked::Draw(only) => draw_streams(&rt, &mut rt.stdin(), &mut rt.stdout(), &only),
-        Asked::Tell(ticket) => tell_streams(&rt, &mut rt.stdin(), &mut rt.stdout(), ticket),
-        Asked::Run(wanted) => serve_file(&rt, &wanted),
-        Asked::Nothing(status) => status,
+        Wanted::Run(wanted) => serve_file(&rt, &wanted),
+        Wanted::Other(asked) => answer(&rt, &asked),
     };
     ExitCode::from(status)
+}
+
+// Does what is asked with the standard streams, and answers the status.
+fn answer(rt: &HostRuntime, asked: &Asked) -> u8 {
+    match asked {
+        Asked::Replay => replay_streams(rt, &mut rt.stdin(), &mut rt.stdout()),
+        Asked::Check(file) => check(rt, file),
+        Asked::Explain(file) => check_in_full(rt, file),
+        Asked::Draw(only) => draw_streams(rt, &mut rt.stdin(), &mut rt.stdout(), only),
+        Asked::Tell(ticket) => tell_streams(rt, &mut rt.stdin(), &mut rt.stdout(), *ticket),
+        Asked::Nothing(status) => *status,
+    }
 }
 
 // Replays the script of a stream onto another, and answers the status.
@@ -118,6 +121,3 @@ fn end(rt: &impl Eprint, ended: Result<(), Fault>) -> u8
         }
     }
 }
-
-#[cfg(test)]
-mod tests;

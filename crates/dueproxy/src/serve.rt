@@ -29,6 +29,9 @@ wait until one has a slot: by class, and then by due date. On standard error sta
   listening at ADDRESS: servers S workers W places P
 and where no server has a maxconn a second line, since then no request ever waits.
 
+Each loop is a thread for thousands of clients; what is long or comes in parts is
+handed on by a worker, so that it keeps no loop.
+
 On standard output, for each 262144 entries of the log and at the end:
   window N               the reports of a window that ended follow (FORMATS)
   server NAME up|down direct D granted G
@@ -41,36 +44,60 @@ write fault, turns spent; 2 these words; 3 the configuration.
 For example, dueproxy run examples/walk.cfg --requests 5
 serves five clients, and prints what came of them.";
 
+const WORKERS: &str =
+    "Threads for what is long or comes in parts, 1 to 256 [default: as many as requests may be at servers at once]";
+
+const LOOPS: &str = "Event loops, 1 to 64 [default: as many as there are processors]";
+
 /// The words of `run`.
 pub(crate) fn command<'a>(alloc: Global, file: Arg<'a>) -> Result<Command<'a>, AllocError> {
     Command::new(alloc, "run")
         .about("Serves as a configuration says")
         .after_help(HELP)
         .arg(file)?
-        .arg(size(alloc, "workers", "64").help("Clients that are served at a time, 1 to 256"))?
-        .arg(size(alloc, "places", "1024").help("Requests that are served or wait, 1 to 4096"))?
-        .arg(size(alloc, "requests", "0").help("Ends after so many clients; 0: never"))
+        .arg(size(alloc, "workers").help(WORKERS))?
+        .arg(size(alloc, "loops").help(LOOPS))?
+        .arg(
+            size(alloc, "places")
+                .default_value("1024")
+                .help("Requests that are served or wait, 1 to 4096"),
+        )?
+        .arg(
+            size(alloc, "requests")
+                .default_value("0")
+                .help("Ends after so many clients; 0: never"),
+        )
 }
 
-fn size<'a>(alloc: Global, name: &'a str, default: &'a str) -> Arg<'a> {
+fn size<'a>(alloc: Global, name: &'a str) -> Arg<'a> {
     Arg::new(alloc, name)
         .long(name)
         .action(ArgAction::Set)
         .value_name("N")
-        .default_value(default)
 }
 
 /// The sizes that the words say. None: one is no number, or out of its range.
 pub(crate) fn sizes_of(words: &ArgMatches) -> Option<Sizes> {
-    Sizes::new(
-        size_of(words, "workers")?,
-        size_of(words, "places")?,
-        size_of(words, "requests")?,
-    )
+    let workers = given(words, "workers").ok()?;
+    let loops = given(words, "loops").ok()?;
+    let places = given(words, "places").ok()?;
+    let requests = given(words, "requests").ok()?;
+    Sizes::new(workers, loops, places?, requests?)
 }
 
-fn size_of(words: &ArgMatches, name: &str) -> Option<u32> {
-    number(words.get_str(name).unwrap_or_default().as_bytes())
+/// A word stands where a number is wanted.
+#[derive(Debug, Drop)]
+struct NoNumber;
+
+// The number behind an option, where it is given.
+fn given(words: &ArgMatches, name: &str) -> Result<Option<u32>, NoNumber> {
+    match words.get_str(name) {
+        None => Ok(None),
+        Some(word) => match number(word.as_bytes()) {
+            None => Err(NoNumber),
+            number => Ok(number),
+        },
+    }
 }
 
 /// Serves as the file says, and answers the status.

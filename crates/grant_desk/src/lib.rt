@@ -5,6 +5,3 @@
 mod desk;
 
 pub use desk::{Desk, Queues};
-
-#[cfg(test)]
-mod tests;

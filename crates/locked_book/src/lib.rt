@@ -7,6 +7,3 @@ mod keeping;
 mod offering;
 
 pub use book::{Book, Wanted};
-
-#[cfg(test)]
-mod tests;

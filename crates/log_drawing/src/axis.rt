@@ -1,8 +1,8 @@
 use crate::drawing::Scene;
-use crate::escape::push_escaped;
 use crate::sheet::{Band, LEFT, LINE, PLOT, RIGHT};
 use dispatch_log::Queue;
 use log_stretches::Lane;
+use markup_text::push_escaped;
 use std::alloc::AllocError;
 
 /// The most lines of the grid, and how far below the top the numbers stand.

@@ -1,5 +1,4 @@
 use crate::drawing::Scene;
-use crate::escape::push_escaped;
 use crate::palette::{COLOURS, Palette};
 use crate::sheet::LEFT;
 use crate::story::push_queue;

@@ -5,7 +5,6 @@ mod axis;
 mod bar;
 mod caption;
 mod drawing;
-mod escape;
 mod hatches;
 mod key;
 mod marks;
@@ -16,7 +15,3 @@ mod sheet;
 mod story;
 
 pub use drawing::{Subject, push_drawing};
-pub use escape::push_escaped;
-
-#[cfg(test)]
-mod tests;

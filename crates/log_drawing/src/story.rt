@@ -1,9 +1,9 @@
 use crate::bar::{Bar, class_of, due_of};
 use crate::drawing::Scene;
-use crate::escape::push_escaped;
 use dispatch_log::{Arrival, Entry, Queue};
 use due_key::{Class, Moment};
 use log_stretches::{Came, Lane};
+use markup_text::push_escaped;
 use script::Names;
 use std::alloc::AllocError;
 use trace_lines::ReportLine;

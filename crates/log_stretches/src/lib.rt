@@ -6,6 +6,3 @@ mod stretch;
 
 pub use course::{Came, Course};
 pub use stretch::{Lane, Stretch, stretches_of};
-
-#[cfg(test)]
-mod tests;

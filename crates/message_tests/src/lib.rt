@@ -4,6 +4,8 @@
 #[cfg(test)]
 mod bodies;
 #[cfg(test)]
+mod counted;
+#[cfg(test)]
 mod exchanges;
 #[cfg(test)]
 mod wholes;

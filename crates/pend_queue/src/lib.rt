@@ -9,6 +9,3 @@ mod queue;
 
 pub use list_queue::ListQueue;
 pub use queue::PendQueue;
-
-#[cfg(test)]
-mod tests;

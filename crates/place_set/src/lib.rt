@@ -6,6 +6,3 @@ mod set;
 
 pub use block::Block;
 pub use set::PlaceSet;
-
-#[cfg(test)]
-mod tests;

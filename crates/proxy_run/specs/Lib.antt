@@ -1,3 +1,4 @@
 pub mod Setups
 pub mod Faults
 pub mod Parts
+pub mod Sizes

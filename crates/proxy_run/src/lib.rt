@@ -1,17 +1,15 @@
 //! What `dueproxy run` does: from the bytes of a configuration to clients that are served as it says, and what is printed at the end.
 #![tactic(auto)]
 
-mod crew;
 mod fault;
 mod opening;
 mod parts;
 mod preparing;
 mod running;
+mod sharing;
+mod sizes;
 mod telling;
 
-pub use crew::Sizes;
 pub use fault::{RunFault, ServeFault};
 pub use running::{run, serve_at};
-
-#[cfg(test)]
-mod tests;
+pub use sizes::Sizes;

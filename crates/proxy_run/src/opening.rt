@@ -1,10 +1,10 @@
 //! Where clients come.
 
-use crate::crew::Sizes;
 use crate::fault::ServeFault;
 use crate::preparing::never_queues;
 use libc::net::listen;
 use proxy_config::{Bind, Config};
+use relay_loops::Sizes;
 use std::net::{Ipv4Addr, Net, TcpListener, TcpStream};
 use std::os::fd::AsRawFd;
 
@@ -40,7 +40,7 @@ pub(crate) fn announce<R: Eprint>(
         return Err(ServeFault::Read);
     };
     let servers = config.servers.len();
-    let workers = sizes.workers;
+    let workers = sizes.runners;
     let places = sizes.places;
     let _ = eprintln!(rt;
         "listening at {address}: servers {servers} workers {workers} places {places}"

@@ -1,4 +1,4 @@
-ghost use Rattle.std.specs.Prelude.{◌≡◌, [], true};
+ghost use Rattle.std.specs.Prelude.{◌≡◌, ◌≤◌, [], true};
 ghost use Rattle.proxy_config.specs.File.{reading};
 ghost use Rattle.proxy_config.specs.Sound.{IsSoundConfig};
 ghost use Rattle.proxy_run.specs.Faults.{IsEndOf};
@@ -6,15 +6,17 @@ ghost use Rattle.proxy_run.specs.Parts.{AreNew};
 ghost use Rattle.outstanding.specs.Books.{terms_of};
 ghost use Rattle.dispatch_log.specs.declared.setup.Setup.{Setup};
 
-use crate::crew::{Sizes, checks_of, crew_of, front_of};
 use crate::fault::{RunFault, ServeFault};
 use crate::opening::{announce, open};
 use crate::parts::{Parts, parts_of};
+use crate::sharing::front_of;
+use crate::sizes::{Crew, Sizes, crew_of};
 use crate::telling::tell_all;
 use grant_board::{BoardName, RelaySeat};
 use grant_desk::Desk;
 use proxy_config::{Config, ReadError, read};
-use relay_workers::{Proxy, serve};
+use relay_loops::serve;
+use relay_workers::Proxy;
 use socket_gate::Front;
 use std::marker::Brand;
 use std::net::{Net, TcpListener, TcpStream};
@@ -75,9 +77,10 @@ pub fn serve_at<
 >(rt: &R, config: Config, listener: TcpListener, sizes: Sizes) -> Result<(), ServeFault>
     requires config { IsSoundConfig config }
 {
-    announce(rt, &listener, &config, sizes)?;
-    let parts = parts_of(rt.alloc(), &config, sizes.places)?;
-    serve_on::<Brand, _>(rt, config, parts, listener, sizes)
+    let crew = crew_of(rt, &config, sizes);
+    announce(rt, &listener, &config, crew.threads)?;
+    let parts = parts_of(rt.alloc(), &config, crew.threads.places)?;
+    serve_on::<Brand, _>(rt, config, parts, listener, crew)
 }
 
 // The same at a desk that is made of these parts.
@@ -90,15 +93,9 @@ fn serve_on<
         + Threads
         + Wait
         + Sync,
->(
-    rt: &R,
-    config: Config,
-    parts: Parts,
-    listener: TcpListener,
-    sizes: Sizes,
-) -> Result<(), ServeFault>
+>(rt: &R, config: Config, parts: Parts, listener: TcpListener, crew: Crew) -> Result<(), ServeFault>
     requires named { parts.board ≡ N.board }
-    requires parts { (setup : Setup) × AreNew setup parts × (N.terms ≡ terms_of setup) }
+    requires parts { (setup : Setup) × AreNew setup parts × (N.terms ≡ terms_of setup) × (setup.places ≡ crew.threads.places) }
 {
     let alloc = rt.alloc();
     let Parts {
@@ -113,8 +110,8 @@ fn serve_on<
         desk: Desk::new(core, board, keeper, running),
         config,
     };
-    let front = front_of(alloc, rt, &proxy.config, listener, sizes.requests)?;
-    let ended = serve_clients(rt, &proxy, &front, relay, sizes.workers);
+    let front = front_of(alloc, rt, &proxy.config, listener, crew.requests)?;
+    let ended = serve_clients(rt, &proxy, &front, relay, crew.threads);
     let Front { names, told, .. } = front;
     tell_all(rt, &proxy, &names, told.into_inner())?;
     ended
@@ -129,15 +126,14 @@ fn serve_clients<
     proxy: &Proxy<N>,
     front: &Front<'_>,
     relay: RelaySeat,
-    workers: usize,
+    threads: relay_loops::Sizes,
 ) -> Result<(), ServeFault>
     requires named { (relay.board ≡ N.board) × (relay.view.terms ≡ N.terms) }
     requires first { relay.view.first ≡ true }
     requires idle { relay.view.passes ≡ [] }
+    requires places { threads.places ≤ N.terms.places }
 {
-    let crew = crew_of(proxy.alloc, rt, front, workers)?;
-    let checks = checks_of(proxy.alloc, rt, front)?;
-    let (_, served) = serve(rt, proxy, relay, crew, checks);
+    let (_, served) = serve(rt, proxy, front, relay, threads);
     served?;
     if front.clients.are_given_up() {
         Err(ServeFault::Read)

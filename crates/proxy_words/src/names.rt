@@ -20,18 +20,3 @@ fn is_name_byte(byte: u8) -> bool
 {
     byte.is_ascii_alphanumeric() || b"-_.:".contains(&byte)
 }
-
-#[cfg(test)]
-mod tests {
-    use super::*;
-
-    #[test]
-    fn a_name_has_32_bytes_at_most(rt: HostRuntime) {
-        assert!(rt; is_name(b"a-B_9.:"));
-        assert!(rt; is_name(b"12345678901234567890123456789012"));
-        assert!(rt; !is_name(b"123456789012345678901234567890123"));
-        assert!(rt; !is_name(b""));
-        assert!(rt; !is_name(b"*"));
-        assert!(rt; !is_name(b"\xc3\xa9"));
-    }
-}

@@ -91,26 +91,3 @@ fn trim_end(text: &[u8]) -> &[u8]
     }
     rest
 }
-
-#[cfg(test)]
-mod tests {
-    use super::*;
-
-    #[test]
-    fn parts_stand_between_commas(rt: HostRuntime) {
-        let mut parts = Parts::new(b"fast , slow\t,, a b");
-        assert_eq!(rt; parts.next(), Some(b"fast".as_slice()));
-        assert_eq!(rt; parts.next(), Some(b"slow".as_slice()));
-        assert_eq!(rt; parts.next(), Some(b"".as_slice()));
-        assert_eq!(rt; parts.next(), Some(b"a b".as_slice()));
-        assert_eq!(rt; parts.next(), None);
-        assert_eq!(rt; parts.next(), None);
-    }
-
-    #[test]
-    fn an_empty_text_has_one_part(rt: HostRuntime) {
-        let mut parts = Parts::new(b" \t");
-        assert_eq!(rt; parts.next(), Some(b"".as_slice()));
-        assert_eq!(rt; parts.next(), None);
-    }
-}

@@ -163,33 +163,3 @@ fn comment_start(line: &[u8]) -> Option<usize>
 {
     line.iter().position(|byte| *byte == b'#')
 }
-
-#[cfg(test)]
-mod tests {
-    use super::*;
-
-    #[test]
-    fn lines_end_at_line_feeds(rt: HostRuntime) {
-        let mut lines = Lines::new(b"a\r\n\n b\r");
-        assert_eq!(rt; lines.next(), Some(b"a".as_slice()));
-        assert_eq!(rt; lines.next(), Some(b"".as_slice()));
-        assert_eq!(rt; lines.next(), Some(b" b\r".as_slice()));
-        assert_eq!(rt; lines.next(), None);
-        assert_eq!(rt; lines.next(), None);
-    }
-
-    #[test]
-    fn words_stand_between_blanks(rt: HostRuntime) {
-        let mut words = Words::new(b" \tserver  a\t");
-        assert_eq!(rt; words.next(), Some(b"server".as_slice()));
-        assert_eq!(rt; words.next(), Some(b"a".as_slice()));
-        assert_eq!(rt; words.next(), None);
-        assert_eq!(rt; words.next(), None);
-    }
-
-    #[test]
-    fn a_comment_begins_anywhere(rt: HostRuntime) {
-        assert_eq!(rt; without_comment(b"a#b # c"), b"a".as_slice());
-        assert_eq!(rt; without_comment(b"a b"), b"a b".as_slice());
-    }
-}

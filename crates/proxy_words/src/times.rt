@@ -41,30 +41,3 @@ fn in_milliseconds(unit: &[u8], n: u64) -> Option<u64>
         _ => None,
     }
 }
-
-#[cfg(test)]
-mod tests {
-    use super::*;
-
-    #[test]
-    fn units(rt: HostRuntime) {
-        assert_eq!(rt; milliseconds(b"1500us"), Some(2));
-        assert_eq!(rt; milliseconds(b"2000us"), Some(2));
-        assert_eq!(rt; milliseconds(b"0us"), Some(0));
-        assert_eq!(rt; milliseconds(b"7"), Some(7));
-        assert_eq!(rt; milliseconds(b"7ms"), Some(7));
-        assert_eq!(rt; milliseconds(b"7s"), Some(7_000));
-        assert_eq!(rt; milliseconds(b"7m"), Some(420_000));
-        assert_eq!(rt; milliseconds(b"7h"), Some(25_200_000));
-        assert_eq!(rt; milliseconds(b"999999999d"), Some(86_399_999_913_600_000));
-    }
-
-    #[test]
-    fn what_is_no_time(rt: HostRuntime) {
-        assert_eq!(rt; milliseconds(b"1x"), None);
-        assert_eq!(rt; milliseconds(b"ms"), None);
-        assert_eq!(rt; milliseconds(b"1 s"), None);
-        assert_eq!(rt; milliseconds(b"1000000000us"), None);
-        assert_eq!(rt; milliseconds(b"-1"), None);
-    }
-}

@@ -80,11 +80,14 @@ pub fn arrive<R: Wait, N: BoardName, G: Gate>(
         pin: wish.pin,
     };
     let moment = gate.moment();
-    proxy.with_room(rt, gate, || {
-        proxy
+    let (arrived, _) = proxy.with_room(rt, gate, || {
+        let mut woken = PlaceSet::new();
+        let arrived = proxy
             .desk
-            .arrive(rt, proxy.alloc, moment, wanted, &mut PlaceSet::new())
-    })
+            .arrive(rt, proxy.alloc, moment, wanted, &mut woken);
+        (arrived, woken)
+    });
+    arrived
 }
 
 /// Tells a client what it is refused with, where it is refused.

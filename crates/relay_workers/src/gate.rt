@@ -5,6 +5,7 @@ ghost use Rattle.relay_workers.specs.Windows.{HasEnded};
 
 use due_key::Moment;
 use grant_board::Pass;
+use place_set::PlaceSet;
 use reporting_core::Window;
 use std::io::{Read, Write};
 
@@ -35,6 +36,9 @@ pub trait Gate {
     /// order than the one in which they ended.
     fn window(&mut self, window: Window)
         requires { HasEnded window };
+
+    /// Is told after a call of the dispatcher at which places it offered verdicts. The lock is free then.
+    fn wake(&mut self, places: &PlaceSet);
 }
 
 /// How often a thread may pause.

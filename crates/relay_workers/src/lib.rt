@@ -21,10 +21,7 @@ pub use finishing::finish;
 pub use gate::{Gate, Pause};
 pub use outcome::Outcome;
 pub use proxy::{Hand, Proxy, Runner};
-pub use serving::serve;
+pub use serving::{join_all, serve, split_off};
 pub use tally::Tally;
 pub use waiting::{Granted, wait};
 pub use working::{Stopped, TURNS, worker};
-
-#[cfg(test)]
-mod tests;

@@ -1,6 +1,8 @@
+ghost use Rattle.std.specs.Prelude.{◌<◌};
+
 use crate::gate::{Gate, Pause};
 use dispatch_log::Refusal;
-use grant_board::BoardName;
+use grant_board::{BoardName, Return};
 use grant_desk::Desk;
 use place_set::PlaceSet;
 use proxy_config::Config;
@@ -31,12 +33,30 @@ pub struct Hand<G: Gate + Drop, P: Pause + Drop> {
 }
 
 impl<N: BoardName> Proxy<N> {
-    // A turn of the desk. One that is refused is as one that found nothing.
-    pub(crate) fn turn<R: Wait, G: Gate>(&self, rt: &R, gate: &mut G) {
+    /// A turn of the desk: it looks at each place that is out. One that is refused is as one that found nothing.
+    pub fn turn<R: Wait, G: Gate>(&self, rt: &R, gate: &mut G) {
         let moment = gate.moment();
         let _ = self.with_room(rt, gate, || {
-            self.desk.turn(rt, moment, &mut PlaceSet::new())
+            let mut woken = PlaceSet::new();
+            (self.desk.turn(rt, moment, &mut woken), woken)
         });
+    }
+
+    /// What was posted at one place is taken, without a look at any other. Where it is refused it stays on the board, for a turn.
+    pub fn collect<R: Wait, G: Gate>(&self, rt: &R, gate: &mut G, place: usize)
+        requires in_range { place < N.terms.places }
+    {
+        let moment = gate.moment();
+        let _ = self.with_room(
+            rt,
+            gate,
+            || -> (Result<Option<Return>, Refusal>, PlaceSet)
+                requires { place < N.terms.places }
+            {
+                let mut woken = PlaceSet::new();
+                (self.desk.collect_at(rt, moment, place, &mut woken), woken)
+            },
+        );
     }
 
     // A check of a server is over. A result that the dispatcher refuses is dropped.
@@ -49,39 +69,43 @@ impl<N: BoardName> Proxy<N> {
     ) {
         let moment = gate.moment();
         let _ = self.with_room(rt, gate, || {
-            self.desk
-                .check(rt, moment, server, ok, &mut PlaceSet::new())
+            let mut woken = PlaceSet::new();
+            (self.desk.check(rt, moment, server, ok, &mut woken), woken)
         });
     }
 
-    // A request that waits is given up. Where that is refused, it has its verdict.
-    pub(crate) fn give_up<R: Wait, G: Gate>(&self, rt: &R, gate: &mut G, ticket: u64) {
+    /// A request that waits is given up. Where that is refused, it has its verdict.
+    pub fn give_up<R: Wait, G: Gate>(&self, rt: &R, gate: &mut G, ticket: u64) {
         let moment = gate.moment();
         let _ = self.with_room(rt, gate, || {
-            self.desk.abort(rt, moment, ticket, &mut PlaceSet::new())
+            let mut woken = PlaceSet::new();
+            (self.desk.abort(rt, moment, ticket, &mut woken), woken)
         });
     }
 
-    // A call of the desk. Where the log is full the next window begins, the gate has the one that ended, and the call is made once more; where there is no
-    // memory for that, it stays refused.
-    pub(crate) fn with_room<R: Wait, G: Gate, T, F: Fn() -> Result<T, Refusal>>(
+    // A call of the desk, and the gate is told at which places it offered. Where the log is full the next window begins, the gate has the one that ended, and
+    // the call is made once more; where there is no memory for that, it stays refused.
+    pub(crate) fn with_room<R: Wait, G: Gate, T: Drop, F: Fn() -> (Result<T, Refusal>, PlaceSet)>(
         &self,
         rt: &R,
         gate: &mut G,
         call: F,
-    ) -> Result<T, Refusal>
+    ) -> (Result<T, Refusal>, PlaceSet)
         requires { F.IsAlwaysCallable call }
         ensures { F.post call result }
     {
-        match call() {
-            Err(Refusal::LogFull) => {}
-            answer => return answer,
+        let told = call();
+        gate.wake(&told.1);
+        if !matches!(told.0, Err(Refusal::LogFull)) {
+            return told;
         }
         match self.desk.make_room(rt, self.alloc) {
             Ok(Some(window)) => gate.window(window),
             Ok(None) => {}
-            Err(_) => return Err(Refusal::LogFull),
+            Err(_) => return told,
         }
-        call()
+        let told = call();
+        gate.wake(&told.1);
+        told
     }
 }

@@ -51,8 +51,8 @@ pub fn serve<
     (first, all)
 }
 
-// So many seats more. False where the list finds no memory for one.
-fn split_off<N: BoardName>(
+/// So many seats more. False where the list finds no memory for one.
+pub fn split_off<N: BoardName>(
     proxy: &Proxy<N>,
     first: &mut RelaySeat,
     seats: &mut Vec<Idle<N>>,
@@ -73,8 +73,8 @@ fn split_off<N: BoardName>(
     true
 }
 
-// All seats come back.
-fn join_all<N: BoardName>(proxy: &Proxy<N>, first: &mut RelaySeat, seats: Vec<Idle<N>>)
+/// All seats come back.
+pub fn join_all<N: BoardName>(proxy: &Proxy<N>, first: &mut RelaySeat, seats: Vec<Idle<N>>)
     requires named { (first.old.board ≡ N.board) × (first.old.view.terms ≡ N.terms) }
     requires first { first.old.view.first ≡ true }
     ensures lent { IsLent first.old first.new (vec_len seats) 0 }

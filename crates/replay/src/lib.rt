@@ -14,8 +14,5 @@ pub use events::{Replayed, replay_events};
 pub use fault::Fault;
 pub use laws::a_script_has_one_trace;
 pub use reports::reports_of;
-pub use streams::{replay, replay_between};
+pub use streams::{replay, replay_between, trace_of};
 pub use transfers::MOST_READS;
-
-#[cfg(test)]
-mod tests;

@@ -66,11 +66,8 @@ pub fn replay_between<S: Source, K: Sink>(
     write_whole(sink, trace.as_bytes())
 }
 
-// The trace of a script and its reports, by a dispatcher over such queues.
-pub(crate) fn trace_of<Q: PendQueue<Key, usize>>(
-    alloc: Global,
-    script: &[u8],
-) -> Result<String, Fault>
+/// The trace of a script and its reports, by a dispatcher over such queues.
+pub fn trace_of<Q: PendQueue<Key, usize>>(alloc: Global, script: &[u8]) -> Result<String, Fault>
     ensures faultless { OnOk result (fault_of script.now ≡ None) }
     ensures ok { IfOk result (λ trace. IsTraceOf script.now (string_bytes trace)) }
     ensures fault { IfErr result (λ fault. (line : ℕ) → fault ≡ Fault.Script line → fault_of script.now ≡ Some line) }

@@ -9,6 +9,3 @@ mod reporting;
 pub use dispatcher::ReportingCore;
 pub use lines::ServerLine;
 pub use reporting::Window;
-
-#[cfg(test)]
-mod tests;

@@ -18,6 +18,3 @@ pub use report::{push_reports, push_roll};
 pub use setting::Setting;
 pub use step::Step;
 pub use trace::{push_entries, push_refusal};
-
-#[cfg(test)]
-mod tests;

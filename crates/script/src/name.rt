@@ -38,10 +38,4 @@ impl<'a> Name<'a> {
     {
         self.text
     }
-
-    /// Its text, which lives as long as the line.
-    #[cfg(test)]
-    pub(crate) fn text(self) -> &'a str {
-        self.text
-    }
 }

@@ -1,5 +1,5 @@
 ghost use Rattle.std.specs.Prelude.{◌≡◌, ◌≢◌};
-ghost use Rattle.std.specs.Bool.{OnFalse};
+ghost use Rattle.std.specs.Bool.{OnTrue, OnFalse};
 
 use std::sync::atomic::{AtomicBool, AtomicU64, Ordering};
 
@@ -29,6 +29,20 @@ impl Clients {
         ensures { OnFalse result (self.now.most ≢ 0) }
     {
         self.most == 0 || self.taken.fetch_add(1, Ordering::SeqCst) < self.most
+    }
+
+    /// How many may come; 0: without an end.
+    pub fn most(&self) -> u64
+        ensures { result ≡ self.now.most }
+    {
+        self.most
+    }
+
+    /// Whether no more may come: as many were taken as are counted.
+    pub fn are_all_taken(&self) -> bool
+        ensures { OnTrue result (self.now.most ≢ 0) }
+    {
+        self.most != 0 && self.most <= self.taken.load(Ordering::SeqCst)
     }
 
     /// Notes that a thread waits for clients no more, though more may come.

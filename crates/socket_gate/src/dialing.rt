@@ -46,7 +46,7 @@ fn dial_one_of<R: Net<Listener = TcpListener, Stream = TcpStream> + Clock, A: To
 }
 
 /// The first address that a server has.
-pub(crate) fn first_address<R: Net>(rt: &R, address: &Address) -> Option<SocketAddr> {
+pub fn first_address<R: Net>(rt: &R, address: &Address) -> Option<SocketAddr> {
     match &address.host {
         Host::Ip(ip) => Some(SocketAddr::from((Ipv4Addr::from(*ip), address.port))),
         Host::Name(name) => {

@@ -52,7 +52,7 @@ impl<'a> Front<'a> {
 
 /// A connection whose reads and writes fail where they take longer than this, in milliseconds, and whose bytes don't wait for more. Where the system refuses
 /// either, it stays as it is.
-pub(crate) fn within(stream: TcpStream, limit: Option<u64>) -> TcpStream {
+pub fn within(stream: TcpStream, limit: Option<u64>) -> TcpStream {
     let _ = stream.set_nodelay(true);
     if let Some(limit) = duration(limit) {
         let _ = stream.set_read_timeout(Some(limit));

@@ -9,15 +9,19 @@ use crate::probing::Probe;
 use crate::waits::{duration, left, patience, turnaround};
 use due_key::Moment;
 use grant_board::Pass;
+use place_set::PlaceSet;
 use relay_workers::Gate;
 use reporting_core::Window;
 use std::alloc::{AllocError, Global};
 use std::net::{Net, TcpListener, TcpStream};
 use std::os::fd::AsRawFd;
 use std::sync::Wait;
-use std::thread;
 use std::time::{Clock, Duration};
+use std::{mem, thread};
 use verdict::Verdict;
+
+/// So many places there are at most.
+const MOST_PLACES: usize = 4096;
 
 /// A connect that failed.
 #[derive(Clone, Copy, Debug, PartialEq, Eq)]
@@ -38,6 +42,8 @@ pub struct SocketGate<'a, R> {
     failure: Option<Failure>,
     /// The checks that run, by server.
     probes: Vec<Option<Probe>>,
+    /// The places of which it was told, and not asked since.
+    woken: PlaceSet,
 }
 
 impl<'a, R: Net<Listener = TcpListener, Stream = TcpStream> + Clock> SocketGate<'a, R> {
@@ -58,7 +64,24 @@ impl<'a, R: Net<Listener = TcpListener, Stream = TcpStream> + Clock> SocketGate<
             last: Moment::zero(),
             failure: None,
             probes,
+            woken: PlaceSet::new(),
         })
+    }
+
+    /// The places of which it was told since it was last asked.
+    pub fn take_woken(&mut self) -> PlaceSet
+        ensures { result ≡ self.old.woken }
+    {
+        mem::replace(&mut self.woken, PlaceSet::new())
+    }
+
+    /// Notes that a connect failed which was made elsewhere: before the same request is tried again at the same server, some time passes.
+    pub fn note_failure(&mut self, ticket: u64, server: usize) {
+        self.failure = Some(Failure {
+            ticket,
+            server,
+            at: self.now(),
+        });
     }
 
     // The present moment. It is never before one that was answered, also where the clock can't be read.
@@ -132,11 +155,7 @@ impl<'a, R: Net<Listener = TcpListener, Stream = TcpStream> + Clock + Print + Wa
         match dialed {
             Some(stream) => Some(within(stream, config.server_timeout)),
             None => {
-                self.failure = Some(Failure {
-                    ticket: pass.ticket(),
-                    server: number,
-                    at: self.now(),
-                });
+                self.note_failure(pass.ticket(), number);
                 None
             }
         }
@@ -166,5 +185,18 @@ impl<'a, R: Net<Listener = TcpListener, Stream = TcpStream> + Clock + Print + Wa
 
     fn window(&mut self, window: Window) {
         self.front.tell(self.rt, &window);
+    }
+
+    fn wake(&mut self, places: &PlaceSet) {
+        let mut from = 0;
+        for _ in 0..MOST_PLACES {
+            let Some(place) = places.next(from) else {
+                return;
+            };
+            if place < MOST_PLACES {
+                self.woken.insert(place);
+            }
+            from = place.saturating_add(1);
+        }
     }
 }

@@ -5,7 +5,7 @@ use libc::types::pollfd;
 use std::os::fd::RawFd;
 
 /// Whether a connection failed, or, where its end counts, the other end sends no more, be there bytes unread or not. No byte is read.
-pub(crate) fn has_left(connection: RawFd, end_counts: bool) -> bool {
+pub fn has_left(connection: RawFd, end_counts: bool) -> bool {
     let told = told_of(connection, c::POLLRDHUP);
     has_failed(told) || (end_counts && told & c::POLLRDHUP != 0)
 }

@@ -15,10 +15,9 @@ mod telling;
 mod waits;
 
 pub use clients::Clients;
-pub use front::Front;
+pub use dialing::first_address;
+pub use front::{Front, within};
 pub use gate::SocketGate;
+pub use leaving::has_left;
 pub use pauses::Pauses;
 pub use telling::{TellFault, Told};
-
-#[cfg(test)]
-mod tests;

@@ -9,6 +9,3 @@ mod teller;
 
 pub use lines::MOST_LINES;
 pub use teller::{Telling, push_story};
-
-#[cfg(test)]
-mod tests;

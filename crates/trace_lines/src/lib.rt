@@ -18,6 +18,3 @@ pub use reader::{MOST_BYTES, read_trace};
 pub use report::ReportLine;
 pub use trace::Trace;
 pub use window::trace_of_window;
-
-#[cfg(test)]
-mod tests;

@@ -23,6 +23,3 @@ pub enum Ending {
     /// The connection failed before a byte of the request was sent, so that another try is safe.
     Failed,
 }
-
-#[cfg(test)]
-mod tests;

@@ -8,8 +8,6 @@ mod queues;
 mod waiters;
 mod waiting;
 
+pub use order::JoinOrder;
 pub use waiters::Waiter;
 pub use waiting::{Taken, WaitQueues};
-
-#[cfg(test)]
-mod tests;

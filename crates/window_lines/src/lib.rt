@@ -6,6 +6,3 @@ mod text;
 
 pub use sums::Sums;
 pub use text::{push_servers, push_window};
-
-#[cfg(test)]
-mod tests;

@@ -1,4 +1,0 @@
-use Rattle.binom_queue.proofs.tests.call.Goals as goal
-
-pub returns-clause-keys : goal.returns-clause-keys
-returns-clause-keys g c = c.take-taken.ensures.keys c.args.range.0 c.args.range.1 c.requires.keys

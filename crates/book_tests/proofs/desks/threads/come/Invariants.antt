@@ -1,0 +1,6 @@
+use Rattle.std.proofs.Common.{◌≡◌}
+use Rattle.grant_desk.specs.Seats.{IsSameSeat}
+use Rattle.book_tests.proofs.desks.threads.come.Given as goal
+
+abbrev pub invariant-loop : goal.invariant-loop
+invariant-loop g l = IsSameSeat l.initial.relay l.relay

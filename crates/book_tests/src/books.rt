@@ -1,0 +1,150 @@
+ghost use Rattle.std.specs.Prelude.{◌≡◌, ◌<◌, ◌∷◌, [], IfOk, length};
+ghost use Rattle.dispatch_log.specs.Histories.{first_window};
+ghost use Rattle.grant_board.specs.KeeperCalls.{new_keeper};
+ghost use Rattle.grant_board.specs.Views.{terms};
+ghost use Rattle.outstanding.specs.Books.{terms_of};
+ghost use Rattle.reporting_core.specs.Reporting.{IsNew};
+
+use dispatch_core::Core;
+use dispatch_log::{Queue, ServerSet, Servers, Setup};
+use dispatch_trace::Ticketed;
+use due_key::{Class, Key, Moment, Offset};
+use grant_board::{Board, BoardName, KeeperSeat, RelaySeat, Taking};
+use late_cert::Running;
+use locked_book::{Book, Wanted};
+use pend_queue::ListQueue;
+use place_set::PlaceSet;
+use std::alloc::Global;
+use std::marker::Brand;
+use std::test::Fail;
+use verdict::Ending;
+
+type Lists = ListQueue<Key, usize>;
+
+// One server that serves one request at a time, and four places.
+fn dispatcher(alloc: Global) -> Result<Core<Lists>, Fail>
+    ensures first { IfOk result (λ core. core ≡ first_window core.setup []) }
+    ensures terms { IfOk result (λ core. terms_of core.setup ≡ terms 4 (1 ∷ [])) }
+    ensures one_server { IfOk result (λ core. length core.setup.servers ≡ 1) }
+{
+    let server = ServerSet {
+        limit: 1,
+        maxqueue: 0,
+        weight: 1,
+        rise_fall: None,
+    };
+    let setup = Setup {
+        servers: Servers::from_vec(vec![in alloc; server]?),
+        places: 4,
+        log: 64,
+        retries: 3,
+        redispatch: false,
+        queue_timeout: 0,
+    };
+    if !setup.sound() {
+        return Err(Fail::from("not a sound setup"));
+    }
+    Ok(Core::new(alloc, setup)?)
+}
+
+// A request without a class, an offset and a pin arrives.
+fn arrive<N: BoardName>(
+    alloc: Global,
+    board: &Board,
+    book: &mut Book<Lists, N>,
+) -> Result<Ticketed, Fail>
+    requires { board.now ≡ N.board }
+    ensures { IfOk result (λ it. it.place < N.terms.places) }
+{
+    let wanted = Wanted {
+        class: Class::clamp(0),
+        offset: Offset::clamp(0),
+        pin: None,
+    };
+    let mut woken = PlaceSet::new();
+    let Ok(it) = book.arrive(alloc, board, Moment::zero(), wanted, &mut woken) else {
+        return Err(Fail::from("refused"));
+    };
+    Ok(it)
+}
+
+// The first place that a turn wakes.
+fn turn<N: BoardName>(board: &Board, book: &mut Book<Lists, N>) -> Result<Option<usize>, Fail>
+    requires { board.now ≡ N.board }
+{
+    let mut woken = PlaceSet::new();
+    let Ok(()) = book.turn(board, Moment::zero(), &mut woken) else {
+        return Err(Fail::from("refused"));
+    };
+    Ok(woken.next(0))
+}
+
+fn worst<N: BoardName>(book: &Book<Lists, N>) -> Option<i64> {
+    book.worst(Queue::Backend, Class::clamp(0))
+}
+
+// How many passes the seat has between its take and its post, and after it.
+fn vouch<N: BoardName>(
+    board: &Board,
+    book: &mut Book<Lists, N>,
+    relay: RelaySeat,
+    it: Ticketed,
+) -> Result<(u64, u64), Fail>
+    requires named { (board.now ≡ N.board) × (relay.board ≡ N.board) }
+    requires in_range { it.place < relay.view.terms.places }
+{
+    let mut relay = relay;
+    let pass = match relay.try_take(board, it.place, it.ticket) {
+        Taking::Taken(pass) => pass,
+        Taking::NotYet => return Err(Fail::from("not offered")),
+    };
+    let (mut relay, taken) = book.vouch(board, relay);
+    relay.post(board, pass, Ending::Done);
+    let (_, posted) = book.vouch(board, relay);
+    Ok((taken, posted))
+}
+
+// Two requests arrive; the second one is offered once the first one is over. Passes, the place that was woken, and the worst.
+fn serve_two<N: BoardName>(
+    alloc: Global,
+    board: &Board,
+    book: &mut Book<Lists, N>,
+    relay: RelaySeat,
+) -> Result<(u64, u64, Option<usize>, Option<i64>), Fail>
+    requires named { (board.now ≡ N.board) × (relay.board ≡ N.board) }
+    requires terms { relay.view.terms ≡ N.terms }
+{
+    let first = arrive(alloc, board, book)?;
+    arrive(alloc, board, book)?;
+    let (taken, posted) = vouch(board, book, relay, first)?;
+    let woken = turn(board, book)?;
+    Ok((taken, posted, woken, worst(book)))
+}
+
+fn keep_book<N: BoardName>(
+    alloc: Global,
+    core: Core<Lists>,
+    running: Running,
+    opened: (Board, KeeperSeat, RelaySeat),
+) -> Result<(u64, u64, Option<usize>, Option<i64>), Fail>
+    requires first { core ≡ first_window core.setup [] }
+    requires named { (opened.0 ≡ N.board) × (opened.1.board ≡ N.board) × (opened.2.board ≡ N.board) }
+    requires terms { N.terms ≡ terms_of core.setup }
+    requires seats { (opened.1.view ≡ new_keeper N.terms) × (opened.2.view.terms ≡ N.terms) }
+    requires running { IsNew running (length core.setup.servers) }
+{
+    let (board, seat, relay) = opened;
+    let mut book: Book<Lists, N> = Book::new(core, seat, running);
+    serve_two(alloc, &board, &mut book, relay)
+}
+
+#[test]
+fn a_slot_is_handed_on(rt: HostRuntime) -> Result<(), Fail> {
+    let alloc = rt.alloc();
+    let running = Running::new(alloc, 1)?;
+    let opened = Board::open(alloc, 4, &[1])?;
+    let core = dispatcher(alloc)?;
+    let told = keep_book::<Brand>(alloc, core, running, opened)?;
+    assert_eq!(rt; told, (1, 0, Some(1), Some(0)));
+    Ok(())
+}

@@ -1,0 +1,211 @@
+ghost use Rattle.std.specs.Prelude.{◌≡◌, ◌<◌, ◌≤◌, [], IfOk, length, map, true};
+ghost use Rattle.dispatch_log.specs.Histories.{first_window};
+ghost use Rattle.grant_board.specs.KeeperCalls.{new_keeper};
+ghost use Rattle.grant_board.specs.RelayCalls.{new_relay};
+ghost use Rattle.grant_desk.specs.Seats.{IsSameSeat};
+ghost use Rattle.outstanding.specs.Books.{terms_of};
+ghost use Rattle.reporting_core.specs.Reporting.{IsNew};
+
+use dispatch_core::Core;
+use dispatch_log::{Queue, Refusal, ServerSet, Servers, Setup};
+use dispatch_trace::Ticketed;
+use due_key::{Class, Due, Moment, Offset};
+use grant_board::{Board, BoardName, Closing, KeeperSeat, RelaySeat, Taking};
+use grant_desk::{Desk, Queues};
+use late_cert::{Report, Reports, Running, Stay};
+use locked_book::Wanted;
+use place_set::PlaceSet;
+use reporting_core::{ServerLine, Window};
+use std::alloc::Global;
+use std::marker::Brand;
+use std::sync::Wait;
+use std::test::Fail;
+use verdict::{Cause, Ending, Verdict};
+
+mod changes;
+mod events;
+mod overtaking;
+mod redispatch;
+mod threads;
+mod windows;
+
+// A dispatcher that has done nothing, and the board that was opened for its places and limits.
+#[derive(Drop)]
+struct Opened {
+    core: Core<Queues>,
+    board: Board,
+    seat: KeeperSeat,
+    relay: RelaySeat,
+    running: Running,
+    ghost first: { core ≡ first_window core.setup [] },
+    ghost named: { (seat.board ≡ board) × (relay.board ≡ board) },
+    ghost keeper: { seat.view ≡ new_keeper (terms_of core.setup) },
+    ghost views: { relay.view ≡ new_relay (terms_of core.setup) true },
+    ghost told_nothing: { IsNew running (length core.setup.servers) },
+}
+
+// A server whose health one result of a check decides.
+fn server(limit: u32) -> ServerSet
+    ensures { result.limit ≡ limit }
+{
+    ServerSet {
+        limit,
+        maxqueue: 0,
+        weight: 1,
+        rise_fall: Some((1, 1)),
+    }
+}
+
+fn open(alloc: Global, setup: Setup, limits: &[u32]) -> Result<Opened, Fail>
+    requires limits { map (λ server. server.limit) setup.servers ≡ limits.now }
+{
+    if !setup.sound() {
+        return Err(Fail::from("not a sound setup"));
+    }
+    let running = Running::new(alloc, limits.len())?;
+    let (board, seat, relay) = Board::open(alloc, setup.places, limits)?;
+    Ok(Opened {
+        core: Core::new(alloc, setup)?,
+        board,
+        seat,
+        relay,
+        running,
+    })
+}
+
+// One server, so many places, and a timeout of 10 ms in queues.
+fn one_server(alloc: Global, places: usize, log: usize, limit: u32) -> Result<Opened, Fail> {
+    let servers = vec![in alloc; server(limit)]?;
+    let setup = Setup {
+        servers: Servers::from_vec(servers),
+        places,
+        log,
+        retries: 3,
+        redispatch: false,
+        queue_timeout: 10,
+    };
+    open(alloc, setup, &[limit])
+}
+
+// A desk over what was opened, and the first of the seats that take.
+fn start<N: BoardName>(opened: Opened) -> (Desk<N>, RelaySeat)
+    requires named { opened.board ≡ N.board }
+    requires terms { N.terms ≡ terms_of opened.core.setup }
+    ensures board { result.1.board ≡ N.board }
+    ensures view { result.1.view ≡ new_relay N.terms true }
+{
+    let Opened {
+        core,
+        board,
+        seat,
+        relay,
+        running,
+    } = opened;
+    (Desk::new(core, board, seat, running), relay)
+}
+
+// What a request of class 0 without a pin asks for.
+fn offset(millis: i64) -> Wanted {
+    Wanted {
+        class: Class::clamp(0),
+        offset: Offset::clamp(millis),
+        pin: None,
+    }
+}
+
+fn at(millis: u64) -> Result<Moment, Fail> {
+    let Some(moment) = Moment::new(millis) else {
+        return Err(Fail::from("no moment"));
+    };
+    Ok(moment)
+}
+
+// A request arrives and isn't refused.
+fn arrive<N: BoardName, R: Wait>(
+    rt: &R,
+    alloc: Global,
+    desk: &Desk<N>,
+    moment: u64,
+    wanted: Wanted,
+) -> Result<Ticketed, Fail>
+    ensures { IfOk result (λ it. it.place < N.terms.places) }
+{
+    let mut woken = PlaceSet::new();
+    let Ok(it) = desk.arrive(rt, alloc, at(moment)?, wanted, &mut woken) else {
+        return Err(Fail::from("refused"));
+    };
+    Ok(it)
+}
+
+// A turn that isn't refused, and the first place that it woke.
+fn turn<N: BoardName, R: Wait>(rt: &R, desk: &Desk<N>, moment: u64) -> Result<Option<usize>, Fail> {
+    let mut woken = PlaceSet::new();
+    let Ok(()) = desk.turn(rt, at(moment)?, &mut woken) else {
+        return Err(Fail::from("refused"));
+    };
+    Ok(woken.next(0))
+}
+
+fn check<N: BoardName, R: Wait>(
+    rt: &R,
+    desk: &Desk<N>,
+    moment: u64,
+    server: usize,
+    ok: bool,
+) -> Result<(), Fail> {
+    let mut woken = PlaceSet::new();
+    let Ok(()) = desk.check(rt, at(moment)?, server, ok, &mut woken) else {
+        return Err(Fail::from("refused"));
+    };
+    Ok(())
+}
+
+// Takes the request's verdict where it is offered, and posts that the exchange is over.
+fn serve(board: &Board, relay: &mut RelaySeat, it: Ticketed) -> Option<Verdict>
+    requires same_board { relay.old.board ≡ board.now }
+    requires in_range { it.place < relay.old.view.terms.places }
+    ensures { IsSameSeat relay.old relay.new }
+{
+    match relay.try_take(board, it.place, it.ticket) {
+        Taking::Taken(pass) => {
+            let verdict = pass.verdict();
+            relay.post(board, pass, Ending::Done);
+            Some(verdict)
+        }
+        Taking::NotYet => None,
+    }
+}
+
+// The greatest lateness of a class in the backend's queue.
+fn worst<N: BoardName, R: Wait>(rt: &R, desk: &Desk<N>, class: i64) -> Option<i64> {
+    desk.worst(rt, Queue::Backend, Class::clamp(class))
+}
+
+fn reports<N: BoardName, R: Wait>(rt: &R, alloc: Global, desk: &Desk<N>) -> Result<Reports, Fail> {
+    Ok(desk.report(rt, alloc)?)
+}
+
+fn stay(ticket: u64, joined: usize, slot: usize, moment: u64, offset: i64) -> Result<Stay, Fail> {
+    Ok(Stay {
+        ticket,
+        joined,
+        slot,
+        due: Due::of(at(moment)?, Offset::clamp(offset)),
+    })
+}
+
+// Whether these are one report on class 0 of the backend's queue: how many, the worst and its due date; the cut and the slot.
+fn is_report(
+    reports: &Reports,
+    numbers: (usize, i64, i64),
+    slots: (usize, usize),
+    critical: &[Stay],
+) -> bool {
+    let [report] = reports.as_slice() else {
+        return false;
+    };
+    (report.queue, report.class.get()) == (Queue::Backend, 0)
+        && (report.granted, report.worst, report.due.get()) == numbers
+        && (report.after, report.to) == slots
+        && report.critical.as_slice() == critical
+}

@@ -1,0 +1,146 @@
+use clap::{Arg, ArgAction, Command};
+use std::alloc::{AllocError, Global};
+
+const SCRIPT_HELP: &str = "\
+A script may begin with header lines, and then has one event a line. A line that
+begins with # is a comment. The header lines, and what stands without them:
+  places N               the greatest number of live requests (64)
+  log N                  the greatest number of log entries (262144)
+  retries N              further tries where a connection fails (3)
+  redispatch             the last try goes elsewhere, and so does the queue of a
+                         server that goes down (off)
+  queue-timeout N        the longest stay in a queue in ms, 0 for no limit (0)
+  server NAME MAXCONN MAXQUEUE WEIGHT [RISE FALL]
+                         one more server, checked where it has RISE and FALL
+                         (server s1 1 0 1)
+The events:
+  M arrive C O [NAME]    at moment M (ms) a request of class C comes, due O ms
+                         later, bound to the server NAME or to none
+  M done T               the request with ticket T is over
+  M fail T               a connection of ticket T, which has a slot, failed
+  M abort T              the client of ticket T, which waits, gave up
+  M tick                 time has passed: stays that lasted too long end
+  M check NAME up|down   a check of the server was answered, or not
+  M limit NAME MAXCONN   the server may serve so many at once from now on
+  roll                   the reports so far, and the next window of the log
+
+For example, dueproxy replay reads
+  0 arrive 0 0
+  1 arrive 0 0
+  2 arrive 0 -5
+  10 done 1
+and grants the slot of ticket 1 to ticket 3, which is due before ticket 2.";
+
+const CHECK_HELP: &str = "\
+Prints one of
+  ok servers N           the configuration is good and has N servers: status 0
+  config line L: CAUSE   line L is the first faulty one: status 3
+  read fault             the file can't be read: status 1
+
+With --explain each faulty line is named, the word at fault marked, and it is said
+what takes the place of a keyword of HAProxy that isn't there; at the end stands
+  lines to change: N
+
+For example, dueproxy check examples/shop.cfg";
+
+const DRAW_HELP: &str = "\
+Reads a script or a trace from standard input, and writes the picture to standard
+output: a lane for each queue and for each server, a bar for each request that waits
+or is served, and for each report the requests that prove its lateness.
+
+For example, dueproxy draw < examples/overtaking.script > overtaking.svg";
+
+const TELL_HELP: &str = "\
+Reads a script or a trace from standard input, and says when the request came, where
+it waited and for whom, when it was served and how late.
+
+For example, dueproxy explain 2 < examples/overtaking.script";
+
+/// The subcommands but `run`, one of which has to be there.
+pub fn subcommands<'a>(alloc: Global) -> Result<Command<'a>, AllocError> {
+    let command = dueproxy(alloc).subcommand(replay(alloc))?;
+    let command = with(command, draw(alloc))?;
+    let command = with(command, tell(alloc))?;
+    with(command, check(alloc))
+}
+
+fn with<'a>(
+    command: Command<'a>,
+    below: Result<Command<'a>, AllocError>,
+) -> Result<Command<'a>, AllocError> {
+    match below {
+        Ok(below) => command.subcommand(below),
+        Err(error) => Err(error),
+    }
+}
+
+fn dueproxy<'a>(alloc: Global) -> Command<'a> {
+    Command::new(alloc, "dueproxy")
+        .about("Queues requests by class and due date")
+        .after_help(SCRIPT_HELP)
+        .subcommand_required(true)
+}
+
+fn replay<'a>(alloc: Global) -> Command<'a> {
+    Command::new(alloc, "replay")
+        .about("Runs a script of events from standard input, and prints what the dispatcher did")
+        .after_help(SCRIPT_HELP)
+}
+
+fn draw<'a>(alloc: Global) -> Result<Command<'a>, AllocError> {
+    Command::new(alloc, "draw")
+        .about("Draws a script, or a trace that replay wrote, as a picture for a browser (SVG)")
+        .after_help(DRAW_HELP)
+        .arg(of(alloc))
+}
+
+fn tell<'a>(alloc: Global) -> Result<Command<'a>, AllocError> {
+    Command::new(alloc, "explain")
+        .about("Tells the story of one request of a script, or of a trace that replay wrote")
+        .after_help(TELL_HELP)
+        .arg(ticket(alloc))
+}
+
+fn check<'a>(alloc: Global) -> Result<Command<'a>, AllocError> {
+    Command::new(alloc, "check")
+        .about(
+            "Reads a configuration, and prints how many servers it has, or its first faulty line",
+        )
+        .after_help(CHECK_HELP)
+        .arg(explain(alloc))?
+        .arg(file(alloc))
+}
+
+fn explain<'a>(alloc: Global) -> Arg<'a> {
+    Arg::new(alloc, "explain")
+        .long("explain")
+        .action(ArgAction::SetTrue)
+        .help("Names every faulty line, and what takes the place of HAProxy's keywords")
+}
+
+fn of<'a>(alloc: Global) -> Arg<'a> {
+    Arg::new(alloc, "of")
+        .long("of")
+        .action(ArgAction::Set)
+        .num_args(2)
+        .allow_hyphen_values(true)
+        .value_names(&["QUEUE", "CLASS"])
+        .help(
+            "Of the requests of one class alone that wait in one queue: a server's name, or * for the backend's",
+        )
+}
+
+fn ticket<'a>(alloc: Global) -> Arg<'a> {
+    Arg::new(alloc, "TICKET")
+        .required(true)
+        .action(ArgAction::Set)
+        .help("The request: the first that came has ticket 1, the next 2")
+}
+
+/// The configuration's name.
+pub fn file<'a>(alloc: Global) -> Arg<'a> {
+    Arg::new(alloc, "FILE")
+        .required(true)
+        .action(ArgAction::Set)
+        .help("The configuration")
+}

@@ -1,0 +1,91 @@
+use clap::error::ErrorKind;
+use clap::{ArgMatches, Error};
+use due_key::Class;
+use proxy_words::{long_number, signed_long_number};
+
+/// The queue's name and the class that a picture is to show alone.
+#[derive(Debug, PartialEq, Eq, Drop)]
+pub struct Only {
+    pub queue: String,
+    pub class: Class,
+}
+
+/// What the words of the command line ask for.
+#[derive(Debug, PartialEq, Eq, Drop)]
+pub enum Asked {
+    Replay,
+    /// Look at the configuration in the file of this name.
+    Check(String),
+    /// The same, with every faulty line and what takes its place.
+    Explain(String),
+    /// Draw the script or the trace, of all or of one queue and class.
+    Draw(Option<Only>),
+    /// Tell the story of this ticket.
+    Tell(u64),
+    /// Nothing more: help was printed, or a fault in the words, and this is the status.
+    Nothing(u8),
+}
+
+/// What the words of a subcommand ask for; what is wrong with them is printed.
+pub fn asked_of(rt: &(impl Eprint + AllocGlobal), name: &str, words: &ArgMatches) -> Asked {
+    match name {
+        "replay" => Asked::Replay,
+        "check" => check_of(rt, words),
+        "draw" => draw_of(rt, words),
+        "explain" => tell_of(rt, words),
+        // clap refuses all other words.
+        _ => Asked::Nothing(2),
+    }
+}
+
+fn check_of(rt: &(impl Eprint + AllocGlobal), words: &ArgMatches) -> Asked {
+    let explain = words.get_flag("explain");
+    match String::from_str(rt.alloc(), words.get_str("FILE").unwrap_or_default()) {
+        Ok(file) if explain => Asked::Explain(file),
+        Ok(file) => Asked::Check(file),
+        Err(_) => no_memory(rt),
+    }
+}
+
+// All, or the two words behind `--of`.
+fn draw_of(rt: &(impl Eprint + AllocGlobal), words: &ArgMatches) -> Asked {
+    let Some([queue, class, ..]) = words.get_strs("of") else {
+        return Asked::Draw(None);
+    };
+    let Some(class) = signed_long_number(class.as_bytes()) else {
+        let _ = rt.eprintln("the CLASS of --of is a number");
+        return Asked::Nothing(2);
+    };
+    let Ok(queue) = String::from_str(rt.alloc(), queue) else {
+        return no_memory(rt);
+    };
+    Asked::Draw(Some(Only {
+        queue,
+        class: Class::clamp(class),
+    }))
+}
+
+fn tell_of(rt: &impl Eprint, words: &ArgMatches) -> Asked {
+    match long_number(words.get_str("TICKET").unwrap_or_default().as_bytes()) {
+        Some(ticket) => Asked::Tell(ticket),
+        None => {
+            let _ = rt.eprintln("a TICKET is a number");
+            Asked::Nothing(2)
+        }
+    }
+}
+
+/// Prints help or what is wrong with the words.
+pub fn refuse(rt: &(impl Print + Eprint + AllocGlobal), error: Error) -> Asked {
+    if error.kind() == ErrorKind::OutOfMemory {
+        return no_memory(rt);
+    }
+    let _ = error.print(rt);
+    Asked::Nothing(if error.exit_code() == 0 { 0 } else { 2 })
+}
+
+/// Says that there is no memory.
+pub fn no_memory(rt: &impl Eprint) -> Asked {
+    let _ = rt.eprintln("no memory");
+    Asked::Nothing(1)
+}

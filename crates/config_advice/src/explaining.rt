@@ -1,0 +1,312 @@
+//! `check --explain`: every faulty line of a configuration, and what takes its place.
+//!
+//! What is faulty is asked of the configuration's own reader. A line that it names is set right as the explanation says, by
+//! leaving it out or by putting its section into the one `listen`, and the file is read again.
+
+use crate::advising::{advice, sentence};
+use proxy_config::{ConfigFault, FaultCause, MOST_BYTES, ReadError, read};
+use proxy_words::{Lines, Words, without_comment};
+use std::alloc::{AllocError, Global};
+
+/// The most faulty lines that are named: each of them costs some readings of the file.
+const MOST_FAULTS: usize = 1000;
+
+/// The most words of a line among which the one at fault is looked for.
+const MOST_WORDS: usize = 64;
+
+/// What there is to say of a configuration.
+#[derive(Debug, Drop)]
+pub struct Explanation {
+    pub text: String,
+    /// How many lines would have to change.
+    pub faulty: usize,
+    /// Whether nothing is wrong.
+    pub whole: bool,
+}
+
+/// Names every faulty line, up to a thousand.
+pub fn explain(alloc: Global, bytes: &[u8]) -> Result<Explanation, AllocError> {
+    let mut text = String::new(alloc);
+    let mut faulty = 0;
+    if MOST_BYTES < bytes.len() {
+        text.push_str("The file is longer than 1048576 bytes.\n")?;
+        return Ok(Explanation {
+            text,
+            faulty: 0,
+            whole: false,
+        });
+    }
+    let mut lines = lines_of(alloc, bytes)?;
+    for turn in 0..MOST_FAULTS {
+        let Some(fault) = first_fault(alloc, &lines)? else {
+            let whole = turn == 0;
+            return Ok(Explanation {
+                text,
+                faulty,
+                whole,
+            });
+        };
+        if fault.cause == FaultCause::Missing {
+            text.push_str(missing(fault))?;
+            break;
+        }
+        faulty = turn + 1;
+        let word = word_at_fault(alloc, &lines, fault)?;
+        describe(alloc, &mut text, &lines, fault, word)?;
+        set_right(alloc, &mut lines, fault, word)?;
+    }
+    Ok(Explanation {
+        text,
+        faulty,
+        whole: false,
+    })
+}
+
+fn missing(fault: ConfigFault) -> &'static str {
+    if fault.line == 0 {
+        "Then there is no listen.\n\n"
+    } else {
+        "Then the listen lacks a bind or a server.\n\n"
+    }
+}
+
+fn lines_of(alloc: Global, bytes: &[u8]) -> Result<Vec<Vec<u8>>, AllocError> {
+    let mut all = Vec::new(alloc);
+    let mut lines = Lines::new(bytes);
+    'lines: while let Some(line) = lines.next() {
+        all.push(Vec::from_slice(alloc, line)?)?;
+    }
+    Ok(all)
+}
+
+fn first_fault(alloc: Global, lines: &[Vec<u8>]) -> Result<Option<ConfigFault>, AllocError> {
+    let mut bytes = Vec::new(alloc);
+    for line in lines {
+        bytes.extend_from_slice(line)?;
+        bytes.push(b'\n')?;
+    }
+    fault_of(alloc, &bytes)
+}
+
+fn fault_of(alloc: Global, bytes: &[u8]) -> Result<Option<ConfigFault>, AllocError> {
+    match read(alloc, bytes) {
+        Ok(_) => Ok(None),
+        Err(ReadError::Fault(fault)) => Ok(Some(fault)),
+        Err(ReadError::NoMemory) => Err(AllocError),
+    }
+}
+
+/// The fault of the file where a line has its first words alone.
+fn fault_of_front(
+    alloc: Global,
+    lines: &[Vec<u8>],
+    at: usize,
+    front: &[u8],
+) -> Result<Option<ConfigFault>, AllocError> {
+    let mut bytes = Vec::new(alloc);
+    for (i, line) in lines.iter().enumerate() {
+        bytes.extend_from_slice(if i == at { front } else { line })?;
+        bytes.push(b'\n')?;
+    }
+    fault_of(alloc, &bytes)
+}
+
+/// Where a fault stands among the lines.
+fn place_of(fault: ConfigFault) -> usize {
+    (fault.line as usize).saturating_sub(1)
+}
+
+/// Leaves the line out, but for the front of a `bind` or a `server` that says enough; where it begins a section that the
+/// `listen` takes the place of, makes it that.
+fn set_right(
+    alloc: Global,
+    lines: &mut Vec<Vec<u8>>,
+    fault: ConfigFault,
+    word: Option<usize>,
+) -> Result<(), AllocError> {
+    let at = place_of(fault);
+    let kept = if fault.cause == FaultCause::Section {
+        Vec::from_slice(alloc, section_instead(lines, at))?
+    } else {
+        front_instead(alloc, lines, at, word.unwrap_or(0))?
+    };
+    if let Some(line) = lines.get_mut(at) {
+        *line = kept;
+    }
+    Ok(())
+}
+
+/// What stands for a refused section's first line.
+fn section_instead(lines: &[Vec<u8>], at: usize) -> &'static [u8] {
+    let word = lines
+        .get(at)
+        .map_or(b"".as_slice(), |line| first_word(line));
+    let has_listen = lines
+        .iter()
+        .any(|line| first_word(line) == b"listen".as_slice());
+    if word == b"listen".as_slice() {
+        b"".as_slice()
+    } else if word != b"frontend".as_slice() && word != b"backend".as_slice() {
+        // what follows isn't looked at
+        b"global".as_slice()
+    } else if has_listen {
+        b"".as_slice()
+    } else {
+        b"listen merged".as_slice()
+    }
+}
+
+/// What stands for a faulty line: the words before the one at fault, where they are a `bind` or a `server`, or nothing.
+fn front_instead(
+    alloc: Global,
+    lines: &[Vec<u8>],
+    at: usize,
+    place: usize,
+) -> Result<Vec<u8>, AllocError> {
+    let Some(line) = lines.get(at) else {
+        return Ok(Vec::new(alloc));
+    };
+    let word = first_word(line);
+    if place > 1 && (word == b"bind".as_slice() || word == b"server".as_slice()) {
+        let (_, end) = span_of(line, place - 1);
+        let front = line.get(..end).unwrap_or(b"".as_slice());
+        let left = fault_of_front(alloc, lines, at, front)?;
+        if left.is_none_or(|fault| place_of(fault) != at) {
+            return Vec::from_slice(alloc, front);
+        }
+    }
+    Ok(Vec::new(alloc))
+}
+
+fn first_word(line: &[u8]) -> &[u8] {
+    word_at(line, 0)
+}
+
+fn word_at(line: &[u8], place: usize) -> &[u8] {
+    let mut words = Words::new(without_comment(line));
+    for _ in 0..place {
+        if words.next().is_none() {
+            break;
+        }
+    }
+    words.next().unwrap_or(b"".as_slice())
+}
+
+/// Writes a line with its number, marks the word at fault, and says what is wrong and what takes its place.
+fn describe(
+    alloc: Global,
+    text: &mut String,
+    lines: &[Vec<u8>],
+    fault: ConfigFault,
+    word: Option<usize>,
+) -> Result<(), AllocError> {
+    let Some(line) = lines.get(place_of(fault)) else {
+        return Ok(());
+    };
+    let number = fault.line;
+    let head = format!(in alloc; "line {number}: ")?;
+    text.push_str(head.as_str())?;
+    push_bytes(text, line)?;
+    text.push('\n')?;
+    push_mark(text, head.len(), line, word)?;
+    let cause = fault.cause;
+    let said = sentence(cause);
+    text.push_str(format!(in alloc; "  {cause}: {said}\n")?.as_str())?;
+    let at_fault = word.map_or(b"".as_slice(), |place| word_at(line, place));
+    if let Some(advice) = advice(cause, first_word(line), word_at(line, 1), at_fault) {
+        text.push_str(format!(in alloc; "  instead: {advice}\n")?.as_str())?;
+    }
+    text.push('\n')
+}
+
+/// The place of the word at fault among a line's words; none where the line ends too early.
+///
+/// Words are read from the left. So the word is the last of the shortest front of the line that has the fault; and where there
+/// are too many, the first behind the longest front that hasn't.
+fn word_at_fault(
+    alloc: Global,
+    lines: &[Vec<u8>],
+    fault: ConfigFault,
+) -> Result<Option<usize>, AllocError> {
+    let at = place_of(fault);
+    let Some(line) = lines.get(at) else {
+        return Ok(None);
+    };
+    let mut fine = None;
+    for count in 1..MOST_WORDS {
+        let (_, end) = span_of(line, count - 1);
+        if end == 0 {
+            break;
+        }
+        let front = line.get(..end).unwrap_or(b"".as_slice());
+        let faulty = fault_of_front(alloc, lines, at, front)? == Some(fault);
+        if faulty && fault.cause != FaultCause::Words {
+            return Ok(Some(count - 1));
+        }
+        if !faulty {
+            fine = Some(count);
+        }
+    }
+    Ok(fine)
+}
+
+/// Where a word of a line begins and ends; 0 and 0 where it has none there.
+fn span_of(line: &[u8], place: usize) -> (usize, usize) {
+    let mut seen = 0;
+    let mut start = 0;
+    let mut within = false;
+    let text = without_comment(line);
+    for (i, byte) in text.iter().enumerate() {
+        let blank = *byte == b' ' || *byte == b'\t';
+        if within && blank {
+            if seen == place {
+                return (start, i);
+            }
+            seen = i.min(seen) + 1;
+            within = false;
+        } else if !within && !blank {
+            start = i;
+            within = true;
+        }
+    }
+    if within && seen == place {
+        (start, text.len())
+    } else {
+        (0, 0)
+    }
+}
+
+// Bytes that aren't to be printed are shown as a question mark, and a tab as one blank.
+fn push_bytes(text: &mut String, bytes: &[u8]) -> Result<(), AllocError> {
+    for byte in bytes {
+        text.push(match *byte {
+            b'\t' => ' ',
+            b' '..=b'~' => char::from(*byte),
+            _ => '?',
+        })?;
+    }
+    Ok(())
+}
+
+// The mark stands below the word, or behind the line where that ends too early.
+fn push_mark(
+    text: &mut String,
+    head: usize,
+    line: &[u8],
+    word: Option<usize>,
+) -> Result<(), AllocError> {
+    let (start, end) = match word {
+        Some(place) => span_of(line, place),
+        None => (line.len(), line.len().saturating_add(1)),
+    };
+    for _ in 0..head {
+        text.push(' ')?;
+    }
+    for _ in 0..start {
+        text.push(' ')?;
+    }
+    for _ in start..end {
+        text.push('^')?;
+    }
+    text.push('\n')
+}

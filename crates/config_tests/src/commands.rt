@@ -1,0 +1,68 @@
+use command_words::{Asked, Only, asked_of, refuse, subcommands};
+use due_key::Class;
+use std::test::Fail;
+
+// What words ask for.
+fn asked(rt: &HostRuntime, words: &[&str]) -> Result<Asked, Fail> {
+    let mut texts = Vec::new(rt.alloc());
+    for word in words {
+        texts.push(String::from_str(rt.alloc(), word)?)?;
+    }
+    match subcommands(rt.alloc())?.try_get_matches_from(&texts) {
+        Err(error) => Ok(refuse(rt, error)),
+        Ok(matches) => match matches.subcommand() {
+            Some((name, words)) => Ok(asked_of(rt, name, words)),
+            None => Err(Fail::from("no subcommand")),
+        },
+    }
+}
+
+#[test]
+fn a_picture_is_of_all_or_of_a_queue_and_class(rt: HostRuntime) -> Result<(), Fail> {
+    assert_eq!(rt; asked(&rt, &["dueproxy", "draw"])?, Asked::Draw(None));
+    let only = Only {
+        queue: String::from_str(rt.alloc(), "*")?,
+        class: Class::clamp(-1),
+    };
+    assert_eq!(rt;
+        asked(&rt, &["dueproxy", "draw", "--of", "*", "-1"])?,
+        Asked::Draw(Some(only))
+    );
+    assert_eq!(rt;
+        asked(&rt, &["dueproxy", "draw", "--of", "*"])?,
+        Asked::Nothing(2)
+    );
+    assert_eq!(rt;
+        asked(&rt, &["dueproxy", "draw", "--of", "*", "x"])?,
+        Asked::Nothing(2)
+    );
+    Ok(())
+}
+
+#[test]
+fn subcommands_are_told_apart(rt: HostRuntime) -> Result<(), Fail> {
+    assert_eq!(rt; asked(&rt, &["dueproxy", "replay"])?, Asked::Replay);
+    let file = String::from_str(rt.alloc(), "file")?;
+    assert_eq!(rt;
+        asked(&rt, &["dueproxy", "check", "file"])?,
+        Asked::Check(file)
+    );
+    let file = String::from_str(rt.alloc(), "file")?;
+    assert_eq!(rt;
+        asked(&rt, &["dueproxy", "check", "--explain", "file"])?,
+        Asked::Explain(file)
+    );
+    assert_eq!(rt; asked(&rt, &["dueproxy", "check"])?, Asked::Nothing(2));
+    assert_eq!(rt; asked(&rt, &["dueproxy", "explain", "7"])?, Asked::Tell(7));
+    assert_eq!(rt;
+        asked(&rt, &["dueproxy", "explain", "x"])?,
+        Asked::Nothing(2)
+    );
+    assert_eq!(rt; asked(&rt, &["dueproxy", "--help"])?, Asked::Nothing(0));
+    assert_eq!(rt; asked(&rt, &["dueproxy"])?, Asked::Nothing(2));
+    assert_eq!(rt;
+        asked(&rt, &["dueproxy", "replay", "more"])?,
+        Asked::Nothing(2)
+    );
+    Ok(())
+}

@@ -1,6 +1,0 @@
-use Rattle.std.proofs.Common.{◌≡◌}
-use Rattle.grant_desk.specs.Seats.{IsSameSeat}
-use Rattle.grant_desk.proofs.tests.threads.come.Given as goal
-
-abbrev pub invariant-loop : goal.invariant-loop
-invariant-loop g l = IsSameSeat l.initial.relay l.relay

@@ -1,6 +1,0 @@
-use Rattle.std.proofs.Common.{◌≡◌}
-use Rattle.grant_desk.specs.Seats.{IsSameSeat}
-use Rattle.grant_desk.proofs.tests.threads.come_and_go.Given as goal
-
-abbrev pub invariant-loop-number : goal.invariant-loop-number
-invariant-loop-number g l = IsSameSeat l.initial.relay l.relay

@@ -1,0 +1,17 @@
+use std::test::Fail;
+use verdict::Cause;
+
+#[test]
+fn causes_have_their_words(rt: HostRuntime) -> Result<(), Fail> {
+    let rows = [
+        (Cause::Aborted, "aborted"),
+        (Cause::Timeout, "timeout"),
+        (Cause::Retries, "retries"),
+        (Cause::NoServer, "noserver"),
+    ];
+    for (cause, word) in rows {
+        let text = format!(in rt.alloc(); "{cause}")?;
+        assert_eq!(rt; text.as_str(), word);
+    }
+    Ok(())
+}

@@ -1,0 +1,66 @@
+use due_key::{Class, Due, Key, Moment, Offset};
+use std::test::Fail;
+
+fn moment(number: u64) -> Result<Moment, Fail> {
+    Ok(Moment::new(number).ok_or("a moment out of range")?)
+}
+
+#[test]
+fn classes_and_offsets_end_at_their_limits(rt: HostRuntime) -> Result<(), Fail> {
+    assert_eq!(rt; Class::clamp(-2048).get(), -2047);
+    assert_eq!(rt; Class::clamp(5).get(), 5);
+    assert_eq!(rt; Class::clamp(i64::MAX).get(), 2047);
+    assert_eq!(rt; Offset::clamp(i64::MIN).get(), -524_287);
+    assert_eq!(rt; Offset::clamp(-1).get(), -1);
+    assert_eq!(rt; Offset::clamp(600_000).get(), 524_287);
+    Ok(())
+}
+
+#[test]
+fn moments_end_below_two_to_the_62(rt: HostRuntime) -> Result<(), Fail> {
+    assert_eq!(rt; moment((1 << 62) - 1)?.get(), (1 << 62) - 1);
+    assert_eq!(rt; Moment::new(1 << 62), None);
+    assert_eq!(rt; Moment::zero().get(), 0);
+    assert_eq!(rt; moment(3)?.later(moment(7)?).get(), 7);
+    Ok(())
+}
+
+#[test]
+fn due_dates_are_exact_sums(rt: HostRuntime) -> Result<(), Fail> {
+    let earliest = Due::of(Moment::zero(), Offset::clamp(-600_000));
+    let last = moment((1 << 62) - 1)?;
+    let latest = Due::of(last, Offset::clamp(600_000));
+    assert_eq!(rt; earliest.get(), -524_287);
+    assert_eq!(rt; latest.get(), (1 << 62) - 1 + 524_287);
+    assert_eq!(rt; earliest.lateness(last), (1 << 62) - 1 + 524_287);
+    assert_eq!(rt; latest.lateness(Moment::zero()), -((1 << 62) - 1 + 524_287));
+    Ok(())
+}
+
+#[test]
+fn keys_go_by_class_then_due_date_then_ticket(rt: HostRuntime) -> Result<(), Fail> {
+    let key = |class: i64, offset: i64, ticket: u64| Key {
+        class: Class::clamp(class),
+        due: Due::of(Moment::zero(), Offset::clamp(offset)),
+        ticket,
+    };
+    assert!(rt; key(-1, 9, 9) < key(0, -9, 1));
+    assert!(rt; key(0, -9, 9) < key(0, 9, 1));
+    assert!(rt; key(0, 9, 1) < key(0, 9, 2));
+    assert_eq!(rt; key(0, 9, 2), key(0, 9, 2));
+    Ok(())
+}
+
+#[test]
+fn numbers_print_in_decimal(rt: HostRuntime) -> Result<(), Fail> {
+    let due = Due::of(moment(12)?, Offset::clamp(-15));
+    let text = format!(in rt.alloc();
+        "{} {} {} {}",
+        Class::clamp(-7),
+        Offset::clamp(7),
+        moment(12)?,
+        due
+    )?;
+    assert_eq!(rt; text.as_str(), "-7 7 12 -3");
+    Ok(())
+}

@@ -1,0 +1,16 @@
+//! Tests of traces that are read back, of pictures and of stories, those of pseudo-random scripts among them: a crate of their own, so that what they
+//! test isn't proved once more with them.
+#![tactic(auto)]
+
+#[cfg(test)]
+mod drawn_scripts;
+#[cfg(test)]
+mod pictures;
+#[cfg(test)]
+mod stories;
+#[cfg(test)]
+mod stretches;
+#[cfg(test)]
+mod traces;
+#[cfg(test)]
+mod views;

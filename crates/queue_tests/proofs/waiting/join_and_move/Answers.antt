@@ -1,0 +1,8 @@
+use Rattle.std.proofs.Common.{ap, subst}
+use Rattle.wait_queues.specs.Waitlists.{Waitlist, WaitsAt}
+use Rattle.wait_queues.proofs.Changes.{nobody}
+use Rattle.queue_tests.proofs.waiting.join_and_move.Goals as goal
+
+pub join-requires-clause-own_key : goal.join-requires-clause-own_key
+join-requires-clause-own_key g c =
+    λ place its waits same. nobody 4 place its (subst (λ (l : Waitlist). WaitsAt l.waiters place its) c.requires waits)

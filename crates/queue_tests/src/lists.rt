@@ -1,0 +1,263 @@
+ghost use Rattle.std.specs.Prelude.{◌≡◌, ◌<◌, ◌≤◌, [], IfOk, OnOk};
+ghost use Rattle.std.specs.List.{AllByRecursion};
+
+use due_key::{Class, Due, Key, Moment, Offset, order_of_keys};
+use pend_queue::{ListQueue, PendQueue};
+use std::alloc::{AllocError, Global};
+use std::process::Abort;
+use std::test::Fail;
+
+// The last moment.
+const LAST: u64 = (1 << 62) - 1;
+
+const LAST_TICKET: u64 = (1 << 40) - 1;
+
+fn key(class: i64, arrival: u64, offset: i64, ticket: u64) -> Result<Key, Fail>
+    ensures { IfOk result (λ key. key.ticket ≡ ticket) }
+{
+    let arrival = Moment::new(arrival).ok_or("a moment out of range")?;
+    Ok(Key {
+        class: Class::clamp(class),
+        due: Due::of(arrival, Offset::clamp(offset)),
+        ticket,
+    })
+}
+
+// Puts a pair of a ticket from `low` on and below `high` in, in place of one of the same key.
+fn put<Q: PendQueue<Key, usize>>(
+    alloc: Global,
+    queue: &mut Q,
+    key: Key,
+    value: usize,
+    low: u64,
+    high: u64,
+) -> Result<(), Fail>
+    requires room { Q.room queue.old ≡ 8 }
+    requires range { (low ≤ key.ticket) × (key.ticket < high) }
+    requires tickets { AllByRecursion (λ p. (low ≤ p.0.ticket) × (p.0.ticket < high)) (Q.pairs queue.old) }
+    ensures room { Q.room queue.new ≡ 8 }
+    ensures tickets { OnOk result (AllByRecursion (λ p. (low ≤ p.0.ticket) × (p.0.ticket < high)) (Q.pairs queue.new)) }
+{
+    let node = Q::node(alloc, key, value)?;
+    let _ = queue.remove(&key);
+    if queue.len() >= 8 {
+        Err("no room")?;
+    }
+    queue.push(node);
+    Ok(())
+}
+
+// Merges a queue of the tickets from 100 on into one of those below.
+fn merge<Q: PendQueue<Key, usize>>(into: &mut Q, other: &mut Q) -> Result<(), Fail>
+    requires room { Q.room into.old ≡ 8 }
+    requires other_room { Q.room other.old ≡ 8 }
+    requires tickets { AllByRecursion (λ p. (0 ≤ p.0.ticket) × (p.0.ticket < 100)) (Q.pairs into.old) }
+    requires other_tickets { AllByRecursion (λ p. (100 ≤ p.0.ticket) × (p.0.ticket < 200)) (Q.pairs other.old) }
+    ensures room { Q.room into.new ≡ 8 }
+    ensures other_room { Q.room other.new ≡ 8 }
+    ensures other_tickets { OnOk result (AllByRecursion (λ p. (100 ≤ p.0.ticket) × (p.0.ticket < 200)) (Q.pairs other.new)) }
+{
+    order_of_keys();
+    if into.len() + other.len() > 8 {
+        Err("no room")?;
+    }
+    into.merge(other);
+    Ok(())
+}
+
+fn expect_first<Q: PendQueue<Key, usize>>(rt: &impl Abort, queue: &Q, key: Key) {
+    assert_eq!(rt; queue.first().copied(), Some(key));
+}
+
+fn expect_absent<Q: PendQueue<Key, usize>>(rt: &impl Abort, queue: &mut Q, key: Key)
+    requires { Q.room queue.old ≡ 8 }
+    ensures { Q.room queue.new ≡ 8 }
+{
+    assert!(rt; queue.remove(&key).is_none());
+}
+
+fn expect_removed<Q: PendQueue<Key, usize>>(
+    rt: &impl Abort,
+    queue: &mut Q,
+    key: Key,
+    value: usize,
+) -> Result<(), Fail>
+    requires { Q.room queue.old ≡ 8 }
+    ensures { Q.room queue.new ≡ 8 }
+{
+    let node = queue.remove(&key).ok_or("the key is not in")?;
+    assert_eq!(rt; Q::into_pair(node), (key, value));
+    Ok(())
+}
+
+// Takes the pairs out from the least key on, and compares their values.
+fn drain<Q: PendQueue<Key, usize>>(
+    rt: &impl Abort,
+    queue: &mut Q,
+    values: &[usize],
+) -> Result<(), Fail>
+    requires { Q.room queue.old ≡ 8 }
+    ensures { Q.room queue.new ≡ 8 }
+{
+    assert_eq!(rt; queue.len(), values.len());
+    for expected in values {
+        let node = queue.pop().ok_or("empty too early")?;
+        assert_eq!(rt; *Q::pair(&node).1, *expected);
+    }
+    assert!(rt; queue.is_empty());
+    assert!(rt; queue.first().is_none());
+    assert!(rt; queue.pop().is_none());
+    Ok(())
+}
+
+// Room, look-ups and the order of keys at the ends of their ranges.
+fn orders_and_removes<Q: PendQueue<Key, usize>>(
+    rt: &impl Abort,
+    alloc: Global,
+) -> Result<(), Fail> {
+    let mut queue = Q::with_room(alloc, 8)?;
+    assert!(rt; queue.is_empty());
+    put_five(alloc, &mut queue)?;
+    take_five(rt, &mut queue)
+}
+
+fn put_five<Q: PendQueue<Key, usize>>(alloc: Global, queue: &mut Q) -> Result<(), Fail>
+    requires room { Q.room queue.old ≡ 8 }
+    requires empty { Q.pairs queue.old ≡ [] }
+    ensures room { Q.room queue.new ≡ 8 }
+{
+    put(
+        alloc,
+        queue,
+        key(3000, LAST, 600_000, LAST_TICKET)?,
+        5,
+        0,
+        1 << 40,
+    )?;
+    put(
+        alloc,
+        queue,
+        key(2047, 0, -524_287, LAST_TICKET)?,
+        3,
+        0,
+        1 << 40,
+    )?;
+    put(alloc, queue, key(-2047, LAST, 600_000, 0)?, 2, 0, 1 << 40)?;
+    put(alloc, queue, key(-3000, 0, -600_000, 0)?, 1, 0, 1 << 40)?;
+    put(alloc, queue, key(2047, LAST, 524_287, 0)?, 4, 0, 1 << 40)?;
+    Ok(())
+}
+
+fn take_five<Q: PendQueue<Key, usize>>(rt: &impl Abort, queue: &mut Q) -> Result<(), Fail>
+    requires { Q.room queue.old ≡ 8 }
+{
+    assert_eq!(rt; queue.len(), 5);
+    assert!(rt; !queue.is_empty());
+    expect_first(rt, queue, key(-2047, 0, -524_287, 0)?);
+
+    expect_removed(rt, queue, key(2047, 0, -524_287, LAST_TICKET)?, 3)?;
+    expect_absent(rt, queue, key(2047, 0, -524_287, LAST_TICKET)?);
+    expect_removed(rt, queue, key(2047, LAST, 524_287, LAST_TICKET)?, 5)?;
+    expect_removed(rt, queue, key(-2047, 0, -524_287, 0)?, 1)?;
+    expect_first(rt, queue, key(-2047, LAST, 524_287, 0)?);
+    drain(rt, queue, &[2, 4])?;
+    expect_absent(rt, queue, key(0, 0, 0, 0)?);
+    Ok(())
+}
+
+// Two queues whose keys alternate, then the emptied one is used again.
+fn merges<Q: PendQueue<Key, usize>>(rt: &impl Abort, alloc: Global) -> Result<(), Fail> {
+    let mut queue = Q::with_room(alloc, 8)?;
+    let mut other = Q::with_room(alloc, 8)?;
+    merge(&mut queue, &mut other)?;
+    assert!(rt; queue.is_empty());
+    put_three(alloc, &mut queue)?;
+    put_four(alloc, &mut other)?;
+    merge_and_drain(rt, alloc, &mut queue, &mut other)
+}
+
+fn put_three<Q: PendQueue<Key, usize>>(alloc: Global, queue: &mut Q) -> Result<(), Fail>
+    requires room { Q.room queue.old ≡ 8 }
+    requires tickets { AllByRecursion (λ p. (0 ≤ p.0.ticket) × (p.0.ticket < 100)) (Q.pairs queue.old) }
+    ensures room { Q.room queue.new ≡ 8 }
+    ensures tickets { OnOk result (AllByRecursion (λ p. (0 ≤ p.0.ticket) × (p.0.ticket < 100)) (Q.pairs queue.new)) }
+{
+    put(alloc, queue, key(0, 6, 0, 1)?, 6, 0, 100)?;
+    put(alloc, queue, key(0, 2, 0, 2)?, 2, 0, 100)?;
+    put(alloc, queue, key(0, 4, 0, 3)?, 4, 0, 100)
+}
+
+fn put_four<Q: PendQueue<Key, usize>>(alloc: Global, queue: &mut Q) -> Result<(), Fail>
+    requires room { Q.room queue.old ≡ 8 }
+    requires tickets { AllByRecursion (λ p. (100 ≤ p.0.ticket) × (p.0.ticket < 200)) (Q.pairs queue.old) }
+    ensures room { Q.room queue.new ≡ 8 }
+    ensures tickets { OnOk result (AllByRecursion (λ p. (100 ≤ p.0.ticket) × (p.0.ticket < 200)) (Q.pairs queue.new)) }
+{
+    put(alloc, queue, key(0, 3, 0, 100)?, 3, 100, 200)?;
+    put(alloc, queue, key(0, 7, 0, 101)?, 7, 100, 200)?;
+    put(alloc, queue, key(0, 1, 0, 102)?, 1, 100, 200)?;
+    put(alloc, queue, key(0, 4, 0, 103)?, 5, 100, 200)
+}
+
+fn merge_and_drain<Q: PendQueue<Key, usize>>(
+    rt: &impl Abort,
+    alloc: Global,
+    queue: &mut Q,
+    other: &mut Q,
+) -> Result<(), Fail>
+    requires room { Q.room queue.old ≡ 8 }
+    requires other_room { Q.room other.old ≡ 8 }
+    requires tickets { AllByRecursion (λ p. (0 ≤ p.0.ticket) × (p.0.ticket < 100)) (Q.pairs queue.old) }
+    requires other_tickets { AllByRecursion (λ p. (100 ≤ p.0.ticket) × (p.0.ticket < 200)) (Q.pairs other.old) }
+{
+    merge(queue, other)?;
+    assert!(rt; other.is_empty());
+    drain(rt, queue, &[1, 2, 3, 4, 5, 6, 7])?;
+    put(alloc, other, key(0, 9, 0, 104)?, 9, 100, 200)?;
+    drain(rt, other, &[9])
+}
+
+#[test]
+fn list_queue_orders_and_removes(rt: HostRuntime) -> Result<(), Fail> {
+    orders_and_removes::<ListQueue<Key, usize>>(&rt, rt.alloc())
+}
+
+#[test]
+fn list_queue_merges(rt: HostRuntime) -> Result<(), Fail> {
+    merges::<ListQueue<Key, usize>>(&rt, rt.alloc())
+}
+
+#[test]
+fn list_queue_refuses_a_room_past_memory(rt: HostRuntime) -> Result<(), Fail> {
+    let queue: Result<ListQueue<Key, usize>, AllocError> = PendQueue::with_room(
+        rt.alloc(),
+        usize::MAX,
+    );
+    assert!(rt; queue.is_err());
+    Ok(())
+}
+
+#[test]
+fn list_queue_looks_up_by_key(rt: HostRuntime) -> Result<(), Fail> {
+    let mut queue: ListQueue<Key, usize> = PendQueue::with_room(rt.alloc(), 8)?;
+    look_up_three(&rt, rt.alloc(), &mut queue)
+}
+
+fn look_up_three(
+    rt: &impl Abort,
+    alloc: Global,
+    queue: &mut ListQueue<Key, usize>,
+) -> Result<(), Fail>
+    requires room { queue.old.room ≡ 8 }
+    requires empty { queue.old.pairs ≡ [] }
+{
+    put(alloc, queue, key(0, 5, 0, 1)?, 10, 0, 100)?;
+    put(alloc, queue, key(0, 7, 0, 2)?, 20, 0, 100)?;
+    put(alloc, queue, key(0, 6, 0, 3)?, 30, 0, 100)?;
+    assert_eq!(rt; queue.get(&key(0, 5, 0, 1)?).copied(), Some(10));
+    assert_eq!(rt; queue.get(&key(0, 7, 0, 2)?).copied(), Some(20));
+    assert_eq!(rt; queue.get(&key(0, 6, 0, 3)?).copied(), Some(30));
+    assert_eq!(rt; queue.get(&key(0, 6, 0, 4)?).copied(), None);
+    assert_eq!(rt; queue.len(), 3);
+    Ok(())
+}

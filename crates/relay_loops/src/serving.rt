@@ -1,0 +1,65 @@
+//! A proxy on event loops, from its first client to its last.
+
+ghost use Rattle.std.specs.Prelude.{◌≡◌, ◌≤◌, true, []};
+
+use crate::hall::Hall;
+use crate::rooms::rooms_of;
+use crate::threads::run_all;
+use grant_board::{BoardName, RelaySeat};
+use relay_workers::{Proxy, Stopped, join_all, split_off};
+use socket_gate::Front;
+use std::net::{Net, TcpListener, TcpStream};
+use std::sync::Wait;
+use std::thread::Threads;
+use std::time::Clock;
+
+/// How many loops and runners there are, and for how many places.
+#[derive(Clone, Copy, Debug, PartialEq, Eq)]
+pub struct Sizes {
+    pub loops: usize,
+    pub runners: usize,
+    pub places: usize,
+    /// So many requests are at servers at a time, at most.
+    pub slots: usize,
+}
+
+/// Serves until as many clients as may come were served. The seat is the board's first; each place and each thread has one split off it, which is joined
+/// again.
+pub fn serve<
+    R: Net<Listener = TcpListener, Stream = TcpStream> + Clock + Print + Threads + Wait + Sync,
+    N: BoardName + Send + Sync,
+>(
+    rt: &R,
+    proxy: &Proxy<N>,
+    front: &Front<'_>,
+    seat: RelaySeat,
+    sizes: Sizes,
+) -> (RelaySeat, Result<(), Stopped>)
+    requires named { (seat.board ≡ N.board) × (seat.view.terms ≡ N.terms) }
+    requires first { seat.view.first ≡ true }
+    requires idle { seat.view.passes ≡ [] }
+    requires places { sizes.places ≤ N.terms.places }
+    ensures same { (result.0.board ≡ seat.board) × (result.0.view.terms ≡ seat.view.terms) × (result.0.view.first ≡ true) }
+    ensures idle { result.0.view.passes ≡ [] }
+{
+    let mut first = seat;
+    let mut seats = Vec::new(proxy.alloc);
+    let count = sizes
+        .places
+        .saturating_add(sizes.loops)
+        .saturating_add(sizes.runners);
+    if !split_off(proxy, &mut first, &mut seats, count) {
+        join_all(proxy, &mut first, seats);
+        return (first, Err(Stopped::NoMemory));
+    }
+    let (seats, served) = match rooms_of(rt, proxy, front, sizes) {
+        Err(_) => (seats, Err(Stopped::NoMemory)),
+        Ok((rooms, roles)) => {
+            let hall = Hall::new(proxy, front, seats, rooms);
+            run_all(rt, &hall, roles);
+            hall.end()
+        }
+    };
+    join_all(proxy, &mut first, seats);
+    (first, served)
+}

@@ -1,0 +1,9 @@
+//! Tests of scripts, of their replays and of the lines of windows: a crate of their own, so that what they test isn't proved once more with them.
+#![tactic(auto)]
+
+#[cfg(test)]
+mod lines;
+#[cfg(test)]
+mod replays;
+#[cfg(test)]
+mod windows;

@@ -1,0 +1,9 @@
+//! Tests of workers, of gates on sockets and of what `run` does: a crate of their own, so that what they test isn't proved once more with them.
+#![tactic(auto)]
+
+#[cfg(test)]
+mod gates;
+#[cfg(test)]
+mod runs;
+#[cfg(test)]
+mod workers;

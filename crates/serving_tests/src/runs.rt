@@ -1,0 +1,182 @@
+use proxy_config::read;
+use proxy_run::{Sizes, serve_at};
+use std::alloc::Global;
+use std::io::{Read, Write};
+use std::net::{Net, SocketAddr, TcpListener, TcpStream};
+use std::sync::Wait;
+use std::test::Fail;
+use std::thread;
+use std::thread::Threads;
+use std::time::Clock;
+
+const REQUEST: &[u8] = b"GET / HTTP/1.1\r\nHost: h\r\n\r\n";
+
+const ANSWER: &[u8] = b"HTTP/1.1 200 OK\r\nContent-Length: 2\r\nConnection: close\r\n\r\nhi";
+
+// Clients before a proxy, and a server behind it.
+#[derive(Drop)]
+struct Row {
+    settings: &'static str,
+    clients: u32,
+    // What each client says, and what it gets.
+    says: &'static [u8],
+    gets: &'static [u8],
+    // The server answers once so many clients are there; the last one first.
+    answers: u32,
+}
+
+fn answer(mut client: TcpStream) -> bool {
+    let mut head = [0u8; 1024];
+    client.read(&mut head).is_ok()
+        && client
+            .write_all(b"HTTP/1.1 200 OK\r\nContent-Length: 2\r\n\r\nhi")
+            .is_ok()
+}
+
+fn answer_all(listener: &TcpListener, count: u32) -> bool {
+    if count == 0 {
+        return true;
+    }
+    let Ok((client, _)) = listener.accept() else {
+        return false;
+    };
+    answer_all(listener, count - 1) && answer(client)
+}
+
+fn come<R: Net<Stream = TcpStream>>(
+    rt: &R,
+    alloc: Global,
+    proxy: SocketAddr,
+    row: &Row,
+) -> Result<Vec<TcpStream>, Fail> {
+    let mut clients = Vec::new(alloc);
+    for _ in 0..row.clients {
+        let mut client = TcpStream::connect(rt, proxy)?;
+        client.write_all(row.says)?;
+        clients.push(client)?;
+    }
+    Ok(clients)
+}
+
+// Serves as a text says.
+fn serve_text<
+    R: Net<Listener = TcpListener, Stream = TcpStream>
+        + Clock
+        + Print
+        + Eprint
+        + AllocGlobal
+        + Threads
+        + Wait
+        + Sync,
+>(rt: &R, text: &str, listener: TcpListener, clients: u32) -> bool {
+    let Ok(config) = read(rt.alloc(), text.as_bytes()) else {
+        return false;
+    };
+    match Sizes::new(Some(clients), Some(2), 8, clients) {
+        Some(sizes) => serve_at(rt, config, listener, sizes).is_ok(),
+        None => false,
+    }
+}
+
+// Whether both ended well.
+fn serve_between<
+    R: Net<Listener = TcpListener, Stream = TcpStream>
+        + Clock
+        + Print
+        + Eprint
+        + AllocGlobal
+        + Threads
+        + Wait
+        + Sync,
+>(rt: &R, text: &str, near: TcpListener, far: &TcpListener, row: &Row) -> bool {
+    let answers = row.answers;
+    let clients = row.clients;
+    thread::scope(thread::scope_env(), rt, |scope| {
+        let answering = scope.spawn(move || answer_all(far, answers)).ok();
+        let ended = serve_text(rt, text, near, clients);
+        match answering {
+            Some(handle) => handle.join(rt) && ended,
+            None => false,
+        }
+    })
+}
+
+fn play<
+    R: Net<Listener = TcpListener, Stream = TcpStream>
+        + Clock
+        + Print
+        + Eprint
+        + AllocGlobal
+        + Threads
+        + Wait
+        + Sync,
+>(rt: &R, row: &Row) -> Result<(), Fail> {
+    let alloc = rt.alloc();
+    let far = TcpListener::bind(rt, "127.0.0.1:0")?;
+    let near = TcpListener::bind(rt, "127.0.0.1:0")?;
+    let port = far.local_addr()?.port();
+    let settings = row.settings;
+    let text = format!(in alloc;
+        "listen w\n bind :1\n{settings} server none 127.0.0.1:1 weight 0\n server it 127.0.0.1:{port} maxconn 2\n"
+    )?;
+    let mut clients = come(rt, alloc, near.local_addr()?, row)?;
+    if !serve_between(rt, text.as_str(), near, &far, row) {
+        return Err(Fail::from("it didn't end well"));
+    }
+    for client in clients.iter_mut() {
+        let mut got = Vec::new(alloc);
+        client.read_to_end(&mut got)?;
+        if got.as_slice() != row.gets {
+            return Err(Fail::from("a client got something else"));
+        }
+    }
+    Ok(())
+}
+
+#[test]
+fn one_request(rt: HostRuntime) -> Result<(), Fail> {
+    let row = Row {
+        settings: "",
+        clients: 1,
+        says: REQUEST,
+        gets: ANSWER,
+        answers: 1,
+    };
+    play(&rt, &row)
+}
+
+#[test]
+fn two_at_once(rt: HostRuntime) -> Result<(), Fail> {
+    let row = Row {
+        settings: " timeout server 5s\n",
+        clients: 2,
+        says: REQUEST,
+        gets: ANSWER,
+        answers: 2,
+    };
+    play(&rt, &row)
+}
+
+#[test]
+fn a_silent_server_is_a_bad_gateway(rt: HostRuntime) -> Result<(), Fail> {
+    let row = Row {
+        settings: " timeout server 50ms\n",
+        clients: 1,
+        says: REQUEST,
+        gets: b"HTTP/1.1 502 Bad Gateway\r\nContent-Length: 0\r\nConnection: close\r\n\r\n",
+        answers: 0,
+    };
+    play(&rt, &row)
+}
+
+#[test]
+fn a_silent_client_gets_nothing(rt: HostRuntime) -> Result<(), Fail> {
+    let row = Row {
+        settings: " timeout client 50ms\n",
+        clients: 1,
+        says: b"GET / HTTP/1.1\r\n",
+        gets: b"",
+        answers: 0,
+    };
+    play(&rt, &row)
+}

@@ -1,0 +1,169 @@
+//! What `draw` and `explain` look at: a script, which is replayed first, or a trace.
+
+use binom_queue::BinomQueue;
+use dispatch_core::Core;
+use dispatch_log::Queue;
+use due_key::Key;
+use proxy_words::{Lines, Words};
+use replay::{Fault, Replayed, replay, replay_events, reports_of};
+use script::{Names, ScriptError};
+use std::alloc::Global;
+use std::io::Read;
+use thiserror::Error;
+use trace_lines::{Cause, MOST_BYTES, Trace, TraceError, is_trace, read_trace, trace_of_window};
+
+/// How many bytes are read at once.
+const PIECE: usize = 65_536;
+
+/// Why there is nothing to look at.
+#[derive(Clone, Copy, Debug, PartialEq, Eq, Error)]
+pub enum InputFault {
+    #[error("no memory")]
+    NoMemory,
+    #[error("read fault")]
+    Unread,
+    #[error("write fault")]
+    Unwritten,
+    #[error("script line {line}")]
+    Script { line: usize },
+    #[error("trace line {line}: {cause}")]
+    Trace { line: usize, cause: Cause },
+}
+
+/// Reads a script or a trace to its end, and answers what happened.
+pub(crate) fn read_input<R: Read>(alloc: Global, reader: &mut R) -> Result<Trace, InputFault> {
+    let bytes = read_bytes(alloc, reader)?;
+    told_by(alloc, &bytes)
+}
+
+fn told_by(alloc: Global, bytes: &[u8]) -> Result<Trace, InputFault> {
+    if is_trace(bytes) {
+        read_lines(alloc, Vec::new(alloc), bytes)
+    } else if has_roll(bytes) {
+        windows_of(alloc, bytes)
+    } else {
+        window_of(alloc, bytes)
+    }
+}
+
+// Whether a script begins a second window: its dispatcher then keeps the entries of the last one alone.
+fn has_roll(script: &[u8]) -> bool {
+    for line in Lines::new(script) {
+        if let Some(b"roll") = Words::new(line).next() {
+            return true;
+        }
+    }
+    false
+}
+
+// The windows of a script, by its trace.
+fn windows_of(alloc: Global, script: &[u8]) -> Result<Trace, InputFault> {
+    let trace = replayed(alloc, script)?;
+    read_named(alloc, script, &trace)
+}
+
+// A trace whose servers have the names of the script.
+fn read_named(alloc: Global, script: &[u8], trace: &[u8]) -> Result<Trace, InputFault> {
+    let names = names_in(alloc, script)?;
+    read_lines(alloc, names, trace)
+}
+
+// The one window of a script, as its dispatcher has it.
+fn window_of(alloc: Global, script: &[u8]) -> Result<Trace, InputFault> {
+    match replay_events(alloc, script) {
+        Ok(Replayed { core, names, .. }) => told_of(alloc, &core, names),
+        Err(fault) => Err(fault_of(fault)),
+    }
+}
+
+fn told_of(
+    alloc: Global,
+    core: &Core<BinomQueue<Key, usize>>,
+    names: Names,
+) -> Result<Trace, InputFault> {
+    let Ok(reports) = reports_of(alloc, core) else {
+        return Err(InputFault::NoMemory);
+    };
+    match trace_of_window(alloc, names, core.log().entries(), reports.as_slice()) {
+        Ok(trace) => Ok(trace),
+        Err(_) => Err(InputFault::NoMemory),
+    }
+}
+
+// One byte more than a trace may have is enough to tell that there are too many.
+fn read_bytes<R: Read>(alloc: Global, reader: &mut R) -> Result<Vec<u8>, InputFault> {
+    let mut all = Vec::new(alloc);
+    let mut piece = [0u8; PIECE];
+    for _ in 0..u64::MAX {
+        let Ok(count) = reader.read(&mut piece) else {
+            return Err(InputFault::Unread);
+        };
+        if count == 0 || MOST_BYTES < all.len() {
+            return Ok(all);
+        }
+        if all.extend_from_slice(&piece[..count]).is_err() {
+            return Err(InputFault::NoMemory);
+        }
+    }
+    Ok(all)
+}
+
+fn read_lines(alloc: Global, names: Vec<String>, bytes: &[u8]) -> Result<Trace, InputFault> {
+    match read_trace(alloc, names, bytes) {
+        Ok(trace) => Ok(trace),
+        Err(TraceError::NoMemory) => Err(InputFault::NoMemory),
+        Err(TraceError::Fault { line, cause }) => Err(InputFault::Trace { line, cause }),
+    }
+}
+
+// The names of the servers that the header lines of a script declare.
+fn names_in(alloc: Global, bytes: &[u8]) -> Result<Vec<String>, InputFault> {
+    let header = match script::read(alloc, bytes) {
+        Ok((header, _)) => header,
+        Err(ScriptError::NoMemory) => return Err(InputFault::NoMemory),
+        Err(ScriptError::Fault { line }) => return Err(InputFault::Script { line }),
+    };
+    let (names, _) = header.into_servers();
+    match texts_of(alloc, &names) {
+        Some(texts) => Ok(texts),
+        None => Err(InputFault::NoMemory),
+    }
+}
+
+fn texts_of(alloc: Global, names: &Names) -> Option<Vec<String>> {
+    let mut texts = Vec::new(alloc);
+    for server in 0..names.len() {
+        texts
+            .push(String::from_str(alloc, names.of(server)).ok()?)
+            .ok()?;
+    }
+    Some(texts)
+}
+
+// The trace of a script.
+fn replayed(alloc: Global, bytes: &[u8]) -> Result<Vec<u8>, InputFault> {
+    let mut rest = bytes;
+    let mut trace = Vec::new(alloc);
+    match replay(alloc, &mut rest, &mut trace) {
+        Ok(()) => Ok(trace),
+        Err(fault) => Err(fault_of(fault)),
+    }
+}
+
+fn fault_of(fault: Fault) -> InputFault {
+    match fault {
+        Fault::Script { line } => InputFault::Script { line },
+        // a list of bytes gives all that it has, and takes all that there is memory for
+        Fault::NoMemory | Fault::Read | Fault::Write => InputFault::NoMemory,
+    }
+}
+
+/// The queue of this name, if the trace knows it: `*` is the backend's.
+pub(crate) fn queue_of(names: &Names, name: &str) -> Option<Queue> {
+    if name == "*" {
+        return Some(Queue::Backend);
+    }
+    (0..names.len())
+        .find(|server| names.of(*server) == name)
+        .map(Queue::Server)
+}

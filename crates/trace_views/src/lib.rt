@@ -1,0 +1,10 @@
+//! What `draw` and `explain` do: from a script, which is replayed first, or a trace to its picture or to the story of one ticket.
+#![tactic(auto)]
+
+mod input;
+mod picture;
+mod tale;
+
+pub use input::InputFault;
+pub use picture::{DrawFault, draw};
+pub use tale::{TellFault, tell};

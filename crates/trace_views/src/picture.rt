@@ -1,0 +1,64 @@
+//! `draw`: a script or a trace as a picture.
+
+use crate::input::{InputFault, queue_of, read_input};
+use command_words::Only;
+use dispatch_log::Queue;
+use due_key::Class;
+use log_drawing::{Subject, push_drawing};
+use std::alloc::Global;
+use std::io::{Read, Write};
+use thiserror::Error;
+use trace_lines::Trace;
+
+/// Why no picture was written.
+#[derive(Clone, Copy, Debug, PartialEq, Eq, Error)]
+pub enum DrawFault {
+    #[error("{0}")]
+    Input(InputFault),
+    #[error("there is no such queue")]
+    NoQueue,
+}
+
+/// Reads a script or a trace, and writes its picture: of all, or of the requests of one class alone that wait in the queue of this name.
+pub fn draw<R: Read, W: Write>(
+    alloc: Global,
+    reader: &mut R,
+    writer: &mut W,
+    only: &Option<Only>,
+) -> Result<(), DrawFault> {
+    let trace = match read_input(alloc, reader) {
+        Ok(trace) => trace,
+        Err(fault) => return Err(DrawFault::Input(fault)),
+    };
+    let only = match only {
+        None => None,
+        Some(only) => match queue_of(&trace.names, only.queue.as_str()) {
+            None => return Err(DrawFault::NoQueue),
+            Some(queue) => Some((queue, only.class)),
+        },
+    };
+    write_picture(alloc, &trace, only, writer)
+}
+
+fn write_picture<W: Write>(
+    alloc: Global,
+    trace: &Trace,
+    only: Option<(Queue, Class)>,
+    writer: &mut W,
+) -> Result<(), DrawFault> {
+    let subject = Subject {
+        names: &trace.names,
+        entries: trace.entries.as_slice(),
+        rolls: trace.rolls.as_slice(),
+        reports: trace.reports.as_slice(),
+        only,
+    };
+    let mut text = String::new(alloc);
+    if push_drawing(alloc, &mut text, &subject).is_err() {
+        return Err(DrawFault::Input(InputFault::NoMemory));
+    }
+    match writer.write_all(text.as_bytes()) {
+        Ok(()) => Ok(()),
+        Err(_) => Err(DrawFault::Input(InputFault::Unwritten)),
+    }
+}

@@ -1,8 +1,0 @@
-use Rattle.std.proofs.Common.{ap, subst}
-use Rattle.wait_queues.specs.Waitlists.{Waitlist, WaitsAt}
-use Rattle.wait_queues.proofs.Changes.{nobody}
-use Rattle.wait_queues.proofs.tests.a_request_that_moves_waits_anew.Goals as goal
-
-pub join-requires-clause-own_key : goal.join-requires-clause-own_key
-join-requires-clause-own_key g c =
-    λ place its waits same. nobody 4 place its (subst (λ (l : Waitlist). WaitsAt l.waiters place its) c.in_ok-waiting.ensures waits)

@@ -39,7 +39,7 @@ On standard output, for each 262144 entries of the log and at the end:
                          a wait, in all windows; the last window's reports follow
 
 The statuses: 0; 1 no memory, read fault (also where the address can't be listened at),
-write fault, turns spent; 2 these words; 3 the configuration.
+write fault; 2 these words; 3 the configuration.
 
 For example, dueproxy run examples/walk.cfg --requests 5
 serves five clients, and prints what came of them.";

@@ -20,13 +20,13 @@ pub enum ServeFault {
     /// Memory was refused, or a thread.
     #[error("no memory")]
     NoMemory,
-    /// The file can't be read, its address can't be listened at, the clock can't be read, or a thousand clients in a row weren't accepted.
+    /// The file can't be read, its address can't be listened at, or the clock can't be read.
     #[error("read fault")]
     Read,
     /// What is printed was refused.
     #[error("write fault")]
     Write,
-    /// All pauses of a wait were made.
+    /// All pauses of a wait were made. No event loop makes such pauses.
     #[error("turns spent")]
     Turns,
 }

@@ -135,9 +135,5 @@ fn serve_clients<
 {
     let (_, served) = serve(rt, proxy, front, relay, threads);
     served?;
-    if front.clients.are_given_up() {
-        Err(ServeFault::Read)
-    } else {
-        Ok(())
-    }
+    Ok(())
 }

@@ -1,5 +1,6 @@
 -- What loops hand on of requests and answers.
-use Rattle.std.specs.Prelude.{◌≡◌, ℕ, List, ◌++◌}
+use Rattle.std.specs.Prelude.{◌≡◌, ℕ, List, [], ◌++◌}
+use Rattle.relay_body.specs.declared.framing.Framing.{Framing}
 use Rattle.relay_http.specs.Messages.{IsForwarded, IsAnswered}
 use Rattle.relay_http.specs.Texts.{framed_for}
 use Rattle.req_view.specs.Request.{Request}
@@ -12,12 +13,13 @@ pub record IsRestOfRequest (request : Request) (rest : List ℕ) : Type 0 where
   pub sent : List ℕ
   pub text_is : text ≡ sent ++ rest
 
--- the answer to a request lies whole in what came, and becomes this text
+-- the answer to a request lies whole in what came, and becomes this text; one that goes to the end of its input is all that came
 pub record IsAnswerIn (request : Request) (got text : List ℕ) : Type 0 where
   pub used : List ℕ
   pub rest : List ℕ
   pub answered : IsAnswered request.method (framed_for request.version) used text
   pub got_is : got ≡ used ++ rest
+  pub to_end : answered.plan.body ≡ Framing.ToEnd → rest ≡ []
 
 -- what is left of the text of an answer, once some of it was sent
 pub record IsRestOfAnswer (rest : List ℕ) : Type 0 where

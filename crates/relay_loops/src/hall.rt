@@ -193,6 +193,12 @@ impl<N: BoardName> Hall<'_, N> {
         self.waits.load(Ordering::SeqCst)
     }
 
+    /// Whether some server is checked.
+    pub(crate) fn has_checks(&self) -> bool {
+        let servers = self.front.config.servers.as_slice();
+        servers.iter().any(|server| server.check.is_some())
+    }
+
     /// A server's address, where it is known.
     pub(crate) fn address_of(&self, server: usize) -> Option<SocketAddr> {
         *self.addresses.as_slice().get(server)?

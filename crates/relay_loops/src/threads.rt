@@ -21,6 +21,9 @@ use std::thread;
 use std::thread::{Scope, Threads};
 use std::time::Clock;
 
+/// The thread that has servers checked looks whether a check is due whenever so many milliseconds have passed, as long as the proxy runs.
+const CHECK_PAUSE: u64 = 10;
+
 const CHECK_PAUSES: u64 = 1 << 62;
 
 /// What a thread of a scope is.
@@ -56,11 +59,14 @@ pub(crate) fn run_all<
     let told = &stop;
     thread::scope(thread::scope_env(), rt, move |scope| {
         let mut roles = roles;
-        let checking = scope
-            .spawn(move || run_checks(rt, shared.hall(), told))
-            .ok();
-        if checking.is_none() {
-            shared.hall().give_up(rt);
+        let mut checking = None;
+        if shared.hall().has_checks() {
+            checking = scope
+                .spawn(move || run_checks(rt, shared.hall(), told))
+                .ok();
+            if checking.is_none() {
+                shared.hall().give_up(rt);
+            }
         }
         run_roles(scope, rt, shared, &mut roles);
         told.store(true, Ordering::SeqCst);
@@ -124,7 +130,7 @@ fn run_checks<
         return hall.give_up(rt);
     };
     let mut gate = Ringing { rt, hall, gate };
-    let mut pauses = Pauses::new(rt, CHECK_PAUSES);
+    let mut pauses = Pauses::new(rt, CHECK_PAUSE, CHECK_PAUSES);
     checker(rt, hall.proxy, &mut gate, &mut pauses, stop);
 }
 

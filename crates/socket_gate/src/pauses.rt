@@ -5,20 +5,26 @@ use relay_workers::Pause;
 use std::thread;
 use std::time::{Clock, Duration};
 
-/// Pauses of a millisecond, so many after each beginning.
+/// Pauses of so many milliseconds each, so many after each beginning.
 #[derive(Drop)]
 pub struct Pauses<'a, R> {
     rt: &'a R,
+    millis: u64,
     most: u64,
     left: u64,
 }
 
 impl<'a, R: Clock> Pauses<'a, R> {
     /// None is made before the first beginning.
-    pub fn new(rt: &'a R, most: u64) -> Pauses<'a, R>
+    pub fn new(rt: &'a R, millis: u64, most: u64) -> Pauses<'a, R>
         ensures { result.most ≡ most }
     {
-        Pauses { rt, most, left: 0 }
+        Pauses {
+            rt,
+            millis,
+            most,
+            left: 0,
+        }
     }
 }
 
@@ -36,7 +42,7 @@ impl<'a, R: Clock> Pause for Pauses<'a, R> {
             return false;
         };
         self.left = left;
-        thread::sleep(self.rt, Duration::from_millis(1));
+        thread::sleep(self.rt, Duration::from_millis(self.millis));
         true
     }
 }

@@ -1,4 +1,4 @@
--- What tells a trace from a script.
+-- What tells a trace from a script, and a script of several windows from others.
 use Rattle.std.specs.Prelude.{ℕ, Bool, true, false, ◌||◌, List, [], ◌∷◌, Option, Some, None, codes, filter_map, slice_get, if◌then◌else◌}
 use Rattle.std.specs.List.{list_any}
 use Rattle.std.specs.Option.{unwrap_or}
@@ -42,3 +42,12 @@ tells (first ∷ others) = if is_of_header first then Some false else if is_of_t
 -- a text is a trace if the first line that tells it says so
 abbrev pub is_trace : List ℕ → Bool
 is_trace text = unwrap_or (slice_get (filter_map (λ line. tells (words line)) (lines text)) 0) false
+
+-- whether the first of a line's words is the one that begins a window
+abbrev pub begins_window : List (List ℕ) → Bool
+begins_window [] = false
+begins_window (first ∷ others) = bytes_eq first (codes "roll")
+
+-- a script has a line that begins a window, or would if no other word stood behind its first
+abbrev pub has_roll : List ℕ → Bool
+has_roll script = list_any (λ line. begins_window (words line)) (lines script)

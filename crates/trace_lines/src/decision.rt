@@ -1,11 +1,12 @@
 ghost use Rattle.std.specs.Prelude.{◌≡◌, None, IfOk};
 ghost use Rattle.readable_log.specs.Grants.{moment_in};
 
-use crate::event::{end, health, next, ticket, ticket_alone};
+use crate::event::{health, small_number, ticket};
 use crate::fault::{Cause, LineError};
+use crate::fields::{one, three, two};
 use crate::servers::Servers;
 use dispatch_log::Entry;
-use proxy_words::{Words, number};
+use proxy_words::Words;
 use verdict::Cause as Told;
 
 /// The decision that a line tells of, by its first word and the words behind it.
@@ -27,19 +28,26 @@ pub(crate) fn decision_of(
     } else if name == b"health".as_slice() {
         health_of(servers, words)
     } else if name == b"end".as_slice() {
-        Ok(Entry::Ended(ticket_alone(words)?))
+        ended(words)
     } else {
         slot_decision(servers, name, words)
     }
 }
 
-// `T S`, behind `direct`, `move` or `free`.
-fn slot_decision(servers: &mut Servers, name: &[u8], mut words: Words) -> Result<Entry, LineError>
+// `T`, behind `end`.
+fn ended(words: Words) -> Result<Entry, LineError>
     ensures { IfOk result (λ entry. moment_in entry ≡ None) }
 {
-    let ticket = ticket(next(&mut words)?)?;
-    let server = servers.number(next(&mut words)?)?;
-    end(words)?;
+    let ticket = ticket(one(words)?)?;
+    Ok(Entry::Ended(ticket))
+}
+
+// `T S`, behind `direct`, `move` or `free`.
+fn slot_decision(servers: &mut Servers, name: &[u8], words: Words) -> Result<Entry, LineError>
+    ensures { IfOk result (λ entry. moment_in entry ≡ None) }
+{
+    let (number, server) = two(words)?;
+    let (ticket, server) = (ticket(number)?, servers.number(server)?);
     if name == b"direct".as_slice() {
         Ok(Entry::Direct(ticket, server))
     } else if name == b"move".as_slice() {
@@ -52,46 +60,40 @@ fn slot_decision(servers: &mut Servers, name: &[u8], mut words: Words) -> Result
 }
 
 // `T Q`, behind `join`.
-fn joining(servers: &mut Servers, mut words: Words) -> Result<Entry, LineError>
+fn joining(servers: &mut Servers, words: Words) -> Result<Entry, LineError>
     ensures { IfOk result (λ entry. moment_in entry ≡ None) }
 {
-    let ticket = ticket(next(&mut words)?)?;
-    let queue = servers.queue(next(&mut words)?)?;
-    end(words)?;
+    let (number, queue) = two(words)?;
+    let (ticket, queue) = (ticket(number)?, servers.queue(queue)?);
     Ok(Entry::Joined(ticket, queue))
 }
 
 // `T Q S`, behind `grant`.
-fn grant(servers: &mut Servers, mut words: Words) -> Result<Entry, LineError>
+fn grant(servers: &mut Servers, words: Words) -> Result<Entry, LineError>
     ensures { IfOk result (λ entry. moment_in entry ≡ None) }
 {
-    let ticket = ticket(next(&mut words)?)?;
-    let queue = servers.queue(next(&mut words)?)?;
-    let server = servers.number(next(&mut words)?)?;
-    end(words)?;
+    let (number, queue, server) = three(words)?;
+    let (ticket, queue) = (ticket(number)?, servers.queue(queue)?);
+    let server = servers.number(server)?;
     Ok(Entry::Granted(ticket, queue, server))
 }
 
 // `T S K`, behind `retry`.
-fn retry(servers: &mut Servers, mut words: Words) -> Result<Entry, LineError>
+fn retry(servers: &mut Servers, words: Words) -> Result<Entry, LineError>
     ensures { IfOk result (λ entry. moment_in entry ≡ None) }
 {
-    let ticket = ticket(next(&mut words)?)?;
-    let server = servers.number(next(&mut words)?)?;
-    let Some(failures) = number(next(&mut words)?) else {
-        return Err(LineError::Faulty(Cause::Form));
-    };
-    end(words)?;
+    let (number, server, failures) = three(words)?;
+    let (ticket, server) = (ticket(number)?, servers.number(server)?);
+    let failures = small_number(failures)?;
     Ok(Entry::Retried(ticket, server, failures))
 }
 
 // `T CAUSE`, behind `left`.
-fn told(mut words: Words) -> Result<Entry, LineError>
+fn told(words: Words) -> Result<Entry, LineError>
     ensures { IfOk result (λ entry. moment_in entry ≡ None) }
 {
-    let ticket = ticket(next(&mut words)?)?;
-    let cause = cause_of(next(&mut words)?)?;
-    end(words)?;
+    let (number, cause) = two(words)?;
+    let (ticket, cause) = (ticket(number)?, cause_of(cause)?);
     Ok(Entry::Left(ticket, cause))
 }
 
@@ -110,11 +112,10 @@ fn cause_of(word: &[u8]) -> Result<Told, LineError> {
 }
 
 // `S up` or `S down`, behind `health`.
-fn health_of(servers: &mut Servers, mut words: Words) -> Result<Entry, LineError>
+fn health_of(servers: &mut Servers, words: Words) -> Result<Entry, LineError>
     ensures { IfOk result (λ entry. moment_in entry ≡ None) }
 {
-    let server = servers.number(next(&mut words)?)?;
-    let up = health(next(&mut words)?)?;
-    end(words)?;
+    let (name, state) = two(words)?;
+    let (server, up) = (servers.number(name)?, health(state)?);
     Ok(Entry::Health(server, up))
 }

@@ -2,6 +2,7 @@ ghost use Rattle.std.specs.Prelude.{◌≡◌, Some, IfOk};
 ghost use Rattle.readable_log.specs.Grants.{moment_in};
 
 use crate::fault::{Cause, LineError};
+use crate::fields::{end, next, one, two};
 use crate::servers::Servers;
 use dispatch_log::{Arrival, Entry};
 use due_key::{Class, Due, Moment, Offset};
@@ -18,19 +19,28 @@ pub(crate) fn event_of(
     let name = next(&mut words)?;
     if name == b"arrive".as_slice() {
         arrival(servers, at, words)
-    } else if name == b"done".as_slice() {
-        Ok(Entry::Done(at, ticket_alone(words)?))
-    } else if name == b"fail".as_slice() {
-        Ok(Entry::Fail(at, ticket_alone(words)?))
-    } else if name == b"abort".as_slice() {
-        Ok(Entry::Abort(at, ticket_alone(words)?))
     } else if name == b"tick".as_slice() {
-        end(words)?;
-        Ok(Entry::Tick(at))
+        tick(at, words)
     } else if name == b"check".as_slice() {
         check(servers, at, words)
     } else if name == b"limit".as_slice() {
         limit(servers, at, words)
+    } else {
+        event_of_ticket(at, name, words)
+    }
+}
+
+// `T`, behind `M done`, `M fail` or `M abort`.
+fn event_of_ticket(moment: Moment, name: &[u8], words: Words) -> Result<Entry, LineError>
+    ensures { IfOk result (λ entry. moment_in entry ≡ Some moment) }
+{
+    let ticket = ticket(one(words)?)?;
+    if name == b"done".as_slice() {
+        Ok(Entry::Done(moment, ticket))
+    } else if name == b"fail".as_slice() {
+        Ok(Entry::Fail(moment, ticket))
+    } else if name == b"abort".as_slice() {
+        Ok(Entry::Abort(moment, ticket))
     } else {
         Err(LineError::Faulty(Cause::Form))
     }
@@ -40,72 +50,64 @@ pub(crate) fn event_of(
 fn arrival(servers: &mut Servers, moment: Moment, mut words: Words) -> Result<Entry, LineError>
     ensures { IfOk result (λ entry. moment_in entry ≡ Some moment) }
 {
-    let ticket = ticket(next(&mut words)?)?;
-    let class = class_of(next(&mut words)?)?;
-    let due = due_of(next(&mut words)?)?;
-    let pin = match words.next() {
-        None => None,
-        Some(name) => {
-            end(words)?;
-            Some(servers.number(name)?)
-        }
+    let (Some(ticket_word), Some(class), Some(due)) = (words.next(), words.next(), words.next())
+    else {
+        return Err(LineError::Faulty(Cause::Form));
     };
-    Ok(Entry::Arrive(
-        moment,
-        Arrival {
-            ticket,
-            class,
-            due,
-            pin,
-            place: 0,
-        },
-    ))
+    let (ticket, class, due) = (ticket(ticket_word)?, class_of(class)?, due_of(due)?);
+    let pin = pin_of(servers, words)?;
+    let arrival = Arrival {
+        ticket,
+        class,
+        due,
+        pin,
+        place: 0,
+    };
+    Ok(Entry::Arrive(moment, arrival))
+}
+
+// `NAME`, or nothing.
+fn pin_of(servers: &mut Servers, mut words: Words) -> Result<Option<usize>, LineError> {
+    match (words.next(), words.next()) {
+        (None, _) => Ok(None),
+        (Some(name), None) => Ok(Some(servers.number(name)?)),
+        _ => Err(LineError::Faulty(Cause::Form)),
+    }
+}
+
+// Nothing, behind `M tick`.
+fn tick(moment: Moment, words: Words) -> Result<Entry, LineError>
+    ensures { IfOk result (λ entry. moment_in entry ≡ Some moment) }
+{
+    end(words)?;
+    Ok(Entry::Tick(moment))
 }
 
 // `S up` or `S down`, behind `M check`.
-fn check(servers: &mut Servers, moment: Moment, mut words: Words) -> Result<Entry, LineError>
+fn check(servers: &mut Servers, moment: Moment, words: Words) -> Result<Entry, LineError>
     ensures { IfOk result (λ entry. moment_in entry ≡ Some moment) }
 {
-    let server = servers.number(next(&mut words)?)?;
-    let answered = health(next(&mut words)?)?;
-    end(words)?;
+    let (name, answer) = two(words)?;
+    let (server, answered) = (servers.number(name)?, health(answer)?);
     Ok(Entry::Check(moment, server, answered))
 }
 
 // `S N`, behind `M limit`.
-fn limit(servers: &mut Servers, moment: Moment, mut words: Words) -> Result<Entry, LineError>
+fn limit(servers: &mut Servers, moment: Moment, words: Words) -> Result<Entry, LineError>
     ensures { IfOk result (λ entry. moment_in entry ≡ Some moment) }
 {
-    let server = servers.number(next(&mut words)?)?;
-    let Some(limit) = number(next(&mut words)?) else {
-        return Err(LineError::Faulty(Cause::Form));
-    };
-    end(words)?;
+    let (name, most) = two(words)?;
+    let (server, limit) = (servers.number(name)?, small_number(most)?);
     Ok(Entry::Limit(moment, server, limit))
-}
-
-/// The next word of a line, which has one more.
-pub(crate) fn next<'a>(words: &mut Words<'a>) -> Result<&'a [u8], LineError> {
-    words.next().ok_or(LineError::Faulty(Cause::Form))
-}
-
-/// No word is left.
-pub(crate) fn end(mut words: Words) -> Result<(), LineError> {
-    match words.next() {
-        None => Ok(()),
-        Some(_) => Err(LineError::Faulty(Cause::Form)),
-    }
-}
-
-/// The ticket that the one word left is.
-pub(crate) fn ticket_alone(mut words: Words) -> Result<u64, LineError> {
-    let word = next(&mut words)?;
-    end(words)?;
-    ticket(word)
 }
 
 pub(crate) fn ticket(word: &[u8]) -> Result<u64, LineError> {
     long_number(word).ok_or(LineError::Faulty(Cause::Form))
+}
+
+/// A number of at most nine digits.
+pub(crate) fn small_number(word: &[u8]) -> Result<u32, LineError> {
+    number(word).ok_or(LineError::Faulty(Cause::Form))
 }
 
 pub(crate) fn moment_of(word: &[u8]) -> Result<Moment, LineError> {

@@ -1,6 +1,6 @@
 ghost use Rattle.std.specs.Prelude.{◌≡◌};
 ghost use Rattle.proxy_words.specs.Text.{words};
-ghost use Rattle.trace_lines.specs.Kinds.{is_of_header, is_of_trace, is_trace, of_arrival, of_event, tells};
+ghost use Rattle.trace_lines.specs.Kinds.{begins_window, has_roll, is_of_header, is_of_trace, is_trace, of_arrival, of_event, tells};
 
 use proxy_words::{Lines, Words};
 
@@ -16,6 +16,29 @@ pub fn is_trace(text: &[u8]) -> bool
         }
     }
     false
+}
+
+/// Whether a line of a script begins with the word that begins a window: its dispatcher then keeps the entries of the last
+/// window alone. One pass.
+pub fn has_roll(script: &[u8]) -> bool
+    ensures { result ≡ has_roll script.now }
+{
+    let mut lines = Lines::new(script);
+    'lines: while let Some(line) = lines.next() {
+        if begins_window(line) {
+            return true;
+        }
+    }
+    false
+}
+
+fn begins_window(line: &[u8]) -> bool
+    ensures { result ≡ begins_window (words line.now) }
+{
+    match Words::new(line).next() {
+        None => false,
+        Some(first) => first == b"roll".as_slice(),
+    }
 }
 
 // Whether a line is one of a trace alone, or of a script alone.

@@ -4,6 +4,7 @@
 mod decision;
 mod event;
 mod fault;
+mod fields;
 mod kind;
 mod reader;
 mod report;
@@ -13,7 +14,7 @@ mod trace;
 mod window;
 
 pub use fault::{Cause, TraceError};
-pub use kind::is_trace;
+pub use kind::{has_roll, is_trace};
 pub use reader::{MOST_BYTES, read_trace};
 pub use report::ReportLine;
 pub use trace::Trace;

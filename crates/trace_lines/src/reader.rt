@@ -2,8 +2,9 @@ ghost use Rattle.std.specs.Prelude.{IfOk};
 ghost use Rattle.trace_lines.specs.Timed.{IsTimed};
 
 use crate::decision::decision_of;
-use crate::event::{end, event_of, moment_of, ticket_alone};
+use crate::event::{event_of, moment_of, ticket};
 use crate::fault::{Cause, LineError, TraceError};
+use crate::fields::{end, one};
 use crate::report::{ReportLine, report_of};
 use crate::servers::Servers;
 use crate::timed::Timed;
@@ -103,7 +104,7 @@ impl Reader {
 
     fn take_other(&mut self, first: &[u8], words: Words) -> Result<(), LineError> {
         if first == b"refused".as_slice() {
-            let _ = ticket_alone(words)?;
+            let _ = ticket(one(words)?)?;
             Ok(())
         } else if first == b"roll".as_slice() {
             end(words)?;

@@ -1,9 +1,10 @@
-use crate::event::{class_of, due_of, next, signed_number, ticket};
+use crate::event::{class_of, due_of, signed_number, small_number, ticket};
 use crate::fault::{Cause, LineError};
+use crate::fields::next;
 use crate::servers::Servers;
 use dispatch_log::Queue;
 use due_key::{Class, Due};
-use proxy_words::{Words, number};
+use proxy_words::Words;
 use std::alloc::Global;
 
 /// What the line of a report says of the requests of one class that were granted slots from one queue in a window.
@@ -36,11 +37,11 @@ pub(crate) fn report_of(
 ) -> Result<ReportLine, LineError> {
     let queue = servers.queue(next(&mut words)?)?;
     let class = class_of(behind(&mut words, b"class")?)?;
-    let granted = position(behind(&mut words, b"granted")?)?;
+    let granted = position(&mut words, b"granted")?;
     let worst = signed_number(behind(&mut words, b"worst")?)?;
     let due = due_of(behind(&mut words, b"due")?)?;
-    let after = position(behind(&mut words, b"after")?)?;
-    let to = position(behind(&mut words, b"to")?)?;
+    let after = position(&mut words, b"after")?;
+    let to = position(&mut words, b"to")?;
     let critical = critical_of(alloc, words)?;
     Ok(ReportLine {
         before,
@@ -78,9 +79,8 @@ fn behind<'a>(words: &mut Words<'a>, name: &[u8]) -> Result<&'a [u8], LineError>
     }
 }
 
-fn position(word: &[u8]) -> Result<usize, LineError> {
-    match number(word) {
-        Some(position) => Ok(position as usize),
-        None => Err(LineError::Faulty(Cause::Form)),
-    }
+// The number behind this word.
+fn position(words: &mut Words, name: &[u8]) -> Result<usize, LineError> {
+    let number = small_number(behind(words, name)?)?;
+    Ok(number as usize)
 }

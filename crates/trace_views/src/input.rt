@@ -4,13 +4,14 @@ use binom_queue::BinomQueue;
 use dispatch_core::Core;
 use dispatch_log::Queue;
 use due_key::Key;
-use proxy_words::{Lines, Words};
 use replay::{Fault, Replayed, replay, replay_events, reports_of};
 use script::{Names, ScriptError};
 use std::alloc::Global;
 use std::io::Read;
 use thiserror::Error;
-use trace_lines::{Cause, MOST_BYTES, Trace, TraceError, is_trace, read_trace, trace_of_window};
+use trace_lines::{
+    Cause, MOST_BYTES, Trace, TraceError, has_roll, is_trace, read_trace, trace_of_window,
+};
 
 /// How many bytes are read at once.
 const PIECE: usize = 65_536;
@@ -44,16 +45,6 @@ fn told_by(alloc: Global, bytes: &[u8]) -> Result<Trace, InputFault> {
     } else {
         window_of(alloc, bytes)
     }
-}
-
-// Whether a script begins a second window: its dispatcher then keeps the entries of the last one alone.
-fn has_roll(script: &[u8]) -> bool {
-    for line in Lines::new(script) {
-        if let Some(b"roll") = Words::new(line).next() {
-            return true;
-        }
-    }
-    false
 }
 
 // The windows of a script, by its trace.

@@ -1,3 +1,4 @@
+use crate::running::run;
 use clap::{Arg, ArgAction, Command};
 use std::alloc::{AllocError, Global};
 
@@ -56,22 +57,20 @@ it waited and for whom, when it was served and how late.
 
 For example, dueproxy explain 2 < examples/overtaking.script";
 
-/// The subcommands but `run`, one of which has to be there.
-pub fn subcommands<'a>(alloc: Global) -> Result<Command<'a>, AllocError> {
-    let command = dueproxy(alloc).subcommand(replay(alloc))?;
-    let command = with(command, draw(alloc))?;
-    let command = with(command, tell(alloc))?;
-    with(command, check(alloc))
+/// The program's words: one of its subcommands has to be there.
+pub(crate) fn commands<'a>(alloc: Global) -> Result<Command<'a>, AllocError> {
+    let command = dueproxy(alloc).subcommand(replay(alloc));
+    let command = with(command, draw(alloc));
+    let command = with(command, tell(alloc));
+    let command = with(command, check(alloc));
+    with(command, run(alloc, file(alloc)))
 }
 
 fn with<'a>(
-    command: Command<'a>,
+    command: Result<Command<'a>, AllocError>,
     below: Result<Command<'a>, AllocError>,
 ) -> Result<Command<'a>, AllocError> {
-    match below {
-        Ok(below) => command.subcommand(below),
-        Err(error) => Err(error),
-    }
+    command?.subcommand(below?)
 }
 
 fn dueproxy<'a>(alloc: Global) -> Command<'a> {
@@ -138,7 +137,7 @@ fn ticket<'a>(alloc: Global) -> Arg<'a> {
 }
 
 /// The configuration's name.
-pub fn file<'a>(alloc: Global) -> Arg<'a> {
+fn file<'a>(alloc: Global) -> Arg<'a> {
     Arg::new(alloc, "FILE")
         .required(true)
         .action(ArgAction::Set)

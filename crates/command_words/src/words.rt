@@ -1,3 +1,5 @@
+use crate::commands::commands;
+use crate::running::{Numbers, RANGES, numbers_of};
 use clap::error::ErrorKind;
 use clap::{ArgMatches, Error};
 use due_key::Class;
@@ -13,6 +15,8 @@ pub struct Only {
 /// What the words of the command line ask for.
 #[derive(Debug, PartialEq, Eq, Drop)]
 pub enum Asked {
+    /// Serve as the configuration in the file of this name says, with so many of each.
+    Run(String, Numbers),
     Replay,
     /// Look at the configuration in the file of this name.
     Check(String),
@@ -26,15 +30,46 @@ pub enum Asked {
     Nothing(u8),
 }
 
-/// What the words of a subcommand ask for; what is wrong with them is printed.
-pub fn asked_of(rt: &(impl Eprint + AllocGlobal), name: &str, words: &ArgMatches) -> Asked {
+/// Reads the words, the program's name first, and prints help or what is wrong with them.
+pub fn ask(rt: &(impl Print + Eprint + AllocGlobal), words: &[String]) -> Asked {
+    let Ok(command) = commands(rt.alloc()) else {
+        return no_memory(rt);
+    };
+    match command.try_get_matches_from(words) {
+        Err(error) => refuse(rt, error),
+        Ok(matches) => asked_by(rt, &matches),
+    }
+}
+
+fn asked_by(rt: &(impl Eprint + AllocGlobal), matches: &ArgMatches) -> Asked {
+    match matches.subcommand() {
+        Some((name, words)) => asked_of(rt, name, words),
+        // clap wants a subcommand.
+        None => Asked::Nothing(2),
+    }
+}
+
+// What the words of a subcommand ask for.
+fn asked_of(rt: &(impl Eprint + AllocGlobal), name: &str, words: &ArgMatches) -> Asked {
     match name {
+        "run" => run_of(rt, words),
         "replay" => Asked::Replay,
         "check" => check_of(rt, words),
         "draw" => draw_of(rt, words),
         "explain" => tell_of(rt, words),
         // clap refuses all other words.
         _ => Asked::Nothing(2),
+    }
+}
+
+fn run_of(rt: &(impl Eprint + AllocGlobal), words: &ArgMatches) -> Asked {
+    let Some(numbers) = numbers_of(words) else {
+        let _ = rt.eprintln(RANGES);
+        return Asked::Nothing(2);
+    };
+    match String::from_str(rt.alloc(), words.get_str("FILE").unwrap_or_default()) {
+        Ok(file) => Asked::Run(file, numbers),
+        Err(_) => no_memory(rt),
     }
 }
 
@@ -75,8 +110,8 @@ fn tell_of(rt: &impl Eprint, words: &ArgMatches) -> Asked {
     }
 }
 
-/// Prints help or what is wrong with the words.
-pub fn refuse(rt: &(impl Print + Eprint + AllocGlobal), error: Error) -> Asked {
+// Prints help or what is wrong with the words.
+fn refuse(rt: &(impl Print + Eprint + AllocGlobal), error: Error) -> Asked {
     if error.kind() == ErrorKind::OutOfMemory {
         return no_memory(rt);
     }
@@ -84,8 +119,8 @@ pub fn refuse(rt: &(impl Print + Eprint + AllocGlobal), error: Error) -> Asked {
     Asked::Nothing(if error.exit_code() == 0 { 0 } else { 2 })
 }
 
-/// Says that there is no memory.
-pub fn no_memory(rt: &impl Eprint) -> Asked {
+// Says that there is no memory.
+fn no_memory(rt: &impl Eprint) -> Asked {
     let _ = rt.eprintln("no memory");
     Asked::Nothing(1)
 }

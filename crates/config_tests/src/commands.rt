@@ -1,4 +1,4 @@
-use command_words::{Asked, Only, asked_of, refuse, subcommands};
+use command_words::{Asked, Numbers, Only, ask};
 use due_key::Class;
 use std::test::Fail;
 
@@ -8,13 +8,29 @@ fn asked(rt: &HostRuntime, words: &[&str]) -> Result<Asked, Fail> {
     for word in words {
         texts.push(String::from_str(rt.alloc(), word)?)?;
     }
-    match subcommands(rt.alloc())?.try_get_matches_from(&texts) {
-        Err(error) => Ok(refuse(rt, error)),
-        Ok(matches) => match matches.subcommand() {
-            Some((name, words)) => Ok(asked_of(rt, name, words)),
-            None => Err(Fail::from("no subcommand")),
-        },
+    Ok(ask(rt, &texts))
+}
+
+#[test]
+fn what_runs_has_its_sizes(rt: HostRuntime) -> Result<(), Fail> {
+    let numbers = Numbers {
+        workers: Some(7),
+        loops: None,
+        places: 1024,
+        requests: 0,
+    };
+    let file = String::from_str(rt.alloc(), "file")?;
+    assert_eq!(rt;
+        asked(&rt, &["dueproxy", "run", "file", "--workers", "7"])?,
+        Asked::Run(file, numbers)
+    );
+    for number in ["+5", "7x"] {
+        assert_eq!(rt;
+            asked(&rt, &["dueproxy", "run", "file", "--workers", number])?,
+            Asked::Nothing(2)
+        );
     }
+    Ok(())
 }
 
 #[test]

@@ -7,11 +7,9 @@
 ghost use Rattle.std.specs.Prelude.{◌≡◌};
 ghost use Rattle.dueproxy.specs.Statuses.{status_of, status_of_input};
 
-mod command;
 mod serve;
 
-use command::{Wanted, ask};
-use command_words::{Asked, Only};
+use command_words::{Asked, Only, ask};
 use config_check::{check, check_in_full};
 use replay::{Fault, replay};
 use serve::serve_file;
@@ -30,16 +28,13 @@ fn main(rt: HostRuntime) -> ExitCode {
     let Ok(words) = words.collect::<Vec<String>>(rt.alloc()) else {
         return ExitCode::from(end(&rt, Err(Fault::NoMemory)));
     };
-    let status = match ask(&rt, &words) {
-        Wanted::Run(wanted) => serve_file(&rt, &wanted),
-        Wanted::Other(asked) => answer(&rt, &asked),
-    };
-    ExitCode::from(status)
+    ExitCode::from(answer(&rt, &ask(&rt, &words)))
 }
 
 // Does what is asked with the standard streams, and answers the status.
 fn answer(rt: &HostRuntime, asked: &Asked) -> u8 {
     match asked {
+        Asked::Run(file, numbers) => serve_file(rt, file, *numbers),
         Asked::Replay => replay_streams(rt, &mut rt.stdin(), &mut rt.stdout()),
         Asked::Check(file) => check(rt, file),
         Asked::Explain(file) => check_in_full(rt, file),

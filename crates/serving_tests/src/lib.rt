@@ -5,5 +5,6 @@
 mod gates;
 #[cfg(test)]
 mod runs;
+mod sizes;
 #[cfg(test)]
 mod workers;

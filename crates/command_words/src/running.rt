@@ -1,0 +1,100 @@
+//! The words of `run`.
+
+use clap::{Arg, ArgAction, ArgMatches, Command};
+use proxy_words::number;
+use std::alloc::{AllocError, Global};
+
+/// How many of what a proxy is to have, as the words say it: none of it is judged.
+#[derive(Clone, Copy, Debug, PartialEq, Eq)]
+pub struct Numbers {
+    pub workers: Option<u32>,
+    pub loops: Option<u32>,
+    pub places: u32,
+    pub requests: u32,
+}
+
+/// What is said of a number that is none, or out of its range.
+pub const RANGES: &str =
+    "a number is out of its range: 1 to 256 workers, 1 to 64 loops, 1 to 4096 places, 0 to 999999999 requests";
+
+const HELP: &str = "\
+Listens where the configuration says, and hands each request to a server, or lets it
+wait until one has a slot: by class, and then by due date. On standard error stands
+  listening at ADDRESS: servers S workers W places P
+and where no server has a maxconn a second line, since then no request ever waits.
+
+Each loop is a thread for thousands of clients; what is long or comes in parts is
+handed on by a worker, so that it keeps no loop.
+
+On standard output, for each 262144 entries of the log and at the end:
+  window N               the reports of a window that ended follow (FORMATS)
+  server NAME up|down direct D granted G
+                         at the end: what the server was given, at once and after
+                         a wait, in all windows; the last window's reports follow
+
+The statuses: 0; 1 no memory, read fault (also where the address can't be listened at),
+write fault; 2 these words; 3 the configuration.
+
+For example, dueproxy run examples/walk.cfg --requests 5
+serves five clients, and prints what came of them.";
+
+const WORKERS: &str =
+    "Threads for what is long or comes in parts, 1 to 256 [default: as many as requests may be at servers at once]";
+
+const LOOPS: &str = "Event loops, 1 to 64 [default: as many as there are processors]";
+
+/// The words of `run`.
+pub(crate) fn run<'a>(alloc: Global, file: Arg<'a>) -> Result<Command<'a>, AllocError> {
+    Command::new(alloc, "run")
+        .about("Serves as a configuration says")
+        .after_help(HELP)
+        .arg(file)?
+        .arg(size(alloc, "workers").help(WORKERS))?
+        .arg(size(alloc, "loops").help(LOOPS))?
+        .arg(
+            size(alloc, "places")
+                .default_value("1024")
+                .help("Requests that are served or wait, 1 to 4096"),
+        )?
+        .arg(
+            size(alloc, "requests")
+                .default_value("0")
+                .help("Ends after so many clients; 0: never"),
+        )
+}
+
+fn size<'a>(alloc: Global, name: &'a str) -> Arg<'a> {
+    Arg::new(alloc, name)
+        .long(name)
+        .action(ArgAction::Set)
+        .value_name("N")
+}
+
+/// The numbers of the words. None: one of them is no number.
+pub(crate) fn numbers_of(words: &ArgMatches) -> Option<Numbers> {
+    let workers = given(words, "workers").ok()?;
+    let loops = given(words, "loops").ok()?;
+    let places = given(words, "places").ok()??;
+    let requests = given(words, "requests").ok()??;
+    Some(Numbers {
+        workers,
+        loops,
+        places,
+        requests,
+    })
+}
+
+/// A word stands where a number is wanted.
+#[derive(Debug, Drop)]
+struct NoNumber;
+
+// The number behind an option, where it is given.
+fn given(words: &ArgMatches, name: &str) -> Result<Option<u32>, NoNumber> {
+    match words.get_str(name) {
+        None => Ok(None),
+        Some(word) => match number(word.as_bytes()) {
+            None => Err(NoNumber),
+            number => Ok(number),
+        },
+    }
+}

@@ -1,23 +1,23 @@
-ghost use Rattle.std.specs.Prelude.{◌≡◌, ℕ, ◌<◌, IfOk, OnOk, length};
-ghost use Rattle.dispatch_log.specs.Setups.{IsSound};
+ghost use Rattle.std.specs.Prelude.{◌≡◌, ℕ, ◌<◌, None, IfOk, OnOk, length, replicate};
 ghost use Rattle.slot_ledger.specs.Slots.{AreBelow};
 
 use dispatch_log::{Allowance, Phase, Queue, Row, ServerSet, Servers, Setup};
 use due_key::{Class, Due, Key, Moment, Offset};
 use slot_ledger::Ledger;
 use std::alloc::Global;
+use std::process::Abort;
 use std::test::Fail;
 use verdict::Cause;
 
-fn moment(number: u64) -> Result<Moment, Fail> {
-    Ok(Moment::new(number).ok_or("a moment out of range")?)
+// A moment; 0 for a number that is none.
+fn moment(number: u64) -> Moment {
+    Moment::new(number).unwrap_or(Moment::zero())
 }
 
-// Two servers of one slot each.
-fn two_servers(alloc: Global, places: usize) -> Result<Setup, Fail>
-    ensures sound { IfOk result (λ setup. IsSound setup) }
-    ensures servers { IfOk result (λ setup. length setup.servers ≡ 2) }
-    ensures places { IfOk result (λ setup. setup.places ≡ places) }
+// Two servers of one slot each, and no request.
+fn made(alloc: Global, places: usize) -> Result<Ledger<char>, Fail>
+    ensures servers { IfOk result (λ ledger. length ledger.setup.servers ≡ 2) }
+    ensures empty { IfOk result (λ ledger. ledger.slots ≡ replicate places None) }
 {
     let server = ServerSet {
         limit: 1,
@@ -36,17 +36,29 @@ fn two_servers(alloc: Global, places: usize) -> Result<Setup, Fail>
     if !setup.sound() {
         return Err(Fail::from("not a sound setup"));
     }
-    Ok(setup)
+    Ok(Ledger::new(alloc, setup)?)
 }
 
-fn key_of(ticket: u64) -> Result<Key, Fail>
-    ensures { IfOk result (λ key. key.ticket ≡ ticket) }
+fn key_of(ticket: u64) -> Key
+    ensures { result.ticket ≡ ticket }
 {
-    Ok(Key {
+    Key {
         class: Class::clamp(0),
-        due: Due::of(moment(0)?, Offset::clamp(0)),
+        due: Due::of(Moment::zero(), Offset::clamp(0)),
         ticket,
-    })
+    }
+}
+
+fn row_of(ticket: u64, pin: Option<usize>, phase: Phase) -> Row
+    ensures failures { result.failures ≡ 0 }
+    ensures phase { result.phase ≡ phase }
+{
+    Row {
+        key: key_of(ticket),
+        pin,
+        failures: 0,
+        phase,
+    }
 }
 
 // Puts a row with the ticket at a free place.
@@ -57,8 +69,9 @@ fn admit(ledger: &mut Ledger<char>, ticket: u64) -> Result<usize, Fail>
     if ledger.len() == ledger.places() {
         return Err(Fail::from("no free place"));
     }
+    let key = key_of(ticket);
     let row = Row {
-        key: key_of(ticket)?,
+        key,
         pin: None,
         failures: 0,
         phase: Phase::Loose,
@@ -82,8 +95,9 @@ fn pass(ledger: &mut Ledger<char>, ticket: u64) -> Result<(), Fail>
     if ledger.len() == ledger.places() {
         return Err(Fail::from("no free place"));
     }
+    let key = key_of(ticket);
     let row = Row {
-        key: key_of(ticket)?,
+        key,
         pin: None,
         failures: 0,
         phase: Phase::Loose,
@@ -95,13 +109,18 @@ fn pass(ledger: &mut Ledger<char>, ticket: u64) -> Result<(), Fail>
 
 #[test]
 fn an_old_ticket_is_found_after_many(rt: HostRuntime) -> Result<(), Fail> {
-    let alloc = rt.alloc();
-    let mut ledger: Ledger<char> = Ledger::new(alloc, two_servers(alloc, 4)?)?;
-    let place = admit(&mut ledger, 0)?;
+    let mut ledger = made(rt.alloc(), 4)?;
+    find_the_first(&rt, &mut ledger)
+}
+
+fn find_the_first(rt: &impl Abort, ledger: &mut Ledger<char>) -> Result<(), Fail>
+    requires { ledger.old.slots ≡ replicate 4 None }
+{
+    let place = admit(ledger, 0)?;
     for ticket in 1..200 {
-        admit(&mut ledger, ticket)?;
+        admit(ledger, ticket)?;
         if ticket > 2 {
-            end(&mut ledger, ticket - 2)?;
+            end(ledger, ticket - 2)?;
         }
         assert_eq!(rt; ledger.find(0), Some(place));
         assert_eq!(rt; ledger.find(ticket).is_some(), true);
@@ -114,11 +133,16 @@ fn an_old_ticket_is_found_after_many(rt: HostRuntime) -> Result<(), Fail> {
 
 #[test]
 fn a_lower_ticket_comes_after_a_higher_one(rt: HostRuntime) -> Result<(), Fail> {
-    let alloc = rt.alloc();
-    let mut ledger: Ledger<char> = Ledger::new(alloc, two_servers(alloc, 2)?)?;
-    let first = admit(&mut ledger, 3)?;
-    pass(&mut ledger, 9)?;
-    let second = admit(&mut ledger, 5)?;
+    let mut ledger = made(rt.alloc(), 2)?;
+    find_both(&rt, &mut ledger)
+}
+
+fn find_both(rt: &impl Abort, ledger: &mut Ledger<char>) -> Result<(), Fail>
+    requires { ledger.old.slots ≡ replicate 2 None }
+{
+    let first = admit(ledger, 3)?;
+    pass(ledger, 9)?;
+    let second = admit(ledger, 5)?;
     assert_eq!(rt;
         (ledger.find(3), ledger.find(5)),
         (Some(first), Some(second))
@@ -129,68 +153,67 @@ fn a_lower_ticket_comes_after_a_higher_one(rt: HostRuntime) -> Result<(), Fail> 
 
 #[test]
 fn a_request_goes_its_way(rt: HostRuntime) -> Result<(), Fail> {
-    let alloc = rt.alloc();
-    let mut ledger: Ledger<char> = Ledger::new(alloc, two_servers(alloc, 2)?)?;
-    assert_eq!(rt; ledger.setup().servers.len(), 2);
-    assert_eq!(rt; ledger.find(5), None);
-    let row = Row {
-        key: key_of(5)?,
-        pin: None,
-        failures: 0,
-        phase: Phase::Loose,
-    };
-    let place = ledger.admit(row);
+    let mut ledger = made(rt.alloc(), 2)?;
+    go_its_way(&rt, &mut ledger);
+    Ok(())
+}
+
+fn go_its_way(rt: &impl Abort, ledger: &mut Ledger<char>)
+    requires servers { length ledger.old.setup.servers ≡ 2 }
+    requires empty { ledger.old.slots ≡ replicate 2 None }
+{
+    assert_eq!(rt; (ledger.setup().servers.len(), ledger.find(5)), (2, None));
+    let place = ledger.admit(row_of(5, None, Phase::Loose));
     ledger.loosen(place, 'n');
-    let node = ledger.wait(place, Queue::Server(0), moment(1)?);
+    let node = ledger.wait(place, Queue::Server(0), moment(1));
+    let waiting = Phase::Waiting(Queue::Server(0), moment(1));
     assert_eq!(rt;
-        ledger.row(place).phase,
-        Phase::Waiting(Queue::Server(0), moment(1)?)
+        (ledger.row(place).phase, ledger.queued(Queue::Server(0))),
+        (waiting, 1)
     );
-    assert_eq!(rt; ledger.queued(Queue::Server(0)), 1);
     ledger.loosen(place, node);
     ledger.serve(place, 0);
     assert_eq!(rt; (ledger.served(0), ledger.served(1)), (1, 0));
     ledger.free(place);
-    assert_eq!(rt; ledger.row(place), row);
+    assert_eq!(rt; ledger.row(place), row_of(5, None, Phase::Loose));
     ledger.tell(place, Cause::NoServer);
     assert_eq!(rt; ledger.row(place).phase, Phase::Told(Cause::NoServer));
-    assert_eq!(rt; ledger.find(5), Some(place));
-    assert_eq!(rt; (ledger.len(), ledger.places()), (1, 2));
+    assert_eq!(rt;
+        (ledger.find(5), ledger.len(), ledger.places()),
+        (Some(place), 1, 2)
+    );
     ledger.end(place);
-    assert_eq!(rt; ledger.find(5), None);
-    assert_eq!(rt; ledger.len(), 0);
-    Ok(())
+    assert_eq!(rt; (ledger.find(5), ledger.len()), (None, 0));
 }
 
 #[test]
 fn a_server_goes_down_and_up(rt: HostRuntime) -> Result<(), Fail> {
-    let alloc = rt.alloc();
-    let mut ledger: Ledger<char> = Ledger::new(alloc, two_servers(alloc, 2)?)?;
+    let mut ledger = made(rt.alloc(), 2)?;
+    go_down_and_up(&rt, &mut ledger);
+    Ok(())
+}
+
+fn go_down_and_up(rt: &impl Abort, ledger: &mut Ledger<char>)
+    requires servers { length ledger.old.setup.servers ≡ 2 }
+    requires empty { ledger.old.slots ≡ replicate 2 None }
+{
     assert_eq!(rt;
         (ledger.up(0), ledger.up(1), ledger.up(2)),
         (true, true, false)
     );
-    let row = Row {
-        key: key_of(5)?,
-        pin: Some(1),
-        failures: 0,
-        phase: Phase::Loose,
-    };
-    let place = ledger.admit(row);
+    let place = ledger.admit(row_of(5, Some(1), Phase::Loose));
     ledger.loosen(place, 'n');
     ledger.fail(place);
-    assert_eq!(rt; ledger.row(place), Row { failures: 1, ..row });
-    assert_eq!(rt; ledger.wait(place, Queue::Server(1), moment(1)?), 'n');
+    let mut failed = row_of(5, Some(1), Phase::Loose);
+    failed.failures = 1;
+    assert_eq!(rt; ledger.row(place), failed);
+    assert_eq!(rt; ledger.wait(place, Queue::Server(1), moment(1)), 'n');
     ledger.set_up(1, false);
     assert_eq!(rt; (ledger.up(0), ledger.up(1)), (true, false));
-    ledger.shift(place, moment(2)?);
+    ledger.shift(place, moment(2));
     ledger.unpin(place);
-    let moved = Row {
-        pin: None,
-        failures: 1,
-        phase: Phase::Waiting(Queue::Backend, moment(2)?),
-        ..row
-    };
+    let mut moved = row_of(5, None, Phase::Waiting(Queue::Backend, moment(2)));
+    moved.failures = 1;
     assert_eq!(rt; ledger.row(place), moved);
     assert_eq!(rt;
         (
@@ -201,21 +224,24 @@ fn a_server_goes_down_and_up(rt: HostRuntime) -> Result<(), Fail> {
     );
     ledger.set_up(1, true);
     assert_eq!(rt; ledger.up(1), true);
-    Ok(())
 }
 
 #[test]
 fn a_limit_is_set_while_a_request_is_served(rt: HostRuntime) -> Result<(), Fail> {
-    let alloc = rt.alloc();
-    let mut ledger: Ledger<char> = Ledger::new(alloc, two_servers(alloc, 2)?)?;
-    let row = Row {
-        key: key_of(5)?,
-        pin: None,
-        failures: 0,
-        phase: Phase::Serving(0),
-    };
-    let place = ledger.admit(row);
-    assert_eq!(rt; ledger.cell(place), Some(row));
+    let mut ledger = made(rt.alloc(), 2)?;
+    set_a_limit(&rt, &mut ledger);
+    Ok(())
+}
+
+fn set_a_limit(rt: &impl Abort, ledger: &mut Ledger<char>)
+    requires servers { length ledger.old.setup.servers ≡ 2 }
+    requires empty { ledger.old.slots ≡ replicate 2 None }
+{
+    let place = ledger.admit(row_of(5, None, Phase::Serving(0)));
+    assert_eq!(rt;
+        ledger.cell(place),
+        Some(row_of(5, None, Phase::Serving(0)))
+    );
     ledger.set_limit(0, 3);
     assert_eq!(rt; (ledger.limit(0), ledger.limit(1)), (3, 1));
     let noted = Allowance {
@@ -223,5 +249,4 @@ fn a_limit_is_set_while_a_request_is_served(rt: HostRuntime) -> Result<(), Fail>
         served: 1,
     };
     assert_eq!(rt; ledger.limits().first().copied(), Some(noted));
-    Ok(())
 }

@@ -1,20 +1,78 @@
-ghost use Rattle.std.specs.Prelude.{◌≡◌, IfOk, length};
-ghost use Rattle.dispatch_log.specs.Setups.{IsSound};
+ghost use Rattle.std.specs.Prelude.{◌≡◌, None, IfOk, length, replicate};
 
 use dispatch_log::{Phase, Queue, Row, ServerSet, Servers, Setup};
 use due_key::{Class, Due, Key, Moment, Offset};
 use server_pick::{Cursor, Heads, Placement, Set64, candidates, next_queue, next_taker, place};
 use slot_ledger::Ledger;
 use std::alloc::Global;
+use std::process::Abort;
 use std::test::Fail;
 
-fn key(ticket: u64) -> Result<Key, Fail> {
-    let at = Moment::new(0).ok_or("a moment out of range")?;
-    Ok(Key {
+// A step of a test, which is played on a ledger of three servers and the cursor of balancing.
+#[derive(Clone, Copy)]
+enum Step {
+    Down(usize),
+    Up(usize),
+    Limit(usize, u32),
+    // Where a request with this pin that avoids this server is put.
+    Place(Option<usize>, Option<usize>, Placement),
+    // Whether this server is a candidate for a request that avoids that one.
+    Candidate(Option<usize>, usize, bool),
+    // The server that was picked last.
+    Cursor(usize),
+}
+
+fn play(rt: &impl Abort, ledger: &mut Ledger<char>, steps: &[Step]) -> Result<(), Fail> {
+    let mut cursor = Cursor::new(3);
+    for step in steps {
+        play_one(rt, ledger, &mut cursor, *step)?;
+    }
+    Ok(())
+}
+
+fn play_one(
+    rt: &impl Abort,
+    ledger: &mut Ledger<char>,
+    cursor: &mut Cursor,
+    step: Step,
+) -> Result<(), Fail> {
+    match step {
+        Step::Down(server) => set_up(ledger, server, false)?,
+        Step::Up(server) => set_up(ledger, server, true)?,
+        Step::Limit(server, limit) => set_limit(ledger, server, limit)?,
+        Step::Place(pin, avoid, placement) => {
+            assert_eq!(rt; place(ledger, cursor, pin, avoid), placement);
+        }
+        Step::Candidate(avoid, server, is_one) => {
+            assert_eq!(rt; candidates(ledger, avoid).contains(server), is_one);
+        }
+        Step::Cursor(server) => assert_eq!(rt; cursor.server(), server),
+    }
+    Ok(())
+}
+
+fn set_up(ledger: &mut Ledger<char>, server: usize, up: bool) -> Result<(), Fail> {
+    if server >= ledger.setup().servers.len() {
+        return Err(Fail::from("no such server"));
+    }
+    ledger.set_up(server, up);
+    Ok(())
+}
+
+fn set_limit(ledger: &mut Ledger<char>, server: usize, limit: u32) -> Result<(), Fail> {
+    if server >= ledger.setup().servers.len() {
+        return Err(Fail::from("no such server"));
+    }
+    ledger.set_limit(server, limit);
+    Ok(())
+}
+
+fn key(ticket: u64) -> Key {
+    Key {
         class: Class::clamp(0),
-        due: Due::of(at, Offset::clamp(0)),
+        due: Due::of(Moment::zero(), Offset::clamp(0)),
         ticket,
-    })
+    }
 }
 
 #[test]
@@ -28,11 +86,10 @@ fn sets_have_what_was_inserted(rt: HostRuntime) {
     assert!(rt; Set64::of(5).contains(5));
 }
 
-// Three servers of one slot each, and four places.
-fn three_servers(alloc: Global) -> Result<Setup, Fail>
-    ensures sound { IfOk result (λ setup. IsSound setup) }
-    ensures servers { IfOk result (λ setup. length setup.servers ≡ 3) }
-    ensures places { IfOk result (λ setup. setup.places ≡ 4) }
+// Three servers of one slot each, and four places without a request.
+fn three_servers(alloc: Global) -> Result<Ledger<char>, Fail>
+    ensures servers { IfOk result (λ ledger. length ledger.setup.servers ≡ 3) }
+    ensures empty { IfOk result (λ ledger. ledger.slots ≡ replicate 4 None) }
 {
     let server = ServerSet {
         limit: 1,
@@ -51,98 +108,91 @@ fn three_servers(alloc: Global) -> Result<Setup, Fail>
     if !setup.sound() {
         return Err(Fail::from("not a sound setup"));
     }
-    Ok(setup)
+    Ok(Ledger::new(alloc, setup)?)
 }
 
 #[test]
 fn idle_servers_are_picked_in_turn(rt: HostRuntime) -> Result<(), Fail> {
-    let alloc = rt.alloc();
-    let ledger: Ledger<char> = Ledger::new(alloc, three_servers(alloc)?)?;
-    let mut cursor = Cursor::new(3);
-    assert_eq!(rt; cursor.server(), 2);
-    assert_eq!(rt; place(&ledger, &mut cursor, None, None), Placement::Slot(0));
-    assert_eq!(rt;
-        place(&ledger, &mut cursor, Some(2), None),
-        Placement::Slot(2)
-    );
-    assert_eq!(rt; cursor.server(), 0);
-    assert_eq!(rt;
-        place(&ledger, &mut cursor, None, Some(1)),
-        Placement::Slot(2)
-    );
-    let others = candidates(&ledger, Some(1));
-    assert!(rt; others.contains(0) && !others.contains(1));
-    Ok(())
+    let mut ledger = three_servers(rt.alloc())?;
+    let steps = [
+        Step::Cursor(2),
+        Step::Place(None, None, Placement::Slot(0)),
+        Step::Place(Some(2), None, Placement::Slot(2)),
+        Step::Cursor(0),
+        Step::Place(None, Some(1), Placement::Slot(2)),
+        Step::Candidate(Some(1), 0, true),
+        Step::Candidate(Some(1), 1, false),
+    ];
+    play(&rt, &mut ledger, &steps)
 }
 
 #[test]
 fn servers_that_are_down_are_passed_over(rt: HostRuntime) -> Result<(), Fail> {
-    let alloc = rt.alloc();
-    let mut ledger: Ledger<char> = Ledger::new(alloc, three_servers(alloc)?)?;
-    let mut cursor = Cursor::new(3);
-    ledger.set_up(0, false);
-    assert_eq!(rt; place(&ledger, &mut cursor, None, None), Placement::Slot(1));
-    assert!(rt; !candidates(&ledger, None).contains(0));
-    ledger.set_up(1, false);
-    assert_eq!(rt;
-        place(&ledger, &mut cursor, Some(1), None),
-        Placement::Slot(2)
-    );
-    ledger.set_up(2, false);
-    assert_eq!(rt;
-        place(&ledger, &mut cursor, Some(1), None),
-        Placement::Nowhere
-    );
-    ledger.set_up(0, true);
-    assert_eq!(rt; place(&ledger, &mut cursor, None, None), Placement::Slot(0));
-    Ok(())
+    let mut ledger = three_servers(rt.alloc())?;
+    let steps = [
+        Step::Down(0),
+        Step::Place(None, None, Placement::Slot(1)),
+        Step::Candidate(None, 0, false),
+        Step::Down(1),
+        Step::Place(Some(1), None, Placement::Slot(2)),
+        Step::Down(2),
+        Step::Place(Some(1), None, Placement::Nowhere),
+        Step::Up(0),
+        Step::Place(None, None, Placement::Slot(0)),
+    ];
+    play(&rt, &mut ledger, &steps)
 }
 
 #[test]
 fn a_server_that_is_down_takes_nothing(rt: HostRuntime) -> Result<(), Fail> {
-    let alloc = rt.alloc();
-    let mut ledger: Ledger<char> = Ledger::new(alloc, three_servers(alloc)?)?;
-    let since = Moment::new(0).ok_or("a moment out of range")?;
-    let row = Row {
-        key: key(1)?,
+    let mut ledger = three_servers(rt.alloc())?;
+    take_past_a_fall(&rt, &mut ledger, &key(1));
+    Ok(())
+}
+
+fn take_past_a_fall(rt: &impl Abort, ledger: &mut Ledger<char>, key: &Key)
+    requires servers { length ledger.old.setup.servers ≡ 3 }
+    requires empty { ledger.old.slots ≡ replicate 4 None }
+{
+    ledger.admit(Row {
+        key: *key,
         pin: None,
         failures: 0,
-        phase: Phase::Waiting(Queue::Backend, since),
-    };
-    ledger.admit(row);
+        phase: Phase::Waiting(Queue::Backend, Moment::zero()),
+    });
     ledger.set_up(0, false);
     let mut cursor = Cursor::new(3);
-    assert_eq!(rt; next_taker(&ledger, &mut cursor), Some(1));
+    assert_eq!(rt; next_taker(ledger, &mut cursor), Some(1));
     assert_eq!(rt; cursor.server(), 1);
     let heads = Heads {
         own: None,
-        backend: Some(row.key),
+        backend: Some(*key),
     };
-    assert_eq!(rt; next_queue(&ledger, &heads, 1), Queue::Backend);
-    Ok(())
+    assert_eq!(rt; next_queue(ledger, &heads, 1), Queue::Backend);
 }
 
 #[test]
 fn a_server_takes_up_to_its_present_limit(rt: HostRuntime) -> Result<(), Fail> {
-    let alloc = rt.alloc();
-    let mut ledger: Ledger<char> = Ledger::new(alloc, three_servers(alloc)?)?;
-    let row = Row {
-        key: key(1)?,
+    let mut ledger = three_servers(rt.alloc())?;
+    serve_one(&mut ledger);
+    let steps = [
+        Step::Limit(0, 2),
+        Step::Place(Some(0), None, Placement::Slot(0)),
+        Step::Limit(0, 1),
+        Step::Place(Some(0), None, Placement::OwnQueue(0)),
+    ];
+    play(&rt, &mut ledger, &steps)
+}
+
+// The first server serves a request.
+fn serve_one(ledger: &mut Ledger<char>)
+    requires servers { length ledger.old.setup.servers ≡ 3 }
+    requires empty { ledger.old.slots ≡ replicate 4 None }
+{
+    ledger.admit(Row {
+        key: key(1),
         pin: None,
         failures: 0,
         phase: Phase::Serving(0),
-    };
-    ledger.admit(row);
-    ledger.set_limit(0, 2);
-    let mut cursor = Cursor::new(3);
-    assert_eq!(rt;
-        place(&ledger, &mut cursor, Some(0), None),
-        Placement::Slot(0)
-    );
-    ledger.set_limit(0, 1);
-    assert_eq!(rt;
-        place(&ledger, &mut cursor, Some(0), None),
-        Placement::OwnQueue(0)
-    );
-    Ok(())
+    });
 }

@@ -12,6 +12,7 @@ use due_key::{Class, Key, Moment, Offset};
 use pend_queue::ListQueue;
 use server_pick::Placement;
 use std::alloc::Global;
+use std::process::Abort;
 use std::test::Fail;
 
 type OfLists = Trace<ListQueue<Key, usize>>;
@@ -82,20 +83,30 @@ fn arrive(alloc: Global, trace: &mut OfLists) -> Result<Ticketed, Fail>
 #[test]
 fn an_arrival_takes_a_free_slot_and_the_next_one_waits(rt: HostRuntime) -> Result<(), Fail> {
     let mut trace = made(rt.alloc(), 32)?;
-    let first = arrive(rt.alloc(), &mut trace)?;
-    assert_eq!(rt; first.ticket, 1);
-    assert_eq!(rt; trace.served(0), 1);
-    arrive(rt.alloc(), &mut trace)?;
-    assert_eq!(rt; trace.queued(Queue::Backend), 1);
-    assert_eq!(rt; trace.log().len(), 4);
+    arrive_twice(&rt, rt.alloc(), &mut trace)
+}
+
+fn arrive_twice(rt: &impl Abort, alloc: Global, trace: &mut OfLists) -> Result<(), Fail>
+    requires { IsLegal trace.old }
+{
+    let first = arrive(alloc, trace)?;
+    assert_eq!(rt; (first.ticket, trace.served(0)), (1, 1));
+    arrive(alloc, trace)?;
+    assert_eq!(rt; (trace.queued(Queue::Backend), trace.log().len()), (1, 4));
     Ok(())
 }
 
 #[test]
 fn a_full_log_refuses_all_calls(rt: HostRuntime) -> Result<(), Fail> {
     let mut trace = made(rt.alloc(), 16)?;
+    fill(&rt, rt.alloc(), &mut trace)
+}
+
+fn fill(rt: &impl Abort, alloc: Global, trace: &mut OfLists) -> Result<(), Fail>
+    requires { IsLegal trace.old }
+{
     assert_eq!(rt; trace.refuses_arrival(Some(1)), Some(Refusal::NoSuchServer));
-    arrive(rt.alloc(), &mut trace)?;
+    arrive(alloc, trace)?;
     assert!(rt; !trace.has_room());
     assert_eq!(rt; trace.refuses_arrival(Some(1)), Some(Refusal::LogFull));
     assert_eq!(rt; trace.accept_done(1), Err(Refusal::LogFull));

@@ -1,4 +1,4 @@
-ghost use Rattle.std.specs.Prelude.{◌≡◌, ◌<◌, ◌≤◌, [], IfOk, OnOk};
+ghost use Rattle.std.specs.Prelude.{◌≡◌, ◌<◌, ◌≤◌, ◌^◌, [], OnOk};
 ghost use Rattle.std.specs.List.{AllByRecursion};
 
 use due_key::{Class, Due, Key, Moment, Offset, order_of_keys};
@@ -12,15 +12,21 @@ const LAST: u64 = (1 << 62) - 1;
 
 const LAST_TICKET: u64 = (1 << 40) - 1;
 
-fn key(class: i64, arrival: u64, offset: i64, ticket: u64) -> Result<Key, Fail>
-    ensures { IfOk result (λ key. key.ticket ≡ ticket) }
+// A moment; 0 for a number that is none.
+fn moment(number: u64) -> Moment
+    ensures { number < 2 ^ 62 → result ≡ number }
 {
-    let arrival = Moment::new(arrival).ok_or("a moment out of range")?;
-    Ok(Key {
+    Moment::new(number).unwrap_or(Moment::zero())
+}
+
+fn key(class: i64, arrival: u64, offset: i64, ticket: u64) -> Key
+    ensures { result.ticket ≡ ticket }
+{
+    Key {
         class: Class::clamp(class),
-        due: Due::of(arrival, Offset::clamp(offset)),
+        due: Due::of(moment(arrival), Offset::clamp(offset)),
         ticket,
-    })
+    }
 }
 
 // Puts a pair of a ticket from `low` on and below `high` in, in place of one of the same key.
@@ -129,7 +135,7 @@ fn put_five<Q: PendQueue<Key, usize>>(alloc: Global, queue: &mut Q) -> Result<()
     put(
         alloc,
         queue,
-        key(3000, LAST, 600_000, LAST_TICKET)?,
+        key(3000, LAST, 600_000, LAST_TICKET),
         5,
         0,
         1 << 40,
@@ -137,14 +143,14 @@ fn put_five<Q: PendQueue<Key, usize>>(alloc: Global, queue: &mut Q) -> Result<()
     put(
         alloc,
         queue,
-        key(2047, 0, -524_287, LAST_TICKET)?,
+        key(2047, 0, -524_287, LAST_TICKET),
         3,
         0,
         1 << 40,
     )?;
-    put(alloc, queue, key(-2047, LAST, 600_000, 0)?, 2, 0, 1 << 40)?;
-    put(alloc, queue, key(-3000, 0, -600_000, 0)?, 1, 0, 1 << 40)?;
-    put(alloc, queue, key(2047, LAST, 524_287, 0)?, 4, 0, 1 << 40)?;
+    put(alloc, queue, key(-2047, LAST, 600_000, 0), 2, 0, 1 << 40)?;
+    put(alloc, queue, key(-3000, 0, -600_000, 0), 1, 0, 1 << 40)?;
+    put(alloc, queue, key(2047, LAST, 524_287, 0), 4, 0, 1 << 40)?;
     Ok(())
 }
 
@@ -153,15 +159,15 @@ fn take_five<Q: PendQueue<Key, usize>>(rt: &impl Abort, queue: &mut Q) -> Result
 {
     assert_eq!(rt; queue.len(), 5);
     assert!(rt; !queue.is_empty());
-    expect_first(rt, queue, key(-2047, 0, -524_287, 0)?);
+    expect_first(rt, queue, key(-2047, 0, -524_287, 0));
 
-    expect_removed(rt, queue, key(2047, 0, -524_287, LAST_TICKET)?, 3)?;
-    expect_absent(rt, queue, key(2047, 0, -524_287, LAST_TICKET)?);
-    expect_removed(rt, queue, key(2047, LAST, 524_287, LAST_TICKET)?, 5)?;
-    expect_removed(rt, queue, key(-2047, 0, -524_287, 0)?, 1)?;
-    expect_first(rt, queue, key(-2047, LAST, 524_287, 0)?);
+    expect_removed(rt, queue, key(2047, 0, -524_287, LAST_TICKET), 3)?;
+    expect_absent(rt, queue, key(2047, 0, -524_287, LAST_TICKET));
+    expect_removed(rt, queue, key(2047, LAST, 524_287, LAST_TICKET), 5)?;
+    expect_removed(rt, queue, key(-2047, 0, -524_287, 0), 1)?;
+    expect_first(rt, queue, key(-2047, LAST, 524_287, 0));
     drain(rt, queue, &[2, 4])?;
-    expect_absent(rt, queue, key(0, 0, 0, 0)?);
+    expect_absent(rt, queue, key(0, 0, 0, 0));
     Ok(())
 }
 
@@ -182,9 +188,9 @@ fn put_three<Q: PendQueue<Key, usize>>(alloc: Global, queue: &mut Q) -> Result<(
     ensures room { Q.room queue.new ≡ 8 }
     ensures tickets { OnOk result (AllByRecursion (λ p. (0 ≤ p.0.ticket) × (p.0.ticket < 100)) (Q.pairs queue.new)) }
 {
-    put(alloc, queue, key(0, 6, 0, 1)?, 6, 0, 100)?;
-    put(alloc, queue, key(0, 2, 0, 2)?, 2, 0, 100)?;
-    put(alloc, queue, key(0, 4, 0, 3)?, 4, 0, 100)
+    put(alloc, queue, key(0, 6, 0, 1), 6, 0, 100)?;
+    put(alloc, queue, key(0, 2, 0, 2), 2, 0, 100)?;
+    put(alloc, queue, key(0, 4, 0, 3), 4, 0, 100)
 }
 
 fn put_four<Q: PendQueue<Key, usize>>(alloc: Global, queue: &mut Q) -> Result<(), Fail>
@@ -193,10 +199,10 @@ fn put_four<Q: PendQueue<Key, usize>>(alloc: Global, queue: &mut Q) -> Result<()
     ensures room { Q.room queue.new ≡ 8 }
     ensures tickets { OnOk result (AllByRecursion (λ p. (100 ≤ p.0.ticket) × (p.0.ticket < 200)) (Q.pairs queue.new)) }
 {
-    put(alloc, queue, key(0, 3, 0, 100)?, 3, 100, 200)?;
-    put(alloc, queue, key(0, 7, 0, 101)?, 7, 100, 200)?;
-    put(alloc, queue, key(0, 1, 0, 102)?, 1, 100, 200)?;
-    put(alloc, queue, key(0, 4, 0, 103)?, 5, 100, 200)
+    put(alloc, queue, key(0, 3, 0, 100), 3, 100, 200)?;
+    put(alloc, queue, key(0, 7, 0, 101), 7, 100, 200)?;
+    put(alloc, queue, key(0, 1, 0, 102), 1, 100, 200)?;
+    put(alloc, queue, key(0, 4, 0, 103), 5, 100, 200)
 }
 
 fn merge_and_drain<Q: PendQueue<Key, usize>>(
@@ -213,7 +219,7 @@ fn merge_and_drain<Q: PendQueue<Key, usize>>(
     merge(queue, other)?;
     assert!(rt; other.is_empty());
     drain(rt, queue, &[1, 2, 3, 4, 5, 6, 7])?;
-    put(alloc, other, key(0, 9, 0, 104)?, 9, 100, 200)?;
+    put(alloc, other, key(0, 9, 0, 104), 9, 100, 200)?;
     drain(rt, other, &[9])
 }
 
@@ -251,13 +257,13 @@ fn look_up_three(
     requires room { queue.old.room ≡ 8 }
     requires empty { queue.old.pairs ≡ [] }
 {
-    put(alloc, queue, key(0, 5, 0, 1)?, 10, 0, 100)?;
-    put(alloc, queue, key(0, 7, 0, 2)?, 20, 0, 100)?;
-    put(alloc, queue, key(0, 6, 0, 3)?, 30, 0, 100)?;
-    assert_eq!(rt; queue.get(&key(0, 5, 0, 1)?).copied(), Some(10));
-    assert_eq!(rt; queue.get(&key(0, 7, 0, 2)?).copied(), Some(20));
-    assert_eq!(rt; queue.get(&key(0, 6, 0, 3)?).copied(), Some(30));
-    assert_eq!(rt; queue.get(&key(0, 6, 0, 4)?).copied(), None);
+    put(alloc, queue, key(0, 5, 0, 1), 10, 0, 100)?;
+    put(alloc, queue, key(0, 7, 0, 2), 20, 0, 100)?;
+    put(alloc, queue, key(0, 6, 0, 3), 30, 0, 100)?;
+    assert_eq!(rt; queue.get(&key(0, 5, 0, 1)).copied(), Some(10));
+    assert_eq!(rt; queue.get(&key(0, 7, 0, 2)).copied(), Some(20));
+    assert_eq!(rt; queue.get(&key(0, 6, 0, 3)).copied(), Some(30));
+    assert_eq!(rt; queue.get(&key(0, 6, 0, 4)).copied(), None);
     assert_eq!(rt; queue.len(), 3);
     Ok(())
 }

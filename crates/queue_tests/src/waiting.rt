@@ -10,56 +10,130 @@ use wait_queues::{JoinOrder, WaitQueues, Waiter};
 
 type OfLists = WaitQueues<ListQueue<Key, usize>>;
 
-// The order read from its front, checked against the places wanted.
-fn stands(order: &JoinOrder, wanted: &[usize]) -> bool {
+// The order read from its front, checked against the places wanted; none after the last.
+fn stands(order: &JoinOrder, wanted: &[Option<usize>]) -> bool {
     let mut place = order.first();
     for want in wanted {
-        match place {
-            Some(found) if found == *want => {
-                if !order.contains(found) {
-                    return false;
-                }
-                place = order.after(found);
+        if place != *want {
+            return false;
+        }
+        if let Some(found) = place {
+            if !order.contains(found) {
+                return false;
             }
-            _ => return false,
+            place = order.after(found);
         }
     }
     place.is_none()
 }
 
+// A step of a test, which is played on an order.
+#[derive(Clone, Copy)]
+enum Step {
+    Append(usize),
+    Remove(usize),
+    // These places stand in it, from its front on; none after the last.
+    Stands([Option<usize>; 5]),
+    // Whether this place stands in it.
+    Contains(usize, bool),
+    First(Option<usize>),
+    // What comes after this place.
+    After(usize, Option<usize>),
+}
+
+// Plays the steps on an order of so much room.
+fn play(rt: &impl Abort, alloc: Global, room: usize, steps: &[Step]) -> Result<(), Fail> {
+    let mut order = JoinOrder::with_room(alloc, room)?;
+    play_on(rt, &mut order, room, steps)
+}
+
+fn play_on(rt: &impl Abort, order: &mut JoinOrder, room: usize, steps: &[Step]) -> Result<(), Fail>
+    requires { order.old.room ≡ room }
+{
+    for step in steps {
+        play_one(rt, order, room, step)?;
+    }
+    Ok(())
+}
+
+fn play_one(rt: &impl Abort, order: &mut JoinOrder, room: usize, step: &Step) -> Result<(), Fail>
+    requires { order.old.room ≡ room }
+    ensures { order.new.room ≡ room }
+{
+    match step {
+        Step::Append(place) => append(order, room, *place)?,
+        Step::Remove(place) => remove(order, *place)?,
+        Step::Stands(wanted) => assert!(rt; stands(order, wanted)),
+        Step::Contains(place, is_in) => assert_eq!(rt; order.contains(*place), *is_in),
+        Step::First(first) => assert_eq!(rt; order.first(), *first),
+        Step::After(place, next) => assert_eq!(rt; after(order, *place)?, *next),
+    }
+    Ok(())
+}
+
+fn append(order: &mut JoinOrder, room: usize, place: usize) -> Result<(), Fail>
+    requires { order.old.room ≡ room }
+    ensures { order.new.room ≡ order.old.room }
+{
+    if place >= room || order.contains(place) {
+        return Err(Fail::from("no place to append"));
+    }
+    order.append(place);
+    Ok(())
+}
+
+fn remove(order: &mut JoinOrder, place: usize) -> Result<(), Fail>
+    ensures { order.new.room ≡ order.old.room }
+{
+    if !order.contains(place) {
+        return Err(Fail::from("no place to remove"));
+    }
+    order.remove(place);
+    Ok(())
+}
+
+fn after(order: &JoinOrder, place: usize) -> Result<Option<usize>, Fail> {
+    if !order.contains(place) {
+        return Err(Fail::from("no place to look after"));
+    }
+    Ok(order.after(place))
+}
+
 #[test]
 fn places_leave_from_the_front_the_middle_and_the_end(rt: HostRuntime) -> Result<(), Fail> {
-    let mut order = JoinOrder::with_room(rt.alloc(), 5)?;
-    assert_eq!(rt; order.first(), None);
-    order.append(3);
-    order.append(0);
-    order.append(4);
-    order.append(1);
-    assert!(rt; stands(&order, &[3, 0, 4, 1]));
-    assert!(rt; !order.contains(2));
-    order.remove(0);
-    assert!(rt; stands(&order, &[3, 4, 1]));
-    order.remove(3);
-    assert!(rt; stands(&order, &[4, 1]));
-    order.append(3);
-    order.remove(3);
-    order.append(2);
-    assert!(rt; stands(&order, &[4, 1, 2]));
-    assert_eq!(rt; order.after(1), Some(2));
-    assert_eq!(rt; order.after(2), None);
-    Ok(())
+    let steps = [
+        Step::First(None),
+        Step::Append(3),
+        Step::Append(0),
+        Step::Append(4),
+        Step::Append(1),
+        Step::Stands([Some(3), Some(0), Some(4), Some(1), None]),
+        Step::Contains(2, false),
+        Step::Remove(0),
+        Step::Stands([Some(3), Some(4), Some(1), None, None]),
+        Step::Remove(3),
+        Step::Stands([Some(4), Some(1), None, None, None]),
+        Step::Append(3),
+        Step::Remove(3),
+        Step::Append(2),
+        Step::Stands([Some(4), Some(1), Some(2), None, None]),
+        Step::After(1, Some(2)),
+        Step::After(2, None),
+    ];
+    play(&rt, rt.alloc(), 5, &steps)
 }
 
 #[test]
 fn a_place_may_come_back(rt: HostRuntime) -> Result<(), Fail> {
-    let mut order = JoinOrder::with_room(rt.alloc(), 1)?;
-    order.append(0);
-    assert!(rt; stands(&order, &[0]));
-    order.remove(0);
-    assert!(rt; stands(&order, &[]));
-    order.append(0);
-    assert!(rt; stands(&order, &[0]));
-    Ok(())
+    let steps = [
+        Step::Append(0),
+        Step::Stands([Some(0), None, None, None, None]),
+        Step::Remove(0),
+        Step::Stands([None, None, None, None, None]),
+        Step::Append(0),
+        Step::Stands([Some(0), None, None, None, None]),
+    ];
+    play(&rt, rt.alloc(), 1, &steps)
 }
 
 fn key(ticket: u64) -> Key {
@@ -84,11 +158,17 @@ fn waiter(key: Key, queue: Queue) -> Waiter
 #[test]
 fn nobody_waits_at_first(rt: HostRuntime) -> Result<(), Fail> {
     let mut waiting: OfLists = WaitQueues::new(rt.alloc(), 2, 4)?;
+    find_nobody(&rt, &mut waiting);
+    Ok(())
+}
+
+fn find_nobody(rt: &impl Abort, waiting: &mut OfLists)
+    requires { waiting.old ≡ record { waiters = replicate 4 None; order = []; servers = 2 } }
+{
     assert_eq!(rt; waiting.oldest(), None);
     assert_eq!(rt; waiting.heads(0).backend, None);
     assert_eq!(rt; waiting.shift(1, 9), None);
     assert!(rt; waiting.take(Queue::Server(0)).is_none());
-    Ok(())
 }
 
 #[test]
@@ -114,26 +194,33 @@ fn join_and_leave(rt: &impl Abort, alloc: Global, waiting: &mut OfLists) -> Resu
 #[test]
 fn a_request_that_moves_waits_anew(rt: HostRuntime) -> Result<(), Fail> {
     let mut waiting: OfLists = WaitQueues::new(rt.alloc(), 2, 4)?;
-    join_and_move(&rt, rt.alloc(), &mut waiting)
+    join_and_move(&rt, rt.alloc(), &mut waiting, &key(7))
 }
 
-fn join_and_move(rt: &impl Abort, alloc: Global, waiting: &mut OfLists) -> Result<(), Fail>
+fn join_and_move(
+    rt: &impl Abort,
+    alloc: Global,
+    waiting: &mut OfLists,
+    key: &Key,
+) -> Result<(), Fail>
     requires { waiting.old ≡ record { waiters = replicate 4 None; order = []; servers = 2 } }
 {
-    let key = key(7);
-    let node = ListQueue::node(alloc, key, 3)?;
-    waiting.join(3, waiter(key, Queue::Server(1)), node);
-    assert_eq!(rt; waiting.heads(1).own, Some(key));
+    let node = ListQueue::node(alloc, *key, 3)?;
+    waiting.join(3, waiter(*key, Queue::Server(1)), node);
+    assert_eq!(rt; waiting.heads(1).own, Some(*key));
     assert_eq!(rt; waiting.shift(1, 9), Some(3));
     let heads = waiting.heads(1);
-    assert_eq!(rt; heads.own, None);
-    assert_eq!(rt; heads.backend, Some(key));
-    let Some(taken) = waiting.take(Queue::Backend) else {
-        return Err(Fail::from("nobody waits"));
+    assert_eq!(rt; (heads.own, heads.backend), (None, Some(*key)));
+    let moved = Waiter {
+        key: *key,
+        queue: Queue::Backend,
+        joined: 9,
     };
-    assert_eq!(rt; taken.place, 3);
-    assert_eq!(rt; taken.waiter.key, key);
-    assert_eq!(rt; taken.waiter.queue, Queue::Backend);
-    assert_eq!(rt; taken.waiter.joined, 9);
+    assert_eq!(rt; take_from_backend(waiting), Some((3, moved)));
     Ok(())
+}
+
+fn take_from_backend(waiting: &mut OfLists) -> Option<(usize, Waiter)> {
+    let taken = waiting.take(Queue::Backend)?;
+    Some((taken.place, taken.waiter))
 }

@@ -1,7 +1,6 @@
-use super::setups::copied;
+use super::setups::{Plan, setup_of};
 use binom_queue::BinomQueue;
-use dispatch_core::{Core, Refusal, Setup};
-use dispatch_log::Entry;
+use dispatch_core::{Core, Refusal};
 use due_key::{Class, Key, Moment, Offset};
 use pend_queue::{ListQueue, PendQueue};
 use std::alloc::Global;
@@ -73,7 +72,7 @@ fn ask_one<Q: PendQueue<Key, usize>>(
 }
 
 /// Asks a call of both dispatchers, whose answers and logs are the same.
-fn ask(
+pub fn ask(
     rt: &impl Abort,
     alloc: Global,
     core: &mut Both,
@@ -82,65 +81,23 @@ fn ask(
 ) -> Result<usize, Refusal> {
     let answer = ask_one(alloc, &mut core.lists, moment(at), *call);
     let same = ask_one(alloc, &mut core.trees, moment(at), *call);
-    assert_eq!(rt; same.ok(), answer.ok());
-    assert_eq!(rt; same.err(), answer.err());
+    assert_eq!(rt; same, answer);
     assert_eq!(rt; core.trees.log().entries(), core.lists.log().entries());
     answer
 }
 
-/// Dispatchers without a request.
-fn made(alloc: Global, setup: Setup) -> Result<Both, Fail> {
-    let same = copied(alloc, &setup)?;
-    if !setup.sound() || !same.sound() {
-        return Err(Fail::from("not a sound setup"));
-    }
+/// Dispatchers of a plan, without a request.
+pub fn made(alloc: Global, plan: Plan) -> Result<Both, Fail> {
     Ok(Both {
-        lists: Core::new(alloc, setup)?,
-        trees: Core::new(alloc, same)?,
+        lists: one_made(alloc, plan)?,
+        trees: one_made(alloc, plan)?,
     })
 }
 
-/// These calls are accepted, each at its moment.
-pub fn go_on(rt: &impl Abort, alloc: Global, core: &mut Both, calls: &[(u64, Call)]) {
-    for (at, call) in calls {
-        assert_eq!(rt; ask(rt, alloc, core, *at, call).err(), None);
+fn one_made<Q: PendQueue<Key, usize>>(alloc: Global, plan: Plan) -> Result<Core<Q>, Fail> {
+    let setup = setup_of(alloc, plan)?;
+    if !setup.sound() {
+        return Err(Fail::from("not a sound setup"));
     }
-}
-
-/// Lends dispatchers of a setup. Who owns them is proved once, here.
-pub fn lent<F: FnOnce(&mut Both)>(alloc: Global, setup: Setup, does: F) -> Result<(), Fail>
-    requires { F.IsAlwaysCallable does }
-{
-    let mut core = made(alloc, setup)?;
-    does(&mut core);
-    Ok(())
-}
-
-/// The log has just these entries from a position on.
-pub fn goes_on_with(rt: &impl Abort, core: &Both, from: usize, entries: &[Entry]) {
-    assert_eq!(rt; core.lists.log().entries().get(from..), Some(entries));
-}
-
-/// The log ends with these entries.
-pub fn ends_with(rt: &impl Abort, core: &Both, entries: &[Entry]) {
-    goes_on_with(
-        rt,
-        core,
-        core.lists.log().len().saturating_sub(entries.len()),
-        entries,
-    );
-}
-
-/// The call is refused, and the log stays as it is.
-pub fn is_refused(
-    rt: &impl Abort,
-    alloc: Global,
-    core: &mut Both,
-    at: u64,
-    call: Call,
-    refusal: Refusal,
-) {
-    let before = core.lists.log().len();
-    assert_eq!(rt; ask(rt, alloc, core, at, &call), Err(refusal));
-    assert_eq!(rt; core.lists.log().len(), before);
+    Ok(Core::new(alloc, setup)?)
 }

@@ -2,18 +2,38 @@ use dispatch_core::{ServerSet, Servers, Setup};
 use std::alloc::Global;
 use std::test::Fail;
 
-/// A server without checks.
-pub fn server(limit: u32, maxqueue: u32, weight: u32) -> ServerSet {
+/// The servers that a test is played on, and the rules for them.
+#[derive(Clone, Copy)]
+pub enum Plan {
+    /// One server that takes one request at a time.
+    Alone,
+    /// The same with two places, and a log that is full after two arrivals and an end.
+    Cramped,
+    /// One server that takes one request at a time, where requests wait 10 milliseconds at most.
+    Patient,
+    /// One server that takes two requests at a time.
+    Wide,
+    /// Two servers that take two requests at a time.
+    TwoWide,
+    /// One server that balancing never picks.
+    Weightless,
+    /// Two servers that take one request at a time and go down and up at one result, with
+    /// `option redispatch` and one retry.
+    Checked,
+}
+
+// A server without checks.
+fn server(limit: u32, weight: u32) -> ServerSet {
     ServerSet {
         limit,
-        maxqueue,
+        maxqueue: 0,
         weight,
         rise_fall: None,
     }
 }
 
-/// These servers, with 8 places and room for 64 entries.
-pub fn of_servers(alloc: Global, list: &[ServerSet]) -> Result<Setup, Fail> {
+// These servers, with 8 places and room for 64 entries.
+fn of_servers(alloc: Global, list: &[ServerSet]) -> Result<Setup, Fail> {
     let mut servers = Vec::new(alloc);
     servers.extend_from_slice(list)?;
     Ok(Setup {
@@ -26,33 +46,33 @@ pub fn of_servers(alloc: Global, list: &[ServerSet]) -> Result<Setup, Fail> {
     })
 }
 
-/// The same setup.
-pub fn copied(alloc: Global, setup: &Setup) -> Result<Setup, Fail> {
-    let mut same = of_servers(alloc, setup.servers.as_slice())?;
-    same.places = setup.places;
-    same.log = setup.log;
-    same.retries = setup.retries;
-    same.redispatch = setup.redispatch;
-    same.queue_timeout = setup.queue_timeout;
-    Ok(same)
+/// The setup of a plan.
+pub fn setup_of(alloc: Global, plan: Plan) -> Result<Setup, Fail> {
+    match plan {
+        Plan::Alone => of_servers(alloc, &[server(1, 1)]),
+        Plan::Cramped => cramped(alloc),
+        Plan::Patient => patient(alloc),
+        Plan::Wide => of_servers(alloc, &[server(2, 1)]),
+        Plan::TwoWide => of_servers(alloc, &[server(2, 1), server(2, 1)]),
+        Plan::Weightless => of_servers(alloc, &[server(1, 0)]),
+        Plan::Checked => checked(alloc),
+    }
 }
 
-/// One server that takes one request at a time.
-pub fn alone(alloc: Global) -> Result<Setup, Fail> {
-    of_servers(alloc, &[server(1, 0, 1)])
+fn cramped(alloc: Global) -> Result<Setup, Fail> {
+    let mut setup = of_servers(alloc, &[server(1, 1)])?;
+    (setup.places, setup.log) = (2, 16);
+    Ok(setup)
 }
 
-/// One server that takes one request at a time, where requests wait 10 milliseconds at most.
-pub fn patient(alloc: Global) -> Result<Setup, Fail> {
-    let mut setup = alone(alloc)?;
+fn patient(alloc: Global) -> Result<Setup, Fail> {
+    let mut setup = of_servers(alloc, &[server(1, 1)])?;
     setup.queue_timeout = 10;
     Ok(setup)
 }
 
-/// Two servers that take one request at a time and go down and up at one result, with
-/// `option redispatch` and one retry.
-pub fn checked(alloc: Global) -> Result<Setup, Fail> {
-    let mut one = server(1, 0, 1);
+fn checked(alloc: Global) -> Result<Setup, Fail> {
+    let mut one = server(1, 1);
     one.rise_fall = Some((1, 1));
     let mut setup = of_servers(alloc, &[one, one])?;
     setup.retries = 1;

@@ -1,7 +1,7 @@
 use Rattle.std.proofs.Common.{ap}
 use Rattle.slot_ledger.specs.Ledgers.{Kept}
 use Rattle.slot_ledger.proofs.Standing.{still_stands, put_stands, admitted_stands}
-use Rattle.dispatch_tests.proofs.ledger.a_request_goes_its_way.Goals as goal
+use Rattle.dispatch_tests.proofs.ledger.go_its_way.Goals as goal
 
 pub loosen-requires : goal.loosen-requires
 loosen-requires g c = (_, put_stands _ _ _ _ c.admit-place.ensures.vacant (ap (λ (k : Kept _). k.slots) c.admit-place.ensures.admitted))

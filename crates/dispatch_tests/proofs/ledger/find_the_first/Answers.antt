@@ -1,6 +1,6 @@
 use Rattle.std.proofs.Common.{◌+◌, arith}
-use Rattle.dispatch_tests.proofs.ledger.an_old_ticket_is_found_after_many.Goals as goal
-use Rattle.dispatch_tests.proofs.ledger.an_old_ticket_is_found_after_many.Goals.{then-ticket-gt2+in_ok-end, else-ticket-gt2}
+use Rattle.dispatch_tests.proofs.ledger.find_the_first.Goals as goal
+use Rattle.dispatch_tests.proofs.ledger.find_the_first.Goals.{then-ticket-gt2+in_ok-end, else-ticket-gt2}
 
 pub loop-ticket-preserved : goal.loop-ticket-preserved
 loop-ticket-preserved g c =

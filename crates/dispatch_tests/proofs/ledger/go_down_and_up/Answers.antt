@@ -3,7 +3,7 @@ use Rattle.slot_ledger.specs.declared.places.Slot.{Slot}
 use Rattle.slot_ledger.specs.Ledgers.{Kept}
 use Rattle.slot_ledger.specs.Slots.{HasRow}
 use Rattle.slot_ledger.proofs.Standing.{put_stands, changed_stands, still_stands}
-use Rattle.dispatch_tests.proofs.ledger.a_server_goes_down_and_up.Goals as goal
+use Rattle.dispatch_tests.proofs.ledger.go_down_and_up.Goals as goal
 
 pub loosen-requires : goal.loosen-requires
 loosen-requires g c = (_, put_stands _ _ _ _ c.admit-place.ensures.vacant (ap (λ (k : Kept _). k.slots) c.admit-place.ensures.admitted))
@@ -12,7 +12,7 @@ pub fail-requires : goal.fail-requires
 fail-requires g c =
     let put = put_stands _ _ _ _ c.admit-place.ensures.vacant (ap (λ (k : Kept _). k.slots) c.admit-place.ensures.admitted) in
     let admitted = changed_stands _ _ _ _ _ put (ap (λ (k : Kept _). k.slots) c.loosen.ensures) in
-    (_, admitted, omega arith)
+    (_, admitted, omega (arith, c.row_of.ensures.failures))
 
 pub row-requires : goal.row-requires
 row-requires g c =

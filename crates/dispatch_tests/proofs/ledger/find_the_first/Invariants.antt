@@ -1,5 +1,5 @@
 use Rattle.slot_ledger.specs.Slots.{AreBelow}
-use Rattle.dispatch_tests.proofs.ledger.an_old_ticket_is_found_after_many.Given as goal
+use Rattle.dispatch_tests.proofs.ledger.find_the_first.Given as goal
 
 abbrev pub invariant-loop-ticket : goal.invariant-loop-ticket
 invariant-loop-ticket g l = AreBelow l.ticket l.ledger.slots

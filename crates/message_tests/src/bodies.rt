@@ -1,64 +1,45 @@
+use crate::exchanges::streams::{Narrow, Slow};
 use counted_io::Counted;
 use relay_body::{Fault, Framing, INBOX_BYTES, Pipe, SIZE_LINE_BYTES, TRAILER_BYTES};
 use std::alloc::{AllocError, Global};
-use std::io;
 use std::io::{Read, Write};
+use std::process::Abort;
 use std::test::Fail;
-
-// gives one byte a read, and fails at read `fails_at`, counted from 1
-#[derive(Drop)]
-struct Slow<'b> {
-    bytes: &'b [u8],
-    reads: usize,
-    fails_at: usize,
-}
-
-impl Read for Slow<'_> {
-    fn read(&mut self, buf: &mut [u8]) -> io::Result<usize> {
-        self.reads = self.reads.saturating_add(1);
-        if self.reads == self.fails_at {
-            return Err(io::Error::from(io::ErrorKind::BrokenPipe));
-        }
-        let count = self.bytes.len().min(buf.len()).min(1);
-        buf[..count].copy_from_slice(&self.bytes[..count]);
-        self.bytes = &self.bytes[count..];
-        Ok(count)
-    }
-}
-
-// takes one byte a write, and fails at write `fails_at`, counted from 1
-#[derive(Drop)]
-struct Narrow {
-    bytes: Vec<u8>,
-    writes: usize,
-    fails_at: usize,
-}
-
-impl Write for Narrow {
-    fn write(&mut self, buf: &[u8]) -> io::Result<usize> {
-        self.writes = self.writes.saturating_add(1);
-        if self.writes == self.fails_at {
-            return Err(io::Error::from(io::ErrorKind::BrokenPipe));
-        }
-        match buf.first() {
-            None => Ok(0),
-            Some(byte) => match self.bytes.push(*byte) {
-                Ok(()) => Ok(1),
-                Err(_) => Err(io::Error::from(io::ErrorKind::OutOfMemory)),
-            },
-        }
-    }
-
-    fn flush(&mut self) -> io::Result<()> {
-        Ok(())
-    }
-}
 
 #[derive(Drop)]
 struct Seen {
     result: Result<(), Fault>,
     written: Vec<u8>,
     held: Vec<u8>,
+}
+
+fn pass<R: Read, W: Write>(
+    pipe: &mut Pipe,
+    reader: &mut R,
+    writer: &mut W,
+    framing: Framing,
+    framed: bool,
+) -> Result<(), Fault> {
+    // Read here, so that the proof knows how many they can be.
+    let _turns = pipe.turns();
+    pipe.pass_body(
+        &mut Counted::new(reader),
+        &mut Counted::new(writer),
+        framing,
+        framed,
+    )
+}
+
+fn pass_and_flush<R: Read, W: Write>(
+    pipe: &mut Pipe,
+    reader: &mut R,
+    writer: &mut W,
+    framing: Framing,
+    framed: bool,
+) -> Result<(), Fault> {
+    pass(pipe, reader, writer, framing, framed)?;
+    let _turns = pipe.turns();
+    pipe.flush(&mut Counted::new(writer))
 }
 
 // hands a body on and flushes
@@ -71,15 +52,7 @@ fn hand_on(
     let mut pipe = Pipe::new(alloc, 1_000_000)?;
     let mut reader = input;
     let mut writer = Vec::new(alloc);
-    let mut result = pipe.pass_body(
-        &mut Counted::new(&mut reader),
-        &mut Counted::new(&mut writer),
-        framing,
-        framed,
-    );
-    if result.is_ok() {
-        result = pipe.flush(&mut Counted::new(&mut writer));
-    }
+    let result = pass_and_flush(&mut pipe, &mut reader, &mut writer, framing, framed);
     Ok(Seen {
         result,
         written: writer,
@@ -167,71 +140,69 @@ fn each_cut_is_a_read_fault(rt: HostRuntime) -> Result<(), Fail> {
     Ok(())
 }
 
+// What a body in chunks comes to whose bytes come one by one.
+fn pass_slowly(
+    alloc: Global,
+    turns: u64,
+    fails_at: usize,
+    written: &mut Vec<u8>,
+) -> Result<Result<(), Fault>, AllocError> {
+    let mut pipe = Pipe::new(alloc, turns)?;
+    let mut reader = Slow {
+        bytes: CHUNKED,
+        reads: 0,
+        fails_at,
+    };
+    Ok(pass(&mut pipe, &mut reader, written, Framing::Chunked, true))
+}
+
+fn is_read_until(rt: &impl Abort, outcome: Result<(), Fault>, written: &[u8], fails_at: usize) {
+    assert_eq!(rt; outcome.is_ok(), CHUNKED.len() < fails_at);
+    assert!(rt; CHUNKED_TEXT.starts_with(written));
+}
+
+fn pass_narrowly(alloc: Global, writer: &mut Narrow) -> Result<Result<(), Fault>, AllocError> {
+    let mut pipe = Pipe::new(alloc, 1_000_000)?;
+    let mut reader = CHUNKED;
+    Ok(pass_and_flush(&mut pipe, &mut reader, writer, Framing::Chunked, true))
+}
+
+fn is_written_until(rt: &impl Abort, outcome: Result<(), Fault>, written: &[u8], fails_at: usize) {
+    if CHUNKED_TEXT.len() < fails_at {
+        assert_eq!(rt; outcome, Ok(()));
+        assert_eq!(rt; written, CHUNKED_TEXT);
+    } else {
+        assert_eq!(rt; outcome, Err(Fault::Write));
+        assert_eq!(rt; written.len().saturating_add(1), fails_at);
+        assert!(rt; CHUNKED_TEXT.starts_with(written));
+    }
+}
+
 #[test]
 fn each_call_fails_in_turn(rt: HostRuntime) -> Result<(), Fail> {
     for fails_at in 1..CHUNKED.len() + 2 {
-        let mut pipe = Pipe::new(rt.alloc(), 1_000_000)?;
-        let mut reader = Slow {
-            bytes: CHUNKED,
-            reads: 0,
-            fails_at,
-        };
-        let mut writer = Vec::new(rt.alloc());
-        let result = pipe.pass_body(
-            &mut Counted::new(&mut reader),
-            &mut Counted::new(&mut writer),
-            Framing::Chunked,
-            true,
-        );
-        let all_read = CHUNKED.len() < fails_at;
-        assert_eq!(rt; result.is_ok(), all_read);
-        assert!(rt; CHUNKED_TEXT.starts_with(writer.as_slice()));
+        let mut written = Vec::new(rt.alloc());
+        let result = pass_slowly(rt.alloc(), 1_000_000, fails_at, &mut written)?;
+        is_read_until(&rt, result, written.as_slice(), fails_at);
     }
     for fails_at in 1..CHUNKED_TEXT.len() + 2 {
-        let mut pipe = Pipe::new(rt.alloc(), 1_000_000)?;
-        let mut reader = CHUNKED;
         let mut writer = Narrow {
             bytes: Vec::new(rt.alloc()),
             writes: 0,
             fails_at,
         };
-        let mut result = pipe.pass_body(
-            &mut Counted::new(&mut reader),
-            &mut Counted::new(&mut writer),
-            Framing::Chunked,
-            true,
-        );
-        if result.is_ok() {
-            result = pipe.flush(&mut Counted::new(&mut writer));
-        }
-        if CHUNKED_TEXT.len() < fails_at {
-            assert_eq!(rt; result, Ok(()));
-            assert_eq!(rt; writer.bytes.as_slice(), CHUNKED_TEXT);
-        } else {
-            assert_eq!(rt; result, Err(Fault::Write));
-            assert_eq!(rt; writer.bytes.len(), fails_at - 1);
-            assert!(rt; CHUNKED_TEXT.starts_with(writer.bytes.as_slice()));
-        }
+        let result = pass_narrowly(rt.alloc(), &mut writer)?;
+        is_written_until(&rt, result, writer.bytes.as_slice(), fails_at);
     }
     Ok(())
 }
 
 #[test]
 fn turns_are_spent(rt: HostRuntime) -> Result<(), Fail> {
+    let mut written = Vec::new(rt.alloc());
     for turns in 0..CHUNKED.len() as u64 {
-        let mut pipe = Pipe::new(rt.alloc(), turns)?;
-        let mut reader = Slow {
-            bytes: CHUNKED,
-            reads: 0,
-            fails_at: 0,
-        };
-        let mut writer = Vec::new(rt.alloc());
-        let result = pipe.pass_body(
-            &mut Counted::new(&mut reader),
-            &mut Counted::new(&mut writer),
-            Framing::Chunked,
-            true,
-        );
+        written.clear();
+        let result = pass_slowly(rt.alloc(), turns, 0, &mut written)?;
         assert_eq!(rt; result, Err(Fault::Turns));
     }
     Ok(())
@@ -256,75 +227,73 @@ fn with_trailers(alloc: Global, count: usize) -> Result<Vec<u8>, AllocError> {
     Ok(input)
 }
 
+fn chunks_passed(alloc: Global, input: &[u8]) -> Result<Result<(), Fault>, AllocError> {
+    Ok(hand_on(alloc, input, Framing::Chunked, true)?.result)
+}
+
 #[test]
 fn the_longest_lines(rt: HostRuntime) -> Result<(), Fail> {
-    let fits = hand_on(
-        rt.alloc(),
-        with_line(rt.alloc(), SIZE_LINE_BYTES)?.as_slice(),
-        Framing::Chunked,
-        true,
-    )?;
-    assert_eq!(rt; fits.result, Ok(()));
-    let long = hand_on(
-        rt.alloc(),
-        with_line(rt.alloc(), SIZE_LINE_BYTES + 1)?.as_slice(),
-        Framing::Chunked,
-        true,
-    )?;
-    assert_eq!(rt; long.result, Err(Fault::Framing));
-    let fits = hand_on(
-        rt.alloc(),
-        with_trailers(rt.alloc(), TRAILER_BYTES)?.as_slice(),
-        Framing::Chunked,
-        true,
-    )?;
-    assert_eq!(rt; fits.result, Ok(()));
-    let long = hand_on(
-        rt.alloc(),
-        with_trailers(rt.alloc(), TRAILER_BYTES + 1)?.as_slice(),
-        Framing::Chunked,
-        true,
-    )?;
-    assert_eq!(rt; long.result, Err(Fault::Framing));
+    for (count, expected) in [
+        (SIZE_LINE_BYTES, Ok(())),
+        (SIZE_LINE_BYTES + 1, Err(Fault::Framing)),
+    ] {
+        let input = with_line(rt.alloc(), count)?;
+        assert_eq!(rt; chunks_passed(rt.alloc(), input.as_slice())?, expected);
+    }
+    for (count, expected) in [
+        (TRAILER_BYTES, Ok(())),
+        (TRAILER_BYTES + 1, Err(Fault::Framing)),
+    ] {
+        let input = with_trailers(rt.alloc(), count)?;
+        assert_eq!(rt; chunks_passed(rt.alloc(), input.as_slice())?, expected);
+    }
     Ok(())
+}
+
+fn passes_what_it_holds(rt: &impl Abort, pipe: &mut Pipe, writer: &mut Vec<u8>) {
+    pipe.hold(b"abcdef");
+    assert_eq!(rt; pipe.held(), b"abcdef".as_slice());
+    let mut reader = b"".as_slice();
+    assert_eq!(rt;
+        pass(pipe, &mut reader, writer, Framing::Length(3), true),
+        Ok(())
+    );
+    assert_eq!(rt; pipe.held(), b"def".as_slice());
+    assert_eq!(rt; writer.as_slice(), b"".as_slice());
+}
+
+fn has_nothing_to_write(rt: &impl Abort, pipe: &mut Pipe, writer: &mut Vec<u8>) {
+    pipe.forget_waiting();
+    pipe.renew(7);
+    assert_eq!(rt; pipe.held(), b"".as_slice());
+    assert_eq!(rt; pipe.flush(&mut Counted::new(writer)), Ok(()));
+    assert_eq!(rt; writer.as_slice(), b"".as_slice());
 }
 
 #[test]
 fn a_pipe_is_used_again(rt: HostRuntime) -> Result<(), Fail> {
     let mut pipe = Pipe::new(rt.alloc(), 5)?;
     let mut writer = Vec::new(rt.alloc());
-    pipe.hold(b"abcdef");
-    assert_eq!(rt; pipe.held(), b"abcdef".as_slice());
-    let mut reader = b"".as_slice();
-    assert_eq!(rt;
-        pipe.pass_body(
-            &mut Counted::new(&mut reader),
-            &mut Counted::new(&mut writer),
-            Framing::Length(3),
-            true
-        ),
-        Ok(())
-    );
-    assert_eq!(rt; pipe.held(), b"def".as_slice());
-    assert_eq!(rt; writer.as_slice(), b"".as_slice());
-    pipe.forget_waiting();
-    pipe.renew(7);
-    assert_eq!(rt; pipe.held(), b"".as_slice());
-    assert_eq!(rt; pipe.flush(&mut Counted::new(&mut writer)), Ok(()));
-    assert_eq!(rt; writer.as_slice(), b"".as_slice());
+    passes_what_it_holds(&rt, &mut pipe, &mut writer);
+    has_nothing_to_write(&rt, &mut pipe, &mut writer);
     Ok(())
+}
+
+fn reads_before_it_writes(rt: &impl Abort, pipe: &mut Pipe, writer: &mut Vec<u8>) {
+    pipe.renew(2);
+    assert_eq!(rt; pipe.emit(&mut Counted::new(writer), b"x"), Ok(()));
+    let mut reader = b"ab".as_slice();
+    assert_eq!(rt; pipe.fill(&mut Counted::new(&mut reader)), Ok(2));
+    assert_eq!(rt; pipe.held(), b"ab".as_slice());
+    assert_eq!(rt; pipe.turns(), 1);
+    assert_eq!(rt; writer.as_slice(), b"".as_slice());
 }
 
 #[test]
 fn a_read_leaves_what_waits(rt: HostRuntime) -> Result<(), Fail> {
     let mut pipe = Pipe::new(rt.alloc(), 2)?;
     let mut writer = Vec::new(rt.alloc());
-    assert_eq!(rt; pipe.emit(&mut Counted::new(&mut writer), b"x"), Ok(()));
-    let mut reader = b"ab".as_slice();
-    assert_eq!(rt; pipe.fill(&mut Counted::new(&mut reader)), Ok(2));
-    assert_eq!(rt; pipe.held(), b"ab".as_slice());
-    assert_eq!(rt; pipe.turns(), 1);
-    assert_eq!(rt; writer.as_slice(), b"".as_slice());
+    reads_before_it_writes(&rt, &mut pipe, &mut writer);
     Ok(())
 }
 

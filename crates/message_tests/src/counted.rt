@@ -1,6 +1,7 @@
 use counted_io::{Counted, Failed, Sink, Source};
 use std::io;
 use std::io::{Cursor, Read, Write};
+use std::process::Abort;
 
 // fails at each call
 #[derive(Drop)]
@@ -38,13 +39,17 @@ fn a_source_gives_what_its_reader_gives(rt: HostRuntime) {
     assert_eq!(rt; reader, b"".as_slice());
 }
 
-#[test]
-fn a_sink_gives_its_writer_what_it_is_given(rt: HostRuntime) {
-    let mut writer = Vec::new(rt.alloc());
-    let mut sink = Counted::new(&mut writer);
+fn puts_each(rt: &impl Abort, writer: &mut Vec<u8>) {
+    let mut sink = Counted::new(writer);
     assert_eq!(rt; sink.put(b"ab"), Ok(2));
     assert_eq!(rt; sink.put(b"c"), Ok(1));
     assert_eq!(rt; sink.successes(), 2);
+}
+
+#[test]
+fn a_sink_gives_its_writer_what_it_is_given(rt: HostRuntime) {
+    let mut writer = Vec::new(rt.alloc());
+    puts_each(&rt, &mut writer);
     assert_eq!(rt; writer.as_slice(), b"abc".as_slice());
 }
 

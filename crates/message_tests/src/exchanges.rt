@@ -5,4 +5,4 @@ mod framings;
 mod limits;
 mod memory;
 mod requests;
-mod streams;
+pub(crate) mod streams;

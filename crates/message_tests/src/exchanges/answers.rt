@@ -1,5 +1,7 @@
 use crate::exchanges::streams::{GET, OLD_GET, Row, answered};
 use relay_http::Fault;
+use std::alloc::Global;
+use std::process::Abort;
 use std::test::Fail;
 
 const HEAD: &[u8] = b"HEAD / HTTP/1.1\r\nHost: h\r\n\r\n";
@@ -226,38 +228,35 @@ const TO_HEAD: [Row; 6] = [
     ),
 ];
 
-#[test]
-fn answers_are_handed_on(rt: HostRuntime) -> Result<(), Fail> {
-    for (what, input, expected) in WHOLE {
-        let seen = answered(rt.alloc(), GET, input)?;
-        assert_eq!(rt; seen.outcome(), expected, "{what}");
+fn become_of_each(
+    rt: &impl Abort,
+    alloc: Global,
+    request: &[u8],
+    rows: &[Row],
+) -> Result<(), Fail> {
+    for (what, input, expected) in rows {
+        let seen = answered(alloc, request, input)?;
+        assert_eq!(rt; seen.outcome(), *expected, "{what}");
     }
     Ok(())
+}
+
+#[test]
+fn answers_are_handed_on(rt: HostRuntime) -> Result<(), Fail> {
+    become_of_each(&rt, rt.alloc(), GET, &WHOLE)
 }
 
 #[test]
 fn broken_answers(rt: HostRuntime) -> Result<(), Fail> {
-    for (what, input, expected) in BROKEN {
-        let seen = answered(rt.alloc(), GET, input)?;
-        assert_eq!(rt; seen.outcome(), expected, "{what}");
-    }
-    Ok(())
+    become_of_each(&rt, rt.alloc(), GET, &BROKEN)
 }
 
 #[test]
 fn answers_to_old_clients(rt: HostRuntime) -> Result<(), Fail> {
-    for (what, input, expected) in TO_OLD_CLIENTS {
-        let seen = answered(rt.alloc(), OLD_GET, input)?;
-        assert_eq!(rt; seen.outcome(), expected, "{what}");
-    }
-    Ok(())
+    become_of_each(&rt, rt.alloc(), OLD_GET, &TO_OLD_CLIENTS)
 }
 
 #[test]
 fn answers_to_head(rt: HostRuntime) -> Result<(), Fail> {
-    for (what, input, expected) in TO_HEAD {
-        let seen = answered(rt.alloc(), HEAD, input)?;
-        assert_eq!(rt; seen.outcome(), expected, "{what}");
-    }
-    Ok(())
+    become_of_each(&rt, rt.alloc(), HEAD, &TO_HEAD)
 }

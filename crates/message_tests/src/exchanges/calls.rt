@@ -1,8 +1,11 @@
 use crate::exchanges::streams::{
-    GET, Narrow, OLD_GET, Slow, TURNS, Tally, answer_to, forward_to, forward_view, forwarded,
-    forwarded_from,
+    GET, Narrow, OLD_GET, Seen, Slow, TURNS, Tally, answer_to, answered_from, forward_to,
+    forward_view, forwarded, forwarded_from,
 };
 use relay_http::{Exchange, Fault, Stage};
+use req_view::View;
+use std::alloc::Global;
+use std::process::Abort;
 use std::test::Fail;
 
 // 77 bytes, the last of which is behind the body
@@ -18,41 +21,79 @@ const ANSWER: &[u8] = b"HTTP/1.1 103 X\r\n\r\nHTTP/1.1 200 OK\r\nContent-Length:
 const ANSWER_TEXT: &[u8] =
     b"HTTP/1.1 103 X\r\n\r\nHTTP/1.1 200 OK\r\nContent-Length: 2\r\nConnection: close\r\n\r\nab";
 
+fn is_cut_after(rt: &impl Abort, seen: &Seen, len: usize) {
+    assert!(rt; POST_TEXT.starts_with(seen.written.as_slice()));
+    if len < 73 {
+        assert_eq!(rt; seen.result, Err(Fault::Read));
+        assert_eq!(rt; seen.written.as_slice(), b"".as_slice());
+    } else if len < 76 {
+        assert_eq!(rt; seen.result, Err(Fault::Read));
+    } else {
+        assert_eq!(rt; seen.outcome(), Ok(POST_TEXT));
+    }
+}
+
 #[test]
 fn a_request_is_cut_after_each_byte(rt: HostRuntime) -> Result<(), Fail> {
     for len in 0..POST.len() + 1 {
         let seen = forwarded(rt.alloc(), &POST[..len])?;
-        assert!(rt; POST_TEXT.starts_with(seen.written.as_slice()));
-        if len < 73 {
-            assert_eq!(rt; seen.result, Err(Fault::Read));
-            assert_eq!(rt; seen.written.as_slice(), b"".as_slice());
-        } else if len < 76 {
-            assert_eq!(rt; seen.result, Err(Fault::Read));
-        } else {
-            assert_eq!(rt; seen.outcome(), Ok(POST_TEXT));
-        }
+        is_cut_after(&rt, &seen, len);
     }
     Ok(())
+}
+
+fn slow(bytes: &'static [u8], fails_at: usize) -> Slow<'static> {
+    Slow {
+        bytes,
+        reads: 0,
+        fails_at,
+    }
+}
+
+fn has_read_until(rt: &impl Abort, seen: &Seen, fails_at: usize) {
+    assert!(rt; POST_TEXT.starts_with(seen.written.as_slice()));
+    if fails_at < 77 {
+        assert_eq!(rt; seen.result, Err(Fault::Read));
+    } else {
+        assert_eq!(rt; seen.outcome(), Ok(POST_TEXT));
+    }
 }
 
 #[test]
 fn each_read_of_a_request_fails_in_turn(rt: HostRuntime) -> Result<(), Fail> {
     let mut exchange = Exchange::new(rt.alloc(), TURNS)?;
     for fails_at in 1..POST.len() + 1 {
-        let mut reader = Slow {
-            bytes: POST,
-            reads: 0,
-            fails_at,
-        };
+        let mut reader = slow(POST, fails_at);
         let seen = forwarded_from(rt.alloc(), &mut exchange, &mut reader);
-        assert!(rt; POST_TEXT.starts_with(seen.written.as_slice()));
-        if fails_at < 77 {
-            assert_eq!(rt; seen.result, Err(Fault::Read));
-        } else {
-            assert_eq!(rt; seen.outcome(), Ok(POST_TEXT));
-        }
+        has_read_until(&rt, &seen, fails_at);
     }
     Ok(())
+}
+
+fn narrow(alloc: Global, fails_at: usize) -> Narrow {
+    Narrow {
+        bytes: Vec::new(alloc),
+        writes: 0,
+        fails_at,
+    }
+}
+
+fn has_written_request_until(
+    rt: &impl Abort,
+    exchange: &Exchange,
+    outcome: Result<(), Fault>,
+    written: &[u8],
+    fails_at: usize,
+) {
+    if fails_at <= POST_TEXT.len() {
+        assert_eq!(rt; outcome, Err(Fault::Write));
+        assert!(rt; 0 < fails_at);
+        assert_eq!(rt; written, &POST_TEXT[..fails_at - 1]);
+        assert_eq!(rt; exchange.stage(), Stage::Failed);
+    } else {
+        assert_eq!(rt; outcome, Ok(()));
+        assert_eq!(rt; written, POST_TEXT);
+    }
 }
 
 #[test]
@@ -60,45 +101,49 @@ fn each_write_of_a_request_fails_in_turn(rt: HostRuntime) -> Result<(), Fail> {
     let mut exchange = Exchange::new(rt.alloc(), TURNS)?;
     for fails_at in 1..POST_TEXT.len() + 2 {
         let mut reader = POST;
-        let mut writer = Narrow {
-            bytes: Vec::new(rt.alloc()),
-            writes: 0,
-            fails_at,
-        };
+        let mut writer = narrow(rt.alloc(), fails_at);
         let result = forward_to(rt.alloc(), &mut exchange, &mut reader, &mut writer);
-        if fails_at <= POST_TEXT.len() {
-            assert_eq!(rt; result, Err(Fault::Write));
-            assert_eq!(rt; writer.bytes.as_slice(), &POST_TEXT[..fails_at - 1]);
-            assert_eq!(rt; exchange.stage(), Stage::Failed);
-        } else {
-            assert_eq!(rt; result, Ok(()));
-            assert_eq!(rt; writer.bytes.as_slice(), POST_TEXT);
-        }
+        has_written_request_until(&rt, &exchange, result, writer.bytes.as_slice(), fails_at);
     }
     Ok(())
+}
+
+fn has_read_answer_until(rt: &impl Abort, exchange: &Exchange, seen: &Seen, fails_at: usize) {
+    assert!(rt; ANSWER_TEXT.starts_with(seen.written.as_slice()));
+    assert_eq!(rt; exchange.begun(), !seen.written.is_empty());
+    if fails_at <= ANSWER.len() {
+        assert_eq!(rt; seen.result, Err(Fault::Read));
+    } else {
+        assert_eq!(rt; seen.outcome(), Ok(ANSWER_TEXT));
+    }
 }
 
 #[test]
 fn each_read_of_an_answer_fails_in_turn(rt: HostRuntime) -> Result<(), Fail> {
     let mut exchange = Exchange::new(rt.alloc(), TURNS)?;
     for fails_at in 1..ANSWER.len() + 2 {
-        let mut reader = Slow {
-            bytes: ANSWER,
-            reads: 0,
-            fails_at,
-        };
-        let mut written = Vec::new(rt.alloc());
-        let result = answer_to(rt.alloc(), &mut exchange, GET, &mut reader, &mut written);
-        assert!(rt; ANSWER_TEXT.starts_with(written.as_slice()));
-        assert_eq!(rt; exchange.begun(), !written.is_empty());
-        if fails_at <= ANSWER.len() {
-            assert_eq!(rt; result, Err(Fault::Read));
-        } else {
-            assert_eq!(rt; result, Ok(()));
-            assert_eq!(rt; written.as_slice(), ANSWER_TEXT);
-        }
+        let mut reader = slow(ANSWER, fails_at);
+        let seen = answered_from(rt.alloc(), &mut exchange, GET, &mut reader);
+        has_read_answer_until(&rt, &exchange, &seen, fails_at);
     }
     Ok(())
+}
+
+fn has_written_answer_until(
+    rt: &impl Abort,
+    exchange: &Exchange,
+    outcome: Result<(), Fault>,
+    written: &[u8],
+    fails_at: usize,
+) {
+    assert_eq!(rt; exchange.begun(), 1 < fails_at);
+    assert!(rt; ANSWER_TEXT.starts_with(written));
+    if fails_at <= ANSWER_TEXT.len() {
+        assert_eq!(rt; outcome, Err(Fault::Write));
+        assert_eq!(rt; written.len().saturating_add(1), fails_at);
+    } else {
+        assert_eq!(rt; outcome, Ok(()));
+    }
 }
 
 #[test]
@@ -106,81 +151,92 @@ fn each_write_of_an_answer_fails_in_turn(rt: HostRuntime) -> Result<(), Fail> {
     let mut exchange = Exchange::new(rt.alloc(), TURNS)?;
     for fails_at in 1..ANSWER_TEXT.len() + 2 {
         let mut reader = ANSWER;
-        let mut writer = Narrow {
-            bytes: Vec::new(rt.alloc()),
-            writes: 0,
-            fails_at,
-        };
+        let mut writer = narrow(rt.alloc(), fails_at);
         let result = answer_to(rt.alloc(), &mut exchange, GET, &mut reader, &mut writer);
-        assert_eq!(rt; exchange.begun(), 1 < fails_at);
-        assert!(rt; ANSWER_TEXT.starts_with(writer.bytes.as_slice()));
-        if fails_at <= ANSWER_TEXT.len() {
-            assert_eq!(rt; result, Err(Fault::Write));
-            assert_eq!(rt; writer.bytes.len(), fails_at - 1);
-        } else {
-            assert_eq!(rt; result, Ok(()));
-        }
+        has_written_answer_until(&rt, &exchange, result, writer.bytes.as_slice(), fails_at);
     }
     Ok(())
+}
+
+// Of interim heads alone the client gets what it can take, and the answer is missed.
+fn has_no_answer(
+    rt: &impl Abort,
+    alloc: Global,
+    exchange: &mut Exchange,
+    request: &[u8],
+    text: &[u8],
+) {
+    let mut reader = b"HTTP/1.1 100 Continue\r\n\r\nHTTP/1.1 103 X\r\n\r\n".as_slice();
+    let seen = answered_from(alloc, exchange, request, &mut reader);
+    assert_eq!(rt; seen.result, Err(Fault::Read));
+    assert_eq!(rt; seen.written.as_slice(), text);
+    assert_eq!(rt; exchange.begun(), !text.is_empty());
 }
 
 #[test]
 fn an_interim_head_alone(rt: HostRuntime) -> Result<(), Fail> {
     let mut exchange = Exchange::new(rt.alloc(), TURNS)?;
-    let input = b"HTTP/1.1 100 Continue\r\n\r\nHTTP/1.1 103 X\r\n\r\n".as_slice();
-    let mut written = Vec::new(rt.alloc());
-    let mut reader = input;
-    let result = answer_to(rt.alloc(), &mut exchange, GET, &mut reader, &mut written);
-    assert_eq!(rt; result, Err(Fault::Read));
-    assert_eq!(rt; written.as_slice(), b"HTTP/1.1 103 X\r\n\r\n".as_slice());
-    assert!(rt; exchange.begun());
-    written.clear();
-    reader = input;
-    let result = answer_to(
-        rt.alloc(),
-        &mut exchange,
-        OLD_GET,
-        &mut reader,
-        &mut written,
-    );
-    assert_eq!(rt; result, Err(Fault::Read));
-    assert_eq!(rt; written.as_slice(), b"".as_slice());
-    assert!(rt; !exchange.begun());
+    let rows: [(&[u8], &[u8]); 2] = [(GET, b"HTTP/1.1 103 X\r\n\r\n"), (OLD_GET, b"")];
+    for (request, text) in rows {
+        has_no_answer(&rt, rt.alloc(), &mut exchange, request, text);
+    }
     Ok(())
+}
+
+fn is_one_write_of_a_request(rt: &impl Abort, alloc: Global, exchange: &mut Exchange) {
+    let mut writer = Tally::new();
+    let mut reader = POST;
+    let result = forward_to(alloc, exchange, &mut reader, &mut writer);
+    assert_eq!(rt; result, Ok(()));
+    assert_eq!(rt; writer.writes, 1);
+    assert_eq!(rt; writer.bytes, POST_TEXT.len());
+}
+
+fn is_one_write_of_an_answer(rt: &impl Abort, alloc: Global, exchange: &mut Exchange) {
+    let mut writer = Tally::new();
+    let mut reader = b"HTTP/1.1 200 OK\r\nContent-Length: 2\r\n\r\nab".as_slice();
+    let result = answer_to(alloc, exchange, GET, &mut reader, &mut writer);
+    assert_eq!(rt; result, Ok(()));
+    assert_eq!(rt; writer.writes, 1);
 }
 
 // What is read together goes out together.
 #[test]
 fn a_head_and_its_body_are_one_write(rt: HostRuntime) -> Result<(), Fail> {
     let mut exchange = Exchange::new(rt.alloc(), TURNS)?;
-    let mut writer = Tally::new();
+    is_one_write_of_a_request(&rt, rt.alloc(), &mut exchange);
+    is_one_write_of_an_answer(&rt, rt.alloc(), &mut exchange);
+    Ok(())
+}
+
+// The view of a request, of which the exchange holds what came behind its head.
+fn view_before(rt: &impl Abort, alloc: Global, exchange: &mut Exchange) -> Result<View, Fault> {
     let mut reader = POST;
-    let result = forward_to(rt.alloc(), &mut exchange, &mut reader, &mut writer);
-    assert_eq!(rt; result, Ok(()));
-    assert_eq!(rt; writer.writes, 1);
-    assert_eq!(rt; writer.bytes, POST_TEXT.len());
-    let mut writer = Tally::new();
-    let mut reader = b"HTTP/1.1 200 OK\r\nContent-Length: 2\r\n\r\nab".as_slice();
-    let result = answer_to(rt.alloc(), &mut exchange, GET, &mut reader, &mut writer);
-    assert_eq!(rt; result, Ok(()));
-    assert_eq!(rt; writer.writes, 1);
+    exchange.renew();
+    let view = exchange.read_request(alloc, &mut reader);
+    assert_eq!(rt; exchange.held(), b"abcd".as_slice());
+    view
+}
+
+fn take_up(alloc: Global, exchange: &mut Exchange, view: &View) -> Seen {
+    exchange.renew();
+    exchange.take_up(b"ab");
+    let mut rest = b"cd".as_slice();
+    let mut written = Vec::new(alloc);
+    let result = forward_view(alloc, exchange, view, &mut rest, &mut written);
+    Seen { result, written }
+}
+
+fn is_taken_up(rt: &impl Abort, alloc: Global, exchange: &mut Exchange) -> Result<(), Fault> {
+    let view = view_before(rt, alloc, exchange)?;
+    let seen = take_up(alloc, exchange, &view);
+    assert_eq!(rt; seen.outcome(), Ok(POST_TEXT));
     Ok(())
 }
 
 #[test]
 fn a_request_is_taken_up(rt: HostRuntime) -> Result<(), Fail> {
     let mut exchange = Exchange::new(rt.alloc(), TURNS)?;
-    let mut reader = POST;
-    let Ok(view) = exchange.read_request(rt.alloc(), &mut reader) else {
-        return Err(Fail::from("no request"));
-    };
-    assert_eq!(rt; exchange.held(), b"abcd".as_slice());
-    exchange.renew();
-    exchange.take_up(b"ab");
-    let mut rest = b"cd".as_slice();
-    let mut written = Vec::new(rt.alloc());
-    let forwarded = forward_view(rt.alloc(), &mut exchange, &view, &mut rest, &mut written);
-    assert_eq!(rt; forwarded, Ok(()));
-    assert_eq!(rt; written.as_slice(), POST_TEXT);
+    assert_eq!(rt; is_taken_up(&rt, rt.alloc(), &mut exchange), Ok(()));
     Ok(())
 }

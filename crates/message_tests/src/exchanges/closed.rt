@@ -1,32 +1,54 @@
 use crate::exchanges::streams::{
-    GET, TURNS, Tally, answer_to, answer_view, forward_view, forwarded_from,
+    GET, TURNS, Tally, answer_to, answer_view, forward_to, forward_view, view_of,
 };
 use relay_http::{Code, Exchange, Fault};
 use req_view::View;
 use std::alloc::Global;
+use std::process::Abort;
 use std::test::Fail;
 
-// Each call answers that the exchange is closed; nothing is read or written.
-fn answers_closed(alloc: Global, exchange: &mut Exchange, view: &View) -> bool {
-    let closed = Err(Fault::Closed);
-    let mut reader = GET;
-    let mut writer = Tally::new();
+fn reads_nothing(alloc: Global, exchange: &mut Exchange, reader: &mut &[u8]) -> bool {
     if !exchange.is_closed() {
         return false;
     }
-    let request = exchange.read_request(alloc, &mut reader);
-    if !matches!(request, Err(Fault::Closed)) || !exchange.is_closed() {
-        return false;
-    }
-    if exchange.go_on(view, &mut writer) != closed || !exchange.is_closed() {
-        return false;
-    }
-    let forwarded = forward_view(alloc, exchange, view, &mut reader, &mut writer);
-    if forwarded != closed || !exchange.is_closed() {
-        return false;
-    }
-    let answered = answer_view(alloc, exchange, view, &mut reader, &mut writer);
-    answered == closed && reader.len() == GET.len() && writer.writes == 0
+    matches!(exchange.read_request(alloc, reader), Err(Fault::Closed))
+}
+
+fn gives_no_leave(exchange: &mut Exchange, view: &View, writer: &mut Tally) -> bool {
+    exchange.is_closed() && exchange.go_on(view, writer) == Err(Fault::Closed)
+}
+
+fn hands_on_nothing(
+    alloc: Global,
+    exchange: &mut Exchange,
+    view: &View,
+    reader: &mut &[u8],
+    writer: &mut Tally,
+) -> bool {
+    exchange.is_closed()
+        && forward_view(alloc, exchange, view, reader, writer) == Err(Fault::Closed)
+}
+
+fn answers_nothing(
+    alloc: Global,
+    exchange: &mut Exchange,
+    view: &View,
+    reader: &mut &[u8],
+    writer: &mut Tally,
+) -> bool {
+    exchange.is_closed() && answer_view(alloc, exchange, view, reader, writer) == Err(Fault::Closed)
+}
+
+// Each call answers that the exchange is closed; nothing is read or written.
+fn answers_closed(alloc: Global, exchange: &mut Exchange, view: &View) -> bool {
+    let mut reader = GET;
+    let mut writer = Tally::new();
+    reads_nothing(alloc, exchange, &mut reader)
+        && gives_no_leave(exchange, view, &mut writer)
+        && hands_on_nothing(alloc, exchange, view, &mut reader, &mut writer)
+        && answers_nothing(alloc, exchange, view, &mut reader, &mut writer)
+        && reader.len() == GET.len()
+        && writer.writes == 0
 }
 
 // It is closed, and tells the client so if no byte of an answer went out.
@@ -69,20 +91,28 @@ const REQUESTS: [(&[u8], u64, Fault); 8] = [
     ),
 ];
 
+fn is_closed_by_a_request(
+    rt: &impl Abort,
+    alloc: Global,
+    exchange: &mut Exchange,
+    view: &View,
+    input: &[u8],
+    fault: Fault,
+) {
+    let mut reader = input;
+    let mut writer = Tally::new();
+    let result = forward_to(alloc, exchange, &mut reader, &mut writer);
+    assert_eq!(rt; result, Err(fault));
+    assert!(rt; !exchange.begun());
+    assert!(rt; is_over(alloc, exchange, view));
+}
+
 #[test]
 fn each_fault_of_a_request_closes_the_exchange(rt: HostRuntime) -> Result<(), Fail> {
-    let mut other = Exchange::new(rt.alloc(), TURNS)?;
-    let mut request = GET;
-    let Ok(view) = other.read_request(rt.alloc(), &mut request) else {
-        return Err(Fail::from("no request"));
-    };
+    let view = view_of(rt.alloc(), GET)?;
     for (input, turns, fault) in REQUESTS {
         let mut exchange = Exchange::new(rt.alloc(), turns)?;
-        let mut reader = input;
-        let seen = forwarded_from(rt.alloc(), &mut exchange, &mut reader);
-        assert_eq!(rt; seen.result, Err(fault));
-        assert!(rt; !exchange.begun());
-        assert!(rt; is_over(rt.alloc(), &mut exchange, &view));
+        is_closed_by_a_request(&rt, rt.alloc(), &mut exchange, &view, input, fault);
     }
     Ok(())
 }
@@ -109,21 +139,29 @@ const ANSWERS: [(&[u8], u64, Fault, bool); 8] = [
     (b"HTTP/1.1 200 OK\r\n\r\nab", 4, Fault::Turns, true),
 ];
 
+fn is_closed_by_an_answer(
+    rt: &impl Abort,
+    alloc: Global,
+    exchange: &mut Exchange,
+    view: &View,
+    input: &[u8],
+    fault: Fault,
+    begun: bool,
+) {
+    let mut reader = input;
+    let mut writer = Tally::new();
+    let result = answer_to(alloc, exchange, GET, &mut reader, &mut writer);
+    assert_eq!(rt; result, Err(fault));
+    assert_eq!(rt; exchange.begun(), begun);
+    assert!(rt; is_over(alloc, exchange, view));
+}
+
 #[test]
 fn each_fault_of_an_answer_closes_the_exchange(rt: HostRuntime) -> Result<(), Fail> {
-    let mut other = Exchange::new(rt.alloc(), TURNS)?;
-    let mut request = GET;
-    let Ok(view) = other.read_request(rt.alloc(), &mut request) else {
-        return Err(Fail::from("no request"));
-    };
+    let view = view_of(rt.alloc(), GET)?;
     for (input, turns, fault, begun) in ANSWERS {
         let mut exchange = Exchange::new(rt.alloc(), turns)?;
-        let mut reader = input;
-        let mut writer = Tally::new();
-        let result = answer_to(rt.alloc(), &mut exchange, GET, &mut reader, &mut writer);
-        assert_eq!(rt; result, Err(fault));
-        assert_eq!(rt; exchange.begun(), begun);
-        assert!(rt; is_over(rt.alloc(), &mut exchange, &view));
+        is_closed_by_an_answer(&rt, rt.alloc(), &mut exchange, &view, input, fault, begun);
     }
     Ok(())
 }

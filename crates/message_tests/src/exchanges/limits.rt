@@ -1,10 +1,11 @@
 use crate::exchanges::streams::{
-    Endless, GET, Slow, TURNS, Tally, answer_to, answered, forward_to, forward_view, forwarded,
-    forwarded_from,
+    Endless, GET, Seen, Slow, TURNS, Tally, answer_to, answered, forward_to, forward_view,
+    forwarded, view_of,
 };
 use relay_http::{Code, Exchange, Fault, MOST_INTERIMS};
-use req_view::{HEAD_BYTES, HEAD_FIELDS};
+use req_view::{HEAD_BYTES, HEAD_FIELDS, View};
 use std::alloc::{AllocError, Global};
+use std::process::Abort;
 use std::test::Fail;
 
 const START: &[u8] = b"GET / HTTP/1.1\r\nHost: h\r\n";
@@ -47,23 +48,21 @@ fn with_interims(alloc: Global, count: usize) -> Result<Vec<u8>, AllocError> {
     Ok(input)
 }
 
+fn result_of(alloc: Global, request: &[u8]) -> Result<Result<(), Fault>, AllocError> {
+    Ok(forwarded(alloc, request)?.result)
+}
+
 #[test]
 fn the_longest_heads(rt: HostRuntime) -> Result<(), Fail> {
-    let most = with_bytes(rt.alloc(), HEAD_BYTES)?;
-    assert_eq!(rt; most.len(), HEAD_BYTES);
-    assert_eq!(rt; forwarded(rt.alloc(), most.as_slice())?.result, Ok(()));
-    let more = with_bytes(rt.alloc(), HEAD_BYTES + 1)?;
-    assert_eq!(rt;
-        forwarded(rt.alloc(), more.as_slice())?.result,
-        Err(Fault::Head)
-    );
-    let most = with_fields(rt.alloc(), HEAD_FIELDS)?;
-    assert_eq!(rt; forwarded(rt.alloc(), most.as_slice())?.result, Ok(()));
-    let more = with_fields(rt.alloc(), HEAD_FIELDS + 1)?;
-    assert_eq!(rt;
-        forwarded(rt.alloc(), more.as_slice())?.result,
-        Err(Fault::Head)
-    );
+    for (count, expected) in [(HEAD_BYTES, Ok(())), (HEAD_BYTES + 1, Err(Fault::Head))] {
+        let head = with_bytes(rt.alloc(), count)?;
+        assert_eq!(rt; head.len(), count);
+        assert_eq!(rt; result_of(rt.alloc(), head.as_slice())?, expected);
+    }
+    for (count, expected) in [(HEAD_FIELDS, Ok(())), (HEAD_FIELDS + 1, Err(Fault::Head))] {
+        let head = with_fields(rt.alloc(), count)?;
+        assert_eq!(rt; result_of(rt.alloc(), head.as_slice())?, expected);
+    }
     Ok(())
 }
 
@@ -88,91 +87,134 @@ fn the_longest_lines_of_a_body(rt: HostRuntime) -> Result<(), Fail> {
     ];
     for (start, more, end, expected) in rows {
         let input = with_more(rt.alloc(), start, more, end)?;
-        assert_eq!(rt; forwarded(rt.alloc(), input.as_slice())?.result, expected);
+        assert_eq!(rt; result_of(rt.alloc(), input.as_slice())?, expected);
     }
     Ok(())
+}
+
+fn are_handed_on(rt: &impl Abort, seen: &Seen, answer: &[u8]) {
+    assert_eq!(rt; seen.result, Ok(()));
+    assert_eq!(rt;
+        Some(seen.written.len()),
+        answer.len().checked_add(b"Connection: close\r\n".len())
+    );
+}
+
+fn are_too_many(rt: &impl Abort, seen: &Seen, answer: &[u8]) {
+    assert_eq!(rt; seen.result, Err(Fault::Framing));
+    assert!(rt; answer.starts_with(seen.written.as_slice()));
 }
 
 #[test]
 fn the_most_heads_before_an_answer(rt: HostRuntime) -> Result<(), Fail> {
     let most = with_interims(rt.alloc(), MOST_INTERIMS)?;
     let seen = answered(rt.alloc(), GET, most.as_slice())?;
-    assert_eq!(rt; seen.result, Ok(()));
-    assert_eq!(rt;
-        seen.written.len(),
-        most.len() + b"Connection: close\r\n".len()
-    );
+    are_handed_on(&rt, &seen, most.as_slice());
     let more = with_interims(rt.alloc(), MOST_INTERIMS + 1)?;
     let seen = answered(rt.alloc(), GET, more.as_slice())?;
-    assert_eq!(rt; seen.result, Err(Fault::Framing));
-    assert!(rt; more.as_slice().starts_with(seen.written.as_slice()));
+    are_too_many(&rt, &seen, more.as_slice());
     Ok(())
+}
+
+fn slow(bytes: &'static [u8]) -> Slow<'static> {
+    Slow {
+        bytes,
+        reads: 0,
+        fails_at: 0,
+    }
+}
+
+fn spends_all(rt: &impl Abort, alloc: Global, exchange: &mut Exchange) {
+    let result = forward_to(alloc, exchange, &mut slow(GET), &mut Tally::new());
+    assert_eq!(rt; result, Err(Fault::Turns));
+    assert_eq!(rt; exchange.turns(), 0);
 }
 
 #[test]
 fn turns_are_spent(rt: HostRuntime) -> Result<(), Fail> {
     for turns in 0..GET.len() as u64 {
         let mut exchange = Exchange::new(rt.alloc(), turns)?;
-        let mut reader = Slow {
-            bytes: GET,
-            reads: 0,
-            fails_at: 0,
-        };
-        let seen = forwarded_from(rt.alloc(), &mut exchange, &mut reader);
-        assert_eq!(rt; seen.result, Err(Fault::Turns));
-        assert_eq!(rt; exchange.turns(), 0);
+        spends_all(&rt, rt.alloc(), &mut exchange);
     }
     Ok(())
 }
 
-// Two turns are spent when an answer begins: one read and one write.
+const BY_LENGTH: &[u8] = b"HTTP/1.1 200 OK\r\nContent-Length: 2\r\n\r\nab";
+
+// What so many turns of an answer come to. Two are spent when it begins: one read and one write.
+fn answers_within(rt: &impl Abort, alloc: Global, exchange: &mut Exchange, turns: u64) {
+    let mut writer = Tally::new();
+    let result = answer_to(alloc, exchange, GET, &mut slow(BY_LENGTH), &mut writer);
+    if result.is_ok() {
+        assert!(rt; BY_LENGTH.len() as u64 + 1 < turns);
+        assert!(rt; exchange.begun());
+    } else {
+        assert_eq!(rt; result, Err(Fault::Turns));
+        assert_eq!(rt; exchange.turns(), 0);
+        assert_eq!(rt; exchange.begun(), 0 < writer.writes);
+    }
+}
+
 #[test]
 fn turns_are_spent_by_an_answer(rt: HostRuntime) -> Result<(), Fail> {
-    let input = b"HTTP/1.1 200 OK\r\nContent-Length: 2\r\n\r\nab".as_slice();
-    let whole = input.len() as u64 + 1;
-    for turns in 0..whole + 3 {
+    for turns in 0..BY_LENGTH.len() as u64 + 4 {
         let mut exchange = Exchange::new(rt.alloc(), turns)?;
-        let mut reader = Slow {
-            bytes: input,
-            reads: 0,
-            fails_at: 0,
-        };
-        let mut writer = Tally::new();
-        let result = answer_to(rt.alloc(), &mut exchange, GET, &mut reader, &mut writer);
-        if result.is_ok() {
-            assert!(rt; whole < turns);
-            assert!(rt; exchange.begun());
-        } else {
-            assert_eq!(rt; result, Err(Fault::Turns));
-            assert_eq!(rt; exchange.turns(), 0);
-            assert_eq!(rt; exchange.begun(), 0 < writer.writes);
-        }
+        answers_within(&rt, rt.alloc(), &mut exchange, turns);
     }
     Ok(())
+}
+
+fn reads_no_request(alloc: Global, exchange: &mut Exchange) -> bool {
+    let mut client = WAITING;
+    exchange.renew();
+    exchange.read_request(alloc, &mut client).is_err()
+}
+
+fn gives_leave(exchange: &mut Exchange, view: &View, writer: &mut Tally) -> Result<(), Fault> {
+    exchange.renew();
+    exchange.take_up(b"abc");
+    exchange.go_on(view, writer)
+}
+
+fn hands_on(
+    alloc: Global,
+    exchange: &mut Exchange,
+    view: &View,
+    writer: &mut Tally,
+) -> Result<(), Fault> {
+    let mut client = b"".as_slice();
+    exchange.renew();
+    exchange.take_up(b"abc");
+    forward_view(alloc, exchange, view, &mut client, writer)
+}
+
+fn has_no_turn(rt: &impl Abort, alloc: Global, exchange: &mut Exchange, view: &View) {
+    let mut writer = Tally::new();
+    assert!(rt; reads_no_request(alloc, exchange));
+    assert_eq!(rt; gives_leave(exchange, view, &mut writer), Err(Fault::Turns));
+    assert_eq!(rt;
+        hands_on(alloc, exchange, view, &mut writer),
+        Err(Fault::Turns)
+    );
+    assert_eq!(rt; writer.writes, 0);
 }
 
 #[test]
 fn no_turn_at_all(rt: HostRuntime) -> Result<(), Fail> {
-    let mut other = Exchange::new(rt.alloc(), TURNS)?;
-    let mut client = WAITING;
-    let Ok(view) = other.read_request(rt.alloc(), &mut client) else {
-        return Err(Fail::from("no request"));
-    };
+    let view = view_of(rt.alloc(), WAITING)?;
     let mut exchange = Exchange::new(rt.alloc(), 0)?;
-    let mut writer = Tally::new();
-    assert_eq!(rt;
-        exchange.read_request(rt.alloc(), &mut client).is_err(),
-        true
-    );
-    exchange.renew();
-    exchange.take_up(b"abc");
-    assert_eq!(rt; exchange.go_on(&view, &mut writer), Err(Fault::Turns));
-    exchange.renew();
-    exchange.take_up(b"abc");
-    let result = forward_view(rt.alloc(), &mut exchange, &view, &mut client, &mut writer);
-    assert_eq!(rt; result, Err(Fault::Turns));
-    assert_eq!(rt; writer.writes, 0);
+    has_no_turn(&rt, rt.alloc(), &mut exchange, &view);
     Ok(())
+}
+
+fn endless_request(
+    alloc: Global,
+    turns: u64,
+    reader: Endless<'_>,
+) -> Result<Result<(), Fault>, AllocError> {
+    let mut exchange = Exchange::new(alloc, turns)?;
+    let mut reader = reader;
+    Ok(forward_to(alloc, &mut exchange, &mut reader, &mut Tally::new()))
 }
 
 #[test]
@@ -186,13 +228,20 @@ fn an_input_without_end_ends(rt: HostRuntime) -> Result<(), Fail> {
         (TRAILER_START, b'x', 1000, Fault::Turns),
     ];
     for (start, byte, turns, fault) in rows {
-        let mut exchange = Exchange::new(rt.alloc(), turns)?;
-        let mut reader = Endless { start, byte };
-        let mut writer = Tally::new();
-        let result = forward_to(rt.alloc(), &mut exchange, &mut reader, &mut writer);
-        assert_eq!(rt; result, Err(fault));
+        let reader = Endless { start, byte };
+        assert_eq!(rt; endless_request(rt.alloc(), turns, reader)?, Err(fault));
     }
     Ok(())
+}
+
+fn endless_answer(
+    alloc: Global,
+    turns: u64,
+    reader: Endless<'_>,
+) -> Result<Result<(), Fault>, AllocError> {
+    let mut exchange = Exchange::new(alloc, turns)?;
+    let mut reader = reader;
+    Ok(answer_to(alloc, &mut exchange, GET, &mut reader, &mut Tally::new()))
 }
 
 #[test]
@@ -209,27 +258,30 @@ fn an_answer_without_end_ends(rt: HostRuntime) -> Result<(), Fail> {
         ),
     ];
     for (start, byte, turns, fault) in rows {
-        let mut exchange = Exchange::new(rt.alloc(), turns)?;
-        let mut reader = Endless { start, byte };
-        let mut writer = Tally::new();
-        let result = answer_to(rt.alloc(), &mut exchange, GET, &mut reader, &mut writer);
-        assert_eq!(rt; result, Err(fault));
+        let reader = Endless { start, byte };
+        assert_eq!(rt; endless_answer(rt.alloc(), turns, reader)?, Err(fault));
     }
     Ok(())
 }
 
-// The leave for a row's request, which has 25 bytes or none.
-fn leave(alloc: Global, head: &[u8]) -> Result<usize, Fail> {
+// The leave for a row's request, which has 25 bytes or none. None where it isn't given.
+fn leave(alloc: Global, head: &[u8]) -> Result<Option<usize>, AllocError> {
     let mut exchange = Exchange::new(alloc, TURNS)?;
+    Ok(leave_by(alloc, &mut exchange, head))
+}
+
+fn leave_by(alloc: Global, exchange: &mut Exchange, head: &[u8]) -> Option<usize> {
     let mut reader = head;
+    let mut writer = Tally::new();
+    exchange.renew();
     let Ok(view) = exchange.read_request(alloc, &mut reader) else {
-        return Err(Fail::from("no request"));
+        return None;
     };
-    let mut written = Vec::new(alloc);
-    if exchange.go_on(&view, &mut written).is_err() || exchange.begun() {
-        return Err(Fail::from("no leave"));
+    let result = exchange.go_on(&view, &mut writer);
+    if result.is_err() || exchange.begun() {
+        return None;
     }
-    Ok(written.len())
+    Some(writer.bytes)
 }
 
 const WAITING: &[u8] =
@@ -261,9 +313,16 @@ fn leave_is_given_to_those_who_wait(rt: HostRuntime) -> Result<(), Fail> {
         ),
     ];
     for (head, count) in rows {
-        assert_eq!(rt; leave(rt.alloc(), head)?, count);
+        assert_eq!(rt; leave(rt.alloc(), head)?, Some(count));
     }
     Ok(())
+}
+
+fn refused(alloc: Global, code: Code) -> Result<Seen, AllocError> {
+    let mut exchange = Exchange::new(alloc, 0)?;
+    let mut written = Vec::new(alloc);
+    let result = exchange.refuse(code, &mut written);
+    Ok(Seen { result, written })
 }
 
 #[test]
@@ -283,10 +342,7 @@ fn refusals(rt: HostRuntime) -> Result<(), Fail> {
         ),
     ];
     for (code, text) in rows {
-        let mut exchange = Exchange::new(rt.alloc(), 0)?;
-        let mut written = Vec::new(rt.alloc());
-        assert_eq!(rt; exchange.refuse(code, &mut written), Ok(()));
-        assert_eq!(rt; written.as_slice(), text);
+        assert_eq!(rt; refused(rt.alloc(), code)?.outcome(), Ok(text));
     }
     Ok(())
 }

@@ -6,6 +6,7 @@ use req_view::View;
 use std::alloc::{AllocError, Global};
 use std::io;
 use std::io::{Read, Write};
+use std::test::Fail;
 use verdict::{Ending, Verdict};
 
 /// What a message is, its bytes, and what becomes of it.
@@ -64,10 +65,41 @@ pub(crate) fn forward_to<R: Read, W: Write>(
     forward_view(alloc, exchange, &view, reader, writer)
 }
 
+/// The head of a request, read by an exchange of its own.
+pub(crate) fn view_of(alloc: Global, request: &[u8]) -> Result<View, Fail> {
+    let mut exchange = Exchange::new(alloc, TURNS)?;
+    let mut reader = request;
+    match exchange.read_request(alloc, &mut reader) {
+        Ok(view) => Ok(view),
+        Err(_) => Err(Fail::from("no request")),
+    }
+}
+
 /// Hands a request on whose head was read, on a pass of its own.
 pub(crate) fn forward_view<R: Read, W: Write>(
     alloc: Global,
     exchange: &mut Exchange,
+    view: &View,
+    reader: &mut R,
+    writer: &mut W,
+) -> Result<(), Fault>
+    requires { IsAt Stage.Asked exchange.old }
+{
+    on_a_pass(alloc, exchange, Part::Request, view, reader, writer)
+}
+
+/// What of an exchange goes from a reader to a writer.
+#[derive(Clone, Copy)]
+enum Part {
+    Request,
+    /// Its request has no body.
+    Answer,
+}
+
+fn on_a_pass<R: Read, W: Write>(
+    alloc: Global,
+    exchange: &mut Exchange,
+    part: Part,
     view: &View,
     reader: &mut R,
     writer: &mut W,
@@ -80,10 +112,7 @@ pub(crate) fn forward_view<R: Read, W: Write>(
     keeper.offer(&board, 0, 1, Verdict::Serve(0));
     match seat.try_take(&board, 0, 1) {
         Taking::Taken(pass) => {
-            let result = match pass.verdict() {
-                Verdict::Serve(_) => exchange.forward(&pass, view, reader, writer),
-                Verdict::Told(_) => Err(Fault::Closed),
-            };
+            let result = hand_on(alloc, exchange, part, &pass, view, reader, writer);
             seat.post(&board, pass, Ending::Done);
             result
         }
@@ -91,13 +120,41 @@ pub(crate) fn forward_view<R: Read, W: Write>(
     }
 }
 
+fn hand_on<R: Read, W: Write>(
+    alloc: Global,
+    exchange: &mut Exchange,
+    part: Part,
+    pass: &Pass,
+    view: &View,
+    reader: &mut R,
+    writer: &mut W,
+) -> Result<(), Fault>
+    requires { IsAt Stage.Asked exchange.old }
+{
+    match (pass.verdict(), part) {
+        (Verdict::Serve(_), Part::Request) => exchange.forward(pass, view, reader, writer),
+        (Verdict::Serve(_), Part::Answer) => answer_on(alloc, exchange, pass, view, reader, writer),
+        (Verdict::Told(_), _) => Err(Fault::Closed),
+    }
+}
+
 /// Hands the answer to a request on.
 pub(crate) fn answered(alloc: Global, request: &[u8], input: &[u8]) -> Result<Seen, AllocError> {
     let mut exchange = Exchange::new(alloc, TURNS)?;
     let mut reader = input;
+    Ok(answered_from(alloc, &mut exchange, request, &mut reader))
+}
+
+/// Hands the answer to a request without a body on by a new exchange.
+pub(crate) fn answered_from<R: Read>(
+    alloc: Global,
+    exchange: &mut Exchange,
+    request: &[u8],
+    reader: &mut R,
+) -> Seen {
     let mut written = Vec::new(alloc);
-    let result = answer_to(alloc, &mut exchange, request, &mut reader, &mut written);
-    Ok(Seen { result, written })
+    let result = answer_to(alloc, exchange, request, reader, &mut written);
+    Seen { result, written }
 }
 
 /// Hands the answer to a request without a body on by a new exchange.
@@ -124,21 +181,7 @@ pub(crate) fn answer_view<R: Read, W: Write>(
 ) -> Result<(), Fault>
     requires { IsAt Stage.Asked exchange.old }
 {
-    let Ok((board, mut keeper, mut seat)) = Board::open(alloc, 1, &[1]) else {
-        return Err(Fault::NoMemory);
-    };
-    keeper.offer(&board, 0, 1, Verdict::Serve(0));
-    match seat.try_take(&board, 0, 1) {
-        Taking::Taken(pass) => {
-            let result = match pass.verdict() {
-                Verdict::Serve(_) => answer_on(alloc, exchange, &pass, view, reader, writer),
-                Verdict::Told(_) => Err(Fault::Closed),
-            };
-            seat.post(&board, pass, Ending::Done);
-            result
-        }
-        Taking::NotYet => Err(Fault::Closed),
-    }
+    on_a_pass(alloc, exchange, Part::Answer, view, reader, writer)
 }
 
 // An exchange that is closed is asked for both.

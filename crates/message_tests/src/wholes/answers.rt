@@ -1,5 +1,6 @@
 use crate::wholes::relays::{GET, Row, TURNS, answered};
 use relay_http::{Code, Exchange, Fault};
+use std::alloc::{AllocError, Global};
 use std::test::Fail;
 use whole_messages::{Progress, refusal};
 
@@ -141,11 +142,15 @@ fn a_long_answer(rt: HostRuntime) -> Result<(), Fail> {
     Ok(())
 }
 
+fn refused(alloc: Global, out: &mut Vec<u8>) -> Result<(), AllocError> {
+    let mut exchange = Exchange::new(alloc, TURNS)?;
+    refusal(&mut exchange, Code::BadGateway, out)
+}
+
 #[test]
 fn refusals(rt: HostRuntime) -> Result<(), Fail> {
-    let mut exchange = Exchange::new(rt.alloc(), TURNS)?;
     let mut out = Vec::from_slice(rt.alloc(), b"before ")?;
-    refusal(&mut exchange, Code::BadGateway, &mut out)?;
+    refused(rt.alloc(), &mut out)?;
     assert_eq!(rt;
         out.as_slice(),
         b"before HTTP/1.1 502 Bad Gateway\r\nContent-Length: 0\r\nConnection: close\r\n\r\n".as_slice()

@@ -7,20 +7,9 @@ use std::alloc::Global;
 use std::process::Abort;
 use std::test::Fail;
 
-/// Two dispatchers of one setup, one over each kind of queue. They are asked the same calls.
-#[derive(Drop)]
-pub struct Both {
-    pub lists: Core<ListQueue<Key, usize>>,
-    pub trees: Core<BinomQueue<Key, usize>>,
-}
+pub type OfLists = Core<ListQueue<Key, usize>>;
 
-impl Both {
-    /// The next window begins, for both.
-    pub fn roll(&mut self) {
-        self.lists.roll();
-        self.trees.roll();
-    }
-}
+pub type OfTrees = Core<BinomQueue<Key, usize>>;
 
 /// What is asked of a dispatcher.
 #[derive(Clone, Copy, Debug)]
@@ -71,30 +60,24 @@ fn ask_one<Q: PendQueue<Key, usize>>(
     Ok(0)
 }
 
-/// Asks a call of both dispatchers, whose answers and logs are the same.
+/// Asks a call of two dispatchers, whose answers and logs are the same. Tells why it was refused.
 pub fn ask(
     rt: &impl Abort,
     alloc: Global,
-    core: &mut Both,
+    lists: &mut OfLists,
+    trees: &mut OfTrees,
     at: u64,
     call: &Call,
-) -> Result<usize, Refusal> {
-    let answer = ask_one(alloc, &mut core.lists, moment(at), *call);
-    let same = ask_one(alloc, &mut core.trees, moment(at), *call);
+) -> Option<Refusal> {
+    let answer = ask_one(alloc, lists, moment(at), *call);
+    let same = ask_one(alloc, trees, moment(at), *call);
     assert_eq!(rt; same, answer);
-    assert_eq!(rt; core.trees.log().entries(), core.lists.log().entries());
-    answer
+    assert_eq!(rt; trees.log().entries(), lists.log().entries());
+    answer.err()
 }
 
-/// Dispatchers of a plan, without a request.
-pub fn made(alloc: Global, plan: Plan) -> Result<Both, Fail> {
-    Ok(Both {
-        lists: one_made(alloc, plan)?,
-        trees: one_made(alloc, plan)?,
-    })
-}
-
-fn one_made<Q: PendQueue<Key, usize>>(alloc: Global, plan: Plan) -> Result<Core<Q>, Fail> {
+/// A dispatcher of a plan, without a request.
+pub fn made<Q: PendQueue<Key, usize>>(alloc: Global, plan: Plan) -> Result<Core<Q>, Fail> {
     let setup = setup_of(alloc, plan)?;
     if !setup.sound() {
         return Err(Fail::from("not a sound setup"));

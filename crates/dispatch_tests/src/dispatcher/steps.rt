@@ -1,13 +1,15 @@
-use super::calls::{Both, Call, ask, made};
+use super::calls::{Call, OfLists, OfTrees, ask, made};
 use super::facts::{Fact, told};
 use super::setups::Plan;
-use dispatch_core::Refusal;
+use dispatch_core::{Core, Refusal};
 use dispatch_log::Entry;
+use due_key::Key;
+use pend_queue::PendQueue;
 use std::alloc::Global;
 use std::process::Abort;
 use std::test::Fail;
 
-/// A step of a test, which is played on two dispatchers.
+/// A step of a test, which is played on two dispatchers, one over each kind of queue.
 #[derive(Clone, Copy)]
 pub enum Step {
     /// The call is accepted at this moment.
@@ -24,44 +26,94 @@ pub enum Step {
     Tells(Fact),
 }
 
-/// Plays the steps on dispatchers of a plan. Who owns them is proved once, here.
+/// Plays the steps on dispatchers of a plan. No function owns both of them, since each way out of it would drop both.
 pub fn play(rt: &impl Abort, alloc: Global, plan: Plan, steps: &[Step]) -> Result<(), Fail> {
-    let mut core = made(alloc, plan)?;
-    play_on(rt, alloc, &mut core, steps);
+    let mut lists = made(alloc, plan)?;
+    play_beside(rt, alloc, plan, &mut lists, steps)
+}
+
+fn play_beside(
+    rt: &impl Abort,
+    alloc: Global,
+    plan: Plan,
+    lists: &mut OfLists,
+    steps: &[Step],
+) -> Result<(), Fail> {
+    let mut trees = made(alloc, plan)?;
+    play_on(rt, alloc, lists, &mut trees, steps);
     Ok(())
 }
 
-fn play_on(rt: &impl Abort, alloc: Global, core: &mut Both, steps: &[Step]) {
+fn play_on(
+    rt: &impl Abort,
+    alloc: Global,
+    lists: &mut OfLists,
+    trees: &mut OfTrees,
+    steps: &[Step],
+) {
     for (number, step) in steps.iter().enumerate() {
-        play_one(rt, alloc, core, number, step);
+        play_one(rt, alloc, lists, trees, number, step);
     }
 }
 
 // The number of the step, from 0, is told where it fails.
-fn play_one(rt: &impl Abort, alloc: Global, core: &mut Both, number: usize, step: &Step) {
+fn play_one(
+    rt: &impl Abort,
+    alloc: Global,
+    lists: &mut OfLists,
+    trees: &mut OfTrees,
+    number: usize,
+    step: &Step,
+) {
     match step {
         Step::Call(at, call) => {
-            let answer = ask(rt, alloc, core, *at, call);
-            assert_eq!(rt; answer.err(), None, "step {number}");
+            let refusal = ask(rt, alloc, lists, trees, *at, call);
+            is_answered(rt, number, refusal, None);
         }
-        Step::Refused(at, call, refusal) => {
-            let before = core.lists.log().len();
-            let answer = ask(rt, alloc, core, *at, call);
-            assert_eq!(rt; answer, Err(*refusal), "step {number}");
-            assert_eq!(rt; core.lists.log().len(), before, "step {number}");
+        Step::Refused(at, call, expected) => {
+            let before = lists.log().len();
+            let refusal = ask(rt, alloc, lists, trees, *at, call);
+            is_answered(rt, number, refusal, Some(*expected));
+            tells(rt, lists, number, &Fact::Entries(before));
         }
-        Step::Roll => core.roll(),
-        Step::Entry(position, entry) => {
-            let written = core.lists.log().entries().get(*position);
-            assert_eq!(rt; written, Some(entry), "step {number}");
+        Step::Roll => {
+            lists.roll();
+            trees.roll();
         }
+        Step::Entry(position, entry) => has_entry(rt, lists, number, *position, entry),
         Step::LastEntry(entry) => {
-            let written = core.lists.log().entries().last();
-            assert_eq!(rt; written, Some(entry), "step {number}");
+            has_entry(
+                rt,
+                lists,
+                number,
+                lists.log().len().saturating_sub(1),
+                entry,
+            );
         }
         Step::Tells(fact) => {
-            assert_eq!(rt; told(&core.lists, fact), *fact, "step {number}");
-            assert_eq!(rt; told(&core.trees, fact), *fact, "step {number}");
+            tells(rt, lists, number, fact);
+            tells(rt, trees, number, fact);
         }
     }
+}
+
+fn is_answered(
+    rt: &impl Abort,
+    number: usize,
+    refusal: Option<Refusal>,
+    expected: Option<Refusal>,
+) {
+    assert_eq!(rt; refusal, expected, "step {number}");
+}
+
+fn has_entry(rt: &impl Abort, core: &OfLists, number: usize, position: usize, entry: &Entry) {
+    assert_eq!(rt;
+        core.log().entries().get(position),
+        Some(entry),
+        "step {number}"
+    );
+}
+
+fn tells<Q: PendQueue<Key, usize>>(rt: &impl Abort, core: &Core<Q>, number: usize, fact: &Fact) {
+    assert_eq!(rt; told(core, fact), *fact, "step {number}");
 }

@@ -1,238 +1,214 @@
 use super::*;
 
-#[test]
-fn whole_files(rt: HostRuntime) {
-    let alloc = rt.alloc();
-    faulty(&rt, alloc, "", 0, FaultCause::Missing);
-    faulty(&rt, alloc, "listen w\nbind :80", 1, FaultCause::Missing);
-    faulty(
-        &rt,
-        alloc,
-        "listen w\nserver a h:80",
-        1,
-        FaultCause::Missing,
-    );
-    faulty(&rt, alloc, "defaults\nbind :80", 2, FaultCause::Place);
-    faulty(&rt, alloc, "backend b", 1, FaultCause::Section);
-    faulty(
-        &rt,
-        alloc,
-        "listen w\nserver a 1.2.3.4:0",
-        2,
-        FaultCause::Address,
-    );
-    faulty(
-        &rt,
-        alloc,
-        "listen w\nserver a h:80 weight 257",
-        2,
-        FaultCause::Number,
-    );
-    faulty(
-        &rt,
-        alloc,
-        "listen w\ntimeout queue 1x",
-        2,
-        FaultCause::Number,
-    );
-    faulty(&rt, alloc, "listen w\nacl or path /", 2, FaultCause::Name);
-    faulty(
-        &rt,
-        alloc,
-        "listen w\nbind :80\nlog \"x\"",
-        3,
-        FaultCause::Quoting,
-    );
-    faulty(
-        &rt,
-        alloc,
+/// A file, the line of its first fault, and the cause.
+type FileRow = (&'static str, u64, FaultCause);
+
+/// A line, and the cause why it is refused.
+type LineRow = (&'static str, FaultCause);
+
+fn faulty_files(rt: &impl Abort, alloc: Global, rows: &[FileRow]) {
+    for (text, line, cause) in rows {
+        faulty(rt, alloc, text, *line, *cause);
+    }
+}
+
+fn faulty_lines(rt: &impl Abort, alloc: Global, rows: &[LineRow]) {
+    for (line, cause) in rows {
+        faulty_line(rt, alloc, line, *cause);
+    }
+}
+
+const WHOLE_FILES: [FileRow; 13] = [
+    ("", 0, FaultCause::Missing),
+    ("listen w\nbind :80", 1, FaultCause::Missing),
+    ("listen w\nserver a h:80", 1, FaultCause::Missing),
+    ("defaults\nbind :80", 2, FaultCause::Place),
+    ("backend b", 1, FaultCause::Section),
+    ("listen w\nserver a 1.2.3.4:0", 2, FaultCause::Address),
+    ("listen w\nserver a h:80 weight 257", 2, FaultCause::Number),
+    ("listen w\ntimeout queue 1x", 2, FaultCause::Number),
+    ("listen w\nacl or path /", 2, FaultCause::Name),
+    ("listen w\nbind :80\nlog \"x\"", 3, FaultCause::Quoting),
+    (
         "global\ndefaults\nmode http\nlisten web\nbind *:8080\nserver a 127.0.0.1:9001\ncookie SRV",
         7,
         FaultCause::Keyword,
-    );
+    ),
     // A fault is named before what is missing, and the first line before a later one.
-    faulty(&rt, alloc, "listen w\nretries x", 2, FaultCause::Number);
-    faulty(&rt, alloc, "defaults\nx\nbind", 2, FaultCause::Keyword);
-}
+    ("listen w\nretries x", 2, FaultCause::Number),
+    ("defaults\nx\nbind", 2, FaultCause::Keyword),
+];
 
 #[test]
-fn sections(rt: HostRuntime) {
-    let alloc = rt.alloc();
-    faulty(&rt, alloc, "global x", 1, FaultCause::Words);
-    faulty(&rt, alloc, "global \"x\"", 1, FaultCause::Quoting);
-    faulty(
-        &rt,
-        alloc,
-        "global\n\"anything' \\\nfrontend x",
-        3,
-        FaultCause::Section,
-    );
-    faulty(&rt, alloc, "global\nlisten\n", 2, FaultCause::Words);
-    faulty(&rt, alloc, "defaults a b", 1, FaultCause::Words);
-    faulty(&rt, alloc, "defaults a/b c", 1, FaultCause::Name);
-    faulty(&rt, alloc, "listen a b", 1, FaultCause::Words);
-    faulty(&rt, alloc, "listen a/b", 1, FaultCause::Name);
-    faulty(
-        &rt,
-        alloc,
+fn whole_files(rt: HostRuntime) {
+    faulty_files(&rt, rt.alloc(), &WHOLE_FILES);
+}
+
+const SECTIONS_FILES: [FileRow; 9] = [
+    ("global x", 1, FaultCause::Words),
+    ("global \"x\"", 1, FaultCause::Quoting),
+    ("global\n\"anything' \\\nfrontend x", 3, FaultCause::Section),
+    ("global\nlisten\n", 2, FaultCause::Words),
+    ("defaults a b", 1, FaultCause::Words),
+    ("defaults a/b c", 1, FaultCause::Name),
+    ("listen a b", 1, FaultCause::Words),
+    ("listen a/b", 1, FaultCause::Name),
+    (
         "listen a23456789012345678901234567890123",
         1,
         FaultCause::Name,
-    );
-    faulty_line(&rt, alloc, "listen", FaultCause::Section);
-    faulty_line(&rt, alloc, "frontend", FaultCause::Section);
-    faulty_line(&rt, alloc, "peers", FaultCause::Section);
-    faulty_line(&rt, alloc, "resolvers", FaultCause::Section);
-    faulty_line(&rt, alloc, "userlist", FaultCause::Section);
-    faulty_line(&rt, alloc, "cache", FaultCause::Section);
-    faulty_line(&rt, alloc, "program", FaultCause::Section);
+    ),
+];
+
+const SECTIONS_LINES: [LineRow; 7] = [
+    ("listen", FaultCause::Section),
+    ("frontend", FaultCause::Section),
+    ("peers", FaultCause::Section),
+    ("resolvers", FaultCause::Section),
+    ("userlist", FaultCause::Section),
+    ("cache", FaultCause::Section),
+    ("program", FaultCause::Section),
+];
+
+#[test]
+fn sections(rt: HostRuntime) {
+    faulty_files(&rt, rt.alloc(), &SECTIONS_FILES);
+    faulty_lines(&rt, rt.alloc(), &SECTIONS_LINES);
 }
+
+const PLACES: [FileRow; 7] = [
+    ("mode", 1, FaultCause::Place),
+    ("cookie", 1, FaultCause::Keyword),
+    ("bind", 1, FaultCause::Place),
+    ("defaults\nserver", 2, FaultCause::Place),
+    ("defaults\nacl", 2, FaultCause::Place),
+    ("defaults\nhttp-request", 2, FaultCause::Place),
+    ("defaults\nuse-server", 2, FaultCause::Place),
+];
 
 #[test]
 fn places(rt: HostRuntime) {
-    let alloc = rt.alloc();
-    faulty(&rt, alloc, "mode", 1, FaultCause::Place);
-    faulty(&rt, alloc, "cookie", 1, FaultCause::Keyword);
-    faulty(&rt, alloc, "bind", 1, FaultCause::Place);
-    faulty(&rt, alloc, "defaults\nserver", 2, FaultCause::Place);
-    faulty(&rt, alloc, "defaults\nacl", 2, FaultCause::Place);
-    faulty(&rt, alloc, "defaults\nhttp-request", 2, FaultCause::Place);
-    faulty(&rt, alloc, "defaults\nuse-server", 2, FaultCause::Place);
+    faulty_files(&rt, rt.alloc(), &PLACES);
 }
+
+const VALUES: [LineRow; 19] = [
+    ("mode", FaultCause::Words),
+    ("mode tcp", FaultCause::Keyword),
+    ("mode http x", FaultCause::Words),
+    ("balance roundrobin", FaultCause::Keyword),
+    ("retries", FaultCause::Words),
+    ("retries 1000000000", FaultCause::Number),
+    ("retries -1", FaultCause::Number),
+    ("retries 1 2", FaultCause::Words),
+    ("option", FaultCause::Words),
+    ("option x y", FaultCause::Keyword),
+    ("option redispatch 1", FaultCause::Words),
+    ("option httplog x", FaultCause::Words),
+    ("timeout", FaultCause::Words),
+    ("timeout check 1", FaultCause::Keyword),
+    ("timeout client", FaultCause::Words),
+    ("timeout client 1000000000us", FaultCause::Number),
+    ("timeout client 1s x", FaultCause::Words),
+    ("log 'x'", FaultCause::Quoting),
+    ("cookie a\\ b", FaultCause::Quoting),
+];
 
 #[test]
 fn values(rt: HostRuntime) {
-    let alloc = rt.alloc();
-    faulty_line(&rt, alloc, "mode", FaultCause::Words);
-    faulty_line(&rt, alloc, "mode tcp", FaultCause::Keyword);
-    faulty_line(&rt, alloc, "mode http x", FaultCause::Words);
-    faulty_line(&rt, alloc, "balance roundrobin", FaultCause::Keyword);
-    faulty_line(&rt, alloc, "retries", FaultCause::Words);
-    faulty_line(&rt, alloc, "retries 1000000000", FaultCause::Number);
-    faulty_line(&rt, alloc, "retries -1", FaultCause::Number);
-    faulty_line(&rt, alloc, "retries 1 2", FaultCause::Words);
-    faulty_line(&rt, alloc, "option", FaultCause::Words);
-    faulty_line(&rt, alloc, "option x y", FaultCause::Keyword);
-    faulty_line(&rt, alloc, "option redispatch 1", FaultCause::Words);
-    faulty_line(&rt, alloc, "option httplog x", FaultCause::Words);
-    faulty_line(&rt, alloc, "timeout", FaultCause::Words);
-    faulty_line(&rt, alloc, "timeout check 1", FaultCause::Keyword);
-    faulty_line(&rt, alloc, "timeout client", FaultCause::Words);
-    faulty_line(
-        &rt,
-        alloc,
-        "timeout client 1000000000us",
-        FaultCause::Number,
-    );
-    faulty_line(&rt, alloc, "timeout client 1s x", FaultCause::Words);
-    faulty_line(&rt, alloc, "log 'x'", FaultCause::Quoting);
-    faulty_line(&rt, alloc, "cookie a\\ b", FaultCause::Quoting);
+    faulty_lines(&rt, rt.alloc(), &VALUES);
 }
+
+const BINDS_AND_SERVERS_FILES: [FileRow; 8] = [
+    ("listen w\nbind", 2, FaultCause::Words),
+    ("listen w\nbind :80 x", 2, FaultCause::Words),
+    ("listen w\nbind h:80", 2, FaultCause::Address),
+    ("listen w\nbind 80", 2, FaultCause::Address),
+    ("listen w\nbind :65536", 2, FaultCause::Address),
+    ("listen w\nbind 1.2.3.256:80", 2, FaultCause::Address),
+    ("listen w\nbind 1.2.3.4.5:80", 2, FaultCause::Address),
+    ("listen w\nbind ::80", 2, FaultCause::Address),
+];
+
+const BINDS_AND_SERVERS_LINES: [LineRow; 16] = [
+    ("bind", FaultCause::Twice),
+    ("server", FaultCause::Words),
+    ("server b/c", FaultCause::Name),
+    ("server a /", FaultCause::Twice),
+    ("server b", FaultCause::Words),
+    ("server b :80", FaultCause::Address),
+    ("server b h_h:80", FaultCause::Address),
+    ("server b h:0000000080", FaultCause::Address),
+    ("server b h:80 backup", FaultCause::Keyword),
+    ("server b h:80 weight", FaultCause::Words),
+    ("server b h:80 weight x rise", FaultCause::Number),
+    ("server b h:80 maxconn 1000000000", FaultCause::Number),
+    ("server b h:80 maxqueue x", FaultCause::Number),
+    ("server b h:80 inter 0us", FaultCause::Number),
+    ("server b h:80 rise 0", FaultCause::Number),
+    ("server b h:80 fall 0", FaultCause::Number),
+];
 
 #[test]
 fn binds_and_servers(rt: HostRuntime) {
-    let alloc = rt.alloc();
-    faulty_line(&rt, alloc, "bind", FaultCause::Twice);
-    faulty(&rt, alloc, "listen w\nbind", 2, FaultCause::Words);
-    faulty(&rt, alloc, "listen w\nbind :80 x", 2, FaultCause::Words);
-    faulty(&rt, alloc, "listen w\nbind h:80", 2, FaultCause::Address);
-    faulty(&rt, alloc, "listen w\nbind 80", 2, FaultCause::Address);
-    faulty(&rt, alloc, "listen w\nbind :65536", 2, FaultCause::Address);
-    faulty(
-        &rt,
-        alloc,
-        "listen w\nbind 1.2.3.256:80",
-        2,
-        FaultCause::Address,
-    );
-    faulty(
-        &rt,
-        alloc,
-        "listen w\nbind 1.2.3.4.5:80",
-        2,
-        FaultCause::Address,
-    );
-    faulty(&rt, alloc, "listen w\nbind ::80", 2, FaultCause::Address);
-    faulty_line(&rt, alloc, "server", FaultCause::Words);
-    faulty_line(&rt, alloc, "server b/c", FaultCause::Name);
-    faulty_line(&rt, alloc, "server a /", FaultCause::Twice);
-    faulty_line(&rt, alloc, "server b", FaultCause::Words);
-    faulty_line(&rt, alloc, "server b :80", FaultCause::Address);
-    faulty_line(&rt, alloc, "server b h_h:80", FaultCause::Address);
-    faulty_line(&rt, alloc, "server b h:0000000080", FaultCause::Address);
-    faulty_line(&rt, alloc, "server b h:80 backup", FaultCause::Keyword);
-    faulty_line(&rt, alloc, "server b h:80 weight", FaultCause::Words);
-    faulty_line(
-        &rt,
-        alloc,
-        "server b h:80 weight x rise",
-        FaultCause::Number,
-    );
-    faulty_line(
-        &rt,
-        alloc,
-        "server b h:80 maxconn 1000000000",
-        FaultCause::Number,
-    );
-    faulty_line(&rt, alloc, "server b h:80 maxqueue x", FaultCause::Number);
-    faulty_line(&rt, alloc, "server b h:80 inter 0us", FaultCause::Number);
-    faulty_line(&rt, alloc, "server b h:80 rise 0", FaultCause::Number);
-    faulty_line(&rt, alloc, "server b h:80 fall 0", FaultCause::Number);
+    faulty_files(&rt, rt.alloc(), &BINDS_AND_SERVERS_FILES);
+    faulty_lines(&rt, rt.alloc(), &BINDS_AND_SERVERS_LINES);
 }
+
+const TESTS_AND_ACLS: [LineRow; 11] = [
+    ("acl", FaultCause::Words),
+    ("acl a/b", FaultCause::Name),
+    ("acl x", FaultCause::Words),
+    ("acl x url /", FaultCause::Condition),
+    ("acl x hdr()", FaultCause::Condition),
+    ("acl x hdr(a b) c", FaultCause::Condition),
+    ("acl x path", FaultCause::Words),
+    ("acl x path -i", FaultCause::Words),
+    ("acl x path -i -i /", FaultCause::Condition),
+    ("acl x path -m", FaultCause::Condition),
+    ("acl x path / -i", FaultCause::Condition),
+];
 
 #[test]
 fn tests_and_acls(rt: HostRuntime) {
-    let alloc = rt.alloc();
-    faulty_line(&rt, alloc, "acl", FaultCause::Words);
-    faulty_line(&rt, alloc, "acl a/b", FaultCause::Name);
-    faulty_line(&rt, alloc, "acl x", FaultCause::Words);
-    faulty_line(&rt, alloc, "acl x url /", FaultCause::Condition);
-    faulty_line(&rt, alloc, "acl x hdr()", FaultCause::Condition);
-    faulty_line(&rt, alloc, "acl x hdr(a b) c", FaultCause::Condition);
-    faulty_line(&rt, alloc, "acl x path", FaultCause::Words);
-    faulty_line(&rt, alloc, "acl x path -i", FaultCause::Words);
-    faulty_line(&rt, alloc, "acl x path -i -i /", FaultCause::Condition);
-    faulty_line(&rt, alloc, "acl x path -m", FaultCause::Condition);
-    faulty_line(&rt, alloc, "acl x path / -i", FaultCause::Condition);
+    faulty_lines(&rt, rt.alloc(), &TESTS_AND_ACLS);
 }
+
+const RULES: [LineRow; 15] = [
+    ("http-request", FaultCause::Words),
+    ("http-request deny", FaultCause::Keyword),
+    ("http-request set-priority-class", FaultCause::Words),
+    ("http-request set-priority-class 5", FaultCause::Condition),
+    (
+        "http-request set-priority-class int(5",
+        FaultCause::Condition,
+    ),
+    (
+        "http-request set-priority-class int(1234567890123456789)",
+        FaultCause::Condition,
+    ),
+    (
+        "http-request set-priority-offset req.hdr_val()",
+        FaultCause::Condition,
+    ),
+    (
+        "http-request set-priority-class int(5) when",
+        FaultCause::Condition,
+    ),
+    (
+        "http-request set-priority-class int(5) if",
+        FaultCause::Words,
+    ),
+    ("use-server", FaultCause::Words),
+    ("use-server a/b", FaultCause::Name),
+    ("use-server b if x", FaultCause::Unknown),
+    ("use-server a", FaultCause::Words),
+    ("use-server a when known", FaultCause::Condition),
+    ("use-server a if", FaultCause::Words),
+];
 
 #[test]
 fn rules(rt: HostRuntime) {
-    let rows = [
-        ("http-request", FaultCause::Words),
-        ("http-request deny", FaultCause::Keyword),
-        ("http-request set-priority-class", FaultCause::Words),
-        ("http-request set-priority-class 5", FaultCause::Condition),
-        (
-            "http-request set-priority-class int(5",
-            FaultCause::Condition,
-        ),
-        (
-            "http-request set-priority-class int(1234567890123456789)",
-            FaultCause::Condition,
-        ),
-        (
-            "http-request set-priority-offset req.hdr_val()",
-            FaultCause::Condition,
-        ),
-        (
-            "http-request set-priority-class int(5) when",
-            FaultCause::Condition,
-        ),
-        (
-            "http-request set-priority-class int(5) if",
-            FaultCause::Words,
-        ),
-        ("use-server", FaultCause::Words),
-        ("use-server a/b", FaultCause::Name),
-        ("use-server b if x", FaultCause::Unknown),
-        ("use-server a", FaultCause::Words),
-        ("use-server a when known", FaultCause::Condition),
-        ("use-server a if", FaultCause::Words),
-    ];
-    for (line, cause) in rows {
-        faulty_line(&rt, rt.alloc(), line, cause);
-    }
+    faulty_lines(&rt, rt.alloc(), &RULES);
 }
 
 #[test]

@@ -21,27 +21,10 @@ fn of_lines(rt: HostRuntime) -> Result<(), AllocError> {
     let alloc = rt.alloc();
     let text = file_of(alloc, 64, 256, 256)?;
     assert!(rt; read(alloc, text.as_bytes()).is_ok());
-    faulty(
-        &rt,
-        alloc,
-        file_of(alloc, 65, 0, 0)?.as_str(),
-        67,
-        FaultCause::Limit,
-    );
-    faulty(
-        &rt,
-        alloc,
-        file_of(alloc, 1, 257, 0)?.as_str(),
-        260,
-        FaultCause::Limit,
-    );
-    faulty(
-        &rt,
-        alloc,
-        file_of(alloc, 1, 0, 257)?.as_str(),
-        260,
-        FaultCause::Limit,
-    );
+    for (servers, acls, rules, line) in [(65, 0, 0, 67), (1, 257, 0, 260), (1, 0, 257, 260)] {
+        let text = file_of(alloc, servers, acls, rules)?;
+        faulty(&rt, alloc, text.as_str(), line, FaultCause::Limit);
+    }
     Ok(())
 }
 

@@ -51,12 +51,16 @@ fn has_a_checked_server(rt: &impl Abort, config: &Config) {
 fn of_a_repeated_setting_the_last_stands(rt: HostRuntime) -> Result<(), Fail> {
     let text = b"listen w\nbind :80\nserver a h:80 maxconn 2 maxconn 3 # x";
     let config = read(rt.alloc(), text)?;
+    has_the_last_settings(&rt, &config);
+    Ok(())
+}
+
+fn has_the_last_settings(rt: &impl Abort, config: &Config) {
     let servers = config.servers.as_slice();
     assert_eq!(rt; servers.len(), 1);
     assert_eq!(rt; servers[0].maxconn, 3);
     assert_eq!(rt; servers[0].check, None);
     assert_eq!(rt; config.bind, Bind { ip: None, port: 80 });
-    Ok(())
 }
 
 #[test]
@@ -64,7 +68,11 @@ fn settings_stand_in_any_order(rt: HostRuntime) -> Result<(), Fail> {
     let text =
         b"listen w\r\nbind *:1\r\nserver a 01.2.3.004:00080 fall 9 rise 8 inter 1us check maxqueue 7 weight 256\r\n";
     let config = read(rt.alloc(), text)?;
-    let servers = config.servers.as_slice();
+    has_each_setting(&rt, config.servers.as_slice());
+    Ok(())
+}
+
+fn has_each_setting(rt: &impl Abort, servers: &[Server]) {
     assert_eq!(rt; servers.len(), 1);
     let server = &servers[0];
     let Host::Ip(ip) = &server.address.host else {
@@ -81,7 +89,6 @@ fn settings_stand_in_any_order(rt: HostRuntime) -> Result<(), Fail> {
             fall: 9
         })
     );
-    Ok(())
 }
 
 #[test]
@@ -89,10 +96,24 @@ fn listen_takes_the_values_of_defaults(rt: HostRuntime) -> Result<(), Fail> {
     let text =
         b"defaults\nretries 9\noption abortonclose\ndefaults x\nretries 5\noption redispatch\ntimeout connect 4s\ntimeout queue 3\nlisten w\ntimeout queue 0\nbind :80\nserver a h:80\ndefaults\nretries 1\n";
     let config = read(rt.alloc(), text)?;
+    has_the_values_of_defaults(&rt, &config);
+    Ok(())
+}
+
+fn has_the_values_of_defaults(rt: &impl Abort, config: &Config) {
     assert_eq!(rt; config.retries, 5);
     assert!(rt; config.redispatch && !config.abortonclose);
     assert_eq!(rt; config.queue_timeout, Some(4000));
-    Ok(())
+}
+
+/// How long a queue, a connection, a client and a server may take.
+fn timeouts(config: &Config) -> [Option<u64>; 4] {
+    [
+        config.queue_timeout,
+        config.connect_timeout,
+        config.client_timeout,
+        config.server_timeout,
+    ]
 }
 
 #[test]
@@ -100,10 +121,10 @@ fn each_timeout_is_kept(rt: HostRuntime) -> Result<(), Fail> {
     let text =
         b"defaults\ntimeout connect 4s\ntimeout client 5s\nlisten w\nbind :80\nserver a h:80\ntimeout server 6s\n";
     let config = read(rt.alloc(), text)?;
-    assert_eq!(rt; config.queue_timeout, Some(4000));
-    assert_eq!(rt; config.connect_timeout, Some(4000));
-    assert_eq!(rt; config.client_timeout, Some(5000));
-    assert_eq!(rt; config.server_timeout, Some(6000));
+    assert_eq!(rt;
+        timeouts(&config),
+        [Some(4000), Some(4000), Some(5000), Some(6000)]
+    );
     Ok(())
 }
 
@@ -113,10 +134,7 @@ fn no_timeout_is_no_limit(rt: HostRuntime) -> Result<(), Fail> {
         rt.alloc(),
         b"listen w\nbind :80\nserver a h:80\ntimeout queue 0\ntimeout connect 0\n",
     )?;
-    assert_eq!(rt; config.queue_timeout, None);
-    assert_eq!(rt; config.connect_timeout, None);
-    assert_eq!(rt; config.client_timeout, None);
-    assert_eq!(rt; config.server_timeout, None);
+    assert_eq!(rt; timeouts(&config), [None; 4]);
     Ok(())
 }
 
@@ -173,43 +191,33 @@ fn has_rules(rt: &impl Abort, config: &Config) {
     assert_eq!(rt; condition.alternatives.len(), 2);
 }
 
+const ACCEPTED: [&str; 19] = [
+    "mode http",
+    "balance leastconn",
+    "log",
+    "log 127.0.0.1 local0 info",
+    "description",
+    "option httplog",
+    "option dontlognull",
+    "timeout client 5s",
+    "timeout server 5s # \"x\"",
+    "server b 256.1.1.1:1",
+    "server b 1.2.3:65535 weight 0 maxconn 0",
+    "acl known method GET",
+    "acl x path {",
+    "acl x path }",
+    "http-request set-priority-class int(1) if known known or ! known || known",
+    "http-request set-priority-class int(-0) unless { path { } known",
+    "http-request set-priority-class int(1) if { path or }",
+    "http-request set-priority-class req.hdr_val(a^_|~`!$%&*+-.) if !{ hdr(x) -i y }",
+    "use-server a unless !known",
+];
+
 #[test]
 fn what_is_accepted(rt: HostRuntime) {
-    good_line(&rt, rt.alloc(), "mode http");
-    good_line(&rt, rt.alloc(), "balance leastconn");
-    good_line(&rt, rt.alloc(), "log");
-    good_line(&rt, rt.alloc(), "log 127.0.0.1 local0 info");
-    good_line(&rt, rt.alloc(), "description");
-    good_line(&rt, rt.alloc(), "option httplog");
-    good_line(&rt, rt.alloc(), "option dontlognull");
-    good_line(&rt, rt.alloc(), "timeout client 5s");
-    good_line(&rt, rt.alloc(), "timeout server 5s # \"x\"");
-    good_line(&rt, rt.alloc(), "server b 256.1.1.1:1");
-    good_line(&rt, rt.alloc(), "server b 1.2.3:65535 weight 0 maxconn 0");
-    good_line(&rt, rt.alloc(), "acl known method GET");
-    good_line(&rt, rt.alloc(), "acl x path {");
-    good_line(&rt, rt.alloc(), "acl x path }");
-    good_line(
-        &rt,
-        rt.alloc(),
-        "http-request set-priority-class int(1) if known known or ! known || known",
-    );
-    good_line(
-        &rt,
-        rt.alloc(),
-        "http-request set-priority-class int(-0) unless { path { } known",
-    );
-    good_line(
-        &rt,
-        rt.alloc(),
-        "http-request set-priority-class int(1) if { path or }",
-    );
-    good_line(
-        &rt,
-        rt.alloc(),
-        "http-request set-priority-class req.hdr_val(a^_|~`!$%&*+-.) if !{ hdr(x) -i y }",
-    );
-    good_line(&rt, rt.alloc(), "use-server a unless !known");
+    for line in ACCEPTED {
+        good_line(&rt, rt.alloc(), line);
+    }
 }
 
 #[test]

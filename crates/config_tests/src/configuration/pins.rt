@@ -7,19 +7,31 @@ fn pinned(rt: &impl Abort, alloc: Global, lines: &str, line: u64, cause: FaultCa
     faulty(rt, alloc, text.expect(rt, "memory").as_str(), line, cause);
 }
 
+/// Such lines, the line of the file that is refused, and the cause.
+type PinRow = (&'static str, u64, FaultCause);
+
+fn each_pinned(rt: &impl Abort, alloc: Global, rows: &[PinRow]) {
+    for (lines, line, cause) in rows {
+        pinned(rt, alloc, lines, *line, *cause);
+    }
+}
+
 #[test]
 fn a_pin_may_stand_before_its_server(rt: HostRuntime) -> Result<(), Fail> {
     let text =
         b"listen w\nbind :80\nacl x path /\nuse-server c if x\nserver a h:80\nuse-server a unless x\nserver b h:80\nserver c h:80\nuse-server b if x";
     let config = read(rt.alloc(), text)?;
-    let pins = config.pins.as_slice();
+    are_pinned_to_later_servers(&rt, config.pins.as_slice());
+    Ok(())
+}
+
+fn are_pinned_to_later_servers(rt: &impl Abort, pins: &[Pin]) {
     assert_eq!(rt; pins.len(), 3);
     assert_eq!(rt; pins[0].server, 2);
     assert_eq!(rt; pins[1].server, 0);
     assert_eq!(rt; pins[2].server, 1);
     assert!(rt; matches!(pins[0].guard, Guard::If(_)));
     assert!(rt; matches!(pins[1].guard, Guard::Unless(_)));
-    Ok(())
 }
 
 #[test]
@@ -37,131 +49,101 @@ fn a_refused_section_declares_no_server(rt: HostRuntime) {
 
 #[test]
 fn a_server_counts_past_a_faulty_line(rt: HostRuntime) {
-    let alloc = rt.alloc();
-    pinned(
+    each_pinned(
         &rt,
-        alloc,
-        "use-server b if x\ncookie\nserver b h:80",
-        5,
-        FaultCause::Keyword,
-    );
-    pinned(
-        &rt,
-        alloc,
-        "use-server b if x\ncookie\ndefaults\nserver b h:80",
-        4,
-        FaultCause::Unknown,
-    );
-    pinned(
-        &rt,
-        alloc,
-        "use-server b if x\nserver b h:80 x",
-        4,
-        FaultCause::Unknown,
-    );
-    pinned(
-        &rt,
-        alloc,
-        "use-server b if x\nbind :81\nserver b h:80 x\nserver b h:80",
-        5,
-        FaultCause::Twice,
+        rt.alloc(),
+        &[
+            (
+                "use-server b if x\ncookie\nserver b h:80",
+                5,
+                FaultCause::Keyword,
+            ),
+            (
+                "use-server b if x\ncookie\ndefaults\nserver b h:80",
+                4,
+                FaultCause::Unknown,
+            ),
+            ("use-server b if x\nserver b h:80 x", 4, FaultCause::Unknown),
+            (
+                "use-server b if x\nbind :81\nserver b h:80 x\nserver b h:80",
+                5,
+                FaultCause::Twice,
+            ),
+        ],
     );
 }
 
 #[test]
 fn a_faulty_condition_counts_behind_a_declared_server(rt: HostRuntime) {
-    let alloc = rt.alloc();
-    pinned(
+    each_pinned(
         &rt,
-        alloc,
-        "use-server b if y\nserver a h:80",
-        4,
-        FaultCause::Unknown,
-    );
-    pinned(
-        &rt,
-        alloc,
-        "use-server b if !!x\nserver b h:80",
-        4,
-        FaultCause::Condition,
-    );
-    pinned(
-        &rt,
-        alloc,
-        "use-server b if !!x\nserver a h:80",
-        4,
-        FaultCause::Unknown,
-    );
-    pinned(
-        &rt,
-        alloc,
-        "use-server b if { path\nserver b h:80",
-        4,
-        FaultCause::Words,
-    );
-    pinned(
-        &rt,
-        alloc,
-        "use-server b\ncookie\nserver b h:80",
-        4,
-        FaultCause::Words,
+        rt.alloc(),
+        &[
+            ("use-server b if y\nserver a h:80", 4, FaultCause::Unknown),
+            (
+                "use-server b if !!x\nserver b h:80",
+                4,
+                FaultCause::Condition,
+            ),
+            ("use-server b if !!x\nserver a h:80", 4, FaultCause::Unknown),
+            (
+                "use-server b if { path\nserver b h:80",
+                4,
+                FaultCause::Words,
+            ),
+            ("use-server b\ncookie\nserver b h:80", 4, FaultCause::Words),
+        ],
     );
 }
 
 #[test]
 fn the_first_of_pins_and_other_lines_is_named(rt: HostRuntime) {
-    let alloc = rt.alloc();
-    pinned(
+    each_pinned(
         &rt,
-        alloc,
-        "use-server b if x\ncookie\nserver a h:80",
-        4,
-        FaultCause::Unknown,
-    );
-    pinned(
-        &rt,
-        alloc,
-        "server a h:80\ncookie\nuse-server b if x",
-        5,
-        FaultCause::Keyword,
-    );
-    pinned(
-        &rt,
-        alloc,
-        "use-server a if x\ncookie\nuse-server b if x\nserver a h:80",
-        5,
-        FaultCause::Keyword,
-    );
-    pinned(
-        &rt,
-        alloc,
-        "use-server a if x\nuse-server b if x\nuse-server c if x\nserver a h:80\nserver c h:80",
-        5,
-        FaultCause::Unknown,
-    );
-    pinned(
-        &rt,
-        alloc,
-        "use-server a if x\nretries x\ncookie\n\"\nserver a h:80",
-        5,
-        FaultCause::Number,
+        rt.alloc(),
+        &[
+            (
+                "use-server b if x\ncookie\nserver a h:80",
+                4,
+                FaultCause::Unknown,
+            ),
+            (
+                "server a h:80\ncookie\nuse-server b if x",
+                5,
+                FaultCause::Keyword,
+            ),
+            (
+                "use-server a if x\ncookie\nuse-server b if x\nserver a h:80",
+                5,
+                FaultCause::Keyword,
+            ),
+            (
+                "use-server a if x\nuse-server b if x\nuse-server c if x\nserver a h:80\nserver c h:80",
+                5,
+                FaultCause::Unknown,
+            ),
+            (
+                "use-server a if x\nretries x\ncookie\n\"\nserver a h:80",
+                5,
+                FaultCause::Number,
+            ),
+        ],
     );
 }
 
 #[test]
 fn a_pin_may_end_the_file(rt: HostRuntime) {
-    let alloc = rt.alloc();
-    pinned(
+    each_pinned(
         &rt,
-        alloc,
-        "server a h:80\nuse-server b if x",
-        5,
-        FaultCause::Unknown,
+        rt.alloc(),
+        &[
+            ("server a h:80\nuse-server b if x", 5, FaultCause::Unknown),
+            ("use-server b if x", 4, FaultCause::Unknown),
+        ],
     );
-    pinned(&rt, alloc, "use-server b if x", 4, FaultCause::Unknown);
     faulty(
         &rt,
-        alloc,
+        rt.alloc(),
         "listen w\nacl x path /\nserver a h:80\nuse-server a if x",
         1,
         FaultCause::Missing,

@@ -2,7 +2,7 @@
 # Prints `dueproxy run` beside HAProxy 2.6 on the same servers, in one run, taking turns: the ratios of the medians of what each did, with one thread of HAProxy's and with
 # as many as it takes by itself. Measured are requests a second and processor time a request without queueing (64 clients), the time of one client's request, requests a
 # second and processor time of 200 clients before a limit of 4 and 5 ms of service, requests a second over one slot that is handed on, and 64 MiB bodies. It needs
-# haproxy, nginx, wrk, curl and python3.
+# haproxy, nginx, wrk, curl and python3. OTHER names one more program that is run by the same words as dueproxy, and stands beside it too.
 . "$(dirname "$0")/common.sh"
 program=${PROGRAM:-$here/dueproxy}
 seconds=${SECONDS_EACH:-2}
@@ -46,6 +46,7 @@ start() {
     proxy_cfg "$2" "$3" "$4" >"$folder/$2.cfg"
     case $1 in
     dueproxy) "$program" run "$folder/$2.cfg" --workers 256 >/dev/null 2>&1 & ;;
+    other) "$OTHER" run "$folder/$2.cfg" --workers 256 >/dev/null 2>&1 & ;;
     haproxy) sed 's/^defaults/defaults\n    option httpclose\n    maxconn 4000/' "$folder/$2.cfg" >"$folder/$2.ha"; haproxy -db -f "$folder/$2.ha" >/dev/null 2>&1 & ;;
     haproxy1) (echo global; echo "    nbthread 1"; sed 's/^defaults/defaults\n    option httpclose\n    maxconn 4000/' "$folder/$2.cfg") >"$folder/$2.ha"
         haproxy -db -f "$folder/$2.ha" >/dev/null 2>&1 & ;;
@@ -73,7 +74,7 @@ body() {
     curl -s -o /dev/null -w '%{time_total}\n' "http://127.0.0.1:$3/large" >>"$folder/$2.$1"
 }
 
-kinds="dueproxy haproxy haproxy1"
+kinds="dueproxy haproxy haproxy1${OTHER:+ other}"
 port=18201
 for kind in $kinds; do
     eval "free_$kind=$port limited_$kind=$((port + 1)) single_$kind=$((port + 2))"
@@ -97,7 +98,11 @@ median() { awk -v c="$3" '{ print $c }' "$folder/$1.$2" | sort -n | awk '{ a[NR]
 # A line: what, and of dueproxy's median what part HAProxy's are.
 line() {
     awk -v what="$1" -v d="$(median "$2" dueproxy "$3")" -v h="$(median "$2" haproxy "$3")" -v o="$(median "$2" haproxy1 "$3")" 'BEGIN {
-        printf "%-46s %10.2f; HAProxy %10.2f, nbthread 1 %10.2f; ratios %.2f %.2f\n", what, d, h, o, h ? d / h : 0, o ? d / o : 0 }'
+        printf "%-46s %10.2f; HAProxy %10.2f, nbthread 1 %10.2f; ratios %.2f %.2f", what, d, h, o, h ? d / h : 0, o ? d / o : 0 }'
+    if [ -n "${OTHER:-}" ]; then
+        awk -v d="$(median "$2" dueproxy "$3")" -v m="$(median "$2" other "$3")" 'BEGIN { printf "; the other %.2f, ratio %.2f", m, m ? d / m : 0 }'
+    fi
+    echo
 }
 line "requests/s, 64 clients, no queue" free 1
 line "its processor time a request, us" free 3

@@ -28,20 +28,16 @@ fn main(rt: HostRuntime) -> ExitCode {
     let Ok(words) = words.collect::<Vec<String>>(rt.alloc()) else {
         return ExitCode::from(end(&rt, Err(Fault::NoMemory)));
     };
-    ExitCode::from(answer(&rt, &ask(&rt, &words)))
-}
-
-// Does what is asked with the standard streams, and answers the status.
-fn answer(rt: &HostRuntime, asked: &Asked) -> u8 {
-    match asked {
-        Asked::Run(file, numbers) => serve_file(rt, file, *numbers),
-        Asked::Replay => replay_streams(rt, &mut rt.stdin(), &mut rt.stdout()),
-        Asked::Check(file) => check(rt, file),
-        Asked::Explain(file) => check_in_full(rt, file),
-        Asked::Draw(only) => draw_streams(rt, &mut rt.stdin(), &mut rt.stdout(), only),
-        Asked::Tell(ticket) => tell_streams(rt, &mut rt.stdin(), &mut rt.stdout(), *ticket),
-        Asked::Nothing(status) => *status,
-    }
+    let status = match ask(&rt, &words) {
+        Asked::Run(file, numbers) => serve_file(&rt, &file, numbers),
+        Asked::Replay => replay_streams(&rt, &mut rt.stdin(), &mut rt.stdout()),
+        Asked::Check(file) => check(&rt, &file),
+        Asked::Explain(file) => check_in_full(&rt, &file),
+        Asked::Draw(only) => draw_streams(&rt, &mut rt.stdin(), &mut rt.stdout(), &only),
+        Asked::Tell(ticket) => tell_streams(&rt, &mut rt.stdin(), &mut rt.stdout(), ticket),
+        Asked::Nothing(status) => status,
+    };
+    ExitCode::from(status)
 }
 
 // Replays the script of a stream onto another, and answers the status.

@@ -5,18 +5,19 @@
 #![tactic(auto)]
 
 ghost use Rattle.std.specs.Prelude.{◌≡◌};
-ghost use Rattle.dueproxy.specs.Statuses.{status_of, status_of_input};
+ghost use Rattle.exit_status.specs.Statuses.{status_of};
 
 mod serve;
 
 use command_words::{Asked, Only, ask};
 use config_check::{check, check_in_full};
+use exit_status::{of_input, of_replay};
 use replay::{Fault, replay};
 use serve::serve_file;
 use std::env;
 use std::io::{Read, Write};
 use std::process::ExitCode;
-use trace_views::{DrawFault, InputFault, TellFault, draw, tell};
+use trace_views::{DrawFault, TellFault, draw, tell};
 
 const USAGE: u8 = 2;
 
@@ -62,7 +63,7 @@ fn draw_streams<R: Read, W: Write>(
         Err(fault) => {
             let _ = rt.eprintln(fault);
             match fault {
-                DrawFault::Input(fault) => status_of_input(fault),
+                DrawFault::Input(fault) => of_input(fault),
                 DrawFault::NoQueue => USAGE,
             }
         }
@@ -81,19 +82,10 @@ fn tell_streams<R: Read, W: Write>(
         Err(fault) => {
             let _ = rt.eprintln(fault);
             match fault {
-                TellFault::Input(fault) => status_of_input(fault),
+                TellFault::Input(fault) => of_input(fault),
                 TellFault::NoTicket => USAGE,
             }
         }
-    }
-}
-
-fn status_of_input(fault: InputFault) -> u8
-    ensures { result ≡ status_of_input fault }
-{
-    match fault {
-        InputFault::NoMemory | InputFault::Unread | InputFault::Unwritten => 1,
-        InputFault::Script { .. } | InputFault::Trace { .. } => 5,
     }
 }
 
@@ -101,14 +93,8 @@ fn status_of_input(fault: InputFault) -> u8
 fn end(rt: &impl Eprint, ended: Result<(), Fault>) -> u8
     ensures { result ≡ status_of ended }
 {
-    match ended {
-        Ok(()) => 0,
-        Err(fault) => {
-            let _ = rt.eprintln(fault);
-            match fault {
-                Fault::Script { .. } => 5,
-                Fault::NoMemory | Fault::Read | Fault::Write => 1,
-            }
-        }
+    if let Err(fault) = ended {
+        let _ = rt.eprintln(fault);
     }
+    of_replay(ended)
 }

@@ -1,10 +1,8 @@
 //! `dueproxy run`: a proxy as its words say.
 
-ghost use Rattle.std.specs.Prelude.{◌≡◌};
-ghost use Rattle.dueproxy.specs.Statuses.{status_of_run};
-
 use command_words::{Numbers, RANGES};
 use config_check::read_file;
+use exit_status::of_run;
 use proxy_run::{RunFault, ServeFault, Sizes, run};
 use std::io::ErrorKind;
 use std::net::{Net, TcpListener, TcpStream};
@@ -49,15 +47,5 @@ pub(crate) fn serve_file<
             _ => rt.eprintln(fault),
         };
     }
-    status_of(ended)
-}
-
-fn status_of(ended: Result<(), RunFault>) -> u8
-    ensures { result ≡ status_of_run ended }
-{
-    match ended {
-        Ok(()) => 0,
-        Err(RunFault::Config(_)) => 3,
-        Err(RunFault::Serve(_)) => 1,
-    }
+    of_run(ended)
 }

@@ -123,7 +123,7 @@ one("a client that says nothing is closed after `timeout client`", " timeout cli
 one("a client that stops within its head too", " timeout client 300ms\n", answer, REQUEST[:-4], b"", 0.25, 2)
 one("a client that stops within its body too", " timeout client 300ms\n", answer, b"POST / HTTP/1.1\r\nHost: h\r\nContent-Length: 10\r\n\r\nhalf", b"", 0.25, 2)
 one("a server that says nothing is a 502 after `timeout server`", " timeout server 300ms\n", lambda client: None, REQUEST, BAD_GATEWAY, 0.25, 2)
-one("a server that stops within its answer cuts it off", " timeout server 300ms\n", half, REQUEST, b"HTTP/1.1 200 OK\r\n", 0.25, 2)
+one("a server that stops within a short answer is a 502", " timeout server 300ms\n", half, REQUEST, BAD_GATEWAY, 0.25, 2)
 one("a server that goes without a byte is a 502", "", bye, REQUEST, BAD_GATEWAY, 0, 2)
 one("without times a slow answer is waited for", "", lambda client: (time.sleep(1), answer(client)), REQUEST, b"HTTP/1.1 200 OK\r\n", 1, 3)
 
@@ -204,7 +204,7 @@ def too_long():
 BAD_CHUNK = b"POST / HTTP/1.1\r\nHost: h\r\nTransfer-Encoding: chunked\r\n\r\nzz\r\n"
 BAD_REQUEST = b"HTTP/1.1 400 Bad Request\r\n"
 then_another("a head that is none is a 400", "", answer, lambda: told(b"HELLO\r\n\r\n", BAD_REQUEST), 1, 1)
-then_another("a chunk that is none is a 400", "", answer, lambda: told(BAD_CHUNK, BAD_REQUEST), 1, 2)
+then_another("a chunk that is none is a 400", "", answer, lambda: told(BAD_CHUNK, BAD_REQUEST), 1, 1)
 then_another("an answer whose head is none is a 502", "", First(lambda client: client.sendall(b"HELLO\r\n\r\n")), lambda: told(REQUEST, BAD_GATEWAY), 1, 2)
 then_another("an answer that frames its body badly is a 502", "", First(lambda client: client.sendall(b"HTTP/1.1 200 OK\r\nContent-Length: ten\r\n\r\n")), lambda: told(REQUEST, BAD_GATEWAY), 1, 2)
 then_another("a client that waits longer than `timeout queue` is a 503", " timeout queue 300ms\n", slow, too_long, 2, 2)
@@ -227,14 +227,14 @@ with socket.create_server(("127.0.0.1", PROXY)):
     status, out, err = proxy.end()
 tried("an address that is taken", (status, proxy.first + err) == (1, "read fault\n"), f"status {status} {proxy.first + err}")
 
-# Of 24 files the proxy has some seven for itself; each of the workers waits for a client of its own, and the last ones can't have theirs.
-proxy = Proxy(configured(" timeout client 3s\n", ""), 64, 64, 24)
-silent = [socket.create_connection(("127.0.0.1", PROXY)) for _ in range(64)]
-start = time.time()
-status, out, err = proxy.end()
-took = time.time() - start
-tried("a thousand clients in a row that can't be accepted end it", status == 1 and err.endswith("read fault\n") and 1 <= took <= 10, f"status {status} {err} after {took:.2f} s")
-for client in silent:
-    client.close()
+# Of 40 files the proxy has most for itself: the silent clients are accepted a few at a time, and each is closed before the next can be.
+with Listening(answer):
+    proxy = Proxy(configured(" timeout client 200ms\n", "maxconn 1"), 31, 64, 40)
+    silent = [socket.create_connection(("127.0.0.1", PROXY)) for _ in range(30)]
+    got, took = ask(REQUEST)
+    status, out, err = proxy.end()
+    for client in silent:
+        client.close()
+tried("more clients than files: who waits at the listener is answered once there are some", (got or b"").startswith(b"HTTP/1.1 200 OK") and status == 0, f"{got} after {took:.2f} s, status {status} {err}")
 
 sys.exit(1 if failed else 0)

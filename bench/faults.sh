@@ -5,7 +5,7 @@
 program=${PROGRAM:-$here/dueproxy}
 clients=${CLIENTS:-140000}
 failed=0
-trap 'kill $(jobs -p) 2>/dev/null; wait 2>/dev/null; rm -rf "$folder"' EXIT
+trap 'kill $(jobs -p) 2>/dev/null || :; wait 2>/dev/null; rm -rf "$folder"' EXIT
 python3 "$here/bench/faults.py" "$program" "$folder" || failed=1
 
 # A request leaves four to six entries in the log, and a window has 262,144.

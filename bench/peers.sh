@@ -5,7 +5,7 @@
 program=${PROGRAM:-$here/dueproxy}
 web=18081 python=18082 proxy=18080
 failed=0
-trap 'kill $(jobs -p) 2>/dev/null; wait 2>/dev/null; rm -rf "$folder"' EXIT
+trap 'kill $(jobs -p) 2>/dev/null || :; wait 2>/dev/null; rm -rf "$folder"' EXIT
 
 tried() {
     if [ "$2" = "$3" ]; then echo "ok      $1"; else echo "FAILED  $1: $2 and not $3"; failed=1; fi

@@ -7,7 +7,7 @@
 program=${PROGRAM:-$here/dueproxy}
 seconds=${SECONDS_EACH:-2}
 web=18281 slow=18282
-trap 'kill $(jobs -p) 2>/dev/null; wait 2>/dev/null; rm -rf "$folder"' EXIT
+trap 'kill $(jobs -p) 2>/dev/null || :; wait 2>/dev/null; rm -rf "$folder"' EXIT
 echo "nproc $(nproc), $runs runs, $seconds s each; $(haproxy -v | head -n 1)"
 
 mkdir "$folder/www" "$folder/tmp"

@@ -5,7 +5,7 @@
 program=${PROGRAM:-$here/dueproxy}
 requests=${REQUESTS:-1000000}
 clients=${CLIENTS:-200}
-trap 'kill $(jobs -p) 2>/dev/null; wait 2>/dev/null; rm -rf "$folder"' EXIT
+trap 'kill $(jobs -p) 2>/dev/null || :; wait 2>/dev/null; rm -rf "$folder"' EXIT
 cat >"$folder/proxy.cfg" <<'CONF'
 listen soak
     bind 127.0.0.1:18180

@@ -50,8 +50,8 @@ still_of_answer rest n it = ∥∥₁_map it (less_of_answer rest n)
 -- what is found in the bytes that came, behind an empty text, is an answer in what came
 pub answer_in : (told : Progress (Unit {0})) (request : Request) (got bytes before after : List ℕ) (ended : Bool) → bytes ≡ got → before ≡ []
     → OnWhole told ((used : List ℕ) × (rest : List ℕ) × (text : List ℕ)
-        × (answered : IsAnswered request.method (framed_for request.version) used text) × (bytes ≡ used ++ rest) × (after ≡ before ++ text)
-        × (answered.plan.body ≡ Framing.ToEnd → (ended ≡ true) × (rest ≡ [])))
+    × (answered : IsAnswered request.method (framed_for request.version) used text) × (bytes ≡ used ++ rest) × (after ≡ before ++ text)
+    × (answered.plan.body ≡ Framing.ToEnd → (ended ≡ true) × (rest ≡ [])))
     → OnWhole told (IsAnswerIn request got after)
 answer_in (Whole found) request got bytes before after ended same empty it =
     subst (λ t. IsAnswerIn request got t) (sym (it.5 ∙ ap (λ l. l ++ it.2) empty))

@@ -1,5 +1,6 @@
 //! Time limits, and what was short.
 
+use crate::jobs::Job;
 use crate::looping::Looper;
 use due_key::Moment;
 use grant_board::BoardName;
@@ -14,13 +15,16 @@ const SOON: u64 = 10;
 /// How seldom a loop looks at its time limits, at most, in milliseconds.
 const SELDOM: u64 = 1000;
 
+/// Where a part of an answer came, and then nothing for so many milliseconds, a runner goes on with it: its client has that part without waiting for the rest.
+const PAUSE: u64 = 100;
+
 impl<
     'a,
     N: BoardName,
     R: Net<Listener = TcpListener, Stream = TcpStream> + Clock + Print + Wait,
 > Looper<'a, N, R> {
-    /// How many milliseconds may pass until the loop looks at its limits: a sixteenth of the least, and a second at most. None: there is nothing that a
-    /// limit could end. The first loop looks at the dispatcher's queues, where requests wait.
+    /// How many milliseconds may pass until the loop looks at its limits: a sixteenth of the least, and a second at most, or a tenth of one while a server may
+    /// pause within its answer. None: there is nothing that a limit could end. The first loop looks at the dispatcher's queues, where requests wait.
     pub(crate) fn patience(&self) -> Option<u64> {
         if self.short {
             return Some(SOON);
@@ -33,6 +37,7 @@ impl<
         if !self.exchanges.is_empty() {
             least = sooner(least, config.server_timeout);
             least = sooner(least, config.connect_timeout);
+            least = Some(least.unwrap_or(PAUSE).min(PAUSE));
         }
         if self.home == 0 && self.hall.has_waits() {
             least = sooner(least, config.queue_timeout);
@@ -90,21 +95,29 @@ impl<
         }
     }
 
-    // Servers that take too long.
+    // Servers that take too long, and those that pause within an answer.
     fn look_at_exchanges(&mut self, now: Moment) {
         let config = &self.hall.proxy.config;
         let (connect, server) = (config.connect_timeout, config.server_timeout);
         for key in 0..self.exchanges.keys() {
-            let late = match self.exchanges.get(key) {
-                None => false,
-                Some(underway) if underway.sent => is_over(underway.since, server, now),
-                Some(underway) => is_over(underway.since, connect, now),
+            let (late, pauses) = match self.exchanges.get(key) {
+                None => (false, false),
+                Some(underway) if underway.sent => (
+                    is_over(underway.since, server, now),
+                    !underway.got.is_empty() && is_over(underway.since, Some(PAUSE), now),
+                ),
+                Some(underway) => (is_over(underway.since, connect, now), false),
             };
-            if late {
-                if let Some(underway) = self.exchanges.take(key) {
+            if !late && !pauses {
+                continue;
+            }
+            if let Some(underway) = self.exchanges.take(key) {
+                if late {
                     self.lose(underway);
-                    self.go_on();
+                } else {
+                    self.hand_to_runner(Job::Answer(underway));
                 }
+                self.go_on();
             }
         }
     }

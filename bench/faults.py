@@ -123,7 +123,7 @@ one("a client that says nothing is closed after `timeout client`", " timeout cli
 one("a client that stops within its head too", " timeout client 300ms\n", answer, REQUEST[:-4], b"", 0.25, 2)
 one("a client that stops within its body too", " timeout client 300ms\n", answer, b"POST / HTTP/1.1\r\nHost: h\r\nContent-Length: 10\r\n\r\nhalf", b"", 0.25, 2)
 one("a server that says nothing is a 502 after `timeout server`", " timeout server 300ms\n", lambda client: None, REQUEST, BAD_GATEWAY, 0.25, 2)
-one("a server that stops within a short answer is a 502", " timeout server 300ms\n", half, REQUEST, BAD_GATEWAY, 0.25, 2)
+one("a server that stops within its answer cuts it off", " timeout server 300ms\n", half, REQUEST, b"HTTP/1.1 200 OK\r\n", 0.25, 2)
 one("a server that goes without a byte is a 502", "", bye, REQUEST, BAD_GATEWAY, 0, 2)
 one("without times a slow answer is waited for", "", lambda client: (time.sleep(1), answer(client)), REQUEST, b"HTTP/1.1 200 OK\r\n", 1, 3)
 

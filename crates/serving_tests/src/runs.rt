@@ -21,26 +21,29 @@ struct Row {
     // What each client says, and what it gets.
     says: &'static [u8],
     gets: &'static [u8],
-    // The server answers once so many clients are there; the last one first.
+    // The server answers this once so many clients are there; the last one first.
+    answer: &'static [u8],
     answers: u32,
 }
 
-fn answer(mut client: TcpStream) -> bool {
+const WHOLE: &[u8] = b"HTTP/1.1 200 OK\r\nContent-Length: 2\r\n\r\nhi";
+
+// Then it waits until the proxy ends the connection.
+fn answer(mut client: TcpStream, text: &[u8]) -> bool {
     let mut head = [0u8; 1024];
     client.read(&mut head).is_ok()
-        && client
-            .write_all(b"HTTP/1.1 200 OK\r\nContent-Length: 2\r\n\r\nhi")
-            .is_ok()
+        && client.write_all(text).is_ok()
+        && client.read(&mut head).is_ok()
 }
 
-fn answer_all(listener: &TcpListener, count: u32) -> bool {
+fn answer_all(listener: &TcpListener, count: u32, text: &[u8]) -> bool {
     if count == 0 {
         return true;
     }
     let Ok((client, _)) = listener.accept() else {
         return false;
     };
-    answer_all(listener, count - 1) && answer(client)
+    answer_all(listener, count - 1, text) && answer(client, text)
 }
 
 fn come<R: Net<Stream = TcpStream>>(
@@ -89,10 +92,10 @@ fn serve_between<
         + Wait
         + Sync,
 >(rt: &R, text: &str, near: TcpListener, far: &TcpListener, row: &Row) -> bool {
-    let answers = row.answers;
+    let (answers, answer) = (row.answers, row.answer);
     let clients = row.clients;
     thread::scope(thread::scope_env(), rt, |scope| {
-        let answering = scope.spawn(move || answer_all(far, answers)).ok();
+        let answering = scope.spawn(move || answer_all(far, answers, answer)).ok();
         let ended = serve_text(rt, text, near, clients);
         match answering {
             Some(handle) => handle.join(rt) && ended,
@@ -140,6 +143,7 @@ fn one_request(rt: HostRuntime) -> Result<(), Fail> {
         clients: 1,
         says: REQUEST,
         gets: ANSWER,
+        answer: WHOLE,
         answers: 1,
     };
     play(&rt, &row)
@@ -152,6 +156,7 @@ fn two_at_once(rt: HostRuntime) -> Result<(), Fail> {
         clients: 2,
         says: REQUEST,
         gets: ANSWER,
+        answer: WHOLE,
         answers: 2,
     };
     play(&rt, &row)
@@ -164,7 +169,21 @@ fn a_silent_server_is_a_bad_gateway(rt: HostRuntime) -> Result<(), Fail> {
         clients: 1,
         says: REQUEST,
         gets: b"HTTP/1.1 502 Bad Gateway\r\nContent-Length: 0\r\nConnection: close\r\n\r\n",
+        answer: WHOLE,
         answers: 0,
+    };
+    play(&rt, &row)
+}
+
+#[test]
+fn a_part_of_an_answer_is_handed_on_while_its_server_pauses(rt: HostRuntime) -> Result<(), Fail> {
+    let row = Row {
+        settings: " timeout server 500ms\n",
+        clients: 1,
+        says: REQUEST,
+        gets: b"HTTP/1.1 200 OK\r\nContent-Length: 2\r\nConnection: close\r\n\r\nh",
+        answer: b"HTTP/1.1 200 OK\r\nContent-Length: 2\r\n\r\nh",
+        answers: 1,
     };
     play(&rt, &row)
 }
@@ -176,6 +195,7 @@ fn a_silent_client_gets_nothing(rt: HostRuntime) -> Result<(), Fail> {
         clients: 1,
         says: b"GET / HTTP/1.1\r\n",
         gets: b"",
+        answer: WHOLE,
         answers: 0,
     };
     play(&rt, &row)

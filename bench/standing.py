@@ -347,7 +347,7 @@ def stand():
     tried("a server accepts and falls silent", proxy, asked(b"silent", b"502"))
     tried("a server closes before a head", proxy, asked(b"closes", b"502"))
     tried("a server closes in its head", proxy, asked(b"half_head", b"502"))
-    tried("a server closes in its body", proxy, asked(b"half_body", b"200"))
+    tried("a server closes in its short body", proxy, asked(b"half_body", b"502"))
     tried("a server sends a byte now and then", proxy, asked(b"trickle", b"200"))
     tried("a server sends 1 MiB of head", proxy, asked(b"long_head", b"502"))
     tried(f"a server is down and up every 300 ms, {LOAD_SECONDS} s under load", proxy, server_comes_and_goes)

@@ -1,4 +1,4 @@
-use Rattle.std.proofs.Common.{refl, ap, ◌∙◌}
+use Rattle.std.proofs.Common.{◌∙◌}
 use Rattle.relay_loops.proofs.Handed.{answer_in}
 use Rattle.relay_loops.proofs.looping.Looper.look_at_answer.Goals as goal
 

@@ -1,11 +1,12 @@
 #!/usr/bin/env bash
 # bench/refused.sh [NAME..]: runs each test of the crates NAME (all that are built but those of sockets, without names) again and again, and refuses one allocation in each
 # run, each in its turn. A run has to end well, or with the test's own word: an error that it answers, or an assertion that saw another answer than with memory. What is no
-# such end: a signal, a wait without end. One line for each crate; the status is 1 where a run had no such end. Needs gcc, and the tests that `rt ci` or `rt test`
+# such end: a signal, a wait without end. Of a test with more than 400 allocations (MOST) so many are refused, evenly spread. One line for each crate; the status is 1 where a run had no such end. Needs gcc, and the tests that `rt ci` or `rt test`
 # leaves in crates/NAME/out.
 set -u
 cd "$(dirname "$0")/.." || exit 2
 at_once=$(getconf _NPROCESSORS_ONLN)
+export most=${MOST:-400}
 export work=$(mktemp -d)
 trap 'rm -rf "$work"' EXIT
 gcc -shared -fPIC -O2 -o "$work/refused.so" bench/refused.c || exit 2
@@ -17,7 +18,7 @@ run() { # PROGRAM TEST N: the run's status, and what it wrote in $work/said.PID
 refuse_each() { # NAME PROGRAM TEST
     run "$2" "$3" 0 || { echo "$1 $3: fails with all memory: status $?" >>"$work/$1.bad"; return; }
     count=$(cat "$work/count.$$")
-    for ((n = 1; n <= count; n++)); do
+    for ((n = 1; n <= count; n += (count + most - 1) / most)); do
         run "$2" "$3" "$n" 2>/dev/null
         status=$?
         case $status in

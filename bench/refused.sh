@@ -1,7 +1,8 @@
 #!/usr/bin/env bash
 # bench/refused.sh [NAME..]: runs each test of the crates NAME (all that are built but those of sockets, without names) again and again, and refuses one allocation in each
 # run, each in its turn. A run has to end well, or with the test's own word: an error that it answers, or an assertion that saw another answer than with memory. What is no
-# such end: a signal, a wait without end. Of a test with more than 400 allocations (MOST) so many are refused, evenly spread. One line for each crate; the status is 1 where a run had no such end. Needs gcc, and the tests that `rt ci` or `rt test`
+# such end: a signal, a wait without end. A test whose name begins with a_refused_growth makes a refused call again, and has to end well each time. Of a test with more than 400
+# allocations (MOST) so many are refused, evenly spread. One line for each crate; the status is 1 where a run had no such end. Needs gcc, and the tests that `rt ci` or `rt test`
 # leaves in crates/NAME/out.
 set -u
 cd "$(dirname "$0")/.." || exit 2
@@ -21,10 +22,11 @@ refuse_each() { # NAME PROGRAM TEST
     for ((n = 1; n <= count; n += (count + most - 1) / most)); do
         run "$2" "$3" "$n" 2>/dev/null
         status=$?
-        case $status in
-            0) echo well ;;
-            101) echo error ;;
-            134) grep -q '^test stopped at' "$work/said.$$" && echo assertion || echo "$1 $3, allocation $n: status $status" >>"$work/$1.bad" ;;
+        case $status.$3 in
+            0.*) echo well ;;
+            *.*a_refused_growth*) echo "$1 $3, allocation $n: status $status" >>"$work/$1.bad" ;;
+            101.*) echo error ;;
+            134.*) grep -q '^test stopped at' "$work/said.$$" && echo assertion || echo "$1 $3, allocation $n: status $status" >>"$work/$1.bad" ;;
             *) echo "$1 $3, allocation $n: status $status" >>"$work/$1.bad" ;;
         esac
     done >>"$work/ends.$1.$$"

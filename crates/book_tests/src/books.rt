@@ -5,6 +5,7 @@ ghost use Rattle.grant_board.specs.Views.{terms};
 ghost use Rattle.outstanding.specs.Books.{terms_of};
 ghost use Rattle.reporting_core.specs.Reporting.{IsNew};
 
+use assertions::same;
 use dispatch_core::Core;
 use dispatch_log::{Queue, ServerSet, Servers, Setup};
 use dispatch_trace::Ticketed;
@@ -145,6 +146,6 @@ fn a_slot_is_handed_on(rt: HostRuntime) -> Result<(), Fail> {
     let opened = Board::open(alloc, 4, &[1])?;
     let core = dispatcher(alloc)?;
     let told = keep_book::<Brand>(alloc, core, running, opened)?;
-    assert_eq!(rt; told, (1, 0, Some(1), Some(0)));
+    same(&rt, told, (1, 0, Some(1), Some(0)));
     Ok(())
 }

@@ -1,4 +1,4 @@
-ghost use Rattle.std.specs.Prelude.{◌≡◌, ◌<◌, ◌≤◌, [], IfOk, length, map, true};
+ghost use Rattle.std.specs.Prelude.{◌≡◌, ◌<◌, ◌≤◌, [], ◌∷◌, IfOk, length, map, true};
 ghost use Rattle.dispatch_log.specs.Histories.{first_window};
 ghost use Rattle.grant_board.specs.KeeperCalls.{new_keeper};
 ghost use Rattle.grant_board.specs.RelayCalls.{new_relay};
@@ -16,7 +16,7 @@ use late_cert::{Report, Reports, Running, Stay};
 use locked_book::Wanted;
 use place_set::PlaceSet;
 use reporting_core::{ServerLine, Window};
-use std::alloc::Global;
+use std::alloc::{AllocError, Global};
 use std::marker::Brand;
 use std::sync::Wait;
 use std::test::Fail;
@@ -24,6 +24,7 @@ use verdict::{Cause, Ending, Verdict};
 
 mod changes;
 mod events;
+mod memory;
 mod overtaking;
 mod redispatch;
 mod threads;
@@ -59,32 +60,48 @@ fn server(limit: u32) -> ServerSet
 fn open(alloc: Global, setup: Setup, limits: &[u32]) -> Result<Opened, Fail>
     requires limits { map (λ server. server.limit) setup.servers ≡ limits.now }
 {
+    match open_sound(alloc, setup, limits)? {
+        Some(opened) => Ok(opened),
+        None => Err(Fail::from("not a sound setup")),
+    }
+}
+
+// None where the setup isn't sound.
+fn open_sound(alloc: Global, setup: Setup, limits: &[u32]) -> Result<Option<Opened>, AllocError>
+    requires limits { map (λ server. server.limit) setup.servers ≡ limits.now }
+{
     if !setup.sound() {
-        return Err(Fail::from("not a sound setup"));
+        return Ok(None);
     }
     let running = Running::new(alloc, limits.len())?;
     let (board, seat, relay) = Board::open(alloc, setup.places, limits)?;
-    Ok(Opened {
+    Ok(Some(Opened {
         core: Core::new(alloc, setup)?,
         board,
         seat,
         relay,
         running,
-    })
+    }))
 }
 
 // One server, so many places, and a timeout of 10 ms in queues.
 fn one_server(alloc: Global, places: usize, log: usize, limit: u32) -> Result<Opened, Fail> {
+    let setup = setup_of_one(alloc, places, log, limit)?;
+    open(alloc, setup, &[limit])
+}
+
+fn setup_of_one(alloc: Global, places: usize, log: usize, limit: u32) -> Result<Setup, AllocError>
+    ensures { IfOk result (λ setup. map (λ server. server.limit) setup.servers ≡ limit ∷ []) }
+{
     let servers = vec![in alloc; server(limit)]?;
-    let setup = Setup {
+    Ok(Setup {
         servers: Servers::from_vec(servers),
         places,
         log,
         retries: 3,
         redispatch: false,
         queue_timeout: 10,
-    };
-    open(alloc, setup, &[limit])
+    })
 }
 
 // A desk over what was opened, and the first of the seats that take.

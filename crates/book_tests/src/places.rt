@@ -1,20 +1,24 @@
+use assertions::{holds, same};
 use place_set::PlaceSet;
 
 #[test]
 fn places_come_by_rising_number(rt: HostRuntime) {
     let mut set = PlaceSet::new();
-    assert_eq!(rt; set.next(0), None);
+    same(&rt, set.next(0), None);
     set.insert(70);
     set.insert(3);
     set.insert(4095);
-    assert_eq!(rt; set.next(0), Some(3));
-    assert_eq!(rt; set.next(3), Some(3));
-    assert_eq!(rt; set.next(4), Some(70));
-    assert_eq!(rt; set.next(71), Some(4095));
-    assert_eq!(rt; set.next(4096), None);
-    assert!(rt; set.contains(70) && !set.contains(71) && !set.contains(4096));
+    same(&rt, set.next(0), Some(3));
+    same(&rt, set.next(3), Some(3));
+    same(&rt, set.next(4), Some(70));
+    same(&rt, set.next(71), Some(4095));
+    same(&rt, set.next(4096), None);
+    holds(
+        &rt,
+        set.contains(70) && !set.contains(71) && !set.contains(4096),
+    );
     set.remove(70);
-    assert_eq!(rt; set.next(4), Some(4095));
+    same(&rt, set.next(4), Some(4095));
 }
 
 #[test]
@@ -26,8 +30,8 @@ fn a_block_is_walked_by_rising_number(rt: HostRuntime) {
     set.insert(127);
     set.insert(128);
     let mut block = set.block(1);
-    assert_eq!(rt; block.take_first(), Some(64));
-    assert_eq!(rt; block.take_first(), Some(70));
-    assert_eq!(rt; block.take_first(), Some(127));
-    assert_eq!(rt; block.take_first(), None);
+    same(&rt, block.take_first(), Some(64));
+    same(&rt, block.take_first(), Some(70));
+    same(&rt, block.take_first(), Some(127));
+    same(&rt, block.take_first(), None);
 }

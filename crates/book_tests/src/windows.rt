@@ -1,6 +1,7 @@
 ghost use Rattle.std.specs.Prelude.{◌≡◌, [], IfOk, length};
 ghost use Rattle.dispatch_log.specs.Histories.{first_window};
 
+use assertions::same;
 use dispatch_core::Core;
 use dispatch_log::{Queue, ServerSet, Servers, Setup};
 use due_key::{Class, Key, Moment, Offset};
@@ -129,8 +130,8 @@ fn the_window_is_reported(rt: HostRuntime) -> Result<(), Fail> {
         reports: 1,
         line,
     };
-    assert_eq!(rt; told?, expected);
-    assert_eq!(rt; later, None);
+    same(&rt, told?, expected);
+    same(&rt, later, None);
     Ok(())
 }
 
@@ -151,6 +152,6 @@ fn full_log(alloc: Global) -> Result<[Option<(usize, usize)>; 2], Fail> {
 #[test]
 fn a_full_log_is_handed_out(rt: HostRuntime) -> Result<(), Fail> {
     let rooms = full_log(rt.alloc())?;
-    assert_eq!(rt; rooms, [Some((1, 1)), None]);
+    same(&rt, rooms, [Some((1, 1)), None]);
     Ok(())
 }

@@ -3,6 +3,9 @@
 //! What is faulty is asked of the configuration's own reader. A line that it names is set right as the explanation says, by
 //! leaving it out or by putting its section into the one `listen`, and the file is read again.
 
+ghost use Rattle.std.specs.Prelude.{◌↔◌, IfOk, IsNone, IsOk, IsTrue};
+ghost use Rattle.proxy_config.specs.File.{reading};
+
 use crate::advising::{advice, sentence};
 use proxy_config::{ConfigFault, FaultCause, MOST_BYTES, ReadError, read};
 use proxy_words::{Lines, Words, without_comment};
@@ -24,42 +27,44 @@ pub struct Explanation {
     pub whole: bool,
 }
 
-/// Names every faulty line, up to a thousand.
-pub fn explain(alloc: Global, bytes: &[u8]) -> Result<Explanation, AllocError> {
+/// Names every faulty line, up to a thousand. In the worst case it reads the file anew for each word of each faulty line; fails only where memory is refused.
+pub fn explain(alloc: Global, bytes: &[u8]) -> Result<Explanation, AllocError>
+    ensures whole { IfOk result (λ told. IsTrue told.whole ↔ IsOk (reading bytes.now)) }
+{
+    let whole = fault_of(alloc, bytes)?.is_none();
     let mut text = String::new(alloc);
-    let mut faulty = 0;
+    let faulty = if whole {
+        0
+    } else {
+        push_faults(alloc, &mut text, bytes)?
+    };
+    Ok(Explanation {
+        text,
+        faulty,
+        whole,
+    })
+}
+
+// What is said of each faulty line, and how many there are.
+fn push_faults(alloc: Global, text: &mut String, bytes: &[u8]) -> Result<usize, AllocError> {
     if MOST_BYTES < bytes.len() {
         text.push_str("The file is longer than 1048576 bytes.\n")?;
-        return Ok(Explanation {
-            text,
-            faulty: 0,
-            whole: false,
-        });
+        return Ok(0);
     }
     let mut lines = lines_of(alloc, bytes)?;
     for turn in 0..MOST_FAULTS {
         let Some(fault) = first_fault(alloc, &lines)? else {
-            let whole = turn == 0;
-            return Ok(Explanation {
-                text,
-                faulty,
-                whole,
-            });
+            return Ok(turn);
         };
         if fault.cause == FaultCause::Missing {
             text.push_str(missing(fault))?;
-            break;
+            return Ok(turn);
         }
-        faulty = turn + 1;
         let word = word_at_fault(alloc, &lines, fault)?;
-        describe(alloc, &mut text, &lines, fault, word)?;
+        describe(alloc, text, &lines, fault, word)?;
         set_right(alloc, &mut lines, fault, word)?;
     }
-    Ok(Explanation {
-        text,
-        faulty,
-        whole: false,
-    })
+    Ok(MOST_FAULTS)
 }
 
 fn missing(fault: ConfigFault) -> &'static str {
@@ -88,7 +93,9 @@ fn first_fault(alloc: Global, lines: &[Vec<u8>]) -> Result<Option<ConfigFault>, 
     fault_of(alloc, &bytes)
 }
 
-fn fault_of(alloc: Global, bytes: &[u8]) -> Result<Option<ConfigFault>, AllocError> {
+fn fault_of(alloc: Global, bytes: &[u8]) -> Result<Option<ConfigFault>, AllocError>
+    ensures { IfOk result (λ fault. IsNone fault ↔ IsOk (reading bytes.now)) }
+{
     match read(alloc, bytes) {
         Ok(_) => Ok(None),
         Err(ReadError::Fault(fault)) => Ok(Some(fault)),

@@ -1,3 +1,4 @@
+use assertions::{holds, same};
 use config_advice::explain;
 use config_check::{Checked, status_of};
 use proxy_config::{ConfigFault, FaultCause};
@@ -17,8 +18,8 @@ fn each_end_has_its_line_and_status(rt: HostRuntime) -> Result<(), Fail> {
     ];
     for (checked, line, status) in rows {
         let text = format!(in rt.alloc(); "{checked}")?;
-        assert_eq!(rt; text.as_str(), line);
-        assert_eq!(rt; status_of(checked), status);
+        same(&rt, text.as_str(), line);
+        same(&rt, status_of(checked), status);
     }
     Ok(())
 }
@@ -28,9 +29,10 @@ fn each_faulty_line_has_its_mark_and_its_advice(rt: HostRuntime) -> Result<(), F
     let file =
         b"defaults\n  errorfile 400 /x\nfrontend f\n  bind :443 ssl\n  timeout client 1x\nbackend b\n  server a h:80 cookie c\n  mode\n";
     let explained = explain(rt.alloc(), file)?;
-    assert_eq!(rt; explained.faulty, 7);
-    assert!(rt; !explained.whole);
-    assert_eq!(rt;
+    same(&rt, explained.faulty, 7);
+    holds(&rt, !explained.whole);
+    same(
+        &rt,
         explained.text.as_str(),
         "\
 line 2:   errorfile 400 /x
@@ -67,7 +69,7 @@ line 8:   mode
   words: The line has too few words, or one too many.
   instead: http is the only one.
 
-"
+",
     );
     Ok(())
 }
@@ -84,8 +86,8 @@ fn what_is_missing_is_said_last(rt: HostRuntime) -> Result<(), Fail> {
     ];
     for (file, faulty, text) in rows {
         let explained = explain(rt.alloc(), file.as_bytes())?;
-        assert_eq!(rt; explained.faulty, faulty);
-        assert_eq!(rt; explained.text.as_str(), text);
+        same(&rt, explained.faulty, faulty);
+        same(&rt, explained.text.as_str(), text);
     }
     Ok(())
 }
@@ -93,7 +95,7 @@ fn what_is_missing_is_said_last(rt: HostRuntime) -> Result<(), Fail> {
 #[test]
 fn nothing_is_said_of_a_good_file(rt: HostRuntime) -> Result<(), Fail> {
     let explained = explain(rt.alloc(), b"listen w\nbind :80\nserver a h:80\n")?;
-    assert!(rt; explained.whole);
-    assert!(rt; explained.text.as_str().is_empty());
+    holds(&rt, explained.whole);
+    holds(&rt, explained.text.as_str().is_empty());
     Ok(())
 }

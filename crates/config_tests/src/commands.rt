@@ -1,3 +1,4 @@
+use assertions::same;
 use command_words::{Asked, Numbers, Only, ask};
 use due_key::Class;
 use std::test::Fail;
@@ -20,14 +21,16 @@ fn what_runs_has_its_sizes(rt: HostRuntime) -> Result<(), Fail> {
         requests: 0,
     };
     let file = String::from_str(rt.alloc(), "file")?;
-    assert_eq!(rt;
+    same(
+        &rt,
         asked(&rt, &["dueproxy", "run", "file", "--workers", "7"])?,
-        Asked::Run(file, numbers)
+        Asked::Run(file, numbers),
     );
     for number in ["+5", "7x"] {
-        assert_eq!(rt;
+        same(
+            &rt,
             asked(&rt, &["dueproxy", "run", "file", "--workers", number])?,
-            Asked::Nothing(2)
+            Asked::Nothing(2),
         );
     }
     Ok(())
@@ -35,50 +38,61 @@ fn what_runs_has_its_sizes(rt: HostRuntime) -> Result<(), Fail> {
 
 #[test]
 fn a_picture_is_of_all_or_of_a_queue_and_class(rt: HostRuntime) -> Result<(), Fail> {
-    assert_eq!(rt; asked(&rt, &["dueproxy", "draw"])?, Asked::Draw(None));
+    same(&rt, asked(&rt, &["dueproxy", "draw"])?, Asked::Draw(None));
     let only = Only {
         queue: String::from_str(rt.alloc(), "*")?,
         class: Class::clamp(-1),
     };
-    assert_eq!(rt;
+    same(
+        &rt,
         asked(&rt, &["dueproxy", "draw", "--of", "*", "-1"])?,
-        Asked::Draw(Some(only))
+        Asked::Draw(Some(only)),
     );
-    assert_eq!(rt;
+    same(
+        &rt,
         asked(&rt, &["dueproxy", "draw", "--of", "*"])?,
-        Asked::Nothing(2)
+        Asked::Nothing(2),
     );
-    assert_eq!(rt;
+    same(
+        &rt,
         asked(&rt, &["dueproxy", "draw", "--of", "*", "x"])?,
-        Asked::Nothing(2)
+        Asked::Nothing(2),
     );
     Ok(())
 }
 
 #[test]
 fn subcommands_are_told_apart(rt: HostRuntime) -> Result<(), Fail> {
-    assert_eq!(rt; asked(&rt, &["dueproxy", "replay"])?, Asked::Replay);
+    same(&rt, asked(&rt, &["dueproxy", "replay"])?, Asked::Replay);
     let file = String::from_str(rt.alloc(), "file")?;
-    assert_eq!(rt;
+    same(
+        &rt,
         asked(&rt, &["dueproxy", "check", "file"])?,
-        Asked::Check(file)
+        Asked::Check(file),
     );
     let file = String::from_str(rt.alloc(), "file")?;
-    assert_eq!(rt;
+    same(
+        &rt,
         asked(&rt, &["dueproxy", "check", "--explain", "file"])?,
-        Asked::Explain(file)
+        Asked::Explain(file),
     );
-    assert_eq!(rt; asked(&rt, &["dueproxy", "check"])?, Asked::Nothing(2));
-    assert_eq!(rt; asked(&rt, &["dueproxy", "explain", "7"])?, Asked::Tell(7));
-    assert_eq!(rt;
+    same(&rt, asked(&rt, &["dueproxy", "check"])?, Asked::Nothing(2));
+    same(
+        &rt,
+        asked(&rt, &["dueproxy", "explain", "7"])?,
+        Asked::Tell(7),
+    );
+    same(
+        &rt,
         asked(&rt, &["dueproxy", "explain", "x"])?,
-        Asked::Nothing(2)
+        Asked::Nothing(2),
     );
-    assert_eq!(rt; asked(&rt, &["dueproxy", "--help"])?, Asked::Nothing(0));
-    assert_eq!(rt; asked(&rt, &["dueproxy"])?, Asked::Nothing(2));
-    assert_eq!(rt;
+    same(&rt, asked(&rt, &["dueproxy", "--help"])?, Asked::Nothing(0));
+    same(&rt, asked(&rt, &["dueproxy"])?, Asked::Nothing(2));
+    same(
+        &rt,
         asked(&rt, &["dueproxy", "replay", "more"])?,
-        Asked::Nothing(2)
+        Asked::Nothing(2),
     );
     Ok(())
 }

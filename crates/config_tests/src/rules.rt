@@ -1,5 +1,6 @@
 //! From the bytes of a configuration and of a request's head to the wish.
 
+use assertions::same;
 use due_key::{Class, Offset};
 use prio_rules::{Wish, decide};
 use proxy_config::{Config, read};
@@ -62,7 +63,7 @@ fn wishes(rt: &impl Abort, alloc: Global, lines: &[u8], rows: &[Expected]) -> Re
             offset: Offset::clamp(row.offset),
             pin: row.pin,
         };
-        assert_eq!(rt; decide(&config, &head), wish);
+        same(rt, decide(&config, &head), wish);
     }
     Ok(())
 }

@@ -1,5 +1,6 @@
 mod calls;
 mod facts;
+mod memory;
 mod setups;
 mod steps;
 

@@ -1,6 +1,7 @@
 ghost use Rattle.std.specs.Prelude.{◌≡◌, ℕ, ◌<◌, None, IfOk, OnOk, length, replicate};
 ghost use Rattle.slot_ledger.specs.Slots.{AreBelow};
 
+use assertions::same;
 use dispatch_log::{Allowance, Phase, Queue, Row, ServerSet, Servers, Setup};
 use due_key::{Class, Due, Key, Moment, Offset};
 use slot_ledger::Ledger;
@@ -122,12 +123,12 @@ fn find_the_first(rt: &impl Abort, ledger: &mut Ledger<char>) -> Result<(), Fail
         if ticket > 2 {
             end(ledger, ticket - 2)?;
         }
-        assert_eq!(rt; ledger.find(0), Some(place));
-        assert_eq!(rt; ledger.find(ticket).is_some(), true);
+        same(rt, ledger.find(0), Some(place));
+        same(rt, ledger.find(ticket).is_some(), true);
     }
-    assert_eq!(rt; ledger.len(), 3);
-    assert_eq!(rt; ledger.find(197), None);
-    assert_eq!(rt; ledger.find(198).is_some(), true);
+    same(rt, ledger.len(), 3);
+    same(rt, ledger.find(197), None);
+    same(rt, ledger.find(198).is_some(), true);
     Ok(())
 }
 
@@ -143,11 +144,12 @@ fn find_both(rt: &impl Abort, ledger: &mut Ledger<char>) -> Result<(), Fail>
     let first = admit(ledger, 3)?;
     pass(ledger, 9)?;
     let second = admit(ledger, 5)?;
-    assert_eq!(rt;
+    same(
+        rt,
         (ledger.find(3), ledger.find(5)),
-        (Some(first), Some(second))
+        (Some(first), Some(second)),
     );
-    assert_eq!(rt; ledger.find(9), None);
+    same(rt, ledger.find(9), None);
     Ok(())
 }
 
@@ -162,28 +164,34 @@ fn go_its_way(rt: &impl Abort, ledger: &mut Ledger<char>)
     requires servers { length ledger.old.setup.servers ≡ 2 }
     requires empty { ledger.old.slots ≡ replicate 2 None }
 {
-    assert_eq!(rt; (ledger.setup().servers.len(), ledger.find(5)), (2, None));
+    same(
+        rt,
+        (ledger.setup().servers.len(), ledger.find(5)),
+        (2, None),
+    );
     let place = ledger.admit(row_of(5, None, Phase::Loose));
     ledger.loosen(place, 'n');
     let node = ledger.wait(place, Queue::Server(0), moment(1));
     let waiting = Phase::Waiting(Queue::Server(0), moment(1));
-    assert_eq!(rt;
+    same(
+        rt,
         (ledger.row(place).phase, ledger.queued(Queue::Server(0))),
-        (waiting, 1)
+        (waiting, 1),
     );
     ledger.loosen(place, node);
     ledger.serve(place, 0);
-    assert_eq!(rt; (ledger.served(0), ledger.served(1)), (1, 0));
+    same(rt, (ledger.served(0), ledger.served(1)), (1, 0));
     ledger.free(place);
-    assert_eq!(rt; ledger.row(place), row_of(5, None, Phase::Loose));
+    same(rt, ledger.row(place), row_of(5, None, Phase::Loose));
     ledger.tell(place, Cause::NoServer);
-    assert_eq!(rt; ledger.row(place).phase, Phase::Told(Cause::NoServer));
-    assert_eq!(rt;
+    same(rt, ledger.row(place).phase, Phase::Told(Cause::NoServer));
+    same(
+        rt,
         (ledger.find(5), ledger.len(), ledger.places()),
-        (Some(place), 1, 2)
+        (Some(place), 1, 2),
     );
     ledger.end(place);
-    assert_eq!(rt; (ledger.find(5), ledger.len()), (None, 0));
+    same(rt, (ledger.find(5), ledger.len()), (None, 0));
 }
 
 #[test]
@@ -197,33 +205,35 @@ fn go_down_and_up(rt: &impl Abort, ledger: &mut Ledger<char>)
     requires servers { length ledger.old.setup.servers ≡ 2 }
     requires empty { ledger.old.slots ≡ replicate 2 None }
 {
-    assert_eq!(rt;
+    same(
+        rt,
         (ledger.up(0), ledger.up(1), ledger.up(2)),
-        (true, true, false)
+        (true, true, false),
     );
     let place = ledger.admit(row_of(5, Some(1), Phase::Loose));
     ledger.loosen(place, 'n');
     ledger.fail(place);
     let mut failed = row_of(5, Some(1), Phase::Loose);
     failed.failures = 1;
-    assert_eq!(rt; ledger.row(place), failed);
-    assert_eq!(rt; ledger.wait(place, Queue::Server(1), moment(1)), 'n');
+    same(rt, ledger.row(place), failed);
+    same(rt, ledger.wait(place, Queue::Server(1), moment(1)), 'n');
     ledger.set_up(1, false);
-    assert_eq!(rt; (ledger.up(0), ledger.up(1)), (true, false));
+    same(rt, (ledger.up(0), ledger.up(1)), (true, false));
     ledger.shift(place, moment(2));
     ledger.unpin(place);
     let mut moved = row_of(5, None, Phase::Waiting(Queue::Backend, moment(2)));
     moved.failures = 1;
-    assert_eq!(rt; ledger.row(place), moved);
-    assert_eq!(rt;
+    same(rt, ledger.row(place), moved);
+    same(
+        rt,
         (
             ledger.queued(Queue::Server(1)),
-            ledger.queued(Queue::Backend)
+            ledger.queued(Queue::Backend),
         ),
-        (0, 1)
+        (0, 1),
     );
     ledger.set_up(1, true);
-    assert_eq!(rt; ledger.up(1), true);
+    same(rt, ledger.up(1), true);
 }
 
 #[test]
@@ -238,15 +248,16 @@ fn set_a_limit(rt: &impl Abort, ledger: &mut Ledger<char>)
     requires empty { ledger.old.slots ≡ replicate 2 None }
 {
     let place = ledger.admit(row_of(5, None, Phase::Serving(0)));
-    assert_eq!(rt;
+    same(
+        rt,
         ledger.cell(place),
-        Some(row_of(5, None, Phase::Serving(0)))
+        Some(row_of(5, None, Phase::Serving(0))),
     );
     ledger.set_limit(0, 3);
-    assert_eq!(rt; (ledger.limit(0), ledger.limit(1)), (3, 1));
+    same(rt, (ledger.limit(0), ledger.limit(1)), (3, 1));
     let noted = Allowance {
         limit: 3,
         served: 1,
     };
-    assert_eq!(rt; ledger.limits().first().copied(), Some(noted));
+    same(rt, ledger.limits().first().copied(), Some(noted));
 }

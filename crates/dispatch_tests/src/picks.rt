@@ -1,5 +1,6 @@
 ghost use Rattle.std.specs.Prelude.{◌≡◌, None, IfOk, length, replicate};
 
+use assertions::{holds, same};
 use dispatch_log::{Phase, Queue, Row, ServerSet, Servers, Setup};
 use due_key::{Class, Due, Key, Moment, Offset};
 use server_pick::{Cursor, Heads, Placement, Set64, candidates, next_queue, next_taker, place};
@@ -41,12 +42,12 @@ fn play_one(
         Step::Up(server) => set_up(ledger, server, true)?,
         Step::Limit(server, limit) => set_limit(ledger, server, limit)?,
         Step::Place(pin, avoid, placement) => {
-            assert_eq!(rt; place(ledger, cursor, pin, avoid), placement);
+            same(rt, place(ledger, cursor, pin, avoid), placement);
         }
         Step::Candidate(avoid, server, is_one) => {
-            assert_eq!(rt; candidates(ledger, avoid).contains(server), is_one);
+            same(rt, candidates(ledger, avoid).contains(server), is_one);
         }
-        Step::Cursor(server) => assert_eq!(rt; cursor.server(), server),
+        Step::Cursor(server) => same(rt, cursor.server(), server),
     }
     Ok(())
 }
@@ -78,12 +79,12 @@ fn key(ticket: u64) -> Key {
 #[test]
 fn sets_have_what_was_inserted(rt: HostRuntime) {
     let mut set = Set64::new();
-    assert!(rt; set.is_empty());
+    holds(&rt, set.is_empty());
     set.insert(3);
-    assert!(rt; set.contains(3));
-    assert!(rt; !set.contains(4));
-    assert!(rt; !set.is_empty());
-    assert!(rt; Set64::of(5).contains(5));
+    holds(&rt, set.contains(3));
+    holds(&rt, !set.contains(4));
+    holds(&rt, !set.is_empty());
+    holds(&rt, Set64::of(5).contains(5));
 }
 
 // Three servers of one slot each, and four places without a request.
@@ -162,13 +163,13 @@ fn take_past_a_fall(rt: &impl Abort, ledger: &mut Ledger<char>, key: &Key)
     });
     ledger.set_up(0, false);
     let mut cursor = Cursor::new(3);
-    assert_eq!(rt; next_taker(ledger, &mut cursor), Some(1));
-    assert_eq!(rt; cursor.server(), 1);
+    same(rt, next_taker(ledger, &mut cursor), Some(1));
+    same(rt, cursor.server(), 1);
     let heads = Heads {
         own: None,
         backend: Some(*key),
     };
-    assert_eq!(rt; next_queue(ledger, &heads, 1), Queue::Backend);
+    same(rt, next_queue(ledger, &heads, 1), Queue::Backend);
 }
 
 #[test]

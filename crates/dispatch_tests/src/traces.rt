@@ -6,6 +6,7 @@ ghost use Rattle.dispatch_log.specs.Judgement.{granting};
 ghost use Rattle.dispatch_log.specs.Rows.{pin_of};
 ghost use Rattle.dispatch_trace.specs.Histories.{with_entry, stage_of, IsAt, MayPut};
 
+use assertions::{holds, same};
 use dispatch_log::{Queue, Refusal, ServerSet, Servers, Setup};
 use dispatch_trace::{Ticketed, Trace};
 use due_key::{Class, Key, Moment, Offset};
@@ -90,9 +91,13 @@ fn arrive_twice(rt: &impl Abort, alloc: Global, trace: &mut OfLists) -> Result<(
     requires { IsLegal trace.old }
 {
     let first = arrive(alloc, trace)?;
-    assert_eq!(rt; (first.ticket, trace.served(0)), (1, 1));
+    same(rt, (first.ticket, trace.served(0)), (1, 1));
     arrive(alloc, trace)?;
-    assert_eq!(rt; (trace.queued(Queue::Backend), trace.log().len()), (1, 4));
+    same(
+        rt,
+        (trace.queued(Queue::Backend), trace.log().len()),
+        (1, 4),
+    );
     Ok(())
 }
 
@@ -105,10 +110,14 @@ fn a_full_log_refuses_all_calls(rt: HostRuntime) -> Result<(), Fail> {
 fn fill(rt: &impl Abort, alloc: Global, trace: &mut OfLists) -> Result<(), Fail>
     requires { IsLegal trace.old }
 {
-    assert_eq!(rt; trace.refuses_arrival(Some(1)), Some(Refusal::NoSuchServer));
+    same(
+        rt,
+        trace.refuses_arrival(Some(1)),
+        Some(Refusal::NoSuchServer),
+    );
     arrive(alloc, trace)?;
-    assert!(rt; !trace.has_room());
-    assert_eq!(rt; trace.refuses_arrival(Some(1)), Some(Refusal::LogFull));
-    assert_eq!(rt; trace.accept_done(1), Err(Refusal::LogFull));
+    holds(rt, !trace.has_room());
+    same(rt, trace.refuses_arrival(Some(1)), Some(Refusal::LogFull));
+    same(rt, trace.accept_done(1), Err(Refusal::LogFull));
     Ok(())
 }

@@ -1,3 +1,4 @@
+use assertions::same;
 use std::test::Fail;
 use verdict::Cause;
 
@@ -11,7 +12,7 @@ fn causes_have_their_words(rt: HostRuntime) -> Result<(), Fail> {
     ];
     for (cause, word) in rows {
         let text = format!(in rt.alloc(); "{cause}")?;
-        assert_eq!(rt; text.as_str(), word);
+        same(&rt, text.as_str(), word);
     }
     Ok(())
 }

@@ -1,5 +1,6 @@
 ghost use Rattle.std.specs.Prelude.{◌≡◌, IfOk, length};
 
+use assertions::{holds, same};
 use dispatch_log::{Arrival, Entry, Phase, Queue, Row, ServerSet, Servers, Setup};
 use due_key::{Class, Due, Key, Moment, Offset};
 use late_cert::{Report, Reports, Stays, audit, certify};
@@ -12,12 +13,13 @@ mod running;
 
 const BACKEND: Queue = Queue::Backend;
 
-fn moment(number: u64) -> Result<Moment, Fail> {
-    Ok(Moment::new(number).ok_or("a moment out of range")?)
+/// A moment; 0 for a number that is none.
+fn moment(number: u64) -> Moment {
+    Moment::new(number).unwrap_or(Moment::zero())
 }
 
-fn arrive(at: u64, ticket: u64, class: i64, offset: i64) -> Result<Entry, Fail> {
-    let at = moment(at)?;
+fn arrive(at: u64, ticket: u64, class: i64, offset: i64) -> Entry {
+    let at = moment(at);
     let arrival = Arrival {
         ticket,
         class: Class::clamp(class),
@@ -25,11 +27,11 @@ fn arrive(at: u64, ticket: u64, class: i64, offset: i64) -> Result<Entry, Fail> 
         pin: None,
         place: 0,
     };
-    Ok(Entry::Arrive(at, arrival))
+    Entry::Arrive(at, arrival)
 }
 
-fn done(at: u64, ticket: u64) -> Result<Entry, Fail> {
-    Ok(Entry::Done(moment(at)?, ticket))
+fn done(at: u64, ticket: u64) -> Entry {
+    Entry::Done(moment(at), ticket)
 }
 
 /// The base of a first window, with one server and two places.
@@ -54,32 +56,32 @@ fn opening(alloc: Global) -> Result<Base, Fail>
 }
 
 /// Of class 0, waiting in the backend's queue since this moment.
-fn waiting(ticket: u64, since: u64, offset: i64) -> Result<Row, Fail> {
-    let since = moment(since)?;
+fn waiting(ticket: u64, since: u64, offset: i64) -> Row {
+    let since = moment(since);
     let key = Key {
         class: Class::clamp(0),
         due: Due::of(since, Offset::clamp(offset)),
         ticket,
     };
-    Ok(Row {
+    Row {
         key,
         pin: None,
         failures: 0,
         phase: Phase::Waiting(BACKEND, since),
-    })
+    }
 }
 
 /// A window in whose base tickets 2 and 3 wait.
 fn both_wait_in_the_base(alloc: Global) -> Result<Log, Fail> {
     let mut base = opening(alloc)?;
-    base.set_row(0, Some(waiting(2, 1, 0)?));
-    base.set_row(1, Some(waiting(3, 2, -5)?));
+    base.set_row(0, Some(waiting(2, 1, 0)));
+    base.set_row(1, Some(waiting(3, 2, -5)));
     let entries = [
-        done(10, 1)?,
+        done(10, 1),
         Entry::Freed(1, 0),
         Entry::Ended(1),
         Entry::Granted(3, BACKEND, 0),
-        done(20, 3)?,
+        done(20, 3),
         Entry::Freed(3, 0),
         Entry::Ended(3),
         Entry::Granted(2, BACKEND, 0),
@@ -90,17 +92,17 @@ fn both_wait_in_the_base(alloc: Global) -> Result<Log, Fail> {
 /// Ticket 3 overtakes ticket 2 by its offset.
 fn overtaking(alloc: Global) -> Result<Log, Fail> {
     let entries = [
-        arrive(0, 1, 0, 0)?,
+        arrive(0, 1, 0, 0),
         Entry::Direct(1, 0),
-        arrive(1, 2, 0, 0)?,
+        arrive(1, 2, 0, 0),
         Entry::Joined(2, BACKEND),
-        arrive(2, 3, 0, -5)?,
+        arrive(2, 3, 0, -5),
         Entry::Joined(3, BACKEND),
-        done(10, 1)?,
+        done(10, 1),
         Entry::Freed(1, 0),
         Entry::Ended(1),
         Entry::Granted(3, BACKEND, 0),
-        done(20, 3)?,
+        done(20, 3),
         Entry::Freed(3, 0),
         Entry::Ended(3),
         Entry::Granted(2, BACKEND, 0),
@@ -111,17 +113,17 @@ fn overtaking(alloc: Global) -> Result<Log, Fail> {
 /// Ticket 2 has its slot before ticket 3, which is due earlier, arrives.
 fn granted_before_the_next_came(alloc: Global) -> Result<Log, Fail> {
     let entries = [
-        arrive(0, 1, 0, 0)?,
+        arrive(0, 1, 0, 0),
         Entry::Direct(1, 0),
-        arrive(1, 2, 0, 99)?,
+        arrive(1, 2, 0, 99),
         Entry::Joined(2, BACKEND),
-        done(10, 1)?,
+        done(10, 1),
         Entry::Freed(1, 0),
         Entry::Ended(1),
         Entry::Granted(2, BACKEND, 0),
-        arrive(15, 3, 0, -10)?,
+        arrive(15, 3, 0, -10),
         Entry::Joined(3, BACKEND),
-        done(20, 2)?,
+        done(20, 2),
         Entry::Freed(2, 0),
         Entry::Ended(2),
         Entry::Granted(3, BACKEND, 0),
@@ -132,17 +134,17 @@ fn granted_before_the_next_came(alloc: Global) -> Result<Log, Fail> {
 /// Tickets 2 and 3 are due together.
 fn equal_due_dates(alloc: Global) -> Result<Log, Fail> {
     let entries = [
-        arrive(0, 1, 0, 0)?,
+        arrive(0, 1, 0, 0),
         Entry::Direct(1, 0),
-        arrive(1, 2, 0, 4)?,
+        arrive(1, 2, 0, 4),
         Entry::Joined(2, BACKEND),
-        arrive(5, 3, 0, 0)?,
+        arrive(5, 3, 0, 0),
         Entry::Joined(3, BACKEND),
-        done(6, 1)?,
+        done(6, 1),
         Entry::Freed(1, 0),
         Entry::Ended(1),
         Entry::Granted(2, BACKEND, 0),
-        done(9, 2)?,
+        done(9, 2),
         Entry::Freed(2, 0),
         Entry::Ended(2),
         Entry::Granted(3, BACKEND, 0),
@@ -153,13 +155,13 @@ fn equal_due_dates(alloc: Global) -> Result<Log, Fail> {
 /// Grants from three queues, of four classes.
 fn four_queues_and_classes(alloc: Global) -> Result<Log, Fail> {
     let entries = [
-        arrive(0, 1, 7, 0)?,
+        arrive(0, 1, 7, 0),
         Entry::Joined(1, Queue::Server(1)),
-        arrive(0, 2, 3, 0)?,
+        arrive(0, 2, 3, 0),
         Entry::Joined(2, BACKEND),
-        arrive(0, 3, -7, 0)?,
+        arrive(0, 3, -7, 0),
         Entry::Joined(3, Queue::Server(1)),
-        arrive(0, 4, 9, 0)?,
+        arrive(0, 4, 9, 0),
         Entry::Joined(4, Queue::Server(0)),
         Entry::Granted(1, Queue::Server(1), 1),
         Entry::Granted(2, BACKEND, 1),
@@ -172,39 +174,58 @@ fn four_queues_and_classes(alloc: Global) -> Result<Log, Fail> {
 }
 
 /// A stay of the backend's queue, due at `offset` after `at`.
-fn stay(ticket: u64, joined: usize, slot: usize, at: u64, offset: i64) -> Result<Stay, Fail> {
-    Ok(Stay {
+fn stay(ticket: u64, joined: usize, slot: usize, at: u64, offset: i64) -> Stay {
+    Stay {
         ticket,
         joined,
         slot,
-        due: Due::of(moment(at)?, Offset::clamp(offset)),
-    })
+        due: Due::of(moment(at), Offset::clamp(offset)),
+    }
 }
 
-/// A report on class 0 of the backend's queue.
-fn report(
-    alloc: Global,
+/// What a report claims of class 0 of the backend's queue.
+#[derive(Clone, Copy)]
+struct Claim<'a> {
     granted: usize,
     worst: i64,
     due: i64,
-    after: usize,
-    to: usize,
+    /// The cut, and the slot.
+    slots: (usize, usize),
+    critical: &'a [Stay],
+}
+
+fn claiming(
+    granted: usize,
+    worst: i64,
+    due: i64,
+    slots: (usize, usize),
     critical: &[Stay],
-) -> Result<Report, Fail> {
+) -> Claim<'_> {
+    Claim {
+        granted,
+        worst,
+        due,
+        slots,
+        critical,
+    }
+}
+
+fn report(alloc: Global, claim: Claim<'_>) -> Result<Report, AllocError> {
+    let (after, to) = claim.slots;
     Ok(Report {
         queue: BACKEND,
         class: Class::clamp(0),
-        granted,
-        worst,
-        due: Due::of(Moment::zero(), Offset::clamp(due)),
+        granted: claim.granted,
+        worst: claim.worst,
+        due: Due::of(Moment::zero(), Offset::clamp(claim.due)),
         after,
         to,
-        critical: Stays::from_vec(Vec::from_slice(alloc, critical)?),
+        critical: Stays::from_vec(Vec::from_slice(alloc, claim.critical)?),
     })
 }
 
 /// Whether two reports claim the same.
-fn same(a: &Report, b: &Report) -> bool {
+fn are_alike(a: &Report, b: &Report) -> bool {
     a.queue == b.queue
         && a.class == b.class
         && a.granted == b.granted
@@ -216,54 +237,61 @@ fn same(a: &Report, b: &Report) -> bool {
 }
 
 /// Whether a log has this one report, and it passes the audit.
-fn is_certified(alloc: Global, log: &Log, expected: &Report) -> Result<bool, AllocError> {
+fn has_report(alloc: Global, log: &Log, expected: &Report) -> Result<bool, AllocError> {
     let reports = certify(alloc, log)?;
     let mut reports = reports.as_slice().iter();
     let first = reports.next();
     let is_one = reports.next().is_none();
-    Ok(is_one && first.is_some_and(|it| same(it, expected)) && audit(log, expected))
+    Ok(is_one && first.is_some_and(|it| are_alike(it, expected)) && audit(log, expected))
+}
+
+fn is_certified(alloc: Global, log: &Log, claim: Claim<'_>) -> Result<bool, AllocError> {
+    let expected = report(alloc, claim)?;
+    has_report(alloc, log, &expected)
+}
+
+/// Whether a report passes the audit of a log.
+fn passes_on(alloc: Global, log: &Log, claim: Claim<'_>) -> Result<bool, AllocError> {
+    let it = report(alloc, claim)?;
+    Ok(audit(log, &it))
 }
 
 #[test]
 fn overtaking_by_offset(rt: HostRuntime) -> Result<(), Fail> {
-    let alloc = rt.alloc();
-    let log = overtaking(alloc)?;
-    let critical = [three()?, two()?];
-    let expected = report(alloc, 2, 19, 1, 0, 14, critical.as_slice())?;
-    assert!(rt; is_certified(alloc, &log, &expected)?);
+    let critical = [three(), two()];
+    let log = overtaking(rt.alloc())?;
+    let expected = claiming(2, 19, 1, (0, 14), critical.as_slice());
+    holds(&rt, is_certified(rt.alloc(), &log, expected)?);
     Ok(())
 }
 
 #[test]
 fn stays_of_the_base_joined_at_its_end(rt: HostRuntime) -> Result<(), Fail> {
-    let alloc = rt.alloc();
-    let log = both_wait_in_the_base(alloc)?;
-    let critical = [stay(3, 0, 4, 2, -5)?, stay(2, 0, 8, 1, 0)?];
-    let expected = report(alloc, 2, 19, 1, 0, 8, critical.as_slice())?;
-    assert!(rt; is_certified(alloc, &log, &expected)?);
-    let second = [stay(2, 0, 8, 1, 0)?];
-    let joined_before_the_cut = report(alloc, 2, 19, 1, 4, 8, second.as_slice())?;
-    assert!(rt; !audit(&log, &joined_before_the_cut));
+    let critical = [stay(3, 0, 4, 2, -5), stay(2, 0, 8, 1, 0)];
+    let second = [stay(2, 0, 8, 1, 0)];
+    let log = both_wait_in_the_base(rt.alloc())?;
+    let expected = claiming(2, 19, 1, (0, 8), critical.as_slice());
+    holds(&rt, is_certified(rt.alloc(), &log, expected)?);
+    let joined_before_the_cut = claiming(2, 19, 1, (4, 8), second.as_slice());
+    holds(&rt, !passes_on(rt.alloc(), &log, joined_before_the_cut)?);
     Ok(())
 }
 
 #[test]
 fn a_cut_after_an_earlier_grant(rt: HostRuntime) -> Result<(), Fail> {
-    let alloc = rt.alloc();
-    let log = granted_before_the_next_came(alloc)?;
-    let critical = [stay(3, 10, 14, 15, -10)?];
-    let expected = report(alloc, 2, 15, 5, 8, 14, critical.as_slice())?;
-    assert!(rt; is_certified(alloc, &log, &expected)?);
+    let critical = [stay(3, 10, 14, 15, -10)];
+    let log = granted_before_the_next_came(rt.alloc())?;
+    let expected = claiming(2, 15, 5, (8, 14), critical.as_slice());
+    holds(&rt, is_certified(rt.alloc(), &log, expected)?);
     Ok(())
 }
 
 #[test]
 fn equal_due_dates_are_critical_together(rt: HostRuntime) -> Result<(), Fail> {
-    let alloc = rt.alloc();
-    let log = equal_due_dates(alloc)?;
-    let critical = [stay(2, 4, 10, 5, 0)?, stay(3, 6, 14, 5, 0)?];
-    let expected = report(alloc, 2, 4, 5, 0, 14, critical.as_slice())?;
-    assert!(rt; is_certified(alloc, &log, &expected)?);
+    let critical = [stay(2, 4, 10, 5, 0), stay(3, 6, 14, 5, 0)];
+    let log = equal_due_dates(rt.alloc())?;
+    let expected = claiming(2, 4, 5, (0, 14), critical.as_slice());
+    holds(&rt, is_certified(rt.alloc(), &log, expected)?);
     Ok(())
 }
 
@@ -278,107 +306,123 @@ fn reports_go_by_queue_and_class(rt: HostRuntime) -> Result<(), Fail> {
     let alloc = rt.alloc();
     let log = four_queues_and_classes(alloc)?;
     let reports = certify(alloc, &log)?;
-    assert_eq!(rt; about(&reports, 0), Some((BACKEND, 3, 2)));
-    assert_eq!(rt; about(&reports, 1), Some((Queue::Server(0), 9, 1)));
-    assert_eq!(rt; about(&reports, 2), Some((Queue::Server(1), -7, 1)));
-    assert_eq!(rt; about(&reports, 3), Some((Queue::Server(1), 7, 1)));
-    assert_eq!(rt; about(&reports, 4), None);
+    same(&rt, about(&reports, 0), Some((BACKEND, 3, 2)));
+    same(&rt, about(&reports, 1), Some((Queue::Server(0), 9, 1)));
+    same(&rt, about(&reports, 2), Some((Queue::Server(1), -7, 1)));
+    same(&rt, about(&reports, 3), Some((Queue::Server(1), 7, 1)));
+    same(&rt, about(&reports, 4), None);
     Ok(())
 }
 
 #[test]
 fn a_log_without_a_grant_has_no_report(rt: HostRuntime) -> Result<(), Fail> {
     let alloc = rt.alloc();
-    let entries = [arrive(0, 1, 0, 0)?, Entry::Direct(1, 0)];
+    let entries = [arrive(0, 1, 0, 0), Entry::Direct(1, 0)];
     let log = Log::read(alloc, opening(alloc)?, entries.as_slice())?;
-    assert!(rt; certify(alloc, &log)?.as_slice().is_empty());
+    holds(&rt, certify(alloc, &log)?.as_slice().is_empty());
     Ok(())
 }
 
-fn two() -> Result<Stay, Fail> {
+fn two() -> Stay {
     stay(2, 4, 14, 1, 0)
 }
 
-fn three() -> Result<Stay, Fail> {
+fn three() -> Stay {
     stay(3, 6, 10, 2, -5)
 }
 
 /// Whether a report passes on the log of the overtaking.
-fn passes(alloc: Global, it: &Report) -> Result<bool, Fail> {
-    Ok(audit(&overtaking(alloc)?, it))
+fn passes(alloc: Global, claim: Claim<'_>) -> Result<bool, Fail> {
+    let log = overtaking(alloc)?;
+    Ok(passes_on(alloc, &log, claim)?)
 }
 
 #[test]
 fn critical_stays_are_all_and_none_joined_before_the_cut(rt: HostRuntime) -> Result<(), Fail> {
-    let alloc = rt.alloc();
-    let third = [three()?];
-    let third_alone = report(alloc, 2, 19, 1, 0, 14, third.as_slice())?;
-    assert!(rt; !passes(alloc, &third_alone)?);
-    let second = [two()?];
-    let joined_before_the_cut = report(alloc, 2, 19, 1, 10, 14, second.as_slice())?;
-    assert!(rt; !passes(alloc, &joined_before_the_cut)?);
-    let stays = [two()?, three()?];
-    let other_order = report(alloc, 2, 19, 1, 0, 14, stays.as_slice())?;
-    assert!(rt; !passes(alloc, &other_order)?);
+    let third_alone = [three()];
+    let second = [two()];
+    let other_order = [two(), three()];
+    let claims = [
+        claiming(2, 19, 1, (0, 14), third_alone.as_slice()),
+        claiming(2, 19, 1, (10, 14), second.as_slice()),
+        claiming(2, 19, 1, (0, 14), other_order.as_slice()),
+    ];
+    for it in claims {
+        holds(&rt, !passes(rt.alloc(), it)?);
+    }
     Ok(())
 }
 
 #[test]
 fn the_worst_is_exact(rt: HostRuntime) -> Result<(), Fail> {
-    let alloc = rt.alloc();
-    let stays = [three()?, two()?];
-    let mut it = report(alloc, 2, 19, 1, 0, 14, stays.as_slice())?;
-    assert!(rt; passes(alloc, &it)?);
-    it.worst = 18;
-    assert!(rt; !passes(alloc, &it)?);
-    it.worst = 20;
-    assert!(rt; !passes(alloc, &it)?);
+    let stays = [three(), two()];
+    for (worst, is_it) in [(19, true), (18, false), (20, false)] {
+        let it = claiming(2, worst, 1, (0, 14), stays.as_slice());
+        same(&rt, passes(rt.alloc(), it)?, is_it);
+    }
     Ok(())
 }
 
 #[test]
-fn counts_and_due_dates_are_exact(rt: HostRuntime) -> Result<(), Fail> {
-    let alloc = rt.alloc();
-    let stays = [three()?, two()?];
-    let one_too_few = report(alloc, 1, 19, 1, 0, 14, stays.as_slice())?;
-    assert!(rt; !passes(alloc, &one_too_few)?);
-    let other_due_date = report(alloc, 2, 19, 2, 0, 14, stays.as_slice())?;
-    assert!(rt; !passes(alloc, &other_due_date)?);
-    let third = [three()?];
-    let other_slot = report(alloc, 2, 19, 1, 0, 10, third.as_slice())?;
-    assert!(rt; !passes(alloc, &other_slot)?);
+fn counts_due_dates_slots_and_cuts_are_exact(rt: HostRuntime) -> Result<(), Fail> {
+    let stays = [three(), two()];
+    let third = [three()];
+    let claims = [
+        claiming(1, 19, 1, (0, 14), stays.as_slice()),
+        claiming(2, 19, 2, (0, 14), stays.as_slice()),
+        claiming(2, 19, 1, (0, 10), third.as_slice()),
+        claiming(2, 19, 1, (14, 14), stays.as_slice()),
+    ];
+    for it in claims {
+        holds(&rt, !passes(rt.alloc(), it)?);
+    }
     Ok(())
 }
 
+/// The same of another queue or class.
+fn passes_elsewhere(
+    alloc: Global,
+    queue: Queue,
+    class: i64,
+    claim: Claim<'_>,
+) -> Result<bool, Fail> {
+    let log = overtaking(alloc)?;
+    let mut it = report(alloc, claim)?;
+    it.queue = queue;
+    it.class = Class::clamp(class);
+    Ok(audit(&log, &it))
+}
+
 #[test]
-fn cuts_lie_before_the_slot_and_queues_are_exact(rt: HostRuntime) -> Result<(), Fail> {
-    let alloc = rt.alloc();
-    let stays = [three()?, two()?];
-    let cut_at_its_end = report(alloc, 2, 19, 1, 14, 14, stays.as_slice())?;
-    assert!(rt; !passes(alloc, &cut_at_its_end)?);
-    let mut other = report(alloc, 2, 19, 1, 0, 14, stays.as_slice())?;
-    other.class = Class::clamp(1);
-    assert!(rt; !passes(alloc, &other)?);
-    let mut none_granted = report(alloc, 0, 19, 1, 0, 14, stays.as_slice())?;
-    none_granted.queue = Queue::Server(0);
-    assert!(rt; !passes(alloc, &none_granted)?);
+fn queues_and_classes_are_exact(rt: HostRuntime) -> Result<(), Fail> {
+    let stays = [three(), two()];
+    let both = claiming(2, 19, 1, (0, 14), stays.as_slice());
+    let none = claiming(0, 19, 1, (0, 14), stays.as_slice());
+    holds(&rt, !passes_elsewhere(rt.alloc(), BACKEND, 1, both)?);
+    holds(
+        &rt,
+        !passes_elsewhere(rt.alloc(), Queue::Server(0), 0, none)?,
+    );
     Ok(())
 }
 
 /// Whether a report with this cut passes where ticket 2 had its slot before ticket 3 came.
 fn passes_with_cut(alloc: Global, after: usize, critical: &[Stay]) -> Result<bool, Fail> {
-    let it = report(alloc, 2, 15, 5, after, 14, critical)?;
-    Ok(audit(&granted_before_the_next_came(alloc)?, &it))
+    let log = granted_before_the_next_came(alloc)?;
+    Ok(passes_on(alloc, &log, claiming(2, 15, 5, (after, 14), critical))?)
 }
 
 #[test]
 fn a_sound_report_needs_no_chosen_cut(rt: HostRuntime) -> Result<(), Fail> {
-    let alloc = rt.alloc();
-    let both = [stay(2, 4, 8, 1, 99)?, stay(3, 10, 14, 15, -10)?];
-    assert!(rt; !passes_with_cut(alloc, 0, both.as_slice())?);
-    let third = [stay(3, 10, 14, 15, -10)?];
-    assert!(rt; passes_with_cut(alloc, 8, third.as_slice())?);
-    assert!(rt; passes_with_cut(alloc, 9, third.as_slice())?);
-    assert!(rt; !passes_with_cut(alloc, 10, third.as_slice())?);
+    let both = [stay(2, 4, 8, 1, 99), stay(3, 10, 14, 15, -10)];
+    let third = [stay(3, 10, 14, 15, -10)];
+    holds(&rt, !passes_with_cut(rt.alloc(), 0, both.as_slice())?);
+    for (cut, passes) in [(8, true), (9, true), (10, false)] {
+        same(
+            &rt,
+            passes_with_cut(rt.alloc(), cut, third.as_slice())?,
+            passes,
+        );
+    }
     Ok(())
 }

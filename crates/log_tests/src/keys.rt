@@ -1,3 +1,4 @@
+use assertions::{holds, same};
 use due_key::{Class, Due, Key, Moment, Offset};
 use std::test::Fail;
 
@@ -7,21 +8,21 @@ fn moment(number: u64) -> Result<Moment, Fail> {
 
 #[test]
 fn classes_and_offsets_end_at_their_limits(rt: HostRuntime) -> Result<(), Fail> {
-    assert_eq!(rt; Class::clamp(-2048).get(), -2047);
-    assert_eq!(rt; Class::clamp(5).get(), 5);
-    assert_eq!(rt; Class::clamp(i64::MAX).get(), 2047);
-    assert_eq!(rt; Offset::clamp(i64::MIN).get(), -524_287);
-    assert_eq!(rt; Offset::clamp(-1).get(), -1);
-    assert_eq!(rt; Offset::clamp(600_000).get(), 524_287);
+    same(&rt, Class::clamp(-2048).get(), -2047);
+    same(&rt, Class::clamp(5).get(), 5);
+    same(&rt, Class::clamp(i64::MAX).get(), 2047);
+    same(&rt, Offset::clamp(i64::MIN).get(), -524_287);
+    same(&rt, Offset::clamp(-1).get(), -1);
+    same(&rt, Offset::clamp(600_000).get(), 524_287);
     Ok(())
 }
 
 #[test]
 fn moments_end_below_two_to_the_62(rt: HostRuntime) -> Result<(), Fail> {
-    assert_eq!(rt; moment((1 << 62) - 1)?.get(), (1 << 62) - 1);
-    assert_eq!(rt; Moment::new(1 << 62), None);
-    assert_eq!(rt; Moment::zero().get(), 0);
-    assert_eq!(rt; moment(3)?.later(moment(7)?).get(), 7);
+    same(&rt, moment((1 << 62) - 1)?.get(), (1 << 62) - 1);
+    same(&rt, Moment::new(1 << 62), None);
+    same(&rt, Moment::zero().get(), 0);
+    same(&rt, moment(3)?.later(moment(7)?).get(), 7);
     Ok(())
 }
 
@@ -30,10 +31,14 @@ fn due_dates_are_exact_sums(rt: HostRuntime) -> Result<(), Fail> {
     let earliest = Due::of(Moment::zero(), Offset::clamp(-600_000));
     let last = moment((1 << 62) - 1)?;
     let latest = Due::of(last, Offset::clamp(600_000));
-    assert_eq!(rt; earliest.get(), -524_287);
-    assert_eq!(rt; latest.get(), (1 << 62) - 1 + 524_287);
-    assert_eq!(rt; earliest.lateness(last), (1 << 62) - 1 + 524_287);
-    assert_eq!(rt; latest.lateness(Moment::zero()), -((1 << 62) - 1 + 524_287));
+    same(&rt, earliest.get(), -524_287);
+    same(&rt, latest.get(), (1 << 62) - 1 + 524_287);
+    same(&rt, earliest.lateness(last), (1 << 62) - 1 + 524_287);
+    same(
+        &rt,
+        latest.lateness(Moment::zero()),
+        -((1 << 62) - 1 + 524_287),
+    );
     Ok(())
 }
 
@@ -44,10 +49,10 @@ fn keys_go_by_class_then_due_date_then_ticket(rt: HostRuntime) -> Result<(), Fai
         due: Due::of(Moment::zero(), Offset::clamp(offset)),
         ticket,
     };
-    assert!(rt; key(-1, 9, 9) < key(0, -9, 1));
-    assert!(rt; key(0, -9, 9) < key(0, 9, 1));
-    assert!(rt; key(0, 9, 1) < key(0, 9, 2));
-    assert_eq!(rt; key(0, 9, 2), key(0, 9, 2));
+    holds(&rt, key(-1, 9, 9) < key(0, -9, 1));
+    holds(&rt, key(0, -9, 9) < key(0, 9, 1));
+    holds(&rt, key(0, 9, 1) < key(0, 9, 2));
+    same(&rt, key(0, 9, 2), key(0, 9, 2));
     Ok(())
 }
 
@@ -61,6 +66,6 @@ fn numbers_print_in_decimal(rt: HostRuntime) -> Result<(), Fail> {
         moment(12)?,
         due
     )?;
-    assert_eq!(rt; text.as_str(), "-7 7 12 -3");
+    same(&rt, text.as_str(), "-7 7 12 -3");
     Ok(())
 }

@@ -1,3 +1,4 @@
+use assertions::{holds, same};
 use list_facts::Items;
 use std::test::Fail;
 
@@ -5,10 +6,10 @@ use std::test::Fail;
 fn a_list_is_a_vec_and_back(rt: HostRuntime) -> Result<(), Fail> {
     let mut list = Items::copied(rt.alloc(), &[1, 2])?;
     list.push(3)?;
-    assert_eq!(rt; list.as_slice(), [1, 2, 3].as_slice());
-    assert_eq!(rt; list.len(), 3);
-    assert!(rt; !list.is_empty());
-    assert_eq!(rt; list.into_vec().as_slice(), [1, 2, 3].as_slice());
-    assert!(rt; Items::<u8>::new(rt.alloc()).is_empty());
+    same(&rt, list.as_slice(), [1, 2, 3].as_slice());
+    same(&rt, list.len(), 3);
+    holds(&rt, !list.is_empty());
+    same(&rt, list.into_vec().as_slice(), [1, 2, 3].as_slice());
+    holds(&rt, Items::<u8>::new(rt.alloc()).is_empty());
     Ok(())
 }

@@ -1,3 +1,4 @@
+use assertions::{holds, same};
 use dispatch_log::{Allowance, Arrival, Phase, Queue, Refusal, ServerSet, Servers, Setup};
 use due_key::{Class, Due, Key, Moment, Offset};
 use std::test::Fail;
@@ -11,18 +12,18 @@ fn servers_stand_in_file_order(rt: HostRuntime) -> Result<(), Fail> {
         rise_fall: None,
     };
     let servers = Servers::from_vec(vec![in rt.alloc(); server]?);
-    assert_eq!(rt; servers.len(), 1);
-    assert!(rt; !servers.is_empty());
-    assert_eq!(rt; servers.as_slice().first().copied(), Some(server));
+    same(&rt, servers.len(), 1);
+    holds(&rt, !servers.is_empty());
+    same(&rt, servers.as_slice().first().copied(), Some(server));
     Ok(())
 }
 
 #[test]
 fn slots_and_refusals_are_told(rt: HostRuntime) {
-    assert_eq!(rt; Phase::Serving(3).server(), Some(3));
-    assert_eq!(rt; Phase::Loose.server(), None);
-    assert_eq!(rt; Refusal::LogFull.number(), 3);
-    assert_eq!(rt; Refusal::TicketsSpent.number(), 14);
+    same(&rt, Phase::Serving(3).server(), Some(3));
+    same(&rt, Phase::Loose.server(), None);
+    same(&rt, Refusal::LogFull.number(), 3);
+    same(&rt, Refusal::TicketsSpent.number(), 14);
 }
 
 #[test]
@@ -41,10 +42,10 @@ fn arrivals_have_keys_and_waits_have_queues(rt: HostRuntime) {
         due,
         ticket: 5,
     };
-    assert_eq!(rt; arrival.key(), key);
+    same(&rt, arrival.key(), key);
     let waits = Phase::Waiting(Queue::Server(2), Moment::zero());
-    assert_eq!(rt; waits.queue(), Some(Queue::Server(2)));
-    assert_eq!(rt; Phase::Serving(2).queue(), None);
+    same(&rt, waits.queue(), Some(Queue::Server(2)));
+    same(&rt, Phase::Serving(2).queue(), None);
 }
 
 #[test]
@@ -65,10 +66,10 @@ fn limits_are_the_setups_at_first(rt: HostRuntime) -> Result<(), Fail> {
         redispatch: false,
         queue_timeout: 0,
     };
-    assert!(rt; setup.sound());
+    holds(&rt, setup.sound());
     let limits = setup.opening_limits(alloc)?;
     let expected = [7, 0].map(|limit| Allowance { limit, served: 0 });
-    assert_eq!(rt; limits.as_slice(), expected.as_slice());
+    same(&rt, limits.as_slice(), expected.as_slice());
     Ok(())
 }
 
@@ -88,6 +89,6 @@ fn retries_have_nine_digits_at_most(rt: HostRuntime) -> Result<(), Fail> {
         redispatch: false,
         queue_timeout: 0,
     };
-    assert!(rt; !setup.sound());
+    holds(&rt, !setup.sound());
     Ok(())
 }

@@ -1,6 +1,7 @@
 ghost use Rattle.std.specs.Prelude.{◌≡◌, ◌<◌, IfOk, None, length, replicate};
 ghost use Rattle.dispatch_log.specs.Setups.{IsSound};
 
+use assertions::{holds, same};
 use check_state::Health;
 use dispatch_log::{Allowance, Arrival, Entry, Phase, Queue, Row, ServerSet, Servers, Setup};
 use due_key::{Class, Due, Key, Moment, Offset};
@@ -76,7 +77,7 @@ fn with_seven(alloc: Global) -> Result<Base, Fail>
 #[test]
 fn a_log_keeps_its_grants(rt: HostRuntime) -> Result<(), Fail> {
     let mut log = Log::with_room(rt.alloc(), opening(rt.alloc())?, 4)?;
-    assert!(rt; log.is_empty());
+    holds(&rt, log.is_empty());
     let at = moment(3)?;
     let class = Class::clamp(2);
     let due = Due::of(at, Offset::clamp(7));
@@ -91,11 +92,12 @@ fn a_log_keeps_its_grants(rt: HostRuntime) -> Result<(), Fail> {
     log.note(Entry::Joined(1, Queue::Server(5)));
     log.note(Entry::Done(at, 8));
     log.note_grant(it.key(), Queue::Server(5), 5, 2);
-    assert_eq!(rt; log.len(), 4);
-    assert_eq!(rt; log.room(), 4);
-    assert_eq!(rt;
+    same(&rt, log.len(), 4);
+    same(&rt, log.room(), 4);
+    same(
+        &rt,
         log.entries().last(),
-        Some(&Entry::Granted(1, Queue::Server(5), 5))
+        Some(&Entry::Granted(1, Queue::Server(5), 5)),
     );
     let stay = Stay {
         ticket: 1,
@@ -109,7 +111,7 @@ fn a_log_keeps_its_grants(rt: HostRuntime) -> Result<(), Fail> {
         moment: at,
         stay,
     };
-    assert_eq!(rt; log.grants(), [grant].as_slice());
+    same(&rt, log.grants(), [grant].as_slice());
     Ok(())
 }
 
@@ -127,20 +129,26 @@ fn the_last_arrival_and_the_last_joining_stand(rt: HostRuntime) -> Result<(), Fa
         Entry::Granted(1, Queue::Backend, 0),
     ];
     let log = Log::read(rt.alloc(), opening(rt.alloc())?, entries.as_slice())?;
-    assert_eq!(rt; log.entries(), entries.as_slice());
-    assert_eq!(rt; log.room(), 7);
+    same(&rt, log.entries(), entries.as_slice());
+    same(&rt, log.room(), 7);
     let mut joinings = log.grants().iter().map(|grant| grant.stay.joined);
-    assert_eq!(rt; joinings.next(), Some(2));
-    assert_eq!(rt; joinings.next(), Some(6));
-    assert_eq!(rt;
+    same(&rt, joinings.next(), Some(2));
+    same(&rt, joinings.next(), Some(6));
+    same(
+        &rt,
         log.grants().first().map(|grant| grant.class),
-        Some(new.class)
+        Some(new.class),
     );
-    assert_eq!(rt;
+    same(
+        &rt,
         log.grants().first().map(|grant| grant.stay.due),
-        Some(new.due)
+        Some(new.due),
     );
-    assert_eq!(rt; log.grants().first().map(|grant| grant.moment), Some(next));
+    same(
+        &rt,
+        log.grants().first().map(|grant| grant.moment),
+        Some(next),
+    );
     Ok(())
 }
 
@@ -169,11 +177,11 @@ fn what_is_not_readable_is_refused(rt: HostRuntime) -> Result<(), Fail> {
         Entry::Joined(2, Queue::Backend),
         Entry::Granted(2, Queue::Backend, 0),
     ];
-    assert!(rt; is_refused(alloc, no_event.as_slice())?);
-    assert!(rt; is_refused(alloc, moment_falls.as_slice())?);
-    assert!(rt; is_refused(alloc, no_joining.as_slice())?);
-    assert!(rt; is_refused(alloc, no_arrival.as_slice())?);
-    assert!(rt; !is_refused(alloc, &no_event[..0])?);
+    holds(&rt, is_refused(alloc, no_event.as_slice())?);
+    holds(&rt, is_refused(alloc, moment_falls.as_slice())?);
+    holds(&rt, is_refused(alloc, no_joining.as_slice())?);
+    holds(&rt, is_refused(alloc, no_arrival.as_slice())?);
+    holds(&rt, !is_refused(alloc, &no_event[..0])?);
     Ok(())
 }
 
@@ -194,18 +202,21 @@ fn a_window_has_its_base(rt: HostRuntime) -> Result<(), Fail> {
         Entry::Granted(7, Queue::Backend, 0),
     ];
     let mut log = Log::read(alloc, with_seven(alloc)?, entries.as_slice())?;
-    assert_eq!(rt; log.base(), [row].as_slice());
+    same(&rt, log.base(), [row].as_slice());
     let stay = Stay {
         ticket: 7,
         joined: 0,
         slot: 2,
         due,
     };
-    assert_eq!(rt; log.grants().first().map(|it| it.stay), Some(stay));
+    same(&rt, log.grants().first().map(|it| it.stay), Some(stay));
     let mut next = opening(alloc)?;
     log.begin(&mut next);
-    assert!(rt; log.is_empty() && log.grants().is_empty() && log.base().is_empty());
-    assert_eq!(rt; next.rows(), [None, Some(seven)].as_slice());
+    holds(
+        &rt,
+        log.is_empty() && log.grants().is_empty() && log.base().is_empty(),
+    );
+    same(&rt, next.rows(), [None, Some(seven)].as_slice());
     Ok(())
 }
 
@@ -217,6 +228,6 @@ fn who_waits_elsewhere_in_the_base_is_refused(rt: HostRuntime) -> Result<(), Fai
         Entry::Granted(7, Queue::Server(0), 0),
     ];
     let log = Log::read(alloc, with_seven(alloc)?, entries.as_slice());
-    assert!(rt; matches!(log, Err(Unreadable::NotReadable)));
+    holds(&rt, matches!(log, Err(Unreadable::NotReadable)));
     Ok(())
 }

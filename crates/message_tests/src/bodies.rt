@@ -1,4 +1,5 @@
 use crate::exchanges::streams::{Narrow, Slow};
+use assertions::{holds, same};
 use counted_io::Counted;
 use relay_body::{Fault, Framing, INBOX_BYTES, Pipe, SIZE_LINE_BYTES, TRAILER_BYTES};
 use std::alloc::{AllocError, Global};
@@ -82,9 +83,9 @@ fn bodies_are_handed_on(rt: HostRuntime) -> Result<(), Fail> {
     ];
     for (input, framing, framed, text, left) in rows {
         let seen = hand_on(rt.alloc(), input, framing, framed)?;
-        assert_eq!(rt; seen.result, Ok(()));
-        assert_eq!(rt; seen.written.as_slice(), text);
-        assert_eq!(rt; seen.held.as_slice(), left);
+        same(&rt, seen.result, Ok(()));
+        same(&rt, seen.written.as_slice(), text);
+        same(&rt, seen.held.as_slice(), left);
     }
     Ok(())
 }
@@ -124,8 +125,8 @@ fn broken_bodies_are_refused(rt: HostRuntime) -> Result<(), Fail> {
     ];
     for (input, framing, fault, text) in rows {
         let seen = hand_on(rt.alloc(), input, framing, true)?;
-        assert_eq!(rt; seen.result, Err(fault));
-        assert_eq!(rt; seen.written.as_slice(), text);
+        same(&rt, seen.result, Err(fault));
+        same(&rt, seen.written.as_slice(), text);
     }
     Ok(())
 }
@@ -134,8 +135,8 @@ fn broken_bodies_are_refused(rt: HostRuntime) -> Result<(), Fail> {
 fn each_cut_is_a_read_fault(rt: HostRuntime) -> Result<(), Fail> {
     for len in 0..CHUNKED.len() {
         let seen = hand_on(rt.alloc(), &CHUNKED[..len], Framing::Chunked, true)?;
-        assert_eq!(rt; seen.result, Err(Fault::Read));
-        assert!(rt; CHUNKED_TEXT.starts_with(seen.written.as_slice()));
+        same(&rt, seen.result, Err(Fault::Read));
+        holds(&rt, CHUNKED_TEXT.starts_with(seen.written.as_slice()));
     }
     Ok(())
 }
@@ -157,8 +158,8 @@ fn pass_slowly(
 }
 
 fn is_read_until(rt: &impl Abort, outcome: Result<(), Fault>, written: &[u8], fails_at: usize) {
-    assert_eq!(rt; outcome.is_ok(), CHUNKED.len() < fails_at);
-    assert!(rt; CHUNKED_TEXT.starts_with(written));
+    same(rt, outcome.is_ok(), CHUNKED.len() < fails_at);
+    holds(rt, CHUNKED_TEXT.starts_with(written));
 }
 
 fn pass_narrowly(alloc: Global, writer: &mut Narrow) -> Result<Result<(), Fault>, AllocError> {
@@ -169,12 +170,12 @@ fn pass_narrowly(alloc: Global, writer: &mut Narrow) -> Result<Result<(), Fault>
 
 fn is_written_until(rt: &impl Abort, outcome: Result<(), Fault>, written: &[u8], fails_at: usize) {
     if CHUNKED_TEXT.len() < fails_at {
-        assert_eq!(rt; outcome, Ok(()));
-        assert_eq!(rt; written, CHUNKED_TEXT);
+        same(rt, outcome, Ok(()));
+        same(rt, written, CHUNKED_TEXT);
     } else {
-        assert_eq!(rt; outcome, Err(Fault::Write));
-        assert_eq!(rt; written.len().saturating_add(1), fails_at);
-        assert!(rt; CHUNKED_TEXT.starts_with(written));
+        same(rt, outcome, Err(Fault::Write));
+        same(rt, written.len().saturating_add(1), fails_at);
+        holds(rt, CHUNKED_TEXT.starts_with(written));
     }
 }
 
@@ -203,7 +204,7 @@ fn turns_are_spent(rt: HostRuntime) -> Result<(), Fail> {
     for turns in 0..CHUNKED.len() as u64 {
         written.clear();
         let result = pass_slowly(rt.alloc(), turns, 0, &mut written)?;
-        assert_eq!(rt; result, Err(Fault::Turns));
+        same(&rt, result, Err(Fault::Turns));
     }
     Ok(())
 }
@@ -238,36 +239,37 @@ fn the_longest_lines(rt: HostRuntime) -> Result<(), Fail> {
         (SIZE_LINE_BYTES + 1, Err(Fault::Framing)),
     ] {
         let input = with_line(rt.alloc(), count)?;
-        assert_eq!(rt; chunks_passed(rt.alloc(), input.as_slice())?, expected);
+        same(&rt, chunks_passed(rt.alloc(), input.as_slice())?, expected);
     }
     for (count, expected) in [
         (TRAILER_BYTES, Ok(())),
         (TRAILER_BYTES + 1, Err(Fault::Framing)),
     ] {
         let input = with_trailers(rt.alloc(), count)?;
-        assert_eq!(rt; chunks_passed(rt.alloc(), input.as_slice())?, expected);
+        same(&rt, chunks_passed(rt.alloc(), input.as_slice())?, expected);
     }
     Ok(())
 }
 
 fn passes_what_it_holds(rt: &impl Abort, pipe: &mut Pipe, writer: &mut Vec<u8>) {
     pipe.hold(b"abcdef");
-    assert_eq!(rt; pipe.held(), b"abcdef".as_slice());
+    same(rt, pipe.held(), b"abcdef".as_slice());
     let mut reader = b"".as_slice();
-    assert_eq!(rt;
+    same(
+        rt,
         pass(pipe, &mut reader, writer, Framing::Length(3), true),
-        Ok(())
+        Ok(()),
     );
-    assert_eq!(rt; pipe.held(), b"def".as_slice());
-    assert_eq!(rt; writer.as_slice(), b"".as_slice());
+    same(rt, pipe.held(), b"def".as_slice());
+    same(rt, writer.as_slice(), b"".as_slice());
 }
 
 fn has_nothing_to_write(rt: &impl Abort, pipe: &mut Pipe, writer: &mut Vec<u8>) {
     pipe.forget_waiting();
     pipe.renew(7);
-    assert_eq!(rt; pipe.held(), b"".as_slice());
-    assert_eq!(rt; pipe.flush(&mut Counted::new(writer)), Ok(()));
-    assert_eq!(rt; writer.as_slice(), b"".as_slice());
+    same(rt, pipe.held(), b"".as_slice());
+    same(rt, pipe.flush(&mut Counted::new(writer)), Ok(()));
+    same(rt, writer.as_slice(), b"".as_slice());
 }
 
 #[test]
@@ -281,12 +283,12 @@ fn a_pipe_is_used_again(rt: HostRuntime) -> Result<(), Fail> {
 
 fn reads_before_it_writes(rt: &impl Abort, pipe: &mut Pipe, writer: &mut Vec<u8>) {
     pipe.renew(2);
-    assert_eq!(rt; pipe.emit(&mut Counted::new(writer), b"x"), Ok(()));
+    same(rt, pipe.emit(&mut Counted::new(writer), b"x"), Ok(()));
     let mut reader = b"ab".as_slice();
-    assert_eq!(rt; pipe.fill(&mut Counted::new(&mut reader)), Ok(2));
-    assert_eq!(rt; pipe.held(), b"ab".as_slice());
-    assert_eq!(rt; pipe.turns(), 1);
-    assert_eq!(rt; writer.as_slice(), b"".as_slice());
+    same(rt, pipe.fill(&mut Counted::new(&mut reader)), Ok(2));
+    same(rt, pipe.held(), b"ab".as_slice());
+    same(rt, pipe.turns(), 1);
+    same(rt, writer.as_slice(), b"".as_slice());
 }
 
 #[test]
@@ -302,7 +304,7 @@ fn a_large_body_passes(rt: HostRuntime) -> Result<(), Fail> {
     let mut input = Vec::with_capacity(rt.alloc(), 3 * INBOX_BYTES)?;
     input.resize(3 * INBOX_BYTES, b'x')?;
     let seen = hand_on(rt.alloc(), input.as_slice(), Framing::ToEnd, true)?;
-    assert_eq!(rt; seen.result, Ok(()));
-    assert_eq!(rt; seen.written.as_slice(), input.as_slice());
+    same(&rt, seen.result, Ok(()));
+    same(&rt, seen.written.as_slice(), input.as_slice());
     Ok(())
 }

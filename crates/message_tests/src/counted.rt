@@ -1,3 +1,4 @@
+use assertions::same;
 use counted_io::{Counted, Failed, Sink, Source};
 use std::io;
 use std::io::{Cursor, Read, Write};
@@ -32,30 +33,30 @@ fn a_source_gives_what_its_reader_gives(rt: HostRuntime) {
     let mut reader = b"abcde".as_slice();
     let mut source = Counted::new(&mut reader);
     let mut buf = [0; 3];
-    assert_eq!(rt; source.take(&mut buf), Ok(3));
-    assert_eq!(rt; buf.as_slice(), b"abc".as_slice());
-    assert_eq!(rt; source.take(&mut buf), Ok(2));
-    assert_eq!(rt; source.take(&mut buf), Ok(0));
-    assert_eq!(rt; reader, b"".as_slice());
+    same(&rt, source.take(&mut buf), Ok(3));
+    same(&rt, buf.as_slice(), b"abc".as_slice());
+    same(&rt, source.take(&mut buf), Ok(2));
+    same(&rt, source.take(&mut buf), Ok(0));
+    same(&rt, reader, b"".as_slice());
 }
 
 fn puts_each(rt: &impl Abort, writer: &mut Vec<u8>) {
     let mut sink = Counted::new(writer);
-    assert_eq!(rt; sink.put(b"ab"), Ok(2));
-    assert_eq!(rt; sink.put(b"c"), Ok(1));
-    assert_eq!(rt; sink.successes(), 2);
+    same(rt, sink.put(b"ab"), Ok(2));
+    same(rt, sink.put(b"c"), Ok(1));
+    same(rt, sink.successes(), 2);
 }
 
 #[test]
 fn a_sink_gives_its_writer_what_it_is_given(rt: HostRuntime) {
     let mut writer = Vec::new(rt.alloc());
     puts_each(&rt, &mut writer);
-    assert_eq!(rt; writer.as_slice(), b"abc".as_slice());
+    same(&rt, writer.as_slice(), b"abc".as_slice());
 }
 
 #[test]
 fn a_failed_read_and_a_write_of_nothing_fail(rt: HostRuntime) {
     let mut buf = [0; 3];
-    assert_eq!(rt; Counted::new(&mut Broken).take(&mut buf), Err(Failed));
-    assert_eq!(rt; Counted::new(&mut Full).put(b"ab"), Err(Failed));
+    same(&rt, Counted::new(&mut Broken).take(&mut buf), Err(Failed));
+    same(&rt, Counted::new(&mut Full).put(b"ab"), Err(Failed));
 }

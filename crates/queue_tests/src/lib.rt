@@ -4,6 +4,8 @@
 #[cfg(test)]
 mod lists;
 #[cfg(test)]
+mod memory;
+#[cfg(test)]
 mod trees;
 #[cfg(test)]
 mod waiting;

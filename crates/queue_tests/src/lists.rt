@@ -1,6 +1,7 @@
 ghost use Rattle.std.specs.Prelude.{◌≡◌, ◌<◌, ◌≤◌, ◌^◌, [], OnOk};
 ghost use Rattle.std.specs.List.{AllByRecursion};
 
+use assertions::{holds, same};
 use due_key::{Class, Due, Key, Moment, Offset, order_of_keys};
 use pend_queue::{ListQueue, PendQueue};
 use std::alloc::{AllocError, Global};
@@ -72,14 +73,14 @@ fn merge<Q: PendQueue<Key, usize>>(into: &mut Q, other: &mut Q) -> Result<(), Fa
 }
 
 fn expect_first<Q: PendQueue<Key, usize>>(rt: &impl Abort, queue: &Q, key: Key) {
-    assert_eq!(rt; queue.first().copied(), Some(key));
+    same(rt, queue.first().copied(), Some(key));
 }
 
 fn expect_absent<Q: PendQueue<Key, usize>>(rt: &impl Abort, queue: &mut Q, key: Key)
     requires { Q.room queue.old ≡ 8 }
     ensures { Q.room queue.new ≡ 8 }
 {
-    assert!(rt; queue.remove(&key).is_none());
+    holds(rt, queue.remove(&key).is_none());
 }
 
 fn expect_removed<Q: PendQueue<Key, usize>>(
@@ -92,7 +93,7 @@ fn expect_removed<Q: PendQueue<Key, usize>>(
     ensures { Q.room queue.new ≡ 8 }
 {
     let node = queue.remove(&key).ok_or("the key is not in")?;
-    assert_eq!(rt; Q::into_pair(node), (key, value));
+    same(rt, Q::into_pair(node), (key, value));
     Ok(())
 }
 
@@ -105,14 +106,14 @@ fn drain<Q: PendQueue<Key, usize>>(
     requires { Q.room queue.old ≡ 8 }
     ensures { Q.room queue.new ≡ 8 }
 {
-    assert_eq!(rt; queue.len(), values.len());
+    same(rt, queue.len(), values.len());
     for expected in values {
         let node = queue.pop().ok_or("empty too early")?;
-        assert_eq!(rt; *Q::pair(&node).1, *expected);
+        same(rt, *Q::pair(&node).1, *expected);
     }
-    assert!(rt; queue.is_empty());
-    assert!(rt; queue.first().is_none());
-    assert!(rt; queue.pop().is_none());
+    holds(rt, queue.is_empty());
+    holds(rt, queue.first().is_none());
+    holds(rt, queue.pop().is_none());
     Ok(())
 }
 
@@ -122,7 +123,7 @@ fn orders_and_removes<Q: PendQueue<Key, usize>>(
     alloc: Global,
 ) -> Result<(), Fail> {
     let mut queue = Q::with_room(alloc, 8)?;
-    assert!(rt; queue.is_empty());
+    holds(rt, queue.is_empty());
     put_five(alloc, &mut queue)?;
     take_five(rt, &mut queue)
 }
@@ -157,8 +158,8 @@ fn put_five<Q: PendQueue<Key, usize>>(alloc: Global, queue: &mut Q) -> Result<()
 fn take_five<Q: PendQueue<Key, usize>>(rt: &impl Abort, queue: &mut Q) -> Result<(), Fail>
     requires { Q.room queue.old ≡ 8 }
 {
-    assert_eq!(rt; queue.len(), 5);
-    assert!(rt; !queue.is_empty());
+    same(rt, queue.len(), 5);
+    holds(rt, !queue.is_empty());
     expect_first(rt, queue, key(-2047, 0, -524_287, 0));
 
     expect_removed(rt, queue, key(2047, 0, -524_287, LAST_TICKET), 3)?;
@@ -176,7 +177,7 @@ fn merges<Q: PendQueue<Key, usize>>(rt: &impl Abort, alloc: Global) -> Result<()
     let mut queue = Q::with_room(alloc, 8)?;
     let mut other = Q::with_room(alloc, 8)?;
     merge(&mut queue, &mut other)?;
-    assert!(rt; queue.is_empty());
+    holds(rt, queue.is_empty());
     put_three(alloc, &mut queue)?;
     put_four(alloc, &mut other)?;
     merge_and_drain(rt, alloc, &mut queue, &mut other)
@@ -217,7 +218,7 @@ fn merge_and_drain<Q: PendQueue<Key, usize>>(
     requires other_tickets { AllByRecursion (λ p. (100 ≤ p.0.ticket) × (p.0.ticket < 200)) (Q.pairs other.old) }
 {
     merge(queue, other)?;
-    assert!(rt; other.is_empty());
+    holds(rt, other.is_empty());
     drain(rt, queue, &[1, 2, 3, 4, 5, 6, 7])?;
     put(alloc, other, key(0, 9, 0, 104), 9, 100, 200)?;
     drain(rt, other, &[9])
@@ -239,7 +240,7 @@ fn list_queue_refuses_a_room_past_memory(rt: HostRuntime) -> Result<(), Fail> {
         rt.alloc(),
         usize::MAX,
     );
-    assert!(rt; queue.is_err());
+    holds(&rt, queue.is_err());
     Ok(())
 }
 
@@ -260,10 +261,10 @@ fn look_up_three(
     put(alloc, queue, key(0, 5, 0, 1), 10, 0, 100)?;
     put(alloc, queue, key(0, 7, 0, 2), 20, 0, 100)?;
     put(alloc, queue, key(0, 6, 0, 3), 30, 0, 100)?;
-    assert_eq!(rt; queue.get(&key(0, 5, 0, 1)).copied(), Some(10));
-    assert_eq!(rt; queue.get(&key(0, 7, 0, 2)).copied(), Some(20));
-    assert_eq!(rt; queue.get(&key(0, 6, 0, 3)).copied(), Some(30));
-    assert_eq!(rt; queue.get(&key(0, 6, 0, 4)).copied(), None);
-    assert_eq!(rt; queue.len(), 3);
+    same(rt, queue.get(&key(0, 5, 0, 1)).copied(), Some(10));
+    same(rt, queue.get(&key(0, 7, 0, 2)).copied(), Some(20));
+    same(rt, queue.get(&key(0, 6, 0, 3)).copied(), Some(30));
+    same(rt, queue.get(&key(0, 6, 0, 4)).copied(), None);
+    same(rt, queue.len(), 3);
     Ok(())
 }

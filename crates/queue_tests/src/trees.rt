@@ -1,6 +1,7 @@
 ghost use Rattle.std.specs.Prelude.{◌≡◌, ℕ, ◌+◌, ◌*◌, ◌<◌, ◌≤◌, OnOk, IfOk, [], if◌then◌else◌};
 ghost use Rattle.std.specs.List.{AllByRecursion};
 
+use assertions::{holds, same};
 use binom_queue::BinomQueue;
 use pend_queue::{ListQueue, PendQueue};
 use std::alloc::Global;
@@ -183,8 +184,8 @@ fn rounds<Q: PendQueue<u64, u64>>(alloc: Global) -> Result<Vec<u64>, Fail> {
 fn both_queues_answer_alike(rt: HostRuntime) -> Result<(), Fail> {
     let of_list = rounds::<ListQueue<u64, u64>>(rt.alloc())?;
     let of_trees = rounds::<BinomQueue<u64, u64>>(rt.alloc())?;
-    assert!(rt; of_list.len() > 100_000);
-    assert_eq!(rt; of_trees.as_slice(), of_list.as_slice());
+    holds(&rt, of_list.len() > 100_000);
+    same(&rt, of_trees.as_slice(), of_list.as_slice());
     Ok(())
 }
 
@@ -226,9 +227,9 @@ fn merge_counted(
     if queue.len() + other.len() > ROOM {
         Err("no room")?;
     }
-    assert_eq!(rt; queue.merge_counted(other), links);
-    assert_eq!(rt; queue.len() as u64, lengths.0 + lengths.1);
-    assert!(rt; other.is_empty());
+    same(rt, queue.merge_counted(other), links);
+    same(rt, queue.len() as u64, lengths.0 + lengths.1);
+    holds(rt, other.is_empty());
     Ok(())
 }
 

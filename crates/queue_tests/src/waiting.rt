@@ -1,5 +1,6 @@
 ghost use Rattle.std.specs.Prelude.{◌≡◌, [], None, replicate};
 
+use assertions::{holds, same};
 use dispatch_log::Queue;
 use due_key::{Class, Due, Key, Moment, Offset};
 use pend_queue::{ListQueue, PendQueue};
@@ -63,10 +64,10 @@ fn play_one(rt: &impl Abort, order: &mut JoinOrder, room: usize, step: &Step) ->
     match step {
         Step::Append(place) => append(order, room, *place)?,
         Step::Remove(place) => remove(order, *place)?,
-        Step::Stands(wanted) => assert!(rt; stands(order, wanted)),
-        Step::Contains(place, is_in) => assert_eq!(rt; order.contains(*place), *is_in),
-        Step::First(first) => assert_eq!(rt; order.first(), *first),
-        Step::After(place, next) => assert_eq!(rt; after(order, *place)?, *next),
+        Step::Stands(wanted) => holds(rt, stands(order, wanted)),
+        Step::Contains(place, is_in) => same(rt, order.contains(*place), *is_in),
+        Step::First(first) => same(rt, order.first(), *first),
+        Step::After(place, next) => same(rt, after(order, *place)?, *next),
     }
     Ok(())
 }
@@ -165,10 +166,10 @@ fn nobody_waits_at_first(rt: HostRuntime) -> Result<(), Fail> {
 fn find_nobody(rt: &impl Abort, waiting: &mut OfLists)
     requires { waiting.old ≡ record { waiters = replicate 4 None; order = []; servers = 2 } }
 {
-    assert_eq!(rt; waiting.oldest(), None);
-    assert_eq!(rt; waiting.heads(0).backend, None);
-    assert_eq!(rt; waiting.shift(1, 9), None);
-    assert!(rt; waiting.take(Queue::Server(0)).is_none());
+    same(rt, waiting.oldest(), None);
+    same(rt, waiting.heads(0).backend, None);
+    same(rt, waiting.shift(1, 9), None);
+    holds(rt, waiting.take(Queue::Server(0)).is_none());
 }
 
 #[test]
@@ -183,11 +184,11 @@ fn join_and_leave(rt: &impl Abort, alloc: Global, waiting: &mut OfLists) -> Resu
     let waiter = waiter(key(7), Queue::Server(0));
     let node = ListQueue::node(alloc, waiter.key, 3)?;
     waiting.join(3, waiter, node);
-    assert_eq!(rt; waiting.oldest(), Some(3));
-    assert_eq!(rt; waiting.after(3), None);
+    same(rt, waiting.oldest(), Some(3));
+    same(rt, waiting.after(3), None);
     let node = waiting.leave(3);
-    assert_eq!(rt; *ListQueue::pair(&node).1, 3);
-    assert_eq!(rt; waiting.oldest(), None);
+    same(rt, *ListQueue::pair(&node).1, 3);
+    same(rt, waiting.oldest(), None);
     Ok(())
 }
 
@@ -207,16 +208,16 @@ fn join_and_move(
 {
     let node = ListQueue::node(alloc, *key, 3)?;
     waiting.join(3, waiter(*key, Queue::Server(1)), node);
-    assert_eq!(rt; waiting.heads(1).own, Some(*key));
-    assert_eq!(rt; waiting.shift(1, 9), Some(3));
+    same(rt, waiting.heads(1).own, Some(*key));
+    same(rt, waiting.shift(1, 9), Some(3));
     let heads = waiting.heads(1);
-    assert_eq!(rt; (heads.own, heads.backend), (None, Some(*key)));
+    same(rt, (heads.own, heads.backend), (None, Some(*key)));
     let moved = Waiter {
         key: *key,
         queue: Queue::Backend,
         joined: 9,
     };
-    assert_eq!(rt; take_from_backend(waiting), Some((3, moved)));
+    same(rt, take_from_backend(waiting), Some((3, moved)));
     Ok(())
 }
 

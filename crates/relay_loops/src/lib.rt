@@ -4,7 +4,7 @@
 //! connections that never block it. What isn't whole, or is long, goes to a runner: a thread that does the same over streams that wait.
 //!
 //! A request that arrived lies in the spot of its place, and then its place is looked at: where its pass is there, whoever looked goes on with it. Whoever is
-//! told that a verdict was offered at a place looks there afterwards. So no wake is lost, in whatever order the two come.
+//! told that a verdict was offered at a place looks there afterwards. So one of the two should find the pass, in whatever order they come: that is argued here, and in no clause.
 #![tactic(auto)]
 
 mod answering;

@@ -1,6 +1,6 @@
 //! A proxy on event loops, from its first client to its last.
 
-ghost use Rattle.std.specs.Prelude.{◌≡◌, ◌≤◌, true, []};
+ghost use Rattle.std.specs.Prelude.{◌≡◌, ◌≤◌, ◌+◌, true, [], IfOk};
 
 use crate::hall::Hall;
 use crate::rooms::rooms_of;
@@ -24,7 +24,7 @@ pub struct Sizes {
 }
 
 /// Serves until as many clients as may come were served. The seat is the board's first; each place and each thread has one split off it, which is joined
-/// again.
+/// again. `NoMemory` also where a thread can't be started, or where a seat didn't come back since the list of them found no room for it.
 pub fn serve<
     R: Net<Listener = TcpListener, Stream = TcpStream> + Clock + Print + Threads + Wait + Sync,
     N: BoardName + Send + Sync,
@@ -41,6 +41,7 @@ pub fn serve<
     requires places { sizes.places ≤ N.terms.places }
     ensures same { (result.0.board ≡ seat.board) × (result.0.view.terms ≡ seat.view.terms) × (result.0.view.first ≡ true) }
     ensures idle { result.0.view.passes ≡ [] }
+    ensures joined { IfOk result.1 (λ done. result.0.view.split + seat.view.joined ≡ result.0.view.joined + seat.view.split) }
 {
     let mut first = seat;
     let mut seats = Vec::new(proxy.alloc);
@@ -52,6 +53,7 @@ pub fn serve<
         join_all(proxy, &mut first, seats);
         return (first, Err(Stopped::NoMemory));
     }
+    let lent = seats.len();
     let (seats, served) = match rooms_of(rt, proxy, front, sizes) {
         Err(_) => (seats, Err(Stopped::NoMemory)),
         Ok((rooms, roles)) => {
@@ -60,6 +62,11 @@ pub fn serve<
             hall.end()
         }
     };
+    let all_back = seats.len() == lent;
     join_all(proxy, &mut first, seats);
-    (first, served)
+    if all_back {
+        (first, served)
+    } else {
+        (first, Err(Stopped::NoMemory))
+    }
 }

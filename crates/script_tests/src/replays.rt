@@ -8,6 +8,7 @@ mod waiting;
 mod windows;
 mod worked;
 
+use assertions::same;
 use due_key::Key;
 use pend_queue::ListQueue;
 use replay::{Fault, replay, trace_of as trace_over};
@@ -26,8 +27,8 @@ fn trace_of(alloc: Global, script: &[u8]) -> Result<Vec<u8>, Fault> {
 // The trace of a script, over both kinds of queues.
 fn expect(rt: &impl Abort, alloc: Global, script: &str, expected: &str) -> Result<(), Fail> {
     let trace = trace_of(alloc, script.as_bytes())?;
-    assert_eq!(rt; trace.as_slice(), expected.as_bytes());
-    let same = trace_over::<ListQueue<Key, usize>>(alloc, script.as_bytes())?;
-    assert_eq!(rt; same.as_bytes(), expected.as_bytes());
+    same(rt, trace.as_slice(), expected.as_bytes());
+    let listed = trace_over::<ListQueue<Key, usize>>(alloc, script.as_bytes())?;
+    same(rt, listed.as_bytes(), expected.as_bytes());
     Ok(())
 }

@@ -1,3 +1,4 @@
+use assertions::same;
 use reporting_core::ServerLine;
 use script::Names;
 use std::test::Fail;
@@ -28,6 +29,6 @@ fn two_windows_are_told_and_summed(rt: HostRuntime) -> Result<(), Fail> {
 server a down direct 4 granted 4
 server b up direct 2 granted 18446744073709551615
 ";
-    assert_eq!(rt; text.as_str(), expected);
+    same(&rt, text.as_str(), expected);
     Ok(())
 }

@@ -3,6 +3,7 @@ ghost use Rattle.grant_desk.specs.Seats.{IsSameSeat};
 ghost use Rattle.outstanding.specs.Books.{terms_of};
 
 use super::*;
+use assertions::{holds, same};
 
 // Sets the server's limit, and answers the first place that was woken.
 fn limit<N: BoardName, R: Wait>(
@@ -68,7 +69,10 @@ fn a_limit_falls_and_is_lifted(rt: HostRuntime) -> Result<(), Fail> {
     let (told, closing) = change_limits::<Brand, _>(&rt, alloc, opened);
     let told = told?;
     let critical = [stay(3, 6, 16, 1, 0)?];
-    assert!(rt; is_report(&told, (2, 4, 1), (0, 16), critical.as_slice()));
-    assert_eq!(rt; closing, Closing { left: 2 });
+    holds(
+        &rt,
+        is_report(&told, (2, 4, 1), (0, 16), critical.as_slice()),
+    );
+    same(&rt, closing, Closing { left: 2 });
     Ok(())
 }

@@ -3,6 +3,7 @@ ghost use Rattle.grant_desk.specs.Seats.{IsSameSeat};
 ghost use Rattle.outstanding.specs.Books.{terms_of};
 
 use super::*;
+use assertions::same;
 
 // The requests that came: one is served, one is aborted, one waits too long, and one finds no server.
 #[derive(Clone, Copy)]
@@ -103,8 +104,8 @@ fn each_is_told(rt: HostRuntime) -> Result<(), Fail> {
         Some(Verdict::Told(Cause::Timeout)),
         Some(Verdict::Told(Cause::NoServer)),
     ];
-    assert_eq!(rt; told?, verdicts);
-    assert_eq!(rt; closing, Closing { left: 0 });
+    same(&rt, told?, verdicts);
+    same(&rt, closing, Closing { left: 0 });
     Ok(())
 }
 

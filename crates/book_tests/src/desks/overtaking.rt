@@ -3,6 +3,7 @@ ghost use Rattle.grant_desk.specs.Seats.{IsSameSeat};
 ghost use Rattle.outstanding.specs.Books.{terms_of};
 
 use super::*;
+use assertions::{holds, same};
 
 // Of two requests that wait, the later one is due earlier: it is woken and served first.
 fn overtake<N: BoardName, R: Wait>(
@@ -88,15 +89,18 @@ fn overtaking_through_a_desk(rt: HostRuntime) -> Result<(), Fail> {
     let (told, closing) = overtake_once::<Brand, _>(&rt, alloc, opened);
     let told = told?;
     let critical = [stay(3, 6, 10, 2, -5)?, stay(2, 4, 14, 1, 0)?];
-    assert!(rt; is_report(&told.reports, (2, 19, 1), (0, 14), critical.as_slice()));
+    holds(
+        &rt,
+        is_report(&told.reports, (2, 19, 1), (0, 14), critical.as_slice()),
+    );
     let line = ServerLine {
         up: true,
         direct: 1,
         granted: 2,
     };
-    assert!(rt; told.servers.as_slice() == [line].as_slice());
-    assert_eq!(rt; told.worst, (Some(19), None));
-    assert!(rt; !told.is_full);
-    assert_eq!(rt; closing, Closing { left: 0 });
+    holds(&rt, told.servers.as_slice() == [line].as_slice());
+    same(&rt, told.worst, (Some(19), None));
+    holds(&rt, !told.is_full);
+    same(&rt, closing, Closing { left: 0 });
     Ok(())
 }

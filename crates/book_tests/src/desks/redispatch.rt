@@ -2,6 +2,7 @@ ghost use Rattle.std.specs.Prelude.{◌≡◌};
 ghost use Rattle.outstanding.specs.Books.{terms_of};
 
 use super::*;
+use assertions::{holds, same};
 
 // Three servers of one slot each, of which three failed checks in a row take the first one down.
 fn three_servers(alloc: Global) -> Result<Opened, Fail> {
@@ -64,8 +65,11 @@ fn the_worst_is_not_the_last(rt: HostRuntime) -> Result<(), Fail> {
     let alloc = rt.alloc();
     let opened = three_servers(alloc)?;
     let (worst, told) = fall_once::<Brand, _>(&rt, alloc, opened)?;
-    assert_eq!(rt; worst, Some(6));
+    same(&rt, worst, Some(6));
     let critical = [stay(4, 13, 16, 3, -3)?];
-    assert!(rt; is_report(&told, (2, 6, 0), (0, 16), critical.as_slice()));
+    holds(
+        &rt,
+        is_report(&told, (2, 6, 0), (0, 16), critical.as_slice()),
+    );
     Ok(())
 }

@@ -3,6 +3,7 @@ ghost use Rattle.grant_desk.specs.Seats.{IsSameSeat};
 ghost use Rattle.outstanding.specs.Books.{terms_of};
 
 use super::*;
+use assertions::same;
 use std::thread::{Threads, join};
 
 // What a thread did, and what is told of the windows that it was handed.
@@ -203,9 +204,9 @@ fn two_threads_of_requests(rt: HostRuntime) -> Result<(), Fail> {
     let opened = one_server(alloc, 8, 4096, 3)?;
     let (sums, closing) = two_come::<Brand, _>(&rt, alloc, opened);
     let sums = sums?;
-    assert_eq!(rt; (sums.served, sums.given), (200, 200));
-    assert_eq!(rt; sums.granted, sums.reported);
-    assert_eq!(rt; closing, Closing { left: 0 });
+    same(&rt, (sums.served, sums.given), (200, 200));
+    same(&rt, sums.granted, sums.reported);
+    same(&rt, closing, Closing { left: 0 });
     Ok(())
 }
 
@@ -297,8 +298,8 @@ fn a_crowd_of_requests(rt: HostRuntime) -> Result<(), Fail> {
     let opened = one_server(alloc, 8, 4096, 3)?;
     let (sums, closing) = four_come::<Brand, _>(&rt, alloc, opened);
     let sums = sums?;
-    assert_eq!(rt; (sums.served, sums.given), (20_000, 20_000));
-    assert_eq!(rt; sums.granted, sums.reported);
-    assert_eq!(rt; closing, Closing { left: 0 });
+    same(&rt, (sums.served, sums.given), (20_000, 20_000));
+    same(&rt, sums.granted, sums.reported);
+    same(&rt, closing, Closing { left: 0 });
     Ok(())
 }

@@ -3,6 +3,7 @@ ghost use Rattle.grant_desk.specs.Seats.{IsSameSeat};
 ghost use Rattle.outstanding.specs.Books.{terms_of};
 
 use super::*;
+use assertions::{holds, same};
 
 // Two requests wait as the next window begins, and are served in it.
 fn wait_over_a_roll<N: BoardName, R: Wait>(
@@ -39,7 +40,10 @@ fn who_waits_joined_at_the_base(rt: HostRuntime) -> Result<(), Fail> {
     let opened = one_server(alloc, 8, 4096, 1)?;
     let told = roll_once::<Brand, _>(&rt, alloc, opened)?;
     let critical = [stay(3, 0, 4, 2, -5)?, stay(2, 0, 8, 1, 0)?];
-    assert!(rt; is_report(&told, (2, 19, 1), (0, 8), critical.as_slice()));
+    holds(
+        &rt,
+        is_report(&told, (2, 19, 1), (0, 8), critical.as_slice()),
+    );
     Ok(())
 }
 
@@ -95,13 +99,51 @@ fn a_full_log_makes_room(rt: HostRuntime) -> Result<(), Fail> {
     let opened = one_server(alloc, 1, 10, 1)?;
     let (window, closing) = fill::<Brand, _>(&rt, alloc, opened);
     let window = window?;
-    assert_eq!(rt; window.reports.len(), 0);
+    same(&rt, window.reports.len(), 0);
     let line = ServerLine {
         up: true,
         direct: 1,
         granted: 0,
     };
-    assert!(rt; window.servers.as_slice() == [line].as_slice());
-    assert_eq!(rt; closing, Closing { left: 0 });
+    holds(&rt, window.servers.as_slice() == [line].as_slice());
+    same(&rt, closing, Closing { left: 0 });
+    Ok(())
+}
+
+// A full log refuses the turn, and what was posted is left on the board.
+fn leave<N: BoardName, R: Wait>(
+    rt: &R,
+    alloc: Global,
+    desk: &Desk<N>,
+    relay: &mut RelaySeat,
+) -> Result<Result<(), Refusal>, Fail>
+    requires named { relay.old.board ≡ N.board }
+    requires terms { relay.old.view.terms ≡ N.terms }
+    ensures { IsSameSeat relay.old relay.new }
+{
+    let it = arrive(rt, alloc, desk, 0, offset(0))?;
+    serve(desk.board(), relay, it);
+    turned(rt, desk, 1)
+}
+
+fn leave_one<N: BoardName, R: Wait>(
+    rt: &R,
+    alloc: Global,
+    opened: Opened,
+) -> (Result<Result<(), Refusal>, Fail>, Closing)
+    requires named { opened.board ≡ N.board }
+    requires terms { N.terms ≡ terms_of opened.core.setup }
+{
+    let (desk, mut relay) = start::<N>(opened);
+    let turned = leave(rt, alloc, &desk, &mut relay);
+    (turned, desk.close(relay))
+}
+
+#[test]
+fn a_return_stays_on_the_board_while_the_log_is_full(rt: HostRuntime) -> Result<(), Fail> {
+    let opened = one_server(rt.alloc(), 1, 10, 1)?;
+    let (turned, closing) = leave_one::<Brand, _>(&rt, rt.alloc(), opened);
+    same(&rt, turned?, Err(Refusal::LogFull));
+    same(&rt, closing, Closing { left: 1 });
     Ok(())
 }

@@ -1,4 +1,5 @@
 use super::*;
+use assertions::{holds, same};
 use std::alloc::AllocError;
 
 /// A file with so many servers, ACL lines and rules.
@@ -20,7 +21,7 @@ fn file_of(alloc: Global, servers: u32, acls: u32, rules: u32) -> Result<String,
 fn of_lines(rt: HostRuntime) -> Result<(), AllocError> {
     let alloc = rt.alloc();
     let text = file_of(alloc, 64, 256, 256)?;
-    assert!(rt; read(alloc, text.as_bytes()).is_ok());
+    holds(&rt, read(alloc, text.as_bytes()).is_ok());
     for (servers, acls, rules, line) in [(65, 0, 0, 67), (1, 257, 0, 260), (1, 0, 257, 260)] {
         let text = file_of(alloc, servers, acls, rules)?;
         faulty(&rt, alloc, text.as_str(), line, FaultCause::Limit);
@@ -43,10 +44,10 @@ fn of_bytes(rt: HostRuntime) -> Result<(), AllocError> {
 // It lacks two bytes of the most that there may be.
 fn grows_too_long(rt: &impl Abort, alloc: Global, text: &mut String) -> Result<(), AllocError> {
     text.push_str("\n")?;
-    assert!(rt; read(alloc, text.as_bytes()).is_ok());
+    holds(rt, read(alloc, text.as_bytes()).is_ok());
     text.push_str("\n")?;
-    assert_eq!(rt; text.len(), MOST_BYTES);
-    assert!(rt; read(alloc, text.as_bytes()).is_ok());
+    same(rt, text.len(), MOST_BYTES);
+    holds(rt, read(alloc, text.as_bytes()).is_ok());
     // The byte past the last is a line feed, and stands in line 6.
     text.push_str("\n\"")?;
     faulty(rt, alloc, text.as_str(), 6, FaultCause::Limit);

@@ -1,4 +1,5 @@
 use super::*;
+use assertions::{holds, same};
 use std::test::Fail;
 
 #[test]
@@ -12,38 +13,40 @@ fn a_time_is_rounded_up_and_the_rest_is_built_in(rt: HostRuntime) -> Result<(), 
 }
 
 fn has_built_in_values(rt: &impl Abort, config: &Config) {
-    assert_eq!(rt;
+    same(
+        rt,
         config.bind,
         Bind {
             ip: Some([127, 0, 0, 1]),
-            port: 8080
-        }
+            port: 8080,
+        },
     );
-    assert_eq!(rt; config.queue_timeout, Some(2));
-    assert_eq!(rt; config.retries, 3);
-    assert!(rt; !config.redispatch && !config.abortonclose);
+    same(rt, config.queue_timeout, Some(2));
+    same(rt, config.retries, 3);
+    holds(rt, !config.redispatch && !config.abortonclose);
 }
 
 fn has_a_checked_server(rt: &impl Abort, config: &Config) {
     let servers = config.servers.as_slice();
-    assert_eq!(rt; servers.len(), 1);
+    holds(rt, servers.len() == 1);
     let server = &servers[0];
-    assert_eq!(rt; server.name.as_slice(), b"a".as_slice());
+    same(rt, server.name.as_slice(), b"a".as_slice());
     let Host::Ip(ip) = &server.address.host else {
         panic!(rt; "a name")
     };
-    assert_eq!(rt; *ip, [127, 0, 0, 1]);
-    assert_eq!(rt; server.address.port, 9001);
-    assert_eq!(rt; server.maxconn, 1);
-    assert_eq!(rt; server.maxqueue, 0);
-    assert_eq!(rt; server.weight, 1);
-    assert_eq!(rt;
+    same(rt, *ip, [127, 0, 0, 1]);
+    same(rt, server.address.port, 9001);
+    same(rt, server.maxconn, 1);
+    same(rt, server.maxqueue, 0);
+    same(rt, server.weight, 1);
+    same(
+        rt,
         server.check,
         Some(Checks {
             inter: 2000,
             rise: 2,
-            fall: 3
-        })
+            fall: 3,
+        }),
     );
 }
 
@@ -57,10 +60,10 @@ fn of_a_repeated_setting_the_last_stands(rt: HostRuntime) -> Result<(), Fail> {
 
 fn has_the_last_settings(rt: &impl Abort, config: &Config) {
     let servers = config.servers.as_slice();
-    assert_eq!(rt; servers.len(), 1);
-    assert_eq!(rt; servers[0].maxconn, 3);
-    assert_eq!(rt; servers[0].check, None);
-    assert_eq!(rt; config.bind, Bind { ip: None, port: 80 });
+    holds(rt, servers.len() == 1);
+    same(rt, servers[0].maxconn, 3);
+    same(rt, servers[0].check, None);
+    same(rt, config.bind, Bind { ip: None, port: 80 });
 }
 
 #[test]
@@ -73,21 +76,22 @@ fn settings_stand_in_any_order(rt: HostRuntime) -> Result<(), Fail> {
 }
 
 fn has_each_setting(rt: &impl Abort, servers: &[Server]) {
-    assert_eq!(rt; servers.len(), 1);
+    holds(rt, servers.len() == 1);
     let server = &servers[0];
     let Host::Ip(ip) = &server.address.host else {
         panic!(rt; "a name")
     };
-    assert_eq!(rt; *ip, [1, 2, 3, 4]);
-    assert_eq!(rt; server.weight, 256);
-    assert_eq!(rt; server.maxqueue, 7);
-    assert_eq!(rt;
+    same(rt, *ip, [1, 2, 3, 4]);
+    same(rt, server.weight, 256);
+    same(rt, server.maxqueue, 7);
+    same(
+        rt,
         server.check,
         Some(Checks {
             inter: 1,
             rise: 8,
-            fall: 9
-        })
+            fall: 9,
+        }),
     );
 }
 
@@ -101,9 +105,9 @@ fn listen_takes_the_values_of_defaults(rt: HostRuntime) -> Result<(), Fail> {
 }
 
 fn has_the_values_of_defaults(rt: &impl Abort, config: &Config) {
-    assert_eq!(rt; config.retries, 5);
-    assert!(rt; config.redispatch && !config.abortonclose);
-    assert_eq!(rt; config.queue_timeout, Some(4000));
+    same(rt, config.retries, 5);
+    holds(rt, config.redispatch && !config.abortonclose);
+    same(rt, config.queue_timeout, Some(4000));
 }
 
 /// How long a queue, a connection, a client and a server may take.
@@ -121,9 +125,10 @@ fn each_timeout_is_kept(rt: HostRuntime) -> Result<(), Fail> {
     let text =
         b"defaults\ntimeout connect 4s\ntimeout client 5s\nlisten w\nbind :80\nserver a h:80\ntimeout server 6s\n";
     let config = read(rt.alloc(), text)?;
-    assert_eq!(rt;
+    same(
+        &rt,
         timeouts(&config),
-        [Some(4000), Some(4000), Some(5000), Some(6000)]
+        [Some(4000), Some(4000), Some(5000), Some(6000)],
     );
     Ok(())
 }
@@ -134,7 +139,7 @@ fn no_timeout_is_no_limit(rt: HostRuntime) -> Result<(), Fail> {
         rt.alloc(),
         b"listen w\nbind :80\nserver a h:80\ntimeout queue 0\ntimeout connect 0\n",
     )?;
-    assert_eq!(rt; timeouts(&config), [None; 4]);
+    same(&rt, timeouts(&config), [None; 4]);
     Ok(())
 }
 
@@ -151,44 +156,53 @@ fn rules_name_acls_and_servers(rt: HostRuntime) -> Result<(), Fail> {
 
 fn has_acls(rt: &impl Abort, config: &Config) {
     let acls = config.acls.as_slice();
-    assert_eq!(rt; acls.len(), 1);
-    assert_eq!(rt; acls[0].name.as_slice(), b"slow".as_slice());
+    holds(rt, acls.len() == 1);
+    same(rt, acls[0].name.as_slice(), b"slow".as_slice());
     let tests = acls[0].tests.as_slice();
-    assert_eq!(rt; tests.len(), 2);
-    assert!(rt; tests[0].ignore_case && !tests[1].ignore_case);
-    assert!(rt; matches!(tests[1].subject, Subject::PathBegin));
-    assert_eq!(rt; tests[0].values.len(), 2);
+    holds(rt, tests.len() == 2);
+    holds(rt, tests[0].ignore_case && !tests[1].ignore_case);
+    holds(rt, matches!(tests[1].subject, Subject::PathBegin));
+    holds(rt, tests[0].values.len() == 2);
 }
 
 fn has_pins(rt: &impl Abort, config: &Config) {
     let pins = config.pins.as_slice();
-    assert_eq!(rt; pins.len(), 1);
-    assert_eq!(rt; pins[0].server, 1);
+    holds(rt, pins.len() == 1);
+    same(rt, pins[0].server, 1);
     let Guard::If(condition) = &pins[0].guard else {
         panic!(rt; "not if")
     };
     let alternatives = condition.alternatives.as_slice();
-    assert_eq!(rt; alternatives.len(), 2);
-    assert_eq!(rt; alternatives[0].len(), 1);
+    holds(rt, alternatives.len() == 2);
+    holds(rt, alternatives[0].len() == 1);
     let terms = alternatives[1].as_slice();
-    assert_eq!(rt; terms.len(), 2);
-    assert!(rt; terms[0].negated && matches!(terms[0].operand, Operand::Test(_)));
-    assert!(rt; terms[1].negated && matches!(terms[1].operand, Operand::Acl(0)));
+    holds(rt, terms.len() == 2);
+    holds(
+        rt,
+        terms[0].negated && matches!(terms[0].operand, Operand::Test(_)),
+    );
+    holds(
+        rt,
+        terms[1].negated && matches!(terms[1].operand, Operand::Acl(0)),
+    );
 }
 
 fn has_rules(rt: &impl Abort, config: &Config) {
     let rules = config.rules.as_slice();
-    assert_eq!(rt; rules.len(), 2);
-    assert_eq!(rt; rules[0].action, Action::SetPriorityClass);
-    assert!(rt; matches!(rules[0].value, Expression::Int(-9999)) && rules[0].guard.is_none());
+    holds(rt, rules.len() == 2);
+    same(rt, rules[0].action, Action::SetPriorityClass);
+    holds(
+        rt,
+        matches!(rules[0].value, Expression::Int(-9999)) && rules[0].guard.is_none(),
+    );
     let Expression::HeaderValue(field) = &rules[1].value else {
         panic!(rt; "no field")
     };
-    assert_eq!(rt; field.as_slice(), b"x-due".as_slice());
+    same(rt, field.as_slice(), b"x-due".as_slice());
     let Some(Guard::Unless(condition)) = &rules[1].guard else {
         panic!(rt; "not unless")
     };
-    assert_eq!(rt; condition.alternatives.len(), 2);
+    holds(rt, condition.alternatives.len() == 2);
 }
 
 const ACCEPTED: [&str; 19] = [
@@ -223,6 +237,6 @@ fn what_is_accepted(rt: HostRuntime) {
 #[test]
 fn the_sample_is_accepted(rt: HostRuntime) -> Result<(), Fail> {
     let config = read(rt.alloc(), sample::SAMPLE.as_bytes())?;
-    assert_eq!(rt; config.servers.len(), 3);
+    same(&rt, config.servers.len(), 3);
     Ok(())
 }

@@ -1,16 +1,27 @@
 use super::*;
+use assertions::same;
+use std::alloc::Global;
+use std::process::Abort;
 use std::test::Fail;
 
-// Run with each allocation refused in turn, it sees want of memory told, and the answer of the next call.
+// Where memory was refused, that is told, and the same text is read again.
+fn read_in_the_end(rt: &impl Abort, alloc: Global) -> Result<Config, ReadError> {
+    match read(alloc, sample::SAMPLE.as_bytes()) {
+        Ok(config) => Ok(config),
+        Err(error) => {
+            same(rt, error, ReadError::NoMemory);
+            read(alloc, sample::SAMPLE.as_bytes())
+        }
+    }
+}
+
+// It goes well whichever single allocation is refused.
 #[test]
 fn a_refused_growth_is_told(rt: HostRuntime) -> Result<(), Fail> {
-    if let Err(error) = read(rt.alloc(), sample::SAMPLE.as_bytes()) {
-        assert_eq!(rt; error, ReadError::NoMemory);
-    }
-    let config = read(rt.alloc(), sample::SAMPLE.as_bytes())?;
-    assert_eq!(rt; config.servers.len(), 3);
-    assert_eq!(rt; config.acls.len(), 2);
-    assert_eq!(rt; config.rules.len(), 3);
-    assert_eq!(rt; config.pins.len(), 1);
+    let config = read_in_the_end(&rt, rt.alloc())?;
+    same(&rt, config.servers.len(), 3);
+    same(&rt, config.acls.len(), 2);
+    same(&rt, config.rules.len(), 3);
+    same(&rt, config.pins.len(), 1);
     Ok(())
 }

@@ -1,4 +1,5 @@
 use super::*;
+use assertions::{holds, same};
 use std::test::Fail;
 
 /// A `listen` in its first two lines, with an ACL in the third, and these lines.
@@ -26,12 +27,12 @@ fn a_pin_may_stand_before_its_server(rt: HostRuntime) -> Result<(), Fail> {
 }
 
 fn are_pinned_to_later_servers(rt: &impl Abort, pins: &[Pin]) {
-    assert_eq!(rt; pins.len(), 3);
-    assert_eq!(rt; pins[0].server, 2);
-    assert_eq!(rt; pins[1].server, 0);
-    assert_eq!(rt; pins[2].server, 1);
-    assert!(rt; matches!(pins[0].guard, Guard::If(_)));
-    assert!(rt; matches!(pins[1].guard, Guard::Unless(_)));
+    holds(rt, pins.len() == 3);
+    same(rt, pins[0].server, 2);
+    same(rt, pins[1].server, 0);
+    same(rt, pins[2].server, 1);
+    holds(rt, matches!(pins[0].guard, Guard::If(_)));
+    holds(rt, matches!(pins[1].guard, Guard::Unless(_)));
 }
 
 #[test]
@@ -160,7 +161,7 @@ fn pins_of_later_servers_count_as_rules(rt: HostRuntime) -> Result<(), Fail> {
     let mut more = text.clone()?;
     text.push_str("server a h:80\n")?;
     let config = read(alloc, text.as_bytes())?;
-    assert_eq!(rt; config.pins.len(), 256);
+    same(&rt, config.pins.len(), 256);
     more.push_str("http-request set-priority-class int(1)\nserver a h:80\n")?;
     faulty(&rt, alloc, more.as_str(), 260, FaultCause::Limit);
     Ok(())

@@ -1,4 +1,5 @@
 use super::setups::{Plan, setup_of};
+use assertions::same;
 use binom_queue::BinomQueue;
 use dispatch_core::{Core, Refusal};
 use due_key::{Class, Key, Moment, Offset};
@@ -70,9 +71,9 @@ pub fn ask(
     call: &Call,
 ) -> Option<Refusal> {
     let answer = ask_one(alloc, lists, moment(at), *call);
-    let same = ask_one(alloc, trees, moment(at), *call);
-    assert_eq!(rt; same, answer);
-    assert_eq!(rt; trees.log().entries(), lists.log().entries());
+    let other = ask_one(alloc, trees, moment(at), *call);
+    same(rt, other, answer);
+    same(rt, trees.log().entries(), lists.log().entries());
     answer.err()
 }
 

@@ -1,6 +1,7 @@
 //! Reports compared with a plain program that tries every assignment.
 
 use super::{moment, opening};
+use assertions::{holds, same};
 use dispatch_log::{Arrival, Entry, Queue};
 use due_key::{Class, Due, Key, Offset};
 use late_cert::{Report, audit, certify};
@@ -71,8 +72,8 @@ fn step(course: &mut Course, ticket: u64, in_order: bool) -> Result<(), Fail> {
 }
 
 fn come(course: &mut Course, ticket: u64) -> Result<(), Fail> {
-    let it = newcomer(&mut course.numbers, course.now, ticket)?;
-    course.entries.push(arrival(course.now, &it)?)?;
+    let it = newcomer(&mut course.numbers, course.now, ticket);
+    course.entries.push(arrival(course.now, &it))?;
     course.entries.push(Entry::Joined(ticket, it.queue))?;
     course.waiting.push(it)?;
     Ok(())
@@ -82,7 +83,7 @@ fn go(course: &mut Course, it: Waiting) -> Result<(), Fail> {
     course
         .waiting
         .retain(|other| other.key.ticket != it.key.ticket);
-    course.entries.push(Entry::Done(moment(course.now)?, 0))?;
+    course.entries.push(Entry::Done(moment(course.now), 0))?;
     course
         .entries
         .push(Entry::Granted(it.key.ticket, it.queue, 0))?;
@@ -94,7 +95,7 @@ fn is_grant(entry: &Entry) -> bool {
 }
 
 /// A request of one of two classes in one of two queues, due around now.
-fn newcomer(numbers: &mut Numbers, now: u64, ticket: u64) -> Result<Waiting, Fail> {
+fn newcomer(numbers: &mut Numbers, now: u64, ticket: u64) -> Waiting {
     let class = if numbers.below(4) == 0 { 1 } else { 0 };
     let offset = i64::try_from(numbers.below(16)).unwrap_or(0);
     let queue = if numbers.below(4) == 0 {
@@ -104,13 +105,13 @@ fn newcomer(numbers: &mut Numbers, now: u64, ticket: u64) -> Result<Waiting, Fai
     };
     let key = Key {
         class: Class::clamp(class),
-        due: Due::of(moment(now)?, Offset::clamp(offset.wrapping_sub(8))),
+        due: Due::of(moment(now), Offset::clamp(offset.wrapping_sub(8))),
         ticket,
     };
-    Ok(Waiting { queue, key })
+    Waiting { queue, key }
 }
 
-fn arrival(now: u64, it: &Waiting) -> Result<Entry, Fail> {
+fn arrival(now: u64, it: &Waiting) -> Entry {
     let arrival = Arrival {
         ticket: it.key.ticket,
         class: it.key.class,
@@ -118,7 +119,7 @@ fn arrival(now: u64, it: &Waiting) -> Result<Entry, Fail> {
         pin: None,
         place: 0,
     };
-    Ok(Entry::Arrive(moment(now)?, arrival))
+    Entry::Arrive(moment(now), arrival)
 }
 
 /// The least of a queue, or any one that waits.
@@ -231,17 +232,17 @@ fn with_outcome(
 #[test]
 fn no_assignment_is_better_than_the_worst(rt: HostRuntime) -> Result<(), Fail> {
     let alloc = rt.alloc();
-    assert!(rt; outcomes(alloc, 40, true, Outcome::Sound)? > 60);
-    assert_eq!(rt; outcomes(alloc, 40, true, Outcome::Unsound)?, 0);
-    assert_eq!(rt; outcomes(alloc, 40, true, Outcome::Wrong)?, 0);
+    holds(&rt, outcomes(alloc, 40, true, Outcome::Sound)? > 60);
+    same(&rt, outcomes(alloc, 40, true, Outcome::Unsound)?, 0);
+    same(&rt, outcomes(alloc, 40, true, Outcome::Wrong)?, 0);
     Ok(())
 }
 
 #[test]
 fn out_of_order_the_audit_tells_what_holds(rt: HostRuntime) -> Result<(), Fail> {
     let alloc = rt.alloc();
-    assert!(rt; outcomes(alloc, 40, false, Outcome::Sound)? > 10);
-    assert!(rt; outcomes(alloc, 40, false, Outcome::Unsound)? > 10);
-    assert_eq!(rt; outcomes(alloc, 40, false, Outcome::Wrong)?, 0);
+    holds(&rt, outcomes(alloc, 40, false, Outcome::Sound)? > 10);
+    holds(&rt, outcomes(alloc, 40, false, Outcome::Unsound)? > 10);
+    same(&rt, outcomes(alloc, 40, false, Outcome::Wrong)?, 0);
     Ok(())
 }

@@ -1,3 +1,4 @@
+use assertions::same;
 use dispatch_log::Queue;
 use due_key::Class;
 use late_cert::Running;
@@ -12,10 +13,10 @@ fn the_greatest_lateness_is_kept(rt: HostRuntime) -> Result<(), Fail> {
     running.granted(Queue::Server(0), class, -3);
     running.granted(Queue::Server(0), class, 19);
     running.granted(Queue::Server(0), class, 5);
-    assert_eq!(rt; running.worst(Queue::Server(0), class), Some(19));
-    assert_eq!(rt; running.worst(Queue::Backend, class), None);
-    assert_eq!(rt; running.worst(Queue::Server(0), Class::clamp(0)), None);
+    same(&rt, running.worst(Queue::Server(0), class), Some(19));
+    same(&rt, running.worst(Queue::Backend, class), None);
+    same(&rt, running.worst(Queue::Server(0), Class::clamp(0)), None);
     running.clear();
-    assert_eq!(rt; running.worst(Queue::Server(0), class), None);
+    same(&rt, running.worst(Queue::Server(0), class), None);
     Ok(())
 }

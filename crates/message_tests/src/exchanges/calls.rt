@@ -2,6 +2,7 @@ use crate::exchanges::streams::{
     GET, Narrow, OLD_GET, Seen, Slow, TURNS, Tally, answer_to, answered_from, forward_to,
     forward_view, forwarded, forwarded_from,
 };
+use assertions::{holds, same};
 use relay_http::{Exchange, Fault, Stage};
 use req_view::View;
 use std::alloc::Global;
@@ -22,14 +23,14 @@ const ANSWER_TEXT: &[u8] =
     b"HTTP/1.1 103 X\r\n\r\nHTTP/1.1 200 OK\r\nContent-Length: 2\r\nConnection: close\r\n\r\nab";
 
 fn is_cut_after(rt: &impl Abort, seen: &Seen, len: usize) {
-    assert!(rt; POST_TEXT.starts_with(seen.written.as_slice()));
+    holds(rt, POST_TEXT.starts_with(seen.written.as_slice()));
     if len < 73 {
-        assert_eq!(rt; seen.result, Err(Fault::Read));
-        assert_eq!(rt; seen.written.as_slice(), b"".as_slice());
+        same(rt, seen.result, Err(Fault::Read));
+        same(rt, seen.written.as_slice(), b"".as_slice());
     } else if len < 76 {
-        assert_eq!(rt; seen.result, Err(Fault::Read));
+        same(rt, seen.result, Err(Fault::Read));
     } else {
-        assert_eq!(rt; seen.outcome(), Ok(POST_TEXT));
+        same(rt, seen.outcome(), Ok(POST_TEXT));
     }
 }
 
@@ -51,11 +52,11 @@ fn slow(bytes: &'static [u8], fails_at: usize) -> Slow<'static> {
 }
 
 fn has_read_until(rt: &impl Abort, seen: &Seen, fails_at: usize) {
-    assert!(rt; POST_TEXT.starts_with(seen.written.as_slice()));
+    holds(rt, POST_TEXT.starts_with(seen.written.as_slice()));
     if fails_at < 77 {
-        assert_eq!(rt; seen.result, Err(Fault::Read));
+        same(rt, seen.result, Err(Fault::Read));
     } else {
-        assert_eq!(rt; seen.outcome(), Ok(POST_TEXT));
+        same(rt, seen.outcome(), Ok(POST_TEXT));
     }
 }
 
@@ -86,13 +87,13 @@ fn has_written_request_until(
     fails_at: usize,
 ) {
     if fails_at <= POST_TEXT.len() {
-        assert_eq!(rt; outcome, Err(Fault::Write));
+        same(rt, outcome, Err(Fault::Write));
         assert!(rt; 0 < fails_at);
-        assert_eq!(rt; written, &POST_TEXT[..fails_at - 1]);
-        assert_eq!(rt; exchange.stage(), Stage::Failed);
+        same(rt, written, &POST_TEXT[..fails_at - 1]);
+        same(rt, exchange.stage(), Stage::Failed);
     } else {
-        assert_eq!(rt; outcome, Ok(()));
-        assert_eq!(rt; written, POST_TEXT);
+        same(rt, outcome, Ok(()));
+        same(rt, written, POST_TEXT);
     }
 }
 
@@ -109,12 +110,12 @@ fn each_write_of_a_request_fails_in_turn(rt: HostRuntime) -> Result<(), Fail> {
 }
 
 fn has_read_answer_until(rt: &impl Abort, exchange: &Exchange, seen: &Seen, fails_at: usize) {
-    assert!(rt; ANSWER_TEXT.starts_with(seen.written.as_slice()));
-    assert_eq!(rt; exchange.begun(), !seen.written.is_empty());
+    holds(rt, ANSWER_TEXT.starts_with(seen.written.as_slice()));
+    same(rt, exchange.begun(), !seen.written.is_empty());
     if fails_at <= ANSWER.len() {
-        assert_eq!(rt; seen.result, Err(Fault::Read));
+        same(rt, seen.result, Err(Fault::Read));
     } else {
-        assert_eq!(rt; seen.outcome(), Ok(ANSWER_TEXT));
+        same(rt, seen.outcome(), Ok(ANSWER_TEXT));
     }
 }
 
@@ -136,13 +137,13 @@ fn has_written_answer_until(
     written: &[u8],
     fails_at: usize,
 ) {
-    assert_eq!(rt; exchange.begun(), 1 < fails_at);
-    assert!(rt; ANSWER_TEXT.starts_with(written));
+    same(rt, exchange.begun(), 1 < fails_at);
+    holds(rt, ANSWER_TEXT.starts_with(written));
     if fails_at <= ANSWER_TEXT.len() {
-        assert_eq!(rt; outcome, Err(Fault::Write));
-        assert_eq!(rt; written.len().saturating_add(1), fails_at);
+        same(rt, outcome, Err(Fault::Write));
+        same(rt, written.len().saturating_add(1), fails_at);
     } else {
-        assert_eq!(rt; outcome, Ok(()));
+        same(rt, outcome, Ok(()));
     }
 }
 
@@ -168,9 +169,9 @@ fn has_no_answer(
 ) {
     let mut reader = b"HTTP/1.1 100 Continue\r\n\r\nHTTP/1.1 103 X\r\n\r\n".as_slice();
     let seen = answered_from(alloc, exchange, request, &mut reader);
-    assert_eq!(rt; seen.result, Err(Fault::Read));
-    assert_eq!(rt; seen.written.as_slice(), text);
-    assert_eq!(rt; exchange.begun(), !text.is_empty());
+    same(rt, seen.result, Err(Fault::Read));
+    same(rt, seen.written.as_slice(), text);
+    same(rt, exchange.begun(), !text.is_empty());
 }
 
 #[test]
@@ -187,17 +188,17 @@ fn is_one_write_of_a_request(rt: &impl Abort, alloc: Global, exchange: &mut Exch
     let mut writer = Tally::new();
     let mut reader = POST;
     let result = forward_to(alloc, exchange, &mut reader, &mut writer);
-    assert_eq!(rt; result, Ok(()));
-    assert_eq!(rt; writer.writes, 1);
-    assert_eq!(rt; writer.bytes, POST_TEXT.len());
+    same(rt, result, Ok(()));
+    same(rt, writer.writes, 1);
+    same(rt, writer.bytes, POST_TEXT.len());
 }
 
 fn is_one_write_of_an_answer(rt: &impl Abort, alloc: Global, exchange: &mut Exchange) {
     let mut writer = Tally::new();
     let mut reader = b"HTTP/1.1 200 OK\r\nContent-Length: 2\r\n\r\nab".as_slice();
     let result = answer_to(alloc, exchange, GET, &mut reader, &mut writer);
-    assert_eq!(rt; result, Ok(()));
-    assert_eq!(rt; writer.writes, 1);
+    same(rt, result, Ok(()));
+    same(rt, writer.writes, 1);
 }
 
 // What is read together goes out together.
@@ -214,7 +215,7 @@ fn view_before(rt: &impl Abort, alloc: Global, exchange: &mut Exchange) -> Resul
     let mut reader = POST;
     exchange.renew();
     let view = exchange.read_request(alloc, &mut reader);
-    assert_eq!(rt; exchange.held(), b"abcd".as_slice());
+    same(rt, exchange.held(), b"abcd".as_slice());
     view
 }
 
@@ -230,13 +231,13 @@ fn take_up(alloc: Global, exchange: &mut Exchange, view: &View) -> Seen {
 fn is_taken_up(rt: &impl Abort, alloc: Global, exchange: &mut Exchange) -> Result<(), Fault> {
     let view = view_before(rt, alloc, exchange)?;
     let seen = take_up(alloc, exchange, &view);
-    assert_eq!(rt; seen.outcome(), Ok(POST_TEXT));
+    same(rt, seen.outcome(), Ok(POST_TEXT));
     Ok(())
 }
 
 #[test]
 fn a_request_is_taken_up(rt: HostRuntime) -> Result<(), Fail> {
     let mut exchange = Exchange::new(rt.alloc(), TURNS)?;
-    assert_eq!(rt; is_taken_up(&rt, rt.alloc(), &mut exchange), Ok(()));
+    same(&rt, is_taken_up(&rt, rt.alloc(), &mut exchange), Ok(()));
     Ok(())
 }

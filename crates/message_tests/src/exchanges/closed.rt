@@ -1,6 +1,7 @@
 use crate::exchanges::streams::{
     GET, TURNS, Tally, answer_to, answer_view, forward_to, forward_view, view_of,
 };
+use assertions::{holds, same};
 use relay_http::{Code, Exchange, Fault};
 use req_view::View;
 use std::alloc::Global;
@@ -102,9 +103,9 @@ fn is_closed_by_a_request(
     let mut reader = input;
     let mut writer = Tally::new();
     let result = forward_to(alloc, exchange, &mut reader, &mut writer);
-    assert_eq!(rt; result, Err(fault));
-    assert!(rt; !exchange.begun());
-    assert!(rt; is_over(alloc, exchange, view));
+    same(rt, result, Err(fault));
+    holds(rt, !exchange.begun());
+    holds(rt, is_over(alloc, exchange, view));
 }
 
 #[test]
@@ -151,9 +152,9 @@ fn is_closed_by_an_answer(
     let mut reader = input;
     let mut writer = Tally::new();
     let result = answer_to(alloc, exchange, GET, &mut reader, &mut writer);
-    assert_eq!(rt; result, Err(fault));
-    assert_eq!(rt; exchange.begun(), begun);
-    assert!(rt; is_over(alloc, exchange, view));
+    same(rt, result, Err(fault));
+    same(rt, exchange.begun(), begun);
+    holds(rt, is_over(alloc, exchange, view));
 }
 
 #[test]

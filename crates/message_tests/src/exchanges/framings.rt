@@ -1,3 +1,4 @@
+use assertions::same;
 use relay_http::{Framing, Plan, answer_plan, request_framing};
 use req_view::{Viewed, answer_head, view};
 use std::alloc::Global;
@@ -51,7 +52,7 @@ fn framings_of_requests(rt: HostRuntime) -> Result<(), Fail> {
         (b"Transfer-Encoding: gzip, chunked\r\n", None),
     ];
     for (lines, expected) in rows {
-        assert_eq!(rt; framing(rt.alloc(), lines)?, expected);
+        same(&rt, framing(rt.alloc(), lines)?, expected);
     }
     Ok(())
 }
@@ -93,7 +94,7 @@ fn plans_of_answers(rt: HostRuntime) -> Result<(), Fail> {
         ),
     ];
     for (head, expected) in rows {
-        assert_eq!(rt; plan(rt.alloc(), b"GET", head)?, expected);
+        same(&rt, plan(rt.alloc(), b"GET", head)?, expected);
     }
     Ok(())
 }
@@ -116,7 +117,7 @@ fn plans_of_answers_by_their_status(rt: HostRuntime) -> Result<(), Fail> {
         (b"HTTP/1.1 101 X\r\n\r\n", None),
     ];
     for (head, expected) in rows {
-        assert_eq!(rt; plan(rt.alloc(), b"GET", head)?, expected);
+        same(&rt, plan(rt.alloc(), b"GET", head)?, expected);
     }
     Ok(())
 }
@@ -136,7 +137,7 @@ fn plans_of_answers_to_head(rt: HostRuntime) -> Result<(), Fail> {
         (b"HTTP/1.1 200 OK\r\nContent-Length: x\r\n\r\n", None),
     ];
     for (head, expected) in rows {
-        assert_eq!(rt; plan(rt.alloc(), b"HEAD", head)?, expected);
+        same(&rt, plan(rt.alloc(), b"HEAD", head)?, expected);
     }
     Ok(())
 }
@@ -145,6 +146,6 @@ fn plans_of_answers_to_head(rt: HostRuntime) -> Result<(), Fail> {
 fn a_method_is_told_by_the_case_of_its_letters(rt: HostRuntime) -> Result<(), Fail> {
     let head = b"HTTP/1.1 200 OK\r\nContent-Length: 7\r\n\r\n";
     let expected = planned(Framing::Length(7), Framing::Length(7));
-    assert_eq!(rt; plan(rt.alloc(), b"head", head)?, expected);
+    same(&rt, plan(rt.alloc(), b"head", head)?, expected);
     Ok(())
 }

@@ -2,6 +2,7 @@ use crate::exchanges::streams::{
     Endless, GET, Seen, Slow, TURNS, Tally, answer_to, answered, forward_to, forward_view,
     forwarded, view_of,
 };
+use assertions::{holds, same};
 use relay_http::{Code, Exchange, Fault, MOST_INTERIMS};
 use req_view::{HEAD_BYTES, HEAD_FIELDS, View};
 use std::alloc::{AllocError, Global};
@@ -56,12 +57,12 @@ fn result_of(alloc: Global, request: &[u8]) -> Result<Result<(), Fault>, AllocEr
 fn the_longest_heads(rt: HostRuntime) -> Result<(), Fail> {
     for (count, expected) in [(HEAD_BYTES, Ok(())), (HEAD_BYTES + 1, Err(Fault::Head))] {
         let head = with_bytes(rt.alloc(), count)?;
-        assert_eq!(rt; head.len(), count);
-        assert_eq!(rt; result_of(rt.alloc(), head.as_slice())?, expected);
+        same(&rt, head.len(), count);
+        same(&rt, result_of(rt.alloc(), head.as_slice())?, expected);
     }
     for (count, expected) in [(HEAD_FIELDS, Ok(())), (HEAD_FIELDS + 1, Err(Fault::Head))] {
         let head = with_fields(rt.alloc(), count)?;
-        assert_eq!(rt; result_of(rt.alloc(), head.as_slice())?, expected);
+        same(&rt, result_of(rt.alloc(), head.as_slice())?, expected);
     }
     Ok(())
 }
@@ -87,22 +88,23 @@ fn the_longest_lines_of_a_body(rt: HostRuntime) -> Result<(), Fail> {
     ];
     for (start, more, end, expected) in rows {
         let input = with_more(rt.alloc(), start, more, end)?;
-        assert_eq!(rt; result_of(rt.alloc(), input.as_slice())?, expected);
+        same(&rt, result_of(rt.alloc(), input.as_slice())?, expected);
     }
     Ok(())
 }
 
 fn are_handed_on(rt: &impl Abort, seen: &Seen, answer: &[u8]) {
-    assert_eq!(rt; seen.result, Ok(()));
-    assert_eq!(rt;
+    same(rt, seen.result, Ok(()));
+    same(
+        rt,
         Some(seen.written.len()),
-        answer.len().checked_add(b"Connection: close\r\n".len())
+        answer.len().checked_add(b"Connection: close\r\n".len()),
     );
 }
 
 fn are_too_many(rt: &impl Abort, seen: &Seen, answer: &[u8]) {
-    assert_eq!(rt; seen.result, Err(Fault::Framing));
-    assert!(rt; answer.starts_with(seen.written.as_slice()));
+    same(rt, seen.result, Err(Fault::Framing));
+    holds(rt, answer.starts_with(seen.written.as_slice()));
 }
 
 #[test]
@@ -126,8 +128,8 @@ fn slow(bytes: &'static [u8]) -> Slow<'static> {
 
 fn spends_all(rt: &impl Abort, alloc: Global, exchange: &mut Exchange) {
     let result = forward_to(alloc, exchange, &mut slow(GET), &mut Tally::new());
-    assert_eq!(rt; result, Err(Fault::Turns));
-    assert_eq!(rt; exchange.turns(), 0);
+    same(rt, result, Err(Fault::Turns));
+    same(rt, exchange.turns(), 0);
 }
 
 #[test]
@@ -146,12 +148,12 @@ fn answers_within(rt: &impl Abort, alloc: Global, exchange: &mut Exchange, turns
     let mut writer = Tally::new();
     let result = answer_to(alloc, exchange, GET, &mut slow(BY_LENGTH), &mut writer);
     if result.is_ok() {
-        assert!(rt; BY_LENGTH.len() as u64 + 1 < turns);
-        assert!(rt; exchange.begun());
+        holds(rt, BY_LENGTH.len() as u64 + 1 < turns);
+        holds(rt, exchange.begun());
     } else {
-        assert_eq!(rt; result, Err(Fault::Turns));
-        assert_eq!(rt; exchange.turns(), 0);
-        assert_eq!(rt; exchange.begun(), 0 < writer.writes);
+        same(rt, result, Err(Fault::Turns));
+        same(rt, exchange.turns(), 0);
+        same(rt, exchange.begun(), 0 < writer.writes);
     }
 }
 
@@ -190,13 +192,18 @@ fn hands_on(
 
 fn has_no_turn(rt: &impl Abort, alloc: Global, exchange: &mut Exchange, view: &View) {
     let mut writer = Tally::new();
-    assert!(rt; reads_no_request(alloc, exchange));
-    assert_eq!(rt; gives_leave(exchange, view, &mut writer), Err(Fault::Turns));
-    assert_eq!(rt;
-        hands_on(alloc, exchange, view, &mut writer),
-        Err(Fault::Turns)
+    holds(rt, reads_no_request(alloc, exchange));
+    same(
+        rt,
+        gives_leave(exchange, view, &mut writer),
+        Err(Fault::Turns),
     );
-    assert_eq!(rt; writer.writes, 0);
+    same(
+        rt,
+        hands_on(alloc, exchange, view, &mut writer),
+        Err(Fault::Turns),
+    );
+    same(rt, writer.writes, 0);
 }
 
 #[test]
@@ -229,7 +236,7 @@ fn an_input_without_end_ends(rt: HostRuntime) -> Result<(), Fail> {
     ];
     for (start, byte, turns, fault) in rows {
         let reader = Endless { start, byte };
-        assert_eq!(rt; endless_request(rt.alloc(), turns, reader)?, Err(fault));
+        same(&rt, endless_request(rt.alloc(), turns, reader)?, Err(fault));
     }
     Ok(())
 }
@@ -259,7 +266,7 @@ fn an_answer_without_end_ends(rt: HostRuntime) -> Result<(), Fail> {
     ];
     for (start, byte, turns, fault) in rows {
         let reader = Endless { start, byte };
-        assert_eq!(rt; endless_answer(rt.alloc(), turns, reader)?, Err(fault));
+        same(&rt, endless_answer(rt.alloc(), turns, reader)?, Err(fault));
     }
     Ok(())
 }
@@ -313,7 +320,7 @@ fn leave_is_given_to_those_who_wait(rt: HostRuntime) -> Result<(), Fail> {
         ),
     ];
     for (head, count) in rows {
-        assert_eq!(rt; leave(rt.alloc(), head)?, Some(count));
+        same(&rt, leave(rt.alloc(), head)?, Some(count));
     }
     Ok(())
 }
@@ -342,7 +349,7 @@ fn refusals(rt: HostRuntime) -> Result<(), Fail> {
         ),
     ];
     for (code, text) in rows {
-        assert_eq!(rt; refused(rt.alloc(), code)?.outcome(), Ok(text));
+        same(&rt, refused(rt.alloc(), code)?.outcome(), Ok(text));
     }
     Ok(())
 }

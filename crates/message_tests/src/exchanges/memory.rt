@@ -1,4 +1,5 @@
 use crate::exchanges::streams::{GET, TURNS, answer_view};
+use assertions::{holds, same};
 use relay_http::{Exchange, Fault, Stage};
 use req_view::View;
 use std::alloc::Global;
@@ -22,8 +23,8 @@ fn read_in_the_end(rt: &impl Abort, alloc: Global, exchange: &mut Exchange) -> R
     match read(alloc, exchange) {
         Ok(view) => Ok(view),
         Err(fault) => {
-            assert_eq!(rt; fault, Fault::NoMemory);
-            assert_eq!(rt; exchange.stage(), Stage::Failed);
+            same(rt, fault, Fault::NoMemory);
+            same(rt, exchange.stage(), Stage::Failed);
             read(alloc, exchange)
         }
     }
@@ -50,7 +51,7 @@ fn answer_in_the_end(
     written: &mut Vec<u8>,
 ) -> Result<(), Fault> {
     let result = answer_once(alloc, exchange, view, written);
-    assert!(rt; ANSWER_TEXT.starts_with(written.as_slice()));
+    holds(rt, ANSWER_TEXT.starts_with(written.as_slice()));
     if result != Err(Fault::NoMemory) {
         return result;
     }
@@ -69,8 +70,8 @@ fn relay(
 }
 
 fn is_relayed(rt: &impl Abort, alloc: Global, exchange: &mut Exchange, written: &mut Vec<u8>) {
-    assert_eq!(rt; relay(rt, alloc, exchange, written), Ok(()));
-    assert_eq!(rt; written.as_slice(), ANSWER_TEXT);
+    same(rt, relay(rt, alloc, exchange, written), Ok(()));
+    same(rt, written.as_slice(), ANSWER_TEXT);
 }
 
 // With the one growth refused that `rt try --test --fail-alloc N` names: want of memory is answered, and the next time not.

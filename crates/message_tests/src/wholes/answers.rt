@@ -1,4 +1,5 @@
 use crate::wholes::relays::{GET, Row, TURNS, answered};
+use assertions::same;
 use relay_http::{Code, Exchange, Fault};
 use std::alloc::{AllocError, Global};
 use std::test::Fail;
@@ -101,13 +102,13 @@ fn answers_in_two_pieces(rt: HostRuntime) -> Result<(), Fail> {
 fn answers_to_the_end(rt: HostRuntime) -> Result<(), Fail> {
     let input = b"HTTP/1.1 200 OK\r\n\r\nabc";
     let seen = answered(rt.alloc(), GET, input, false)?;
-    assert_eq!(rt; seen.outcome(), Some(Progress::More));
+    same(&rt, seen.outcome(), Some(Progress::More));
     let seen = answered(rt.alloc(), GET, input, true)?;
     let text = b"HTTP/1.1 200 OK\r\nConnection: close\r\n\r\nabc".as_slice();
-    assert_eq!(rt; seen.outcome(), Some(Progress::Whole(text)));
+    same(&rt, seen.outcome(), Some(Progress::Whole(text)));
     let seen = answered(rt.alloc(), HEAD, input, false)?;
     let text = b"HTTP/1.1 200 OK\r\nConnection: close\r\n\r\n".as_slice();
-    assert_eq!(rt; seen.outcome(), Some(Progress::Whole(text)));
+    same(&rt, seen.outcome(), Some(Progress::Whole(text)));
     Ok(())
 }
 
@@ -116,7 +117,7 @@ fn answers_to_head(rt: HostRuntime) -> Result<(), Fail> {
     let input = b"HTTP/1.1 200 OK\r\nContent-Length: 7\r\n\r\n";
     let seen = answered(rt.alloc(), HEAD, input, false)?;
     let text = b"HTTP/1.1 200 OK\r\nContent-Length: 7\r\nConnection: close\r\n\r\n".as_slice();
-    assert_eq!(rt; seen.outcome(), Some(Progress::Whole(text)));
+    same(&rt, seen.outcome(), Some(Progress::Whole(text)));
     Ok(())
 }
 
@@ -132,13 +133,17 @@ fn a_long_answer(rt: HostRuntime) -> Result<(), Fail> {
     let seen = answered(rt.alloc(), GET, input.as_slice(), false)?;
     match seen.outcome() {
         Some(Progress::Whole(text)) => {
-            assert_eq!(rt; text.len(), head + b"Connection: close\r\n".len() + 200_000);
+            same(
+                &rt,
+                text.len(),
+                head + b"Connection: close\r\n".len() + 200_000,
+            );
         }
         _ => return Err(Fail::from("no answer")),
     }
     input.pop();
     let seen = answered(rt.alloc(), GET, input.as_slice(), false)?;
-    assert_eq!(rt; seen.outcome(), Some(Progress::More));
+    same(&rt, seen.outcome(), Some(Progress::More));
     Ok(())
 }
 
@@ -151,9 +156,10 @@ fn refused(alloc: Global, out: &mut Vec<u8>) -> Result<(), AllocError> {
 fn refusals(rt: HostRuntime) -> Result<(), Fail> {
     let mut out = Vec::from_slice(rt.alloc(), b"before ")?;
     refused(rt.alloc(), &mut out)?;
-    assert_eq!(rt;
+    same(
+        &rt,
         out.as_slice(),
-        b"before HTTP/1.1 502 Bad Gateway\r\nContent-Length: 0\r\nConnection: close\r\n\r\n".as_slice()
+        b"before HTTP/1.1 502 Bad Gateway\r\nContent-Length: 0\r\nConnection: close\r\n\r\n".as_slice(),
     );
     Ok(())
 }

@@ -1,4 +1,5 @@
 use crate::wholes::relays::{GET, Row, TURNS, forwarded};
+use assertions::same;
 use relay_http::{Exchange, Fault, Stage};
 use std::test::Fail;
 use whole_messages::{Progress, read_head};
@@ -80,7 +81,7 @@ fn requests_in_two_pieces(rt: HostRuntime) -> Result<(), Fail> {
             assert_eq!(rt; seen.outcome(), Some(Progress::More), "{len}");
         }
         let seen = forwarded(rt.alloc(), input)?;
-        assert_eq!(rt; seen.outcome(), Some(Progress::Whole(text)));
+        same(&rt, seen.outcome(), Some(Progress::Whole(text)));
     }
     Ok(())
 }
@@ -89,11 +90,11 @@ fn requests_in_two_pieces(rt: HostRuntime) -> Result<(), Fail> {
 fn a_head_that_came(rt: HostRuntime) -> Result<(), Fail> {
     let mut exchange = Exchange::new(rt.alloc(), TURNS)?;
     match read_head(&mut exchange, rt.alloc(), POST, false) {
-        Progress::Whole(view) => assert_eq!(rt; view.method(), b"POST".as_slice()),
+        Progress::Whole(view) => same(&rt, view.method(), b"POST".as_slice()),
         _ => return Err(Fail::from("no request")),
     }
-    assert_eq!(rt; exchange.stage(), Stage::Asked);
-    assert_eq!(rt; exchange.held(), b"abc".as_slice());
+    same(&rt, exchange.stage(), Stage::Asked);
+    same(&rt, exchange.held(), b"abc".as_slice());
     Ok(())
 }
 

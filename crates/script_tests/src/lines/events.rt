@@ -1,3 +1,4 @@
+use assertions::{holds, same};
 use script::{Line, Name, Step, step_in};
 
 fn step_of(line: &[u8]) -> Option<Step> {
@@ -90,48 +91,61 @@ fn is_roll(line: &[u8]) -> bool {
 
 #[test]
 fn lines_ask_for_arrivals(rt: HostRuntime) {
-    assert_eq!(rt;
+    same(
+        &rt,
         arrival(b"\t7  arrive 5000\t-600000 ", ""),
-        Some((7, 2047, -524_287))
+        Some((7, 2047, -524_287)),
     );
-    assert_eq!(rt; arrival(b"7 arrive 0 0 s-1.x", "s-1.x"), Some((7, 0, 0)));
-    assert_eq!(rt; arrival(b"00 arrive -0 0", ""), Some((0, 0, 0)));
+    same(
+        &rt,
+        arrival(b"7 arrive 0 0 s-1.x", "s-1.x"),
+        Some((7, 0, 0)),
+    );
+    same(&rt, arrival(b"00 arrive -0 0", ""), Some((0, 0, 0)));
 }
 
 #[test]
 fn lines_ask_for_what_happens_to_a_ticket(rt: HostRuntime) {
-    assert_eq!(rt;
+    same(
+        &rt,
         of_ticket(b"999999999999999999 done 000000000000000012"),
-        Some(("done", 999_999_999_999_999_999, 12))
+        Some(("done", 999_999_999_999_999_999, 12)),
     );
-    assert_eq!(rt; of_ticket(b"3 fail 1"), Some(("fail", 3, 1)));
-    assert_eq!(rt;
+    same(&rt, of_ticket(b"3 fail 1"), Some(("fail", 3, 1)));
+    same(
+        &rt,
         of_ticket(b" 03\tabort  999999999999999999\t"),
-        Some(("abort", 3, 999_999_999_999_999_999))
+        Some(("abort", 3, 999_999_999_999_999_999)),
     );
 }
 
 #[test]
 fn lines_ask_for_ticks_and_checks(rt: HostRuntime) {
-    assert_eq!(rt; tick(b"14 tick"), Some(14));
-    assert_eq!(rt;
+    same(&rt, tick(b"14 tick"), Some(14));
+    same(
+        &rt,
         tick(b"\t999999999999999999 tick "),
-        Some(999_999_999_999_999_999)
+        Some(999_999_999_999_999_999),
     );
-    assert_eq!(rt; check(b"4 check a down", "a"), Some((4, false)));
-    assert_eq!(rt; check(b"00  check\ts-1.x up ", "s-1.x"), Some((0, true)));
-    assert_eq!(rt; check(b"5 check up down", "up"), Some((5, false)));
+    same(&rt, check(b"4 check a down", "a"), Some((4, false)));
+    same(
+        &rt,
+        check(b"00  check\ts-1.x up ", "s-1.x"),
+        Some((0, true)),
+    );
+    same(&rt, check(b"5 check up down", "up"), Some((5, false)));
 }
 
 #[test]
 fn lines_ask_for_limits_and_rolls(rt: HostRuntime) {
-    assert_eq!(rt; limit(b"3 limit a 1", "a"), Some((3, 1)));
-    assert_eq!(rt;
+    same(&rt, limit(b"3 limit a 1", "a"), Some((3, 1)));
+    same(
+        &rt,
         limit(b"\t00 limit  limit 999999999 ", "limit"),
-        Some((0, 999_999_999))
+        Some((0, 999_999_999)),
     );
-    assert_eq!(rt; limit(b"6 limit a 0", "a"), Some((6, 0)));
-    assert!(rt; is_roll(b"roll") && is_roll(b" \troll "));
+    same(&rt, limit(b"6 limit a 0", "a"), Some((6, 0)));
+    holds(&rt, is_roll(b"roll") && is_roll(b" \troll "));
 }
 
 #[test]
@@ -156,7 +170,7 @@ fn lines_like_limits_and_rolls_ask_for_nothing(rt: HostRuntime) {
         b"rolls",
     ];
     for line in lines {
-        assert!(rt; step_of(line).is_none());
+        holds(&rt, step_of(line).is_none());
     }
 }
 
@@ -177,7 +191,7 @@ fn other_lines_ask_for_nothing(rt: HostRuntime) {
         b"",
     ];
     for line in lines {
-        assert!(rt; step_of(line).is_none());
+        holds(&rt, step_of(line).is_none());
     }
 }
 
@@ -201,7 +215,7 @@ fn lines_like_failures_and_aborts_ask_for_nothing(rt: HostRuntime) {
         b"1 aborted 1",
     ];
     for line in lines {
-        assert!(rt; step_of(line).is_none());
+        holds(&rt, step_of(line).is_none());
     }
 }
 
@@ -227,6 +241,6 @@ fn lines_like_ticks_and_checks_ask_for_nothing(rt: HostRuntime) {
         b"check s1 up",
     ];
     for line in lines {
-        assert!(rt; step_of(line).is_none());
+        holds(&rt, step_of(line).is_none());
     }
 }

@@ -1,3 +1,4 @@
+use assertions::{holds, same};
 use dispatch_log::ServerSet;
 use proxy_words::Lines;
 use script::{Header, Line, MOST_BYTES, Name, ScriptError, is_faulty, read, step_in};
@@ -50,7 +51,7 @@ fn the_first_fault_has_its_line(rt: HostRuntime) {
         (b"roll\nlog 9\n", Some(2)),
     ];
     for (script, line) in rows {
-        assert_eq!(rt; fault(rt.alloc(), script), line);
+        same(&rt, fault(rt.alloc(), script), line);
     }
 }
 
@@ -75,7 +76,7 @@ fn retries_redispatch_and_timeouts_have_their_form(rt: HostRuntime) {
         (b"queue_timeout 1", Some(1)),
     ];
     for (script, line) in rows {
-        assert_eq!(rt; fault(rt.alloc(), script), line);
+        same(&rt, fault(rt.alloc(), script), line);
     }
 }
 
@@ -95,7 +96,7 @@ fn checked_servers_have_rise_and_fall(rt: HostRuntime) {
         (b"server a 0 0 1 2 3\nserver a 0 0 1", Some(2)),
     ];
     for (script, line) in rows {
-        assert_eq!(rt; fault(rt.alloc(), script), line);
+        same(&rt, fault(rt.alloc(), script), line);
     }
 }
 
@@ -111,16 +112,16 @@ fn a_header_line_behind_an_event_is_a_fault(rt: HostRuntime) {
         (b"retries 3\n0 tick\n0 check a up\n0 check b down", None),
     ];
     for (script, line) in rows {
-        assert_eq!(rt; fault(rt.alloc(), script), line);
+        same(&rt, fault(rt.alloc(), script), line);
     }
 }
 
 #[test]
 fn a_script_has_four_mebibytes_at_most(rt: HostRuntime) -> Result<(), Fail> {
     let mut script = vec![in rt.alloc(); b'#'; MOST_BYTES]?;
-    assert_eq!(rt; fault(rt.alloc(), &script), None);
+    same(&rt, fault(rt.alloc(), &script), None);
     script.push(b'#')?;
-    assert_eq!(rt; fault(rt.alloc(), &script), Some(0));
+    same(&rt, fault(rt.alloc(), &script), Some(0));
     Ok(())
 }
 
@@ -130,9 +131,9 @@ fn a_script_has_64_servers_at_most(rt: HostRuntime) -> Result<(), Fail> {
     for server in 0..64u64 {
         writeln!(script, "server s{server} 1 0 1")?;
     }
-    assert_eq!(rt; fault(rt.alloc(), script.as_bytes()), None);
+    same(&rt, fault(rt.alloc(), script.as_bytes()), None);
     script.push_str("server more 1 0 1\n")?;
-    assert_eq!(rt; fault(rt.alloc(), script.as_bytes()), Some(65));
+    same(&rt, fault(rt.alloc(), script.as_bytes()), Some(65));
     Ok(())
 }
 
@@ -142,9 +143,9 @@ fn a_header_says_what_its_lines_say(rt: HostRuntime) -> Result<(), Fail> {
         rt.alloc(),
         b"server b 2 3 4\nplaces 7\nplaces 8\nserver a 0 0 0 2 3\n\n0 arrive 0 0 a\n",
     )?;
-    assert_eq!(rt; count, 5);
-    assert_eq!(rt; header.places(), Some(8));
-    assert_eq!(rt; header.log(), None);
+    same(&rt, count, 5);
+    same(&rt, header.places(), Some(8));
+    same(&rt, header.log(), None);
     let (names, servers) = header.into_servers();
     let first = ServerSet {
         limit: 2,
@@ -158,15 +159,15 @@ fn a_header_says_what_its_lines_say(rt: HostRuntime) -> Result<(), Fail> {
         weight: 0,
         rise_fall: Some((2, 3)),
     };
-    assert_eq!(rt; servers.as_slice(), [first, second].as_slice());
-    assert_eq!(rt; names.len(), 2);
-    assert_eq!(rt; names.of(1), "a");
+    same(&rt, servers.as_slice(), [first, second].as_slice());
+    same(&rt, names.len(), 2);
+    same(&rt, names.of(1), "a");
     let name = Name::new(b"a").ok_or("a is a name")?;
     let other = Name::new(b"c").ok_or("c is a name")?;
-    assert_eq!(rt; names.find(&name), Some(1));
-    assert_eq!(rt; names.find(&other), None);
-    assert_eq!(rt; names.number(&other), 2);
-    assert_eq!(rt; other.as_str(), "c");
+    same(&rt, names.find(&name), Some(1));
+    same(&rt, names.find(&other), None);
+    same(&rt, names.number(&other), 2);
+    same(&rt, other.as_str(), "c");
     Ok(())
 }
 
@@ -176,20 +177,20 @@ fn of_a_word_that_comes_again_the_last_line_stands(rt: HostRuntime) -> Result<()
         rt.alloc(),
         b"retries 5\nqueue-timeout 10\nredispatch\nretries 0\nredispatch\nqueue-timeout 07\nlog 9\n",
     )?;
-    assert_eq!(rt; header.retries(), Some(0));
-    assert!(rt; header.redispatch());
-    assert_eq!(rt; header.queue_timeout(), Some(7));
-    assert_eq!(rt; header.log(), Some(9));
-    assert_eq!(rt; header.places(), None);
+    same(&rt, header.retries(), Some(0));
+    holds(&rt, header.redispatch());
+    same(&rt, header.queue_timeout(), Some(7));
+    same(&rt, header.log(), Some(9));
+    same(&rt, header.places(), None);
     Ok(())
 }
 
 #[test]
 fn what_no_line_says_is_not_set(rt: HostRuntime) -> Result<(), Fail> {
     let (header, _) = read(rt.alloc(), b"places 8\n0 tick\n")?;
-    assert_eq!(rt; header.retries(), None);
-    assert!(rt; !header.redispatch());
-    assert_eq!(rt; header.queue_timeout(), None);
+    same(&rt, header.retries(), None);
+    holds(&rt, !header.redispatch());
+    same(&rt, header.queue_timeout(), None);
     Ok(())
 }
 
@@ -217,7 +218,7 @@ fn a_line_is_a_setting_a_step_or_skipped(rt: HostRuntime) {
         (b"tick", "none"),
     ];
     for (line, answer) in rows {
-        assert_eq!(rt; kind(line), answer);
-        assert_eq!(rt; step_in(Line::of(line)).is_some(), answer == "step");
+        same(&rt, kind(line), answer);
+        same(&rt, step_in(Line::of(line)).is_some(), answer == "step");
     }
 }

@@ -1,3 +1,4 @@
+use assertions::same;
 use dispatch_log::Queue;
 use due_key::{Class, Due, Moment, Offset};
 use late_cert::{Report, Stay, Stays};
@@ -37,7 +38,7 @@ fn reports_are_written_line_by_line(rt: HostRuntime) -> Result<(), Fail> {
     push_reports(&mut text, &names, &reports)?;
     let expected =
         "queue * class 0 granted 3 worst 19 due -2 after 8 to 14 critical 12 3\nqueue a class -3 granted 3 worst -4 due -2 after 8 to 14 critical 9\n";
-    assert_eq!(rt; text.as_str(), expected);
+    same(&rt, text.as_str(), expected);
     Ok(())
 }
 
@@ -66,6 +67,6 @@ fn a_roll_has_its_line_before_the_reports(rt: HostRuntime) -> Result<(), Fail> {
     push_roll(&mut text, &Names::new(Vec::new(alloc)), &[])?;
     let expected =
         "roll\nqueue * class 0 granted 1 worst -90 due 100 after 0 to 8 critical 2\nroll\n";
-    assert_eq!(rt; text.as_str(), expected);
+    same(&rt, text.as_str(), expected);
     Ok(())
 }

@@ -1,3 +1,4 @@
+use assertions::same;
 use dispatch_log::{Arrival, Entry, Queue, Refusal};
 use due_key::{Class, Due, Moment, Offset};
 use script::{Names, push_entries, push_refusal};
@@ -53,7 +54,7 @@ fn entries_are_written_line_by_line(rt: HostRuntime) -> Result<(), Fail> {
     push_refusal(&mut text, Refusal::TicketsSpent)?;
     let expected =
         "7 arrive 1 -3 -524280\n  direct 1 b\n8 arrive 2 3 -524280 b\n  join 2 *\n  join 3 a\n9 done 1\n  free 1 b\n  left 4 noserver\n  end 1\n  grant 2 * b\n  grant 3 a a\nrefused 14\n";
-    assert_eq!(rt; text.as_str(), expected);
+    same(&rt, text.as_str(), expected);
     Ok(())
 }
 
@@ -94,6 +95,6 @@ fn failures_ticks_checks_and_limits_are_written_line_by_line(rt: HostRuntime) ->
 18 limit b 7
 19 limit a 0
 ";
-    assert_eq!(rt; text.as_str(), expected);
+    same(&rt, text.as_str(), expected);
     Ok(())
 }

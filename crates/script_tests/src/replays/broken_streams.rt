@@ -1,4 +1,5 @@
 use super::trace_of;
+use assertions::{holds, same};
 use replay::{Fault, replay};
 use script::MOST_BYTES;
 use std::alloc::Global;
@@ -83,7 +84,7 @@ fn pieces_are_joined(rt: HostRuntime) -> Result<(), Fail> {
     for piece in 1..25usize {
         let mut writer = taking(rt.alloc(), piece, 1000, true);
         replay(rt.alloc(), &mut script_in(piece, 1000), &mut writer)?;
-        assert_eq!(rt; writer.taken.as_slice(), TRACE);
+        same(&rt, writer.taken.as_slice(), TRACE);
     }
     Ok(())
 }
@@ -93,8 +94,8 @@ fn a_failed_read_leaves_nothing_written(rt: HostRuntime) {
     for turns in 0..5usize {
         let mut writer = taking(rt.alloc(), 1, 1000, true);
         let end = replay(rt.alloc(), &mut script_in(5, turns), &mut writer);
-        assert_eq!(rt; end, Err(Fault::Read));
-        assert!(rt; writer.taken.is_empty());
+        same(&rt, end, Err(Fault::Read));
+        holds(&rt, writer.taken.is_empty());
     }
 }
 
@@ -104,9 +105,9 @@ fn a_failed_write_leaves_a_front(rt: HostRuntime) {
         for fails in [true, false] {
             let mut writer = taking(rt.alloc(), 5, turns, fails);
             let end = replay(rt.alloc(), &mut script_in(1000, 1000), &mut writer);
-            assert_eq!(rt; end, Err(Fault::Write));
-            assert_eq!(rt; writer.taken.len(), 5 * turns);
-            assert!(rt; TRACE.starts_with(&writer.taken));
+            same(&rt, end, Err(Fault::Write));
+            same(&rt, writer.taken.len(), 5 * turns);
+            holds(&rt, TRACE.starts_with(&writer.taken));
         }
     }
 }
@@ -116,18 +117,19 @@ fn a_faulty_script_leaves_nothing_written(rt: HostRuntime) {
     let mut script = b"0 arrive 0 0\nno event\n".as_slice();
     let mut trace = Vec::new(rt.alloc());
     let end = replay(rt.alloc(), &mut script, &mut trace);
-    assert_eq!(rt; end, Err(Fault::Script { line: 2 }));
-    assert!(rt; trace.is_empty());
+    same(&rt, end, Err(Fault::Script { line: 2 }));
+    holds(&rt, trace.is_empty());
 }
 
 #[test]
 fn a_script_has_four_mebibytes_at_most(rt: HostRuntime) -> Result<(), Fail> {
     let mut script = vec![in rt.alloc(); b'#'; MOST_BYTES]?;
-    assert!(rt; trace_of(rt.alloc(), &script)?.is_empty());
+    holds(&rt, trace_of(rt.alloc(), &script)?.is_empty());
     script.push(b'#')?;
-    assert_eq!(rt;
+    same(
+        &rt,
         trace_of(rt.alloc(), &script),
-        Err(Fault::Script { line: 0 })
+        Err(Fault::Script { line: 0 }),
     );
     Ok(())
 }
@@ -143,7 +145,7 @@ fn each_fault_has_its_text(rt: HostRuntime) -> Result<(), Fail> {
     ];
     for (fault, line) in rows {
         let text = format!(in rt.alloc(); "{fault}")?;
-        assert_eq!(rt; text.as_str(), line);
+        same(&rt, text.as_str(), line);
     }
     Ok(())
 }

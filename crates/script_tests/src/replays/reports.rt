@@ -1,3 +1,4 @@
+use assertions::same;
 use dispatch_core::{Core, ServerSet, Servers, Setup};
 use due_key::{Class, Key, Moment, Offset};
 use pend_queue::ListQueue;
@@ -62,7 +63,7 @@ fn are_reported(
     for report in reports_of(alloc, core)?.as_slice() {
         told.push((report.class.get(), report.granted, report.worst))?;
     }
-    assert_eq!(rt; told.as_slice(), expected);
+    same(rt, told.as_slice(), expected);
     Ok(())
 }
 

@@ -107,3 +107,19 @@ refused 6
 ",
     )
 }
+
+// Room for two requests' entries and a check is asked for first, whatever the event is.
+#[test]
+fn a_full_log_refuses_each_event(rt: HostRuntime) -> Result<(), Fail> {
+    let events =
+        "1 done 1\n1 fail 1\n1 abort 1\n1 tick\n1 check s1 up\n1 check zz up\n1 done 9\n1 arrive 0 0\n";
+    let refused =
+        "refused 3\nrefused 3\nrefused 3\nrefused 3\nrefused 3\nrefused 3\nrefused 3\nrefused 3\n";
+    let alloc = rt.alloc();
+    let script = format!(in alloc; "places 1\nlog 10\n0 arrive 0 0\n{events}")?;
+    let expected = format!(in alloc; "0 arrive 1 0 0\n  direct 1 s1\n{refused}")?;
+    expect(&rt, alloc, script.as_str(), expected.as_str())?;
+    let script = format!(in alloc; "places 1\nlog 9\n0 arrive 0 0\n{events}")?;
+    let expected = format!(in alloc; "refused 3\n{refused}")?;
+    expect(&rt, alloc, script.as_str(), expected.as_str())
+}

@@ -1,4 +1,5 @@
 use super::trace_of;
+use assertions::same;
 use replay::Fault;
 use std::alloc::Global;
 use std::process::Abort;
@@ -6,7 +7,7 @@ use std::test::Fail;
 
 fn expect(rt: &impl Abort, alloc: Global, script: &[u8], expected: &str) -> Result<(), Fail> {
     let trace = trace_of(alloc, script)?;
-    assert_eq!(rt; trace.as_slice(), expected.as_bytes());
+    same(rt, trace.as_slice(), expected.as_bytes());
     Ok(())
 }
 
@@ -170,24 +171,28 @@ fn lines_end_as_they_may(rt: HostRuntime) -> Result<(), Fail> {
 #[test]
 fn the_first_faulty_line_is_named(rt: HostRuntime) {
     let fault = |line: usize| Err(Fault::Script { line });
-    assert_eq!(rt;
+    same(
+        &rt,
         trace_of(rt.alloc(), b"0 arrive 0 0\n0 arrive 0\n0 done"),
-        fault(2)
+        fault(2),
     );
-    assert_eq!(rt; trace_of(rt.alloc(), b" # no comment\n"), fault(1));
-    assert_eq!(rt; trace_of(rt.alloc(), b"\n\n1 done 1\r"), fault(3));
-    assert_eq!(rt;
+    same(&rt, trace_of(rt.alloc(), b" # no comment\n"), fault(1));
+    same(&rt, trace_of(rt.alloc(), b"\n\n1 done 1\r"), fault(3));
+    same(
+        &rt,
         trace_of(rt.alloc(), b"places 3\n0 done 1\nlog 9\n"),
-        fault(3)
+        fault(3),
     );
-    assert_eq!(rt; trace_of(rt.alloc(), b"retry 3\n"), fault(1));
-    assert_eq!(rt; trace_of(rt.alloc(), b"0 arrive 0 0 *\n"), fault(1));
-    assert_eq!(rt;
+    same(&rt, trace_of(rt.alloc(), b"retry 3\n"), fault(1));
+    same(&rt, trace_of(rt.alloc(), b"0 arrive 0 0 *\n"), fault(1));
+    same(
+        &rt,
         trace_of(rt.alloc(), b"1000000000000000000 done 1\n"),
-        fault(1)
+        fault(1),
     );
-    assert_eq!(rt;
+    same(
+        &rt,
         trace_of(rt.alloc(), b"0 arrive 0 1000000000000000000\n"),
-        fault(1)
+        fault(1),
     );
 }

@@ -1,0 +1,82 @@
+use super::calls::moment;
+use assertions::same;
+use binom_queue::BinomQueue;
+use dispatch_core::{Core, Queue, Refusal, ServerSet, Servers, Setup};
+use due_key::{Class, Key, Offset};
+use pend_queue::{ListQueue, PendQueue};
+use std::alloc::{AllocError, Global};
+use std::process::Abort;
+use std::test::Fail;
+
+// Each of these tests goes well whichever single allocation is refused.
+
+// A dispatcher of one server that takes one request at a time. None where its setup isn't sound.
+fn made<Q: PendQueue<Key, usize>>(alloc: Global) -> Result<Option<Core<Q>>, AllocError> {
+    let mut servers = Vec::new(alloc);
+    servers.push(ServerSet {
+        limit: 1,
+        maxqueue: 0,
+        weight: 1,
+        rise_fall: None,
+    })?;
+    let setup = Setup {
+        servers: Servers::from_vec(servers),
+        places: 8,
+        log: 64,
+        retries: 3,
+        redispatch: false,
+        queue_timeout: 0,
+    };
+    if !setup.sound() {
+        return Ok(None);
+    }
+    Ok(Some(Core::new(alloc, setup)?))
+}
+
+fn made_in_the_end<Q: PendQueue<Key, usize>>(alloc: Global) -> Result<Option<Core<Q>>, AllocError> {
+    match made(alloc) {
+        Ok(core) => Ok(core),
+        Err(_) => made(alloc),
+    }
+}
+
+fn arrive<Q: PendQueue<Key, usize>>(alloc: Global, core: &mut Core<Q>) -> Result<u64, Refusal> {
+    let it = core.arrive(alloc, moment(0), Class::clamp(0), Offset::clamp(0), None)?;
+    Ok(it.ticket)
+}
+
+// Where memory was refused, the log is as it was, and the same call comes again.
+fn arrive_in_the_end<Q: PendQueue<Key, usize>>(
+    rt: &impl Abort,
+    alloc: Global,
+    core: &mut Core<Q>,
+) -> Result<u64, Refusal> {
+    let before = core.log().len();
+    let answer = arrive(alloc, core);
+    if answer != Err(Refusal::NoMemory) {
+        return answer;
+    }
+    same(rt, core.log().len(), before);
+    arrive(alloc, core)
+}
+
+fn come<Q: PendQueue<Key, usize>>(rt: &impl Abort, alloc: Global, core: &mut Core<Q>) {
+    for ticket in 1..4u64 {
+        same(rt, arrive_in_the_end(rt, alloc, core), Ok(ticket));
+    }
+    same(rt, (core.served(0), core.queued(Queue::Backend)), (1, 2));
+}
+
+fn come_to<Q: PendQueue<Key, usize>>(rt: &impl Abort, alloc: Global) -> Result<(), Fail> {
+    let Some(mut core) = made_in_the_end::<Q>(alloc)? else {
+        return Err(Fail::from("not a sound setup"));
+    };
+    come(rt, alloc, &mut core);
+    Ok(())
+}
+
+#[test]
+fn a_refused_growth_changes_no_dispatcher(rt: HostRuntime) -> Result<(), Fail> {
+    come_to::<ListQueue<Key, usize>>(&rt, rt.alloc())?;
+    come_to::<BinomQueue<Key, usize>>(&rt, rt.alloc())
+}

@@ -5,7 +5,7 @@ ghost use Rattle.grant_board.specs.Views.{terms};
 ghost use Rattle.outstanding.specs.Books.{terms_of};
 ghost use Rattle.reporting_core.specs.Reporting.{IsNew};
 
-use assertions::same;
+use crate::assertions::same;
 use dispatch_core::Core;
 use dispatch_log::{Queue, ServerSet, Servers, Setup};
 use dispatch_trace::Ticketed;

@@ -1,7 +1,7 @@
 ghost use Rattle.std.specs.Prelude.{◌≡◌, [], IfOk, length};
 ghost use Rattle.dispatch_log.specs.Histories.{first_window};
 
-use assertions::same;
+use crate::assertions::same;
 use dispatch_core::Core;
 use dispatch_log::{Queue, ServerSet, Servers, Setup};
 use due_key::{Class, Key, Moment, Offset};

@@ -1,4 +1,4 @@
-use assertions::{holds, same};
+use crate::assertions::{holds, same};
 use config_advice::explain;
 use config_check::{Checked, status_of};
 use proxy_config::{ConfigFault, FaultCause};

@@ -1,4 +1,4 @@
-use assertions::same;
+use crate::assertions::same;
 use command_words::{Asked, Numbers, Only, ask};
 use due_key::Class;
 use std::test::Fail;

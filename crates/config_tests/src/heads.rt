@@ -1,4 +1,4 @@
-use assertions::{holds, same};
+use crate::assertions::{holds, same};
 use req_view::{
     AnswerHead, HEAD_BYTES, HEAD_FIELDS, HeadRefusal, Version, View, Viewed, answer_head, view,
 };

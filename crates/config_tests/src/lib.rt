@@ -5,6 +5,8 @@
 #[cfg(test)]
 mod advice;
 #[cfg(test)]
+mod assertions;
+#[cfg(test)]
 mod commands;
 #[cfg(test)]
 mod configuration;

@@ -1,6 +1,6 @@
 //! From the bytes of a configuration and of a request's head to the wish.
 
-use assertions::same;
+use crate::assertions::same;
 use due_key::{Class, Offset};
 use prio_rules::{Wish, decide};
 use proxy_config::{Config, read};

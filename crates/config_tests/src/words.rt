@@ -1,4 +1,4 @@
-use assertions::{holds, same};
+use crate::assertions::{holds, same};
 use proxy_words::{
     Lines, Parts, Words, is_name, long_number, milliseconds, number, signed_long_number,
     without_comment,

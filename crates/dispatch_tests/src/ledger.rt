@@ -1,7 +1,7 @@
 ghost use Rattle.std.specs.Prelude.{◌≡◌, ℕ, ◌<◌, None, IfOk, OnOk, length, replicate};
 ghost use Rattle.slot_ledger.specs.Slots.{AreBelow};
 
-use assertions::same;
+use crate::assertions::same;
 use dispatch_log::{Allowance, Phase, Queue, Row, ServerSet, Servers, Setup};
 use due_key::{Class, Due, Key, Moment, Offset};
 use slot_ledger::Ledger;

@@ -2,6 +2,8 @@
 #![tactic(auto)]
 
 #[cfg(test)]
+mod assertions;
+#[cfg(test)]
 mod dispatcher;
 #[cfg(test)]
 mod ledger;

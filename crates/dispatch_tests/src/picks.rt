@@ -1,6 +1,6 @@
 ghost use Rattle.std.specs.Prelude.{◌≡◌, None, IfOk, length, replicate};
 
-use assertions::{holds, same};
+use crate::assertions::{holds, same};
 use dispatch_log::{Phase, Queue, Row, ServerSet, Servers, Setup};
 use due_key::{Class, Due, Key, Moment, Offset};
 use server_pick::{Cursor, Heads, Placement, Set64, candidates, next_queue, next_taker, place};

@@ -6,7 +6,7 @@ ghost use Rattle.dispatch_log.specs.Judgement.{granting};
 ghost use Rattle.dispatch_log.specs.Rows.{pin_of};
 ghost use Rattle.dispatch_trace.specs.Histories.{with_entry, stage_of, IsAt, MayPut};
 
-use assertions::{holds, same};
+use crate::assertions::{holds, same};
 use dispatch_log::{Queue, Refusal, ServerSet, Servers, Setup};
 use dispatch_trace::{Ticketed, Trace};
 use due_key::{Class, Key, Moment, Offset};

@@ -1,4 +1,4 @@
-use assertions::same;
+use crate::assertions::same;
 use std::test::Fail;
 use verdict::Cause;
 

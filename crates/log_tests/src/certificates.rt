@@ -1,6 +1,6 @@
 ghost use Rattle.std.specs.Prelude.{◌≡◌, IfOk, length};
 
-use assertions::{holds, same};
+use crate::assertions::{holds, same};
 use dispatch_log::{Arrival, Entry, Phase, Queue, Row, ServerSet, Servers, Setup};
 use due_key::{Class, Due, Key, Moment, Offset};
 use late_cert::{Report, Reports, Stays, audit, certify};

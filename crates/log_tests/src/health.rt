@@ -1,4 +1,4 @@
-use assertions::{holds, same};
+use crate::assertions::{holds, same};
 use check_state::{Change, Health};
 use std::test::Fail;
 

@@ -1,4 +1,4 @@
-use assertions::{holds, same};
+use crate::assertions::{holds, same};
 use due_key::{Class, Due, Key, Moment, Offset};
 use std::test::Fail;
 

@@ -1,4 +1,4 @@
-use assertions::{holds, same};
+use crate::assertions::{holds, same};
 use dispatch_log::{Allowance, Arrival, Phase, Queue, Refusal, ServerSet, Servers, Setup};
 use due_key::{Class, Due, Key, Moment, Offset};
 use std::test::Fail;

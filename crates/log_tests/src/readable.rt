@@ -1,7 +1,7 @@
 ghost use Rattle.std.specs.Prelude.{◌≡◌, ◌<◌, IfOk, None, length, replicate};
 ghost use Rattle.dispatch_log.specs.Setups.{IsSound};
 
-use assertions::{holds, same};
+use crate::assertions::{holds, same};
 use check_state::Health;
 use dispatch_log::{Allowance, Arrival, Entry, Phase, Queue, Row, ServerSet, Servers, Setup};
 use due_key::{Class, Due, Key, Moment, Offset};

@@ -1,5 +1,5 @@
+use crate::assertions::{holds, same};
 use crate::exchanges::streams::{Narrow, Slow};
-use assertions::{holds, same};
 use counted_io::Counted;
 use relay_body::{Fault, Framing, INBOX_BYTES, Pipe, SIZE_LINE_BYTES, TRAILER_BYTES};
 use std::alloc::{AllocError, Global};

@@ -1,4 +1,4 @@
-use assertions::same;
+use crate::assertions::same;
 use counted_io::{Counted, Failed, Sink, Source};
 use std::io;
 use std::io::{Cursor, Read, Write};

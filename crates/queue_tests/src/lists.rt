@@ -1,7 +1,7 @@
 ghost use Rattle.std.specs.Prelude.{◌≡◌, ◌<◌, ◌≤◌, ◌^◌, [], OnOk};
 ghost use Rattle.std.specs.List.{AllByRecursion};
 
-use assertions::{holds, same};
+use crate::assertions::{holds, same};
 use due_key::{Class, Due, Key, Moment, Offset, order_of_keys};
 use pend_queue::{ListQueue, PendQueue};
 use std::alloc::{AllocError, Global};

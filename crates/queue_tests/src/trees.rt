@@ -1,7 +1,7 @@
 ghost use Rattle.std.specs.Prelude.{◌≡◌, ℕ, ◌+◌, ◌*◌, ◌<◌, ◌≤◌, OnOk, IfOk, [], if◌then◌else◌};
 ghost use Rattle.std.specs.List.{AllByRecursion};
 
-use assertions::{holds, same};
+use crate::assertions::{holds, same};
 use binom_queue::BinomQueue;
 use pend_queue::{ListQueue, PendQueue};
 use std::alloc::Global;

@@ -1,6 +1,6 @@
 ghost use Rattle.std.specs.Prelude.{◌≡◌, [], None, replicate};
 
-use assertions::{holds, same};
+use crate::assertions::{holds, same};
 use dispatch_log::Queue;
 use due_key::{Class, Due, Key, Moment, Offset};
 use pend_queue::{ListQueue, PendQueue};

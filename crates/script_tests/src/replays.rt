@@ -8,7 +8,7 @@ mod waiting;
 mod windows;
 mod worked;
 
-use assertions::same;
+use crate::assertions::same;
 use due_key::Key;
 use pend_queue::ListQueue;
 use replay::{Fault, replay, trace_of as trace_over};

@@ -1,4 +1,4 @@
-use assertions::same;
+use crate::assertions::same;
 use reporting_core::ServerLine;
 use script::Names;
 use std::test::Fail;

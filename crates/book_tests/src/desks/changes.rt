@@ -3,7 +3,7 @@ ghost use Rattle.grant_desk.specs.Seats.{IsSameSeat};
 ghost use Rattle.outstanding.specs.Books.{terms_of};
 
 use super::*;
-use assertions::{holds, same};
+use crate::assertions::{holds, same};
 
 // Sets the server's limit, and answers the first place that was woken.
 fn limit<N: BoardName, R: Wait>(

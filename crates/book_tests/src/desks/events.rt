@@ -3,7 +3,7 @@ ghost use Rattle.grant_desk.specs.Seats.{IsSameSeat};
 ghost use Rattle.outstanding.specs.Books.{terms_of};
 
 use super::*;
-use assertions::same;
+use crate::assertions::same;
 
 // The requests that came: one is served, one is aborted, one waits too long, and one finds no server.
 #[derive(Clone, Copy)]

@@ -3,7 +3,7 @@ ghost use Rattle.grant_desk.specs.Seats.{IsSameSeat};
 ghost use Rattle.outstanding.specs.Books.{terms_of};
 
 use super::*;
-use assertions::same;
+use crate::assertions::same;
 
 // The test goes well whichever single allocation is refused: the same call is made again.
 

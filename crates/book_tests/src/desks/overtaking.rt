@@ -3,7 +3,7 @@ ghost use Rattle.grant_desk.specs.Seats.{IsSameSeat};
 ghost use Rattle.outstanding.specs.Books.{terms_of};
 
 use super::*;
-use assertions::{holds, same};
+use crate::assertions::{holds, same};
 
 // Of two requests that wait, the later one is due earlier: it is woken and served first.
 fn overtake<N: BoardName, R: Wait>(

@@ -2,7 +2,7 @@ ghost use Rattle.std.specs.Prelude.{◌≡◌};
 ghost use Rattle.outstanding.specs.Books.{terms_of};
 
 use super::*;
-use assertions::{holds, same};
+use crate::assertions::{holds, same};
 
 // Three servers of one slot each, of which three failed checks in a row take the first one down.
 fn three_servers(alloc: Global) -> Result<Opened, Fail> {

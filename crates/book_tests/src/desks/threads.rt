@@ -3,7 +3,7 @@ ghost use Rattle.grant_desk.specs.Seats.{IsSameSeat};
 ghost use Rattle.outstanding.specs.Books.{terms_of};
 
 use super::*;
-use assertions::same;
+use crate::assertions::same;
 use std::thread::{Threads, join};
 
 // What a thread did, and what is told of the windows that it was handed.

@@ -3,7 +3,7 @@ ghost use Rattle.grant_desk.specs.Seats.{IsSameSeat};
 ghost use Rattle.outstanding.specs.Books.{terms_of};
 
 use super::*;
-use assertions::{holds, same};
+use crate::assertions::{holds, same};
 
 // Two requests wait as the next window begins, and are served in it.
 fn wait_over_a_roll<N: BoardName, R: Wait>(

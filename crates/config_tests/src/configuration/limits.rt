@@ -1,5 +1,5 @@
 use super::*;
-use assertions::{holds, same};
+use crate::assertions::{holds, same};
 use std::alloc::AllocError;
 
 /// A file with so many servers, ACL lines and rules.

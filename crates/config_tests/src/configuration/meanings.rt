@@ -1,5 +1,5 @@
 use super::*;
-use assertions::{holds, same};
+use crate::assertions::{holds, same};
 use std::test::Fail;
 
 #[test]

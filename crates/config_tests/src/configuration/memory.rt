@@ -1,5 +1,5 @@
 use super::*;
-use assertions::same;
+use crate::assertions::same;
 use std::alloc::Global;
 use std::process::Abort;
 use std::test::Fail;

@@ -1,5 +1,5 @@
 use super::*;
-use assertions::{holds, same};
+use crate::assertions::{holds, same};
 use std::test::Fail;
 
 /// A `listen` in its first two lines, with an ACL in the third, and these lines.

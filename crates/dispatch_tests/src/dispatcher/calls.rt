@@ -1,5 +1,5 @@
 use super::setups::{Plan, setup_of};
-use assertions::same;
+use crate::assertions::same;
 use binom_queue::BinomQueue;
 use dispatch_core::{Core, Refusal};
 use due_key::{Class, Key, Moment, Offset};

@@ -1,5 +1,5 @@
 use super::calls::moment;
-use assertions::same;
+use crate::assertions::same;
 use binom_queue::BinomQueue;
 use dispatch_core::{Core, Queue, Refusal, ServerSet, Servers, Setup};
 use due_key::{Class, Key, Offset};

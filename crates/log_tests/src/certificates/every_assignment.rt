@@ -1,7 +1,7 @@
 //! Reports compared with a plain program that tries every assignment.
 
 use super::{moment, opening};
-use assertions::{holds, same};
+use crate::assertions::{holds, same};
 use dispatch_log::{Arrival, Entry, Queue};
 use due_key::{Class, Due, Key, Offset};
 use late_cert::{Report, audit, certify};

@@ -1,4 +1,4 @@
-use assertions::same;
+use crate::assertions::same;
 use dispatch_log::Queue;
 use due_key::Class;
 use late_cert::Running;

@@ -1,8 +1,8 @@
+use crate::assertions::{holds, same};
 use crate::exchanges::streams::{
     GET, Narrow, OLD_GET, Seen, Slow, TURNS, Tally, answer_to, answered_from, forward_to,
     forward_view, forwarded, forwarded_from,
 };
-use assertions::{holds, same};
 use relay_http::{Exchange, Fault, Stage};
 use req_view::View;
 use std::alloc::Global;

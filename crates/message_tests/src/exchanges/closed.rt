@@ -1,7 +1,7 @@
+use crate::assertions::{holds, same};
 use crate::exchanges::streams::{
     GET, TURNS, Tally, answer_to, answer_view, forward_to, forward_view, view_of,
 };
-use assertions::{holds, same};
 use relay_http::{Code, Exchange, Fault};
 use req_view::View;
 use std::alloc::Global;

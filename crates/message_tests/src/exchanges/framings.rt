@@ -1,4 +1,4 @@
-use assertions::same;
+use crate::assertions::same;
 use relay_http::{Framing, Plan, answer_plan, request_framing};
 use req_view::{Viewed, answer_head, view};
 use std::alloc::Global;

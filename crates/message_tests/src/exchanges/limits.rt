@@ -1,8 +1,8 @@
+use crate::assertions::{holds, same};
 use crate::exchanges::streams::{
     Endless, GET, Seen, Slow, TURNS, Tally, answer_to, answered, forward_to, forward_view,
     forwarded, view_of,
 };
-use assertions::{holds, same};
 use relay_http::{Code, Exchange, Fault, MOST_INTERIMS};
 use req_view::{HEAD_BYTES, HEAD_FIELDS, View};
 use std::alloc::{AllocError, Global};

@@ -1,5 +1,5 @@
+use crate::assertions::{holds, same};
 use crate::exchanges::streams::{GET, TURNS, answer_view};
-use assertions::{holds, same};
 use relay_http::{Exchange, Fault, Stage};
 use req_view::View;
 use std::alloc::Global;

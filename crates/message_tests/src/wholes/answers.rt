@@ -1,5 +1,5 @@
+use crate::assertions::same;
 use crate::wholes::relays::{GET, Row, TURNS, answered};
-use assertions::same;
 use relay_http::{Code, Exchange, Fault};
 use std::alloc::{AllocError, Global};
 use std::test::Fail;

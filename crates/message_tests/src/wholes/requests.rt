@@ -1,5 +1,5 @@
+use crate::assertions::same;
 use crate::wholes::relays::{GET, Row, TURNS, forwarded};
-use assertions::same;
 use relay_http::{Exchange, Fault, Stage};
 use std::test::Fail;
 use whole_messages::{Progress, read_head};

@@ -1,4 +1,4 @@
-use assertions::{holds, same};
+use crate::assertions::{holds, same};
 use script::{Line, Name, Step, step_in};
 
 fn step_of(line: &[u8]) -> Option<Step> {

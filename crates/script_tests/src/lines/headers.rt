@@ -1,4 +1,4 @@
-use assertions::{holds, same};
+use crate::assertions::{holds, same};
 use dispatch_log::ServerSet;
 use proxy_words::Lines;
 use script::{Header, Line, MOST_BYTES, Name, ScriptError, is_faulty, read, step_in};

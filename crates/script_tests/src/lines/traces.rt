@@ -1,4 +1,4 @@
-use assertions::same;
+use crate::assertions::same;
 use dispatch_log::{Arrival, Entry, Queue, Refusal};
 use due_key::{Class, Due, Moment, Offset};
 use script::{Names, push_entries, push_refusal};

@@ -1,5 +1,5 @@
 use super::trace_of;
-use assertions::{holds, same};
+use crate::assertions::{holds, same};
 use replay::{Fault, replay};
 use script::MOST_BYTES;
 use std::alloc::Global;

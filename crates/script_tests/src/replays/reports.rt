@@ -1,4 +1,4 @@
-use assertions::same;
+use crate::assertions::same;
 use dispatch_core::{Core, ServerSet, Servers, Setup};
 use due_key::{Class, Key, Moment, Offset};
 use pend_queue::ListQueue;

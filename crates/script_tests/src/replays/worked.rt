@@ -1,5 +1,5 @@
 use super::trace_of;
-use assertions::same;
+use crate::assertions::same;
 use replay::Fault;
 use std::alloc::Global;
 use std::process::Abort;

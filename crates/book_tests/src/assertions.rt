@@ -1,6 +1,5 @@
-//! What tests ask: a call at each place is proved faster than an assertion there.
-#![tactic(auto)]
-
+//! What tests ask: a call at each place is proved faster than an assertion there. Each crate of tests has its own, since outside of tests none may end
+//! the process.
 ghost use Rattle.std.specs.Prelude.{◌≡◌, true};
 
 use std::fmt::Debug;

@@ -39,12 +39,13 @@ if [ $# -eq 0 ]; then
         name=$(basename "$(dirname "$(dirname "$program")")")
         case $name in serving_tests) ;; *) [ -x "$program" ] && names+=("$name") ;; esac
     done
+    [ ${#names[@]} -gt 0 ] || { echo "no tests are built: run rt ci or rt test first"; exit 1; }
 fi
 bad=0
 for name in "${names[@]}"; do
     program=$PWD/crates/$name/out/${name}_tests
     [ -x "$program" ] || { echo "$name: its tests aren't built"; bad=1; continue; }
-    "$program" --list | sed -n 's/: test$//p' | xargs -P "$at_once" -I T bash -c "refuse_each $name $program T"
+    "$program" --list | sed -n 's/: test$//p' | xargs -P "$at_once" -I T bash -c 'refuse_each "$@"' refuse_each "$name" "$program" T
     ends() { cat "$work"/ends."$name".* 2>/dev/null | grep -c "^$1\$"; }
     failed=$(cat "$work/$name.bad" 2>/dev/null | wc -l)
     echo "$name: an allocation refused in each of $(($(ends well) + $(ends error) + $(ends assertion) + failed)) runs: $(ends error) told so, $(ends assertion) saw another answer, $(ends well) went well, $failed had no such end"

@@ -15,15 +15,16 @@ fn is_pin(pin: &Option<Name>, text: &str) -> bool {
 
 // The moment, class and offset of an arrival with this pin.
 fn arrival(line: &[u8], text: &str) -> Option<(u64, i64, i64)> {
-    match step_of(line) {
-        Some(
-            Step::Arrive {
-                moment,
-                class,
-                offset,
-                pin,
-            },
-        ) => {
+    let Some(step) = step_of(line) else {
+        return None;
+    };
+    match step {
+        Step::Arrive {
+            moment,
+            class,
+            offset,
+            pin,
+        } => {
             if is_pin(&pin, text) {
                 Some((moment.get(), class.get(), offset.get()))
             } else {
@@ -36,31 +37,38 @@ fn arrival(line: &[u8], text: &str) -> Option<(u64, i64, i64)> {
 
 // What happens to a ticket, the moment and the ticket.
 fn of_ticket(line: &[u8]) -> Option<(&'static str, u64, u64)> {
-    match step_of(line) {
-        Some(Step::Done { moment, ticket }) => Some(("done", moment.get(), ticket)),
-        Some(Step::Fail { moment, ticket }) => Some(("fail", moment.get(), ticket)),
-        Some(Step::Abort { moment, ticket }) => Some(("abort", moment.get(), ticket)),
+    let Some(step) = step_of(line) else {
+        return None;
+    };
+    match step {
+        Step::Done { moment, ticket } => Some(("done", moment.get(), ticket)),
+        Step::Fail { moment, ticket } => Some(("fail", moment.get(), ticket)),
+        Step::Abort { moment, ticket } => Some(("abort", moment.get(), ticket)),
         _ => None,
     }
 }
 
 fn tick(line: &[u8]) -> Option<u64> {
-    match step_of(line) {
-        Some(Step::Tick { moment }) => Some(moment.get()),
+    let Some(step) = step_of(line) else {
+        return None;
+    };
+    match step {
+        Step::Tick { moment } => Some(moment.get()),
         _ => None,
     }
 }
 
 // The moment of a check of this server, and whether the server answered.
 fn check(line: &[u8], text: &str) -> Option<(u64, bool)> {
-    match step_of(line) {
-        Some(
-            Step::Check {
-                moment,
-                server,
-                answered,
-            },
-        ) => {
+    let Some(step) = step_of(line) else {
+        return None;
+    };
+    match step {
+        Step::Check {
+            moment,
+            server,
+            answered,
+        } => {
             if server.as_str() == text {
                 Some((moment.get(), answered))
             } else {
@@ -73,14 +81,15 @@ fn check(line: &[u8], text: &str) -> Option<(u64, bool)> {
 
 // The moment of a limit of this server, and the number.
 fn limit(line: &[u8], text: &str) -> Option<(u64, u32)> {
-    match step_of(line) {
-        Some(
-            Step::Limit {
-                moment,
-                server,
-                limit,
-            },
-        ) => {
+    let Some(step) = step_of(line) else {
+        return None;
+    };
+    match step {
+        Step::Limit {
+            moment,
+            server,
+            limit,
+        } => {
             if server.as_str() == text {
                 Some((moment.get(), limit))
             } else {

@@ -48,7 +48,7 @@ fn empty<Q: PendQueue<Key, usize>>(rt: &impl Abort, alloc: Global) -> Q
     Q::with_room(alloc, 8).expect(rt, "memory")
 }
 
-// Puts a pair of a ticket from one on and below another in, in place of one of the same key.
+// Puts a pair in, of a ticket from `tickets.0` on and below `tickets.1`, in place of one of the same key.
 fn put<Q: PendQueue<Key, usize>>(
     rt: &impl Abort,
     alloc: Global,

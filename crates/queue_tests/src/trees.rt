@@ -1,4 +1,4 @@
-ghost use Rattle.std.specs.Prelude.{◌≡◌, ℕ, ◌+◌, ◌*◌, ◌<◌, ◌≤◌, [], if◌then◌else◌};
+ghost use Rattle.std.specs.Prelude.{◌≡◌, ℕ, ◌+◌, ◌*◌, ◌/◌, ◌<◌, ◌≤◌, [], if◌then◌else◌};
 ghost use Rattle.std.specs.List.{AllByRecursion};
 
 use crate::assertions::{holds, same};
@@ -43,7 +43,7 @@ fn node_of<Q: PendQueue<u64, u64>>(rt: &impl Abort, alloc: Global, key: u64) -> 
     Q::node(alloc, key, key / 2).expect(rt, "memory")
 }
 
-// Puts a pair of a key from one on and below another in, in place of one of the same key.
+// Puts a pair in, of a key from `range.0` on and below `range.1`, in place of one of the same key.
 fn put<Q: PendQueue<u64, u64>>(
     rt: &impl Abort,
     alloc: Global,

@@ -148,7 +148,7 @@ fn waiter(key: Key, queue: Queue) -> Waiter
 }
 
 // Room for four, at two servers.
-fn nobody(rt: &impl Abort, alloc: Global) -> OfLists
+fn nobody<Q: PendQueue<Key, usize>>(rt: &impl Abort, alloc: Global) -> WaitQueues<Q>
     ensures { result ≡ record { waiters = replicate 4 None; order = []; servers = 2 } }
 {
     WaitQueues::new(alloc, 2, 4).expect(rt, "memory")
@@ -156,11 +156,11 @@ fn nobody(rt: &impl Abort, alloc: Global) -> OfLists
 
 #[test]
 fn nobody_waits_at_first(rt: HostRuntime) {
-    let mut waiting = nobody(&rt, rt.alloc());
+    let mut waiting: OfLists = nobody(&rt, rt.alloc());
     find_nobody(&rt, &mut waiting);
 }
 
-fn find_nobody(rt: &impl Abort, waiting: &mut OfLists)
+fn find_nobody<Q: PendQueue<Key, usize>>(rt: &impl Abort, waiting: &mut WaitQueues<Q>)
     requires { waiting.old ≡ record { waiters = replicate 4 None; order = []; servers = 2 } }
 {
     same(rt, waiting.oldest(), None);
@@ -171,33 +171,42 @@ fn find_nobody(rt: &impl Abort, waiting: &mut OfLists)
 
 #[test]
 fn a_request_leaves_its_queue(rt: HostRuntime) {
-    let mut waiting = nobody(&rt, rt.alloc());
+    let mut waiting: OfLists = nobody(&rt, rt.alloc());
     join_and_leave(&rt, rt.alloc(), &mut waiting);
 }
 
-fn join_and_leave(rt: &impl Abort, alloc: Global, waiting: &mut OfLists)
+fn join_and_leave<Q: PendQueue<Key, usize>>(
+    rt: &impl Abort,
+    alloc: Global,
+    waiting: &mut WaitQueues<Q>,
+)
     requires { waiting.old ≡ record { waiters = replicate 4 None; order = []; servers = 2 } }
 {
     let waiter = waiter(key(7), Queue::Server(0));
-    let node = node_of::<ListQueue<Key, usize>>(rt, alloc, waiter.key, 3);
+    let node = node_of::<Q>(rt, alloc, waiter.key, 3);
     waiting.join(3, waiter, node);
     same(rt, waiting.oldest(), Some(3));
     same(rt, waiting.after(3), None);
     let node = waiting.leave(3);
-    same(rt, *ListQueue::pair(&node).1, 3);
+    same(rt, *Q::pair(&node).1, 3);
     same(rt, waiting.oldest(), None);
 }
 
 #[test]
 fn a_request_that_moves_waits_anew(rt: HostRuntime) {
-    let mut waiting = nobody(&rt, rt.alloc());
+    let mut waiting: OfLists = nobody(&rt, rt.alloc());
     join_and_move(&rt, rt.alloc(), &mut waiting, &key(7));
 }
 
-fn join_and_move(rt: &impl Abort, alloc: Global, waiting: &mut OfLists, key: &Key)
+fn join_and_move<Q: PendQueue<Key, usize>>(
+    rt: &impl Abort,
+    alloc: Global,
+    waiting: &mut WaitQueues<Q>,
+    key: &Key,
+)
     requires { waiting.old ≡ record { waiters = replicate 4 None; order = []; servers = 2 } }
 {
-    let node = node_of::<ListQueue<Key, usize>>(rt, alloc, *key, 3);
+    let node = node_of::<Q>(rt, alloc, *key, 3);
     waiting.join(3, waiter(*key, Queue::Server(1)), node);
     same(rt, waiting.heads(1).own, Some(*key));
     same(rt, waiting.shift(1, 9), Some(3));
@@ -211,7 +220,10 @@ fn join_and_move(rt: &impl Abort, alloc: Global, waiting: &mut OfLists, key: &Ke
     same(rt, take_from_backend(rt, waiting), (3, moved));
 }
 
-fn take_from_backend(rt: &impl Abort, waiting: &mut OfLists) -> (usize, Waiter) {
+fn take_from_backend<Q: PendQueue<Key, usize>>(
+    rt: &impl Abort,
+    waiting: &mut WaitQueues<Q>,
+) -> (usize, Waiter) {
     let taken = waiting.take(Queue::Backend).expect(rt, "a request");
     (taken.place, taken.waiter)
 }

@@ -1,9 +1,8 @@
 use crate::assertions::same;
-use std::test::Fail;
 use verdict::Cause;
 
 #[test]
-fn causes_have_their_words(rt: HostRuntime) -> Result<(), Fail> {
+fn causes_have_their_words(rt: HostRuntime) {
     let rows = [
         (Cause::Aborted, "aborted"),
         (Cause::Timeout, "timeout"),
@@ -11,8 +10,7 @@ fn causes_have_their_words(rt: HostRuntime) -> Result<(), Fail> {
         (Cause::NoServer, "noserver"),
     ];
     for (cause, word) in rows {
-        let text = format!(in rt.alloc(); "{cause}")?;
+        let text = format!(in rt.alloc(); "{cause}").expect(&rt, "memory");
         same(&rt, text.as_str(), word);
     }
-    Ok(())
 }

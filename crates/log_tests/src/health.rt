@@ -1,9 +1,8 @@
 use crate::assertions::{holds, same};
 use check_state::{Change, Health};
-use std::test::Fail;
 
 #[test]
-fn two_successes_raise_and_three_failures_drop(rt: HostRuntime) -> Result<(), Fail> {
+fn two_successes_raise_and_three_failures_drop(rt: HostRuntime) {
     let mut health = Health::new(2, 3);
     holds(&rt, health.up());
     let rows = [
@@ -28,11 +27,10 @@ fn two_successes_raise_and_three_failures_drop(rt: HostRuntime) -> Result<(), Fa
         same(&rt, told, change);
     }
     holds(&rt, !health.up());
-    Ok(())
 }
 
 #[test]
-fn with_limits_of_one_each_result_decides(rt: HostRuntime) -> Result<(), Fail> {
+fn with_limits_of_one_each_result_decides(rt: HostRuntime) {
     let mut health = Health::new(1, 1);
     let told = health.result(true);
     same(&rt, told, Change::Stay);
@@ -44,5 +42,4 @@ fn with_limits_of_one_each_result_decides(rt: HostRuntime) -> Result<(), Fail> {
     let told = health.result(true);
     same(&rt, told, Change::WentUp);
     holds(&rt, health.up());
-    Ok(())
 }

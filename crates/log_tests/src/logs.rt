@@ -1,21 +1,36 @@
 use crate::assertions::{holds, same};
 use dispatch_log::{Allowance, Arrival, Phase, Queue, Refusal, ServerSet, Servers, Setup};
 use due_key::{Class, Due, Key, Moment, Offset};
-use std::test::Fail;
+use std::alloc::Global;
+use std::process::Abort;
 
-#[test]
-fn servers_stand_in_file_order(rt: HostRuntime) -> Result<(), Fail> {
-    let server = ServerSet {
-        limit: 7,
+fn server_of(limit: u32) -> ServerSet {
+    ServerSet {
+        limit,
         maxqueue: 0,
         weight: 1,
         rise_fall: None,
-    };
-    let servers = Servers::from_vec(vec![in rt.alloc(); server]?);
+    }
+}
+
+fn setup_of(rt: &impl Abort, alloc: Global, servers: &[ServerSet], retries: u32) -> Setup {
+    Setup {
+        servers: Servers::from_vec(Vec::from_slice(alloc, servers).expect(rt, "memory")),
+        places: 2,
+        log: 64,
+        retries,
+        redispatch: false,
+        queue_timeout: 0,
+    }
+}
+
+#[test]
+fn servers_stand_in_file_order(rt: HostRuntime) {
+    let server = server_of(7);
+    let servers = Servers::from_vec(vec![in rt.alloc(); server].expect(&rt, "memory"));
     same(&rt, servers.len(), 1);
     holds(&rt, !servers.is_empty());
     same(&rt, servers.as_slice().first().copied(), Some(server));
-    Ok(())
 }
 
 #[test]
@@ -49,46 +64,18 @@ fn arrivals_have_keys_and_waits_have_queues(rt: HostRuntime) {
 }
 
 #[test]
-fn limits_are_the_setups_at_first(rt: HostRuntime) -> Result<(), Fail> {
-    let alloc = rt.alloc();
-    let server = ServerSet {
-        limit: 7,
-        maxqueue: 0,
-        weight: 1,
-        rise_fall: None,
-    };
-    let unlimited = ServerSet { limit: 0, ..server };
-    let setup = Setup {
-        servers: Servers::from_vec(vec![in alloc; server, unlimited]?),
-        places: 2,
-        log: 64,
-        retries: 999_999_999,
-        redispatch: false,
-        queue_timeout: 0,
-    };
+fn limits_are_the_setups_at_first(rt: HostRuntime) {
+    let servers = [server_of(7), server_of(0)];
+    let setup = setup_of(&rt, rt.alloc(), servers.as_slice(), 999_999_999);
     holds(&rt, setup.sound());
-    let limits = setup.opening_limits(alloc)?;
+    let limits = setup.opening_limits(rt.alloc()).expect(&rt, "memory");
     let expected = [7, 0].map(|limit| Allowance { limit, served: 0 });
     same(&rt, limits.as_slice(), expected.as_slice());
-    Ok(())
 }
 
 #[test]
-fn retries_have_nine_digits_at_most(rt: HostRuntime) -> Result<(), Fail> {
-    let server = ServerSet {
-        limit: 1,
-        maxqueue: 0,
-        weight: 1,
-        rise_fall: None,
-    };
-    let setup = Setup {
-        servers: Servers::from_vec(vec![in rt.alloc(); server]?),
-        places: 2,
-        log: 64,
-        retries: 1_000_000_000,
-        redispatch: false,
-        queue_timeout: 0,
-    };
+fn retries_have_nine_digits_at_most(rt: HostRuntime) {
+    let servers = [server_of(1)];
+    let setup = setup_of(&rt, rt.alloc(), servers.as_slice(), 1_000_000_000);
     holds(&rt, !setup.sound());
-    Ok(())
 }

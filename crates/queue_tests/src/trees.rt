@@ -1,4 +1,4 @@
-ghost use Rattle.std.specs.Prelude.{◌≡◌, ℕ, ◌+◌, ◌*◌, ◌<◌, ◌≤◌, OnOk, IfOk, [], if◌then◌else◌};
+ghost use Rattle.std.specs.Prelude.{◌≡◌, ℕ, ◌+◌, ◌*◌, ◌/◌, ◌<◌, ◌≤◌, [], if◌then◌else◌};
 ghost use Rattle.std.specs.List.{AllByRecursion};
 
 use crate::assertions::{holds, same};
@@ -6,7 +6,6 @@ use binom_queue::BinomQueue;
 use pend_queue::{ListQueue, PendQueue};
 use std::alloc::Global;
 use std::process::Abort;
-use std::test::Fail;
 
 const ROOM: usize = 1000;
 
@@ -18,45 +17,65 @@ fn next(random: &mut u64) -> u64 {
     *random >> 33
 }
 
-// Puts a pair of a key from `low` on and below `high` in, in place of one of the same key.
+// The random number that chooses the next call, and what the calls answered.
+#[derive(Drop)]
+struct Course {
+    random: u64,
+    answers: Vec<u64>,
+}
+
+fn note(rt: &impl Abort, course: &mut Course, answer: (u64, u64)) {
+    course.answers.push(answer.0).expect(rt, "memory");
+    course.answers.push(answer.1).expect(rt, "memory");
+}
+
+// An empty queue.
+fn empty<Q: PendQueue<u64, u64>>(rt: &impl Abort, alloc: Global) -> Q
+    ensures room { Q.room result ≡ ROOM }
+    ensures empty { Q.pairs result ≡ [] }
+{
+    Q::with_room(alloc, ROOM).expect(rt, "memory")
+}
+
+fn node_of<Q: PendQueue<u64, u64>>(rt: &impl Abort, alloc: Global, key: u64) -> Q::Node
+    ensures { Q.pair_of result ≡ (key, key / 2) }
+{
+    Q::node(alloc, key, key / 2).expect(rt, "memory")
+}
+
+// Puts a pair in, of a key from `range.0` on and below `range.1`, in place of one of the same key.
 fn put<Q: PendQueue<u64, u64>>(
+    rt: &impl Abort,
     alloc: Global,
     queue: &mut Q,
     key: u64,
-    low: u64,
-    high: u64,
-) -> Result<(), Fail>
+    range: (u64, u64),
+)
     requires room { Q.room queue.old ≡ ROOM }
-    requires range { (low ≤ key) × (key < high) }
-    requires keys { AllByRecursion (λ p. (low ≤ p.0) × (p.0 < high)) (Q.pairs queue.old) }
+    requires range { (range.0 ≤ key) × (key < range.1) }
+    requires keys { AllByRecursion (λ p. (range.0 ≤ p.0) × (p.0 < range.1)) (Q.pairs queue.old) }
     ensures room { Q.room queue.new ≡ ROOM }
-    ensures keys { OnOk result (AllByRecursion (λ p. (low ≤ p.0) × (p.0 < high)) (Q.pairs queue.new)) }
+    ensures keys { AllByRecursion (λ p. (range.0 ≤ p.0) × (p.0 < range.1)) (Q.pairs queue.new) }
 {
-    let node = Q::node(alloc, key, key / 2)?;
+    let node = node_of::<Q>(rt, alloc, key);
     let _ = queue.remove(&key);
-    if queue.len() >= ROOM {
-        Err("no room")?;
-    }
+    holds(rt, queue.len() < ROOM);
     queue.push(node);
-    Ok(())
 }
 
 // Merges a queue of the keys from ROOM on into one of those below.
-fn merge<Q: PendQueue<u64, u64>>(queue: &mut Q, other: &mut Q) -> Result<(), Fail>
+fn merge<Q: PendQueue<u64, u64>>(rt: &impl Abort, queue: &mut Q, other: &mut Q)
     requires room { Q.room queue.old ≡ ROOM }
     requires other_room { Q.room other.old ≡ ROOM }
     requires keys { AllByRecursion (λ p. (0 ≤ p.0) × (p.0 < ROOM)) (Q.pairs queue.old) }
     requires other_keys { AllByRecursion (λ p. (ROOM ≤ p.0) × (p.0 < 2 * ROOM)) (Q.pairs other.old) }
     ensures room { Q.room queue.new ≡ ROOM }
     ensures other_room { Q.room other.new ≡ ROOM }
-    ensures keys { OnOk result (AllByRecursion (λ p. (0 ≤ p.0) × (p.0 < 2 * ROOM)) (Q.pairs queue.new)) }
-    ensures emptied { OnOk result (Q.pairs other.new ≡ []) }
+    ensures keys { AllByRecursion (λ p. (0 ≤ p.0) × (p.0 < 2 * ROOM)) (Q.pairs queue.new) }
+    ensures emptied { Q.pairs other.new ≡ [] }
 {
-    if queue.len() + other.len() > ROOM {
-        Err("no room")?;
-    }
+    holds(rt, queue.len() + other.len() <= ROOM);
     queue.merge(other);
-    Ok(())
 }
 
 // A call that takes at most one pair out, and what it answers.
@@ -83,132 +102,141 @@ fn pair_of<Q: PendQueue<u64, u64>>(node: Option<Q::Node>) -> (u64, u64) {
 
 // A random call with a key from a range.
 fn call<Q: PendQueue<u64, u64>>(
+    rt: &impl Abort,
     alloc: Global,
     queue: &mut Q,
     range: (u64, u64),
-    random: &mut u64,
-    answers: &mut Vec<u64>,
-) -> Result<(), Fail>
+    course: &mut Course,
+)
     requires room { Q.room queue.old ≡ ROOM }
     requires some { range.0 < range.1 }
     requires keys { AllByRecursion (λ p. (range.0 ≤ p.0) × (p.0 < range.1)) (Q.pairs queue.old) }
     ensures room { Q.room queue.new ≡ ROOM }
-    ensures keys { OnOk result (AllByRecursion (λ p. (range.0 ≤ p.0) × (p.0 < range.1)) (Q.pairs queue.new)) }
+    ensures keys { AllByRecursion (λ p. (range.0 ≤ p.0) × (p.0 < range.1)) (Q.pairs queue.new) }
 {
     let (low, high) = range;
-    let key = low + next(random) % (high - low);
-    let choice = next(random);
+    let key = low + next(&mut course.random) % (high - low);
+    let choice = next(&mut course.random);
     if choice % 8 < 4 {
-        return put(alloc, queue, key, low, high);
+        put(rt, alloc, queue, key, range);
+        return;
     }
-    let (taken, value) = take(queue, choice / 8, key);
-    answers.push(taken)?;
-    answers.push(value)?;
-    Ok(())
+    note(rt, course, take(queue, choice / 8, key));
 }
 
 fn calls<Q: PendQueue<u64, u64>>(
+    rt: &impl Abort,
     alloc: Global,
     queue: &mut Q,
     range: (u64, u64),
-    random: &mut u64,
-    answers: &mut Vec<u64>,
-) -> Result<(), Fail>
+    course: &mut Course,
+)
     requires room { Q.room queue.old ≡ ROOM }
     requires some { range.0 < range.1 }
     requires keys { AllByRecursion (λ p. (range.0 ≤ p.0) × (p.0 < range.1)) (Q.pairs queue.old) }
     ensures room { Q.room queue.new ≡ ROOM }
-    ensures keys { OnOk result (AllByRecursion (λ p. (range.0 ≤ p.0) × (p.0 < range.1)) (Q.pairs queue.new)) }
+    ensures keys { AllByRecursion (λ p. (range.0 ≤ p.0) × (p.0 < range.1)) (Q.pairs queue.new) }
 {
     for _ in 0..400 {
-        call(alloc, queue, range, random, answers)?;
+        call(rt, alloc, queue, range, course);
     }
-    Ok(())
 }
 
 // Takes all pairs out.
-fn drain<Q: PendQueue<u64, u64>>(queue: &mut Q, answers: &mut Vec<u64>) -> Result<(), Fail>
+fn drain<Q: PendQueue<u64, u64>>(rt: &impl Abort, queue: &mut Q, course: &mut Course)
     ensures room { Q.room queue.new ≡ Q.room queue.old }
-    ensures emptied { OnOk result (Q.pairs queue.new ≡ []) }
+    ensures emptied { Q.pairs queue.new ≡ [] }
 {
     while let Some(node) = queue.pop() {
-        answers.push(*Q::pair(&node).0)?;
-        answers.push(*Q::pair(&node).1)?;
+        note(rt, course, Q::into_pair(node));
     }
-    Ok(())
 }
 
 // Calls on two queues, which are merged, and calls on what they became. Both are empty then.
 fn round<Q: PendQueue<u64, u64>>(
+    rt: &impl Abort,
     alloc: Global,
     queue: &mut Q,
     other: &mut Q,
-    random: &mut u64,
-    answers: &mut Vec<u64>,
-) -> Result<(), Fail>
+    course: &mut Course,
+)
     requires room { Q.room queue.old ≡ ROOM }
     requires other_room { Q.room other.old ≡ ROOM }
     requires empty { Q.pairs queue.old ≡ [] }
     requires other_empty { Q.pairs other.old ≡ [] }
     ensures room { Q.room queue.new ≡ ROOM }
     ensures other_room { Q.room other.new ≡ ROOM }
-    ensures empty { OnOk result (Q.pairs queue.new ≡ []) }
-    ensures other_empty { OnOk result (Q.pairs other.new ≡ []) }
+    ensures empty { Q.pairs queue.new ≡ [] }
+    ensures other_empty { Q.pairs other.new ≡ [] }
 {
-    calls(alloc, queue, (0, ROOM as u64), random, answers)?;
-    calls(
-        alloc,
-        other,
-        (ROOM as u64, 2 * ROOM as u64),
-        random,
-        answers,
-    )?;
-    merge(queue, other)?;
-    calls(alloc, queue, (0, 2 * ROOM as u64), random, answers)?;
-    drain(queue, answers)
+    calls(rt, alloc, queue, (0, ROOM as u64), course);
+    calls(rt, alloc, other, (ROOM as u64, 2 * ROOM as u64), course);
+    merge(rt, queue, other);
+    calls(rt, alloc, queue, (0, 2 * ROOM as u64), course);
+    drain(rt, queue, course);
 }
 
-// What 100 rounds of 1,200 calls answer.
-fn rounds<Q: PendQueue<u64, u64>>(alloc: Global) -> Result<Vec<u64>, Fail> {
-    let mut queue = Q::with_room(alloc, ROOM)?;
-    let mut other = Q::with_room(alloc, ROOM)?;
-    let mut random = 1;
-    let mut answers = Vec::new(alloc);
+// 100 rounds of 1,200 calls.
+fn rounds<Q: PendQueue<u64, u64>>(
+    rt: &impl Abort,
+    alloc: Global,
+    queue: &mut Q,
+    other: &mut Q,
+    course: &mut Course,
+)
+    requires room { Q.room queue.old ≡ ROOM }
+    requires other_room { Q.room other.old ≡ ROOM }
+    requires empty { Q.pairs queue.old ≡ [] }
+    requires other_empty { Q.pairs other.old ≡ [] }
+{
     for _ in 0..100 {
-        round(alloc, &mut queue, &mut other, &mut random, &mut answers)?;
+        round(rt, alloc, queue, other, course);
     }
-    Ok(answers)
+}
+
+// What they answer.
+fn answers<Q: PendQueue<u64, u64>>(rt: &impl Abort, alloc: Global) -> Vec<u64> {
+    let mut queue = empty::<Q>(rt, alloc);
+    let mut other = empty::<Q>(rt, alloc);
+    let mut course = Course {
+        random: 1,
+        answers: Vec::new(alloc),
+    };
+    rounds(rt, alloc, &mut queue, &mut other, &mut course);
+    let Course { random: _, answers } = course;
+    answers
 }
 
 #[test]
-fn both_queues_answer_alike(rt: HostRuntime) -> Result<(), Fail> {
-    let of_list = rounds::<ListQueue<u64, u64>>(rt.alloc())?;
-    let of_trees = rounds::<BinomQueue<u64, u64>>(rt.alloc())?;
+fn both_queues_answer_alike(rt: HostRuntime) {
+    let of_list = answers::<ListQueue<u64, u64>>(&rt, rt.alloc());
+    let of_trees = answers::<BinomQueue<u64, u64>>(&rt, rt.alloc());
     holds(&rt, of_list.len() > 100_000);
     same(&rt, of_trees.as_slice(), of_list.as_slice());
-    Ok(())
 }
 
-// A queue of the keys from `low` on, as many as are asked.
-fn filled(alloc: Global, low: u64, count: u64) -> Result<BinomQueue<u64, u64>, Fail>
+// Puts as many keys from `low` on in as are asked.
+fn fill(rt: &impl Abort, alloc: Global, queue: &mut BinomQueue<u64, u64>, low: u64, count: u64)
     requires range { (low ≤ ROOM) × (count ≤ 100) }
-    ensures room { IfOk result (λ queue. queue.room ≡ ROOM) }
-    ensures keys { IfOk result (λ queue. AllByRecursion (λ p. (low ≤ p.0) × (p.0 < low + 100)) queue.pairs) }
+    requires room { queue.old.room ≡ ROOM }
+    requires empty { queue.old.pairs ≡ [] }
+    ensures room { queue.new.room ≡ ROOM }
+    ensures keys { AllByRecursion (λ p. (low ≤ p.0) × (p.0 < low + 100)) queue.new.pairs }
 {
-    let mut queue = BinomQueue::with_room(alloc, ROOM)?;
     for i in 0..count {
-        put(alloc, &mut queue, low + i, low, low + 100)?;
+        put(rt, alloc, queue, low + i, (low, low + 100));
     }
-    Ok(queue)
 }
 
 // Merges queues of two lengths, and compares how many links that made.
-fn expect_links(rt: &impl Abort, alloc: Global, lengths: (u64, u64), links: u64) -> Result<(), Fail>
+fn expect_links(rt: &impl Abort, alloc: Global, lengths: (u64, u64), links: u64)
     requires { (lengths.0 ≤ 100) × (lengths.1 ≤ 100) }
 {
-    let mut queue = filled(alloc, 0, lengths.0)?;
-    let mut other = filled(alloc, 100, lengths.1)?;
-    merge_counted(rt, &mut queue, &mut other, lengths, links)
+    let mut queue = empty::<BinomQueue<u64, u64>>(rt, alloc);
+    let mut other = empty::<BinomQueue<u64, u64>>(rt, alloc);
+    fill(rt, alloc, &mut queue, 0, lengths.0);
+    fill(rt, alloc, &mut other, 100, lengths.1);
+    merge_counted(rt, &mut queue, &mut other, lengths, links);
 }
 
 fn merge_counted(
@@ -217,27 +245,24 @@ fn merge_counted(
     other: &mut BinomQueue<u64, u64>,
     lengths: (u64, u64),
     links: u64,
-) -> Result<(), Fail>
+)
     requires lengths { (lengths.0 ≤ 100) × (lengths.1 ≤ 100) }
     requires room { queue.old.room ≡ ROOM }
     requires other_room { other.old.room ≡ ROOM }
     requires keys { AllByRecursion (λ p. (0 ≤ p.0) × (p.0 < 100)) queue.old.pairs }
     requires other_keys { AllByRecursion (λ p. (100 ≤ p.0) × (p.0 < 200)) other.old.pairs }
 {
-    if queue.len() + other.len() > ROOM {
-        Err("no room")?;
-    }
+    holds(rt, queue.len() + other.len() <= ROOM);
     same(rt, queue.merge_counted(other), links);
     same(rt, queue.len() as u64, lengths.0 + lengths.1);
     holds(rt, other.is_empty());
-    Ok(())
 }
 
 #[test]
-fn merges_count_their_links(rt: HostRuntime) -> Result<(), Fail> {
-    expect_links(&rt, rt.alloc(), (3, 5), 3)?;
-    expect_links(&rt, rt.alloc(), (0, 7), 0)?;
-    expect_links(&rt, rt.alloc(), (7, 1), 3)?;
-    expect_links(&rt, rt.alloc(), (4, 3), 0)?;
-    expect_links(&rt, rt.alloc(), (6, 6), 2)
+fn merges_count_their_links(rt: HostRuntime) {
+    expect_links(&rt, rt.alloc(), (3, 5), 3);
+    expect_links(&rt, rt.alloc(), (0, 7), 0);
+    expect_links(&rt, rt.alloc(), (7, 1), 3);
+    expect_links(&rt, rt.alloc(), (4, 3), 0);
+    expect_links(&rt, rt.alloc(), (6, 6), 2);
 }

@@ -1,12 +1,12 @@
 ghost use Rattle.std.specs.Prelude.{◌≡◌, [], None, replicate};
 
 use crate::assertions::{holds, same};
+use crate::lists::node_of;
 use dispatch_log::Queue;
 use due_key::{Class, Due, Key, Moment, Offset};
 use pend_queue::{ListQueue, PendQueue};
 use std::alloc::Global;
 use std::process::Abort;
-use std::test::Fail;
 use wait_queues::{JoinOrder, WaitQueues, Waiter};
 
 type OfLists = WaitQueues<ListQueue<Key, usize>>;
@@ -43,65 +43,56 @@ enum Step {
 }
 
 // Plays the steps on an order of so much room.
-fn play(rt: &impl Abort, alloc: Global, room: usize, steps: &[Step]) -> Result<(), Fail> {
-    let mut order = JoinOrder::with_room(alloc, room)?;
-    play_on(rt, &mut order, room, steps)
+fn play(rt: &impl Abort, alloc: Global, room: usize, steps: &[Step]) {
+    let mut order = JoinOrder::with_room(alloc, room).expect(rt, "memory");
+    play_on(rt, &mut order, room, steps);
 }
 
-fn play_on(rt: &impl Abort, order: &mut JoinOrder, room: usize, steps: &[Step]) -> Result<(), Fail>
+fn play_on(rt: &impl Abort, order: &mut JoinOrder, room: usize, steps: &[Step])
     requires { order.old.room ≡ room }
 {
     for step in steps {
-        play_one(rt, order, room, step)?;
+        play_one(rt, order, room, step);
     }
-    Ok(())
 }
 
-fn play_one(rt: &impl Abort, order: &mut JoinOrder, room: usize, step: &Step) -> Result<(), Fail>
+fn play_one(rt: &impl Abort, order: &mut JoinOrder, room: usize, step: &Step)
     requires { order.old.room ≡ room }
     ensures { order.new.room ≡ room }
 {
     match step {
-        Step::Append(place) => append(order, room, *place)?,
-        Step::Remove(place) => remove(order, *place)?,
+        Step::Append(place) => append(rt, order, room, *place),
+        Step::Remove(place) => remove(rt, order, *place),
         Step::Stands(wanted) => holds(rt, stands(order, wanted)),
         Step::Contains(place, is_in) => same(rt, order.contains(*place), *is_in),
         Step::First(first) => same(rt, order.first(), *first),
-        Step::After(place, next) => same(rt, after(order, *place)?, *next),
+        Step::After(place, next) => same(rt, after(rt, order, *place), *next),
     }
-    Ok(())
 }
 
-fn append(order: &mut JoinOrder, room: usize, place: usize) -> Result<(), Fail>
+fn append(rt: &impl Abort, order: &mut JoinOrder, room: usize, place: usize)
     requires { order.old.room ≡ room }
     ensures { order.new.room ≡ order.old.room }
 {
-    if place >= room || order.contains(place) {
-        return Err(Fail::from("no place to append"));
-    }
+    holds(rt, place < room);
+    holds(rt, !order.contains(place));
     order.append(place);
-    Ok(())
 }
 
-fn remove(order: &mut JoinOrder, place: usize) -> Result<(), Fail>
+fn remove(rt: &impl Abort, order: &mut JoinOrder, place: usize)
     ensures { order.new.room ≡ order.old.room }
 {
-    if !order.contains(place) {
-        return Err(Fail::from("no place to remove"));
-    }
+    holds(rt, order.contains(place));
     order.remove(place);
-    Ok(())
 }
 
-fn after(order: &JoinOrder, place: usize) -> Result<Option<usize>, Fail> {
-    if !order.contains(place) {
-        return Err(Fail::from("no place to look after"));
-    }
-    Ok(order.after(place))
+fn after(rt: &impl Abort, order: &JoinOrder, place: usize) -> Option<usize> {
+    holds(rt, order.contains(place));
+    order.after(place)
 }
 
 #[test]
-fn places_leave_from_the_front_the_middle_and_the_end(rt: HostRuntime) -> Result<(), Fail> {
+fn places_leave_from_the_front_the_middle_and_the_end(rt: HostRuntime) {
     let steps = [
         Step::First(None),
         Step::Append(3),
@@ -121,11 +112,11 @@ fn places_leave_from_the_front_the_middle_and_the_end(rt: HostRuntime) -> Result
         Step::After(1, Some(2)),
         Step::After(2, None),
     ];
-    play(&rt, rt.alloc(), 5, &steps)
+    play(&rt, rt.alloc(), 5, &steps);
 }
 
 #[test]
-fn a_place_may_come_back(rt: HostRuntime) -> Result<(), Fail> {
+fn a_place_may_come_back(rt: HostRuntime) {
     let steps = [
         Step::Append(0),
         Step::Stands([Some(0), None, None, None, None]),
@@ -134,7 +125,7 @@ fn a_place_may_come_back(rt: HostRuntime) -> Result<(), Fail> {
         Step::Append(0),
         Step::Stands([Some(0), None, None, None, None]),
     ];
-    play(&rt, rt.alloc(), 1, &steps)
+    play(&rt, rt.alloc(), 1, &steps);
 }
 
 fn key(ticket: u64) -> Key {
@@ -156,14 +147,20 @@ fn waiter(key: Key, queue: Queue) -> Waiter
     }
 }
 
-#[test]
-fn nobody_waits_at_first(rt: HostRuntime) -> Result<(), Fail> {
-    let mut waiting: OfLists = WaitQueues::new(rt.alloc(), 2, 4)?;
-    find_nobody(&rt, &mut waiting);
-    Ok(())
+// Room for four, at two servers.
+fn nobody<Q: PendQueue<Key, usize>>(rt: &impl Abort, alloc: Global) -> WaitQueues<Q>
+    ensures { result ≡ record { waiters = replicate 4 None; order = []; servers = 2 } }
+{
+    WaitQueues::new(alloc, 2, 4).expect(rt, "memory")
 }
 
-fn find_nobody(rt: &impl Abort, waiting: &mut OfLists)
+#[test]
+fn nobody_waits_at_first(rt: HostRuntime) {
+    let mut waiting: OfLists = nobody(&rt, rt.alloc());
+    find_nobody(&rt, &mut waiting);
+}
+
+fn find_nobody<Q: PendQueue<Key, usize>>(rt: &impl Abort, waiting: &mut WaitQueues<Q>)
     requires { waiting.old ≡ record { waiters = replicate 4 None; order = []; servers = 2 } }
 {
     same(rt, waiting.oldest(), None);
@@ -173,40 +170,43 @@ fn find_nobody(rt: &impl Abort, waiting: &mut OfLists)
 }
 
 #[test]
-fn a_request_leaves_its_queue(rt: HostRuntime) -> Result<(), Fail> {
-    let mut waiting: OfLists = WaitQueues::new(rt.alloc(), 2, 4)?;
-    join_and_leave(&rt, rt.alloc(), &mut waiting)
+fn a_request_leaves_its_queue(rt: HostRuntime) {
+    let mut waiting: OfLists = nobody(&rt, rt.alloc());
+    join_and_leave(&rt, rt.alloc(), &mut waiting);
 }
 
-fn join_and_leave(rt: &impl Abort, alloc: Global, waiting: &mut OfLists) -> Result<(), Fail>
+fn join_and_leave<Q: PendQueue<Key, usize>>(
+    rt: &impl Abort,
+    alloc: Global,
+    waiting: &mut WaitQueues<Q>,
+)
     requires { waiting.old ≡ record { waiters = replicate 4 None; order = []; servers = 2 } }
 {
     let waiter = waiter(key(7), Queue::Server(0));
-    let node = ListQueue::node(alloc, waiter.key, 3)?;
+    let node = node_of::<Q>(rt, alloc, waiter.key, 3);
     waiting.join(3, waiter, node);
     same(rt, waiting.oldest(), Some(3));
     same(rt, waiting.after(3), None);
     let node = waiting.leave(3);
-    same(rt, *ListQueue::pair(&node).1, 3);
+    same(rt, *Q::pair(&node).1, 3);
     same(rt, waiting.oldest(), None);
-    Ok(())
 }
 
 #[test]
-fn a_request_that_moves_waits_anew(rt: HostRuntime) -> Result<(), Fail> {
-    let mut waiting: OfLists = WaitQueues::new(rt.alloc(), 2, 4)?;
-    join_and_move(&rt, rt.alloc(), &mut waiting, &key(7))
+fn a_request_that_moves_waits_anew(rt: HostRuntime) {
+    let mut waiting: OfLists = nobody(&rt, rt.alloc());
+    join_and_move(&rt, rt.alloc(), &mut waiting, &key(7));
 }
 
-fn join_and_move(
+fn join_and_move<Q: PendQueue<Key, usize>>(
     rt: &impl Abort,
     alloc: Global,
-    waiting: &mut OfLists,
+    waiting: &mut WaitQueues<Q>,
     key: &Key,
-) -> Result<(), Fail>
+)
     requires { waiting.old ≡ record { waiters = replicate 4 None; order = []; servers = 2 } }
 {
-    let node = ListQueue::node(alloc, *key, 3)?;
+    let node = node_of::<Q>(rt, alloc, *key, 3);
     waiting.join(3, waiter(*key, Queue::Server(1)), node);
     same(rt, waiting.heads(1).own, Some(*key));
     same(rt, waiting.shift(1, 9), Some(3));
@@ -217,11 +217,13 @@ fn join_and_move(
         queue: Queue::Backend,
         joined: 9,
     };
-    same(rt, take_from_backend(waiting), Some((3, moved)));
-    Ok(())
+    same(rt, take_from_backend(rt, waiting), (3, moved));
 }
 
-fn take_from_backend(waiting: &mut OfLists) -> Option<(usize, Waiter)> {
-    let taken = waiting.take(Queue::Backend)?;
-    Some((taken.place, taken.waiter))
+fn take_from_backend<Q: PendQueue<Key, usize>>(
+    rt: &impl Abort,
+    waiting: &mut WaitQueues<Q>,
+) -> (usize, Waiter) {
+    let taken = waiting.take(Queue::Backend).expect(rt, "a request");
+    (taken.place, taken.waiter)
 }

@@ -14,7 +14,6 @@ use pend_queue::ListQueue;
 use replay::{Fault, replay, trace_of as trace_over};
 use std::alloc::Global;
 use std::process::Abort;
-use std::test::Fail;
 
 // The trace of a script, or its fault.
 fn trace_of(alloc: Global, script: &[u8]) -> Result<Vec<u8>, Fault> {
@@ -25,10 +24,10 @@ fn trace_of(alloc: Global, script: &[u8]) -> Result<Vec<u8>, Fault> {
 }
 
 // The trace of a script, over both kinds of queues.
-fn expect(rt: &impl Abort, alloc: Global, script: &str, expected: &str) -> Result<(), Fail> {
-    let trace = trace_of(alloc, script.as_bytes())?;
+fn expect(rt: &impl Abort, alloc: Global, script: &str, expected: &str) {
+    let trace = trace_of(alloc, script.as_bytes()).expect(rt, "a trace");
     same(rt, trace.as_slice(), expected.as_bytes());
-    let listed = trace_over::<ListQueue<Key, usize>>(alloc, script.as_bytes())?;
+    let listed = trace_over::<ListQueue<Key, usize>>(alloc, script.as_bytes());
+    let listed = listed.expect(rt, "a trace");
     same(rt, listed.as_bytes(), expected.as_bytes());
-    Ok(())
 }

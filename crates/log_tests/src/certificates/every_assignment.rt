@@ -1,13 +1,13 @@
 //! Reports compared with a plain program that tries every assignment.
 
-use super::{moment, opening};
+use super::{log_of, moment};
 use crate::assertions::{holds, same};
 use dispatch_log::{Arrival, Entry, Queue};
 use due_key::{Class, Due, Key, Offset};
 use late_cert::{Report, audit, certify};
 use readable_log::{Log, SlotGrant};
-use std::alloc::{AllocError, Global};
-use std::test::Fail;
+use std::alloc::Global;
+use std::process::Abort;
 
 /// Fixed pseudo-random numbers: a linear congruential generator.
 #[derive(Drop)]
@@ -44,50 +44,55 @@ struct Course {
 
 /// A readable log with up to seven grants. Where it is in order each takes the least key of its
 /// queue, else any.
-fn random_log(alloc: Global, seed: u64, in_order: bool) -> Result<Log, Fail> {
+fn random_log(rt: &impl Abort, alloc: Global, seed: u64, in_order: bool) -> Log {
     let mut course = Course {
         numbers: Numbers { state: seed },
         now: 0,
         entries: Vec::new(alloc),
         waiting: Vec::new(alloc),
     };
+    play(rt, &mut course, in_order);
+    log_of(rt, alloc, course.entries.as_slice())
+}
+
+fn play(rt: &impl Abort, course: &mut Course, in_order: bool) {
     for ticket in 1..32 {
-        step(&mut course, ticket, in_order)?;
+        step(rt, course, ticket, in_order);
     }
-    Ok(Log::read(alloc, opening(alloc)?, course.entries.as_slice())?)
 }
 
 /// A request comes, or one that waits has a slot.
-fn step(course: &mut Course, ticket: u64, in_order: bool) -> Result<(), Fail> {
+fn step(rt: &impl Abort, course: &mut Course, ticket: u64, in_order: bool) {
     course.now = course.now.wrapping_add(course.numbers.below(4));
     if course.numbers.below(2) == 0 {
-        return come(course, ticket);
+        come(rt, course, ticket);
+        return;
     }
     let grants = course.entries.iter().filter(|it| is_grant(it)).count();
     let it = chosen(&mut course.numbers, course.waiting.as_slice(), in_order);
     match it {
-        Some(it) if grants < 7 => go(course, it),
-        _ => Ok(()),
+        Some(it) if grants < 7 => go(rt, course, it),
+        _ => {}
     }
 }
 
-fn come(course: &mut Course, ticket: u64) -> Result<(), Fail> {
+fn come(rt: &impl Abort, course: &mut Course, ticket: u64) {
     let it = newcomer(&mut course.numbers, course.now, ticket);
-    course.entries.push(arrival(course.now, &it))?;
-    course.entries.push(Entry::Joined(ticket, it.queue))?;
-    course.waiting.push(it)?;
-    Ok(())
+    note(rt, course, arrival(course.now, &it));
+    note(rt, course, Entry::Joined(ticket, it.queue));
+    course.waiting.push(it).expect(rt, "memory");
 }
 
-fn go(course: &mut Course, it: Waiting) -> Result<(), Fail> {
+fn go(rt: &impl Abort, course: &mut Course, it: Waiting) {
     course
         .waiting
         .retain(|other| other.key.ticket != it.key.ticket);
-    course.entries.push(Entry::Done(moment(course.now), 0))?;
-    course
-        .entries
-        .push(Entry::Granted(it.key.ticket, it.queue, 0))?;
-    Ok(())
+    note(rt, course, Entry::Done(moment(course.now), 0));
+    note(rt, course, Entry::Granted(it.key.ticket, it.queue, 0));
+}
+
+fn note(rt: &impl Abort, course: &mut Course, entry: Entry) {
+    course.entries.push(entry).expect(rt, "memory");
 }
 
 fn is_grant(entry: &Entry) -> bool {
@@ -137,45 +142,51 @@ fn chosen(numbers: &mut Numbers, waiting: &[Waiting], in_order: bool) -> Option<
 }
 
 /// The grants that a report is about.
-fn group(alloc: Global, log: &Log, report: &Report) -> Result<Vec<SlotGrant>, AllocError> {
-    log.grants()
+fn group(rt: &impl Abort, alloc: Global, log: &Log, report: &Report) -> Vec<SlotGrant> {
+    let grants = log
+        .grants()
         .iter()
         .copied()
         .filter(|it| it.queue == report.queue && it.class == report.class)
-        .collect(alloc)
+        .collect(alloc);
+    grants.expect(rt, "memory")
 }
 
 /// The least that the greatest lateness of an assignment can be. None where there is none.
-fn least(alloc: Global, group: &[SlotGrant]) -> Result<Option<i64>, AllocError> {
+fn least(rt: &impl Abort, alloc: Global, group: &[SlotGrant]) -> Option<i64> {
     let orders = [1, 1, 2, 6, 24, 120, 720, 5040].as_slice();
     let mut least: Option<i64> = None;
     for order in 0..orders.get(group.len()).copied().unwrap_or(0) {
-        if let Some(worst) = greatest(alloc, group, order)? {
+        if let Some(worst) = greatest(rt, alloc, group, order) {
             least = Some(least.map_or(worst, |it| it.min(worst)));
         }
     }
-    Ok(least)
+    least
 }
 
 /// The greatest lateness with the slots in the order of this number, from 0. None where one of
 /// them isn't after its stay's joining.
-fn greatest(alloc: Global, group: &[SlotGrant], order: usize) -> Result<Option<i64>, AllocError> {
-    let mut slots = Vec::from_slice(alloc, group)?;
+fn greatest(rt: &impl Abort, alloc: Global, group: &[SlotGrant], order: usize) -> Option<i64> {
+    let mut slots = Vec::from_slice(alloc, group).expect(rt, "memory");
+    greatest_of(&mut slots, group, order)
+}
+
+fn greatest_of(slots: &mut Vec<SlotGrant>, group: &[SlotGrant], order: usize) -> Option<i64> {
     let mut left = order;
     let mut worst: Option<i64> = None;
     for grant in group {
         if slots.is_empty() {
-            return Ok(None);
+            return None;
         }
         let slot = slots.remove(left % slots.len());
         left /= slots.len().wrapping_add(1).max(1);
         if slot.stay.slot <= grant.stay.joined {
-            return Ok(None);
+            return None;
         }
         let late = grant.stay.due.lateness(slot.moment);
         worst = Some(worst.map_or(late, |it| it.max(late)));
     }
-    Ok(worst)
+    worst
 }
 
 /// What comparing a log's reports with every assignment gave.
@@ -188,61 +199,58 @@ enum Outcome {
     Wrong,
 }
 
-fn compared(alloc: Global, log: &Log, report: &Report) -> Result<Outcome, AllocError> {
-    let group = group(alloc, log, report)?;
-    let Some(least) = least(alloc, group.as_slice())? else {
-        return Ok(Outcome::Wrong);
-    };
-    if group.len() != report.granted || least > report.worst {
-        return Ok(Outcome::Wrong);
+fn compared(rt: &impl Abort, alloc: Global, log: &Log, report: &Report) -> Outcome {
+    let group = group(rt, alloc, log, report);
+    match least(rt, alloc, group.as_slice()) {
+        Some(least) if group.len() == report.granted => judged(least, audit(log, report), report),
+        _ => Outcome::Wrong,
     }
-    match audit(log, report) {
-        true if least == report.worst => Ok(Outcome::Sound),
-        true => Ok(Outcome::Wrong),
-        false => Ok(Outcome::Unsound),
+}
+
+fn judged(least: i64, passes: bool, report: &Report) -> Outcome {
+    if least > report.worst {
+        return Outcome::Wrong;
+    }
+    match passes {
+        true if least == report.worst => Outcome::Sound,
+        true => Outcome::Wrong,
+        false => Outcome::Unsound,
     }
 }
 
 /// How many of the reports of some logs had an outcome.
-fn outcomes(alloc: Global, seeds: u64, in_order: bool, outcome: Outcome) -> Result<usize, Fail> {
+fn outcomes(rt: &impl Abort, alloc: Global, seeds: u64, in_order: bool, outcome: Outcome) -> usize {
     let mut number: usize = 0;
     for seed in 0..seeds {
-        let log = random_log(alloc, seed, in_order)?;
-        let reports = certify(alloc, &log)?;
-        number = number.wrapping_add(with_outcome(alloc, &log, reports.as_slice(), outcome)?);
+        let log = random_log(rt, alloc, seed, in_order);
+        number = number.wrapping_add(with_outcome(rt, alloc, &log, outcome));
     }
-    Ok(number)
+    number
 }
 
-fn with_outcome(
-    alloc: Global,
-    log: &Log,
-    reports: &[Report],
-    outcome: Outcome,
-) -> Result<usize, AllocError> {
+fn with_outcome(rt: &impl Abort, alloc: Global, log: &Log, outcome: Outcome) -> usize {
+    let reports = certify(alloc, log).expect(rt, "memory");
     let mut number: usize = 0;
-    for report in reports {
-        if compared(alloc, log, report)? == outcome {
+    for report in reports.as_slice() {
+        if compared(rt, alloc, log, report) == outcome {
             number = number.wrapping_add(1);
         }
     }
-    Ok(number)
+    number
 }
 
 #[test]
-fn no_assignment_is_better_than_the_worst(rt: HostRuntime) -> Result<(), Fail> {
+fn no_assignment_is_better_than_the_worst(rt: HostRuntime) {
     let alloc = rt.alloc();
-    holds(&rt, outcomes(alloc, 40, true, Outcome::Sound)? > 60);
-    same(&rt, outcomes(alloc, 40, true, Outcome::Unsound)?, 0);
-    same(&rt, outcomes(alloc, 40, true, Outcome::Wrong)?, 0);
-    Ok(())
+    holds(&rt, outcomes(&rt, alloc, 40, true, Outcome::Sound) > 60);
+    same(&rt, outcomes(&rt, alloc, 40, true, Outcome::Unsound), 0);
+    same(&rt, outcomes(&rt, alloc, 40, true, Outcome::Wrong), 0);
 }
 
 #[test]
-fn out_of_order_the_audit_tells_what_holds(rt: HostRuntime) -> Result<(), Fail> {
+fn out_of_order_the_audit_tells_what_holds(rt: HostRuntime) {
     let alloc = rt.alloc();
-    holds(&rt, outcomes(alloc, 40, false, Outcome::Sound)? > 10);
-    holds(&rt, outcomes(alloc, 40, false, Outcome::Unsound)? > 10);
-    same(&rt, outcomes(alloc, 40, false, Outcome::Wrong)?, 0);
-    Ok(())
+    holds(&rt, outcomes(&rt, alloc, 40, false, Outcome::Sound) > 10);
+    holds(&rt, outcomes(&rt, alloc, 40, false, Outcome::Unsound) > 10);
+    same(&rt, outcomes(&rt, alloc, 40, false, Outcome::Wrong), 0);
 }

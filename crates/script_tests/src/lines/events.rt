@@ -15,7 +15,10 @@ fn is_pin(pin: &Option<Name>, text: &str) -> bool {
 
 // The moment, class and offset of an arrival with this pin.
 fn arrival(line: &[u8], text: &str) -> Option<(u64, i64, i64)> {
-    match step_of(line)? {
+    let Some(step) = step_of(line) else {
+        return None;
+    };
+    match step {
         Step::Arrive {
             moment,
             class,
@@ -34,7 +37,10 @@ fn arrival(line: &[u8], text: &str) -> Option<(u64, i64, i64)> {
 
 // What happens to a ticket, the moment and the ticket.
 fn of_ticket(line: &[u8]) -> Option<(&'static str, u64, u64)> {
-    match step_of(line)? {
+    let Some(step) = step_of(line) else {
+        return None;
+    };
+    match step {
         Step::Done { moment, ticket } => Some(("done", moment.get(), ticket)),
         Step::Fail { moment, ticket } => Some(("fail", moment.get(), ticket)),
         Step::Abort { moment, ticket } => Some(("abort", moment.get(), ticket)),
@@ -43,7 +49,10 @@ fn of_ticket(line: &[u8]) -> Option<(&'static str, u64, u64)> {
 }
 
 fn tick(line: &[u8]) -> Option<u64> {
-    match step_of(line)? {
+    let Some(step) = step_of(line) else {
+        return None;
+    };
+    match step {
         Step::Tick { moment } => Some(moment.get()),
         _ => None,
     }
@@ -51,7 +60,10 @@ fn tick(line: &[u8]) -> Option<u64> {
 
 // The moment of a check of this server, and whether the server answered.
 fn check(line: &[u8], text: &str) -> Option<(u64, bool)> {
-    match step_of(line)? {
+    let Some(step) = step_of(line) else {
+        return None;
+    };
+    match step {
         Step::Check {
             moment,
             server,
@@ -69,7 +81,10 @@ fn check(line: &[u8], text: &str) -> Option<(u64, bool)> {
 
 // The moment of a limit of this server, and the number.
 fn limit(line: &[u8], text: &str) -> Option<(u64, u32)> {
-    match step_of(line)? {
+    let Some(step) = step_of(line) else {
+        return None;
+    };
+    match step {
         Step::Limit {
             moment,
             server,

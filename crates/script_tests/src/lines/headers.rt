@@ -1,9 +1,9 @@
 use crate::assertions::{holds, same};
 use dispatch_log::ServerSet;
 use proxy_words::Lines;
-use script::{Header, Line, MOST_BYTES, Name, ScriptError, is_faulty, read, step_in};
+use script::{Header, Line, MOST_BYTES, Name, Names, ScriptError, is_faulty, read, step_in};
 use std::alloc::Global;
-use std::test::Fail;
+use std::process::Abort;
 
 // The first faulty line of a script: of its header lines, or else of those behind them.
 fn fault(alloc: Global, script: &[u8]) -> Option<usize> {
@@ -117,36 +117,42 @@ fn a_header_line_behind_an_event_is_a_fault(rt: HostRuntime) {
 }
 
 #[test]
-fn a_script_has_four_mebibytes_at_most(rt: HostRuntime) -> Result<(), Fail> {
-    let mut script = vec![in rt.alloc(); b'#'; MOST_BYTES]?;
+fn a_script_has_four_mebibytes_at_most(rt: HostRuntime) {
+    let mut script = vec![in rt.alloc(); b'#'; MOST_BYTES].expect(&rt, "memory");
     same(&rt, fault(rt.alloc(), &script), None);
-    script.push(b'#')?;
+    script.push(b'#').expect(&rt, "memory");
     same(&rt, fault(rt.alloc(), &script), Some(0));
-    Ok(())
 }
 
 #[test]
-fn a_script_has_64_servers_at_most(rt: HostRuntime) -> Result<(), Fail> {
+fn a_script_has_64_servers_at_most(rt: HostRuntime) {
     let mut script = String::new(rt.alloc());
     for server in 0..64u64 {
-        writeln!(script, "server s{server} 1 0 1")?;
+        writeln!(script, "server s{server} 1 0 1").expect(&rt, "memory");
     }
     same(&rt, fault(rt.alloc(), script.as_bytes()), None);
-    script.push_str("server more 1 0 1\n")?;
+    script.push_str("server more 1 0 1\n").expect(&rt, "memory");
     same(&rt, fault(rt.alloc(), script.as_bytes()), Some(65));
-    Ok(())
+}
+
+// The header of a script without a fault in it, and how many lines it has.
+fn header_of(rt: &impl Abort, alloc: Global, script: &[u8]) -> (Header, usize) {
+    read(alloc, script).expect(rt, "a header")
 }
 
 #[test]
-fn a_header_says_what_its_lines_say(rt: HostRuntime) -> Result<(), Fail> {
-    let (header, count): (Header, usize) = read(
-        rt.alloc(),
-        b"server b 2 3 4\nplaces 7\nplaces 8\nserver a 0 0 0 2 3\n\n0 arrive 0 0 a\n",
-    )?;
+fn a_header_says_what_its_lines_say(rt: HostRuntime) {
+    let script = b"server b 2 3 4\nplaces 7\nplaces 8\nserver a 0 0 0 2 3\n\n0 arrive 0 0 a\n";
+    let (header, count) = header_of(&rt, rt.alloc(), script);
     same(&rt, count, 5);
     same(&rt, header.places(), Some(8));
     same(&rt, header.log(), None);
     let (names, servers) = header.into_servers();
+    has_servers(&rt, servers.as_slice());
+    has_names(&rt, &names);
+}
+
+fn has_servers(rt: &impl Abort, servers: &[ServerSet]) {
     let first = ServerSet {
         limit: 2,
         maxqueue: 3,
@@ -159,39 +165,40 @@ fn a_header_says_what_its_lines_say(rt: HostRuntime) -> Result<(), Fail> {
         weight: 0,
         rise_fall: Some((2, 3)),
     };
-    same(&rt, servers.as_slice(), [first, second].as_slice());
-    same(&rt, names.len(), 2);
-    same(&rt, names.of(1), "a");
-    let name = Name::new(b"a").ok_or("a is a name")?;
-    let other = Name::new(b"c").ok_or("c is a name")?;
-    same(&rt, names.find(&name), Some(1));
-    same(&rt, names.find(&other), None);
-    same(&rt, names.number(&other), 2);
-    same(&rt, other.as_str(), "c");
-    Ok(())
+    same(rt, servers, [first, second].as_slice());
+}
+
+fn has_names(rt: &impl Abort, names: &Names) {
+    same(rt, names.len(), 2);
+    same(rt, names.of(1), "a");
+    let name = Name::new(b"a").expect(rt, "a name");
+    let other = Name::new(b"c").expect(rt, "a name");
+    same(rt, names.find(&name), Some(1));
+    same(rt, names.find(&other), None);
+    same(rt, names.number(&other), 2);
+    same(rt, other.as_str(), "c");
 }
 
 #[test]
-fn of_a_word_that_comes_again_the_last_line_stands(rt: HostRuntime) -> Result<(), Fail> {
-    let (header, _) = read(
+fn of_a_word_that_comes_again_the_last_line_stands(rt: HostRuntime) {
+    let (header, _) = header_of(
+        &rt,
         rt.alloc(),
         b"retries 5\nqueue-timeout 10\nredispatch\nretries 0\nredispatch\nqueue-timeout 07\nlog 9\n",
-    )?;
+    );
     same(&rt, header.retries(), Some(0));
     holds(&rt, header.redispatch());
     same(&rt, header.queue_timeout(), Some(7));
     same(&rt, header.log(), Some(9));
     same(&rt, header.places(), None);
-    Ok(())
 }
 
 #[test]
-fn what_no_line_says_is_not_set(rt: HostRuntime) -> Result<(), Fail> {
-    let (header, _) = read(rt.alloc(), b"places 8\n0 tick\n")?;
+fn what_no_line_says_is_not_set(rt: HostRuntime) {
+    let (header, _) = header_of(&rt, rt.alloc(), b"places 8\n0 tick\n");
     same(&rt, header.retries(), None);
     holds(&rt, !header.redispatch());
     same(&rt, header.queue_timeout(), None);
-    Ok(())
 }
 
 fn kind(line: &[u8]) -> &'static str {

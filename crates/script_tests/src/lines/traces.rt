@@ -3,25 +3,31 @@ use dispatch_log::{Arrival, Entry, Queue, Refusal};
 use due_key::{Class, Due, Moment, Offset};
 use script::{Names, push_entries, push_refusal};
 use std::alloc::Global;
-use std::test::Fail;
+use std::process::Abort;
 use verdict::Cause;
 
-fn moment(number: u64) -> Result<Moment, Fail> {
-    Ok(Moment::new(number).ok_or("a moment out of range")?)
+// A moment. A number out of range, which no test has, would be 0: so what is made of it can't fail.
+fn moment(number: u64) -> Moment {
+    Moment::new(number).unwrap_or(Moment::zero())
 }
 
 // Two servers.
-fn a_and_b(alloc: Global) -> Result<Names, Fail> {
-    Ok(Names::new(vec![in alloc;
-        String::from_str(alloc, "a")?,
-        String::from_str(alloc, "b")?,
-    ]?))
+fn a_and_b(rt: &impl Abort, alloc: Global) -> Names {
+    let a = String::from_str(alloc, "a").expect(rt, "memory");
+    let b = String::from_str(alloc, "b").expect(rt, "memory");
+    Names::new(vec![in alloc; a, b].expect(rt, "memory"))
+}
+
+// The lines of these entries.
+fn text_of(rt: &impl Abort, alloc: Global, entries: &[Entry]) -> String {
+    let mut text = String::new(alloc);
+    push_entries(&mut text, &a_and_b(rt, alloc), entries).expect(rt, "memory");
+    text
 }
 
 #[test]
-fn entries_are_written_line_by_line(rt: HostRuntime) -> Result<(), Fail> {
-    let names = a_and_b(rt.alloc())?;
-    let due = Due::of(moment(7)?, Offset::clamp(-600_000));
+fn entries_are_written_line_by_line(rt: HostRuntime) {
+    let due = Due::of(moment(7), Offset::clamp(-600_000));
     let arrival = Arrival {
         ticket: 1,
         class: Class::clamp(-3),
@@ -37,48 +43,44 @@ fn entries_are_written_line_by_line(rt: HostRuntime) -> Result<(), Fail> {
         place: 0,
     };
     let entries = [
-        Entry::Arrive(moment(7)?, arrival),
+        Entry::Arrive(moment(7), arrival),
         Entry::Direct(1, 1),
-        Entry::Arrive(moment(8)?, pinned),
+        Entry::Arrive(moment(8), pinned),
         Entry::Joined(2, Queue::Backend),
         Entry::Joined(3, Queue::Server(0)),
-        Entry::Done(moment(9)?, 1),
+        Entry::Done(moment(9), 1),
         Entry::Freed(1, 1),
         Entry::Left(4, Cause::NoServer),
         Entry::Ended(1),
         Entry::Granted(2, Queue::Backend, 1),
         Entry::Granted(3, Queue::Server(0), 0),
     ];
-    let mut text = String::new(rt.alloc());
-    push_entries(&mut text, &names, &entries)?;
-    push_refusal(&mut text, Refusal::TicketsSpent)?;
+    let mut text = text_of(&rt, rt.alloc(), &entries);
+    push_refusal(&mut text, Refusal::TicketsSpent).expect(&rt, "memory");
     let expected =
         "7 arrive 1 -3 -524280\n  direct 1 b\n8 arrive 2 3 -524280 b\n  join 2 *\n  join 3 a\n9 done 1\n  free 1 b\n  left 4 noserver\n  end 1\n  grant 2 * b\n  grant 3 a a\nrefused 14\n";
     same(&rt, text.as_str(), expected);
-    Ok(())
 }
 
 #[test]
-fn failures_ticks_checks_and_limits_are_written_line_by_line(rt: HostRuntime) -> Result<(), Fail> {
-    let names = a_and_b(rt.alloc())?;
+fn failures_ticks_checks_and_limits_are_written_line_by_line(rt: HostRuntime) {
     let entries = [
-        Entry::Fail(moment(3)?, 1),
+        Entry::Fail(moment(3), 1),
         Entry::Retried(1, 0, 2),
-        Entry::Abort(moment(4)?, 2),
+        Entry::Abort(moment(4), 2),
         Entry::Left(2, Cause::Aborted),
-        Entry::Tick(moment(15)?),
+        Entry::Tick(moment(15)),
         Entry::Left(3, Cause::Timeout),
-        Entry::Check(moment(16)?, 1, true),
+        Entry::Check(moment(16), 1, true),
         Entry::Health(1, true),
-        Entry::Check(moment(17)?, 0, false),
+        Entry::Check(moment(17), 0, false),
         Entry::Health(0, false),
         Entry::Moved(4, 0),
         Entry::Left(1, Cause::Retries),
-        Entry::Limit(moment(18)?, 1, 7),
-        Entry::Limit(moment(19)?, 0, 0),
+        Entry::Limit(moment(18), 1, 7),
+        Entry::Limit(moment(19), 0, 0),
     ];
-    let mut text = String::new(rt.alloc());
-    push_entries(&mut text, &names, &entries)?;
+    let text = text_of(&rt, rt.alloc(), &entries);
     let expected = "\
 3 fail 1
   retry 1 a 2
@@ -96,5 +98,4 @@ fn failures_ticks_checks_and_limits_are_written_line_by_line(rt: HostRuntime) ->
 19 limit a 0
 ";
     same(&rt, text.as_str(), expected);
-    Ok(())
 }

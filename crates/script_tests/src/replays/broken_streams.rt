@@ -5,7 +5,6 @@ use script::MOST_BYTES;
 use std::alloc::Global;
 use std::io;
 use std::io::{Read, Write};
-use std::test::Fail;
 
 const SCRIPT: &[u8] = b"0 arrive 0 0\n9 done 1";
 
@@ -80,13 +79,13 @@ fn taking(alloc: Global, piece: usize, turns: usize, fails: bool) -> Sink {
 }
 
 #[test]
-fn pieces_are_joined(rt: HostRuntime) -> Result<(), Fail> {
+fn pieces_are_joined(rt: HostRuntime) {
     for piece in 1..25usize {
         let mut writer = taking(rt.alloc(), piece, 1000, true);
-        replay(rt.alloc(), &mut script_in(piece, 1000), &mut writer)?;
+        let end = replay(rt.alloc(), &mut script_in(piece, 1000), &mut writer);
+        same(&rt, end, Ok(()));
         same(&rt, writer.taken.as_slice(), TRACE);
     }
-    Ok(())
 }
 
 #[test]
@@ -122,20 +121,20 @@ fn a_faulty_script_leaves_nothing_written(rt: HostRuntime) {
 }
 
 #[test]
-fn a_script_has_four_mebibytes_at_most(rt: HostRuntime) -> Result<(), Fail> {
-    let mut script = vec![in rt.alloc(); b'#'; MOST_BYTES]?;
-    holds(&rt, trace_of(rt.alloc(), &script)?.is_empty());
-    script.push(b'#')?;
+fn a_script_has_four_mebibytes_at_most(rt: HostRuntime) {
+    let mut script = vec![in rt.alloc(); b'#'; MOST_BYTES].expect(&rt, "memory");
+    let trace = trace_of(rt.alloc(), &script).expect(&rt, "a trace");
+    holds(&rt, trace.is_empty());
+    script.push(b'#').expect(&rt, "memory");
     same(
         &rt,
         trace_of(rt.alloc(), &script),
         Err(Fault::Script { line: 0 }),
     );
-    Ok(())
 }
 
 #[test]
-fn each_fault_has_its_text(rt: HostRuntime) -> Result<(), Fail> {
+fn each_fault_has_its_text(rt: HostRuntime) {
     let rows = [
         (Fault::NoMemory, "no memory"),
         (Fault::Script { line: 0 }, "script line 0"),
@@ -144,8 +143,7 @@ fn each_fault_has_its_text(rt: HostRuntime) -> Result<(), Fail> {
         (Fault::Write, "write fault"),
     ];
     for (fault, line) in rows {
-        let text = format!(in rt.alloc(); "{fault}")?;
+        let text = format!(in rt.alloc(); "{fault}").expect(&rt, "memory");
         same(&rt, text.as_str(), line);
     }
-    Ok(())
 }

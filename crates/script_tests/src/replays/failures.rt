@@ -1,8 +1,7 @@
 use super::expect;
-use std::test::Fail;
 
 #[test]
-fn the_last_retry_goes_to_another_server(rt: HostRuntime) -> Result<(), Fail> {
+fn the_last_retry_goes_to_another_server(rt: HostRuntime) {
     expect(
         &rt,
         rt.alloc(),
@@ -33,11 +32,11 @@ server b 1 0 1
 5 done 1
   end 1
 ",
-    )
+    );
 }
 
 #[test]
-fn without_a_retry_the_first_failure_is_told(rt: HostRuntime) -> Result<(), Fail> {
+fn without_a_retry_the_first_failure_is_told(rt: HostRuntime) {
     expect(
         &rt,
         rt.alloc(),
@@ -56,11 +55,11 @@ server b 1 0 1
   free 1 a
   left 1 retries
 ",
-    )
+    );
 }
 
 #[test]
-fn a_redispatched_request_waits_and_keeps_its_due_date(rt: HostRuntime) -> Result<(), Fail> {
+fn a_redispatched_request_waits_and_keeps_its_due_date(rt: HostRuntime) {
     expect(
         &rt,
         rt.alloc(),
@@ -91,11 +90,11 @@ redispatch
   left 1 retries
 queue * class 0 granted 2 worst 2 due 0 after 0 to 12 critical 2 1
 ",
-    )
+    );
 }
 
 #[test]
-fn the_server_that_failed_is_taken_where_no_other_is_left(rt: HostRuntime) -> Result<(), Fail> {
+fn the_server_that_failed_is_taken_where_no_other_is_left(rt: HostRuntime) {
     expect(
         &rt,
         rt.alloc(),
@@ -112,5 +111,5 @@ redispatch
   free 1 s1
   direct 1 s1
 ",
-    )
+    );
 }

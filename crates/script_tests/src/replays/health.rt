@@ -1,9 +1,9 @@
 use super::expect;
 use std::alloc::Global;
-use std::test::Fail;
+use std::process::Abort;
 
 #[test]
-fn a_pin_to_a_fallen_server_is_ignored(rt: HostRuntime) -> Result<(), Fail> {
+fn a_pin_to_a_fallen_server_is_ignored(rt: HostRuntime) {
     expect(
         &rt,
         rt.alloc(),
@@ -28,11 +28,11 @@ server b 1 0 1 2 1
 4 arrive 4 0 4 b
   join 4 *
 ",
-    )
+    );
 }
 
 #[test]
-fn the_queue_of_a_fallen_server_moves(rt: HostRuntime) -> Result<(), Fail> {
+fn the_queue_of_a_fallen_server_moves(rt: HostRuntime) {
     expect(
         &rt,
         rt.alloc(),
@@ -69,11 +69,11 @@ server c 1 0 1
   grant 2 * c
 queue * class 0 granted 2 worst 6 due 0 after 0 to 16 critical 4
 ",
-    )
+    );
 }
 
 #[test]
-fn without_redispatch_the_queue_of_a_fallen_server_stays(rt: HostRuntime) -> Result<(), Fail> {
+fn without_redispatch_the_queue_of_a_fallen_server_stays(rt: HostRuntime) {
     expect(
         &rt,
         rt.alloc(),
@@ -103,33 +103,47 @@ server c 1 0 1
 6 check a down
   health a down
 ",
-    )
+    );
 }
 
-// Arrivals that are bound to a server, one a millisecond, of which the first is served, and what is written of them.
-fn forty_pinned(alloc: Global) -> Result<(String, String), Fail> {
-    let mut script = String::new(alloc);
-    let mut trace = String::new(alloc);
+// An arrival that is bound to a server, which serves the first, and what is written of it.
+fn push_pinned(rt: &impl Abort, script: &mut String, trace: &mut String, at: u32) {
+    let place = if at == 1 { "direct" } else { "join" };
+    writeln!(script, "{at} arrive 0 0 a").expect(rt, "memory");
+    writeln!(trace, "{at} arrive {at} 0 {at} a\n  {place} {at} a").expect(rt, "memory");
+}
+
+// Forty of them, one a millisecond, and the check that finds the server down.
+fn push_script(rt: &impl Abort, script: &mut String, trace: &mut String) {
+    script
+        .push_str("redispatch\nserver a 1 0 1 1 1\nserver b 1 0 1\nserver c 1 0 1\n")
+        .expect(rt, "memory");
     for at in 1..41u32 {
-        script.push_str(&format!(in alloc; "{at} arrive 0 0 a\n")?)?;
-        trace.push_str(&format!(in alloc; "{at} arrive {at} 0 {at} a\n")?)?;
-        let place = if at == 1 { "direct" } else { "join" };
-        trace.push_str(&format!(in alloc; "  {place} {at} a\n")?)?;
+        push_pinned(rt, script, trace, at);
     }
-    Ok((script, trace))
+    script.push_str("41 check a down\n").expect(rt, "memory");
+}
+
+// What is written of the fall of that server.
+fn push_fall(rt: &impl Abort, trace: &mut String) {
+    trace
+        .push_str("41 check a down\n  health a down\n")
+        .expect(rt, "memory");
+    for ticket in 2..41u32 {
+        writeln!(trace, "  move {ticket} a").expect(rt, "memory");
+    }
+    trace
+        .push_str(
+            "  grant 2 * b\n  grant 3 * c\nqueue * class 0 granted 2 worst 39 due 2 after 0 to 122 critical 2\n",
+        )
+        .expect(rt, "memory");
 }
 
 #[test]
-fn a_long_queue_of_a_fallen_server_moves_by_ticket(rt: HostRuntime) -> Result<(), Fail> {
-    let alloc = rt.alloc();
-    let (arrivals, mut trace) = forty_pinned(alloc)?;
-    let header = "redispatch\nserver a 1 0 1 1 1\nserver b 1 0 1\nserver c 1 0 1\n";
-    let script = format!(in alloc; "{header}{arrivals}41 check a down\n")?;
-    trace.push_str("41 check a down\n  health a down\n")?;
-    for ticket in 2..41u32 {
-        trace.push_str(&format!(in alloc; "  move {ticket} a\n")?)?;
-    }
-    trace.push_str("  grant 2 * b\n  grant 3 * c\n")?;
-    trace.push_str("queue * class 0 granted 2 worst 39 due 2 after 0 to 122 critical 2\n")?;
-    expect(&rt, alloc, &script, &trace)
+fn a_long_queue_of_a_fallen_server_moves_by_ticket(rt: HostRuntime) {
+    let mut script = String::new(rt.alloc());
+    let mut trace = String::new(rt.alloc());
+    push_script(&rt, &mut script, &mut trace);
+    push_fall(&rt, &mut trace);
+    expect(&rt, rt.alloc(), script.as_str(), trace.as_str());
 }

@@ -1,8 +1,7 @@
 use super::expect;
-use std::test::Fail;
 
 #[test]
-fn a_lowered_limit_stops_nobody_and_a_raised_one_grants(rt: HostRuntime) -> Result<(), Fail> {
+fn a_lowered_limit_stops_nobody_and_a_raised_one_grants(rt: HostRuntime) {
     expect(
         &rt,
         rt.alloc(),
@@ -38,11 +37,11 @@ server a 2 0 1
   grant 4 * a
 queue * class 0 granted 2 worst 4 due 1 after 0 to 16 critical 3
 ",
-    )
+    );
 }
 
 #[test]
-fn the_server_that_is_named_gets_the_limit(rt: HostRuntime) -> Result<(), Fail> {
+fn the_server_that_is_named_gets_the_limit(rt: HostRuntime) {
     expect(
         &rt,
         rt.alloc(),
@@ -62,5 +61,5 @@ server b 1 0 1
   direct 2 b
 refused 6
 ",
-    )
+    );
 }

@@ -1,8 +1,7 @@
 use super::expect;
-use std::test::Fail;
 
 #[test]
-fn ties_go_round_and_weights_count(rt: HostRuntime) -> Result<(), Fail> {
+fn ties_go_round_and_weights_count(rt: HostRuntime) {
     expect(
         &rt,
         rt.alloc(),
@@ -33,11 +32,11 @@ server b 0 0 1
 0 arrive 7 0 0
   direct 7 b
 ",
-    )
+    );
 }
 
 #[test]
-fn queued_requests_are_load(rt: HostRuntime) -> Result<(), Fail> {
+fn queued_requests_are_load(rt: HostRuntime) {
     expect(
         &rt,
         rt.alloc(),
@@ -59,11 +58,11 @@ server b 5 0 1
 0 arrive 4 0 0
   direct 4 b
 ",
-    )
+    );
 }
 
 #[test]
-fn a_pin_is_ignored_where_the_queue_is_full(rt: HostRuntime) -> Result<(), Fail> {
+fn a_pin_is_ignored_where_the_queue_is_full(rt: HostRuntime) {
     expect(
         &rt,
         rt.alloc(),
@@ -82,11 +81,11 @@ server b 1 0 1
 2 arrive 3 0 2 a
   direct 3 b
 ",
-    )
+    );
 }
 
 #[test]
-fn a_slot_goes_to_the_smaller_head(rt: HostRuntime) -> Result<(), Fail> {
+fn a_slot_goes_to_the_smaller_head(rt: HostRuntime) {
     expect(
         &rt,
         rt.alloc(),
@@ -116,11 +115,11 @@ server a 1 1 1
 queue * class 0 granted 1 worst 2 due 5 after 0 to 14 critical 3
 queue a class 0 granted 1 worst 1 due 5 after 0 to 10 critical 2
 ",
-    )
+    );
 }
 
 #[test]
-fn weight_0_takes_pinned_requests_alone(rt: HostRuntime) -> Result<(), Fail> {
+fn weight_0_takes_pinned_requests_alone(rt: HostRuntime) {
     expect(
         &rt,
         rt.alloc(),
@@ -152,11 +151,11 @@ server b 1 0 1
   end 4
 queue a class 0 granted 1 worst -4 due 6 after 0 to 12 critical 4
 ",
-    )
+    );
 }
 
 #[test]
-fn places_and_the_log_have_their_ends(rt: HostRuntime) -> Result<(), Fail> {
+fn places_and_the_log_have_their_ends(rt: HostRuntime) {
     expect(
         &rt,
         rt.alloc(),
@@ -180,11 +179,11 @@ refused 2
   direct 2 s1
 refused 3
 ",
-    )
+    );
 }
 
 #[test]
-fn a_pin_to_no_server_is_refused(rt: HostRuntime) -> Result<(), Fail> {
+fn a_pin_to_no_server_is_refused(rt: HostRuntime) {
     expect(
         &rt,
         rt.alloc(),
@@ -203,12 +202,12 @@ refused 6
 refused 6
 refused 2
 ",
-    )
+    );
 }
 
 // Without a usable server a request is told so at once, and keeps its place until that is done.
 #[test]
-fn a_request_without_a_server_is_told_so(rt: HostRuntime) -> Result<(), Fail> {
+fn a_request_without_a_server_is_told_so(rt: HostRuntime) {
     expect(
         &rt,
         rt.alloc(),
@@ -226,12 +225,12 @@ refused 2
 2 done 1
   end 1
 ",
-    )
+    );
 }
 
 // The servers stand in the order of their lines, the classes of a queue rise.
 #[test]
-fn each_queue_and_class_is_reported(rt: HostRuntime) -> Result<(), Fail> {
+fn each_queue_and_class_is_reported(rt: HostRuntime) {
     expect(
         &rt,
         rt.alloc(),
@@ -274,5 +273,5 @@ queue b class 3 granted 1 worst 5 due 1 after 0 to 14 critical 5
 queue a class -2 granted 1 worst 7 due 1 after 0 to 18 critical 4
 queue a class 3 granted 1 worst 8 due 1 after 0 to 22 critical 3
 ",
-    )
+    );
 }

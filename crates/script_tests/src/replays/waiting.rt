@@ -1,8 +1,7 @@
 use super::expect;
-use std::test::Fail;
 
 #[test]
-fn only_what_waits_is_aborted(rt: HostRuntime) -> Result<(), Fail> {
+fn only_what_waits_is_aborted(rt: HostRuntime) {
     expect(
         &rt,
         rt.alloc(),
@@ -32,11 +31,11 @@ refused 4
 refused 5
 refused 6
 ",
-    )
+    );
 }
 
 #[test]
-fn a_stay_ends_with_the_first_tick_at_its_limit(rt: HostRuntime) -> Result<(), Fail> {
+fn a_stay_ends_with_the_first_tick_at_its_limit(rt: HostRuntime) {
     expect(
         &rt,
         rt.alloc(),
@@ -61,5 +60,5 @@ queue-timeout 10
   end 2
 refused 4
 ",
-    )
+    );
 }

@@ -1,8 +1,9 @@
 use super::expect;
-use std::test::Fail;
+use std::alloc::Global;
+use std::process::Abort;
 
 #[test]
-fn stays_of_the_base_are_reported_in_the_next_window(rt: HostRuntime) -> Result<(), Fail> {
+fn stays_of_the_base_are_reported_in_the_next_window(rt: HostRuntime) {
     expect(
         &rt,
         rt.alloc(),
@@ -25,11 +26,11 @@ roll
   grant 2 * s1
 queue * class 0 granted 2 worst 19 due 1 after 0 to 8 critical 3 2
 ",
-    )
+    );
 }
 
 #[test]
-fn each_window_has_its_reports(rt: HostRuntime) -> Result<(), Fail> {
+fn each_window_has_its_reports(rt: HostRuntime) {
     expect(
         &rt,
         rt.alloc(),
@@ -53,11 +54,11 @@ queue * class 0 granted 1 worst -90 due 100 after 0 to 8 critical 2
   grant 3 * s1
 queue * class 0 granted 1 worst 15 due 5 after 0 to 6 critical 3
 ",
-    )
+    );
 }
 
 #[test]
-fn a_full_log_has_room_in_the_next_window(rt: HostRuntime) -> Result<(), Fail> {
+fn a_full_log_has_room_in_the_next_window(rt: HostRuntime) {
     expect(
         &rt,
         rt.alloc(),
@@ -87,11 +88,11 @@ roll
   free 2 s1
   end 2
 ",
-    )
+    );
 }
 
 #[test]
-fn a_full_log_comes_before_an_unknown_name(rt: HostRuntime) -> Result<(), Fail> {
+fn a_full_log_comes_before_an_unknown_name(rt: HostRuntime) {
     expect(
         &rt,
         rt.alloc(),
@@ -105,21 +106,44 @@ roll
 refused 6
 1 limit s1 2
 ",
-    )
+    );
 }
 
-// Room for two requests' entries and a check is asked for first, whatever the event is.
+const EVENTS: &str = "\
+1 done 1
+1 fail 1
+1 abort 1
+1 tick
+1 check s1 up
+1 check zz up
+1 limit s1 2
+1 done 9
+1 arrive 0 0
+";
+
+const REFUSED: &str = "\
+refused 3
+refused 3
+refused 3
+refused 3
+refused 3
+refused 3
+refused 3
+refused 3
+refused 3
+";
+
+// Under this header, behind an arrival of which this is written.
+fn each_is_refused(rt: &impl Abort, alloc: Global, header: &str, arrived: &str) {
+    let script = format!(in alloc; "{header}\n0 arrive 0 0\n{EVENTS}").expect(rt, "memory");
+    let expected = format!(in alloc; "{arrived}\n{REFUSED}").expect(rt, "memory");
+    expect(rt, alloc, script.as_str(), expected.as_str());
+}
+
+// Before all else an event asks for twice the places and 8 free entries, here 10.
 #[test]
-fn a_full_log_refuses_each_event(rt: HostRuntime) -> Result<(), Fail> {
-    let events =
-        "1 done 1\n1 fail 1\n1 abort 1\n1 tick\n1 check s1 up\n1 check zz up\n1 done 9\n1 arrive 0 0\n";
-    let refused =
-        "refused 3\nrefused 3\nrefused 3\nrefused 3\nrefused 3\nrefused 3\nrefused 3\nrefused 3\n";
-    let alloc = rt.alloc();
-    let script = format!(in alloc; "places 1\nlog 10\n0 arrive 0 0\n{events}")?;
-    let expected = format!(in alloc; "0 arrive 1 0 0\n  direct 1 s1\n{refused}")?;
-    expect(&rt, alloc, script.as_str(), expected.as_str())?;
-    let script = format!(in alloc; "places 1\nlog 9\n0 arrive 0 0\n{events}")?;
-    let expected = format!(in alloc; "refused 3\n{refused}")?;
-    expect(&rt, alloc, script.as_str(), expected.as_str())
+fn a_full_log_refuses_each_event(rt: HostRuntime) {
+    let arrived = "0 arrive 1 0 0\n  direct 1 s1";
+    each_is_refused(&rt, rt.alloc(), "places 1\nlog 10", arrived);
+    each_is_refused(&rt, rt.alloc(), "places 1\nlog 9", "refused 3");
 }

@@ -3,22 +3,20 @@ use crate::assertions::same;
 use replay::Fault;
 use std::alloc::Global;
 use std::process::Abort;
-use std::test::Fail;
 
-fn expect(rt: &impl Abort, alloc: Global, script: &[u8], expected: &str) -> Result<(), Fail> {
-    let trace = trace_of(alloc, script)?;
+fn expect(rt: &impl Abort, alloc: Global, script: &[u8], expected: &str) {
+    let trace = trace_of(alloc, script).expect(rt, "a trace");
     same(rt, trace.as_slice(), expected.as_bytes());
-    Ok(())
 }
 
 #[test]
-fn the_empty_script_writes_nothing(rt: HostRuntime) -> Result<(), Fail> {
-    expect(&rt, rt.alloc(), b"", "")?;
-    expect(&rt, rt.alloc(), b"# nothing\n \t\r\n", "")
+fn the_empty_script_writes_nothing(rt: HostRuntime) {
+    expect(&rt, rt.alloc(), b"", "");
+    expect(&rt, rt.alloc(), b"# nothing\n \t\r\n", "");
 }
 
 #[test]
-fn overtaking_by_offset(rt: HostRuntime) -> Result<(), Fail> {
+fn overtaking_by_offset(rt: HostRuntime) {
     expect(
         &rt,
         rt.alloc(),
@@ -40,11 +38,11 @@ fn overtaking_by_offset(rt: HostRuntime) -> Result<(), Fail> {
   grant 2 * s1
 queue * class 0 granted 2 worst 19 due 1 after 0 to 14 critical 3 2
 ",
-    )
+    );
 }
 
 #[test]
-fn an_early_grant_is_no_fault(rt: HostRuntime) -> Result<(), Fail> {
+fn an_early_grant_is_no_fault(rt: HostRuntime) {
     expect(
         &rt,
         rt.alloc(),
@@ -66,11 +64,11 @@ fn an_early_grant_is_no_fault(rt: HostRuntime) -> Result<(), Fail> {
   grant 3 * s1
 queue * class 0 granted 2 worst 15 due 5 after 8 to 14 critical 3
 ",
-    )
+    );
 }
 
 #[test]
-fn ties_go_by_ticket(rt: HostRuntime) -> Result<(), Fail> {
+fn ties_go_by_ticket(rt: HostRuntime) {
     expect(
         &rt,
         rt.alloc(),
@@ -92,11 +90,11 @@ fn ties_go_by_ticket(rt: HostRuntime) -> Result<(), Fail> {
   grant 3 * s1
 queue * class 0 granted 2 worst 4 due 5 after 0 to 14 critical 2 3
 ",
-    )
+    );
 }
 
 #[test]
-fn offsets_and_classes_end_at_their_limits(rt: HostRuntime) -> Result<(), Fail> {
+fn offsets_and_classes_end_at_their_limits(rt: HostRuntime) {
     expect(
         &rt,
         rt.alloc(),
@@ -107,11 +105,11 @@ fn offsets_and_classes_end_at_their_limits(rt: HostRuntime) -> Result<(), Fail> 
 7 arrive 2 2047 -524280
   join 2 *
 ",
-    )
+    );
 }
 
 #[test]
-fn classes_go_first(rt: HostRuntime) -> Result<(), Fail> {
+fn classes_go_first(rt: HostRuntime) {
     expect(
         &rt,
         rt.alloc(),
@@ -134,26 +132,38 @@ fn classes_go_first(rt: HostRuntime) -> Result<(), Fail> {
 queue * class -1 granted 1 worst -8 due 11 after 0 to 10 critical 3
 queue * class 0 granted 1 worst 4 due 0 after 0 to 14 critical 2
 ",
-    )
+    );
 }
 
-#[test]
-fn a_full_house_refuses(rt: HostRuntime) -> Result<(), Fail> {
-    let mut script = Vec::new(rt.alloc());
-    let mut expected = String::from_str(rt.alloc(), "0 arrive 1 0 0\n  direct 1 s1\n")?;
+// 65 arrivals, and what is written of those that wait.
+fn push_arrivals(rt: &impl Abort, script: &mut String, expected: &mut String) {
     for ticket in 2..67u64 {
-        script.extend_from_slice(b"0 arrive 0 0\n")?;
+        script.push_str("0 arrive 0 0\n").expect(rt, "memory");
         if ticket < 65 {
-            writeln!(expected, "0 arrive {ticket} 0 0\n  join {ticket} *")?;
+            writeln!(expected, "0 arrive {ticket} 0 0\n  join {ticket} *").expect(rt, "memory");
         }
     }
-    script.extend_from_slice(b"1 done 2\n1 done 99\n")?;
-    expected.push_str("refused 2\nrefused 5\nrefused 4\n")?;
-    expect(&rt, rt.alloc(), &script, expected.as_str())
 }
 
 #[test]
-fn lines_end_as_they_may(rt: HostRuntime) -> Result<(), Fail> {
+fn a_full_house_refuses(rt: HostRuntime) {
+    let mut script = String::new(rt.alloc());
+    let mut expected = String::new(rt.alloc());
+    expected
+        .push_str("0 arrive 1 0 0\n  direct 1 s1\n")
+        .expect(&rt, "memory");
+    push_arrivals(&rt, &mut script, &mut expected);
+    script
+        .push_str("1 done 2\n1 done 99\n")
+        .expect(&rt, "memory");
+    expected
+        .push_str("refused 2\nrefused 5\nrefused 4\n")
+        .expect(&rt, "memory");
+    expect(&rt, rt.alloc(), script.as_bytes(), expected.as_str());
+}
+
+#[test]
+fn lines_end_as_they_may(rt: HostRuntime) {
     expect(
         &rt,
         rt.alloc(),
@@ -165,7 +175,7 @@ fn lines_end_as_they_may(rt: HostRuntime) -> Result<(), Fail> {
   free 1 s1
   end 1
 ",
-    )
+    );
 }
 
 #[test]

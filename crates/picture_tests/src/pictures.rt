@@ -1,5 +1,4 @@
 use log_drawing::{Subject, push_drawing};
-use std::test::Fail;
 use trace_lines::read_trace;
 
 const OVERTAKING: &str = "0 arrive 1 0 0
@@ -20,8 +19,10 @@ queue * class 0 granted 2 worst 19 due 1 after 0 to 14 critical 3 2
 ";
 
 #[test]
-fn a_picture_is_made(rt: HostRuntime) -> Result<(), Fail> {
-    let trace = read_trace(rt.alloc(), Vec::new(rt.alloc()), OVERTAKING.as_bytes())?;
+fn a_picture_is_made(rt: HostRuntime) {
+    let trace = read_trace(rt.alloc(), Vec::new(rt.alloc()), OVERTAKING.as_bytes()).expect(
+        &rt, "a trace",
+    );
     let mut text = String::new(rt.alloc());
     let subject = Subject {
         names: &trace.names,
@@ -30,7 +31,6 @@ fn a_picture_is_made(rt: HostRuntime) -> Result<(), Fail> {
         reports: trace.reports.as_slice(),
         only: None,
     };
-    push_drawing(rt.alloc(), &mut text, &subject)?;
+    push_drawing(rt.alloc(), &mut text, &subject).expect(&rt, "memory");
     assert!(rt; text.as_str().starts_with("<svg "));
-    Ok(())
 }

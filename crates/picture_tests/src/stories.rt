@@ -1,4 +1,3 @@
-use std::test::Fail;
 use ticket_story::{Telling, push_story};
 use trace_lines::read_trace;
 
@@ -28,16 +27,17 @@ It stands in the critical set of * class 0: 2 requests had 2 slots up to 20 ms, 
 ";
 
 #[test]
-fn the_overtaken_request_has_its_story(rt: HostRuntime) -> Result<(), Fail> {
-    let trace = read_trace(rt.alloc(), Vec::new(rt.alloc()), OVERTAKING.as_bytes())?;
+fn the_overtaken_request_has_its_story(rt: HostRuntime) {
+    let trace = read_trace(rt.alloc(), Vec::new(rt.alloc()), OVERTAKING.as_bytes()).expect(
+        &rt, "a trace",
+    );
     let telling = Telling {
         names: &trace.names,
         entries: trace.entries.as_slice(),
         reports: trace.reports.as_slice(),
     };
     let mut text = String::new(rt.alloc());
-    assert!(rt; push_story(rt.alloc(), &mut text, &telling, 2)?);
+    assert!(rt; push_story(rt.alloc(), &mut text, &telling, 2).expect(&rt, "memory"));
     assert_eq!(rt; text.as_str(), STORY);
-    assert!(rt; !push_story(rt.alloc(), &mut text, &telling, 4)?);
-    Ok(())
+    assert!(rt; !push_story(rt.alloc(), &mut text, &telling, 4).expect(&rt, "memory"));
 }

@@ -1,10 +1,9 @@
 use dispatch_log::{Entry, Queue};
 use due_key::Moment;
 use log_stretches::{Course, Lane, Stretch, stretches_of};
-use std::test::Fail;
 
 #[test]
-fn a_stay_ends_where_its_service_begins(rt: HostRuntime) -> Result<(), Fail> {
+fn a_stay_ends_where_its_service_begins(rt: HostRuntime) {
     let entries = [
         Entry::Tick(Moment::zero()),
         Entry::Joined(7, Queue::Backend),
@@ -22,13 +21,12 @@ fn a_stay_ends_where_its_service_begins(rt: HostRuntime) -> Result<(), Fail> {
         from: 3,
         to: None,
     };
-    let stretches = stretches_of(rt.alloc(), &entries)?;
+    let stretches = stretches_of(rt.alloc(), &entries).expect(&rt, "memory");
     assert_eq!(rt; stretches.as_slice(), [stay, service].as_slice());
-    let course = Course::new(rt.alloc(), &entries)?;
+    let course = Course::new(rt.alloc(), &entries).expect(&rt, "memory");
     assert_eq!(rt; course.stretches(), [stay, service].as_slice());
     let moments = [Moment::zero(), Moment::zero(), Moment::zero()];
     assert_eq!(rt; course.moments(), moments.as_slice());
     assert_eq!(rt; course.arrival(7), None);
     assert_eq!(rt; course.entries(), entries.as_slice());
-    Ok(())
 }

@@ -3,7 +3,6 @@ use due_key::{Class, Due, Moment, Offset};
 use late_cert::{Report, Stays};
 use readable_log::Stay;
 use script::{Names, push_entries};
-use std::test::Fail;
 use trace_lines::{Cause, TraceError, is_trace, read_trace, trace_of_window};
 
 const OVERTAKING: &str = "0 arrive 1 0 0
@@ -23,16 +22,17 @@ const OVERTAKING: &str = "0 arrive 1 0 0
 ";
 
 #[test]
-fn entries_are_read_as_they_are_written(rt: HostRuntime) -> Result<(), Fail> {
-    let trace = read_trace(rt.alloc(), Vec::new(rt.alloc()), OVERTAKING.as_bytes())?;
+fn entries_are_read_as_they_are_written(rt: HostRuntime) {
+    let trace = read_trace(rt.alloc(), Vec::new(rt.alloc()), OVERTAKING.as_bytes()).expect(
+        &rt, "a trace",
+    );
     let mut text = String::new(rt.alloc());
-    push_entries(&mut text, &trace.names, trace.entries.as_slice())?;
+    push_entries(&mut text, &trace.names, trace.entries.as_slice()).expect(&rt, "memory");
     assert_eq!(rt; text.as_str(), OVERTAKING);
-    Ok(())
 }
 
 #[test]
-fn a_script_is_no_trace(rt: HostRuntime) -> Result<(), Fail> {
+fn a_script_is_no_trace(rt: HostRuntime) {
     assert!(rt; is_trace(OVERTAKING.as_bytes()));
     assert!(rt; !is_trace(b"0 arrive 0 0\n"));
     assert!(rt; !is_trace(b"# 1\nlog 5\n"));
@@ -51,11 +51,10 @@ fn a_script_is_no_trace(rt: HostRuntime) -> Result<(), Fail> {
             })
         )
     );
-    Ok(())
 }
 
 #[test]
-fn a_window_is_told_as_it_is(rt: HostRuntime) -> Result<(), Fail> {
+fn a_window_is_told_as_it_is(rt: HostRuntime) {
     let alloc = rt.alloc();
     let due = Due::of(Moment::zero(), Offset::clamp(0));
     let stay = Stay {
@@ -72,11 +71,12 @@ fn a_window_is_told_as_it_is(rt: HostRuntime) -> Result<(), Fail> {
         due,
         after: 0,
         to: 3,
-        critical: Stays::copied(alloc, &[stay])?,
+        critical: Stays::copied(alloc, &[stay]).expect(&rt, "memory"),
     };
     let entries = [Entry::Tick(Moment::zero())];
-    let told = trace_of_window(alloc, Names::new(Vec::new(alloc)), &entries, &[report])?;
+    let told = trace_of_window(alloc, Names::new(Vec::new(alloc)), &entries, &[report]).expect(
+        &rt, "memory",
+    );
     assert_eq!(rt; told.entries.as_slice(), entries.as_slice());
     assert_eq!(rt; told.reports[0].critical.as_slice(), [7].as_slice());
-    Ok(())
 }

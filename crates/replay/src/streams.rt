@@ -79,6 +79,10 @@ pub fn trace_of<Q: PendQueue<Key, usize>>(alloc: Global, script: &[u8]) -> Resul
         names,
         mut text,
     } = replay_events::<Q>(alloc, script)?;
-    report(alloc, &core, &names, &mut text)?;
+    let done = report(alloc, &core, &names, &mut text);
+    // A call of it is proved faster than the drops of all parts of a dispatcher.
+    drop(core);
+    drop(names);
+    done?;
     Ok(text)
 }

@@ -4,47 +4,50 @@ use script::Names;
 use socket_gate::{Clients, Front, SocketGate, Told, has_left};
 use std::alloc::Global;
 use std::io::Write;
-use std::net::{TcpListener, TcpStream};
+use std::net::{Net, SocketAddr, TcpListener, TcpStream};
 use std::os::fd::AsRawFd;
+use std::process::Abort;
 use std::sync::Mutex;
-use std::test::Fail;
 use std::thread;
 use std::time::{Clock, Duration, Instant};
 use window_lines::Sums;
 
 #[test]
-fn so_many_clients_come(rt: HostRuntime) -> Result<(), Fail> {
+fn so_many_clients_come(rt: HostRuntime) {
     let clients = Clients::new(1);
     assert!(rt; clients.take());
     assert!(rt; !clients.take());
     assert!(rt; Clients::new(0).take());
-    Ok(())
+}
+
+fn listening<R: Abort + Net<Listener = TcpListener, Stream = TcpStream>>(rt: &R) -> TcpListener {
+    TcpListener::bind(rt, "127.0.0.1:0").expect(rt, "a listener")
+}
+
+fn address(rt: &impl Abort, listener: &TcpListener) -> SocketAddr {
+    listener.local_addr().expect(rt, "an address")
 }
 
 #[test]
-fn an_end_is_seen_behind_unread_bytes(rt: HostRuntime) -> Result<(), Fail> {
-    let listener = TcpListener::bind(&rt, "127.0.0.1:0")?;
-    let mut client = TcpStream::connect(&rt, listener.local_addr()?)?;
-    let (accepted, _) = listener.accept()?;
-    client.write_all(b"x")?;
+fn an_end_is_seen_behind_unread_bytes(rt: HostRuntime) {
+    let listener = listening(&rt);
+    let mut client = TcpStream::connect(&rt, address(&rt, &listener)).expect(&rt, "a connection");
+    let (accepted, _) = listener.accept().expect(&rt, "a client");
+    client.write_all(b"x").expect(&rt, "a byte written");
     let connection = accepted.as_raw_fd();
     assert!(rt; !has_left(connection, true));
     drop(client);
     thread::sleep(&rt, Duration::from_millis(20));
     assert!(rt; has_left(connection, true));
     assert!(rt; !has_left(connection, false));
-    Ok(())
 }
 
 // A configuration with one server, at a port of this machine.
-fn config_of(alloc: Global, port: u16) -> Result<Config, Fail> {
+fn config_of(rt: &impl Abort, alloc: Global, port: u16) -> Config {
     let text = format!(in alloc;
         "listen w\n bind :1\n server it 127.0.0.1:{port} check inter 1s\n"
-    )?;
-    match read(alloc, text.as_bytes()) {
-        Ok(config) => Ok(config),
-        Err(_) => Err(Fail::from("no configuration")),
-    }
+    ).expect(rt, "memory");
+    read(alloc, text.as_bytes()).expect(rt, "a configuration")
 }
 
 // What a check of the gate's server comes to, looked at for a second at most.
@@ -60,30 +63,27 @@ fn checked<G: Gate>(clock: &impl Clock, gate: &mut G) -> Option<bool> {
 }
 
 #[test]
-fn a_gate_takes_clients_and_checks_servers(rt: HostRuntime) -> Result<(), Fail> {
+fn a_gate_takes_clients_and_checks_servers(rt: HostRuntime) {
     let alloc = rt.alloc();
-    let far = TcpListener::bind(&rt, "127.0.0.1:0")?;
-    let near = TcpListener::bind(&rt, "127.0.0.1:0")?;
-    let client = TcpStream::connect(&rt, near.local_addr()?)?;
-    let config = config_of(alloc, far.local_addr()?.port())?;
+    let far = listening(&rt);
+    let near = listening(&rt);
+    let client = TcpStream::connect(&rt, address(&rt, &near)).expect(&rt, "a connection");
+    let config = config_of(&rt, alloc, address(&rt, &far).port());
     let front = Front {
         alloc,
         config: &config,
         names: Names::new(Vec::new(alloc)),
         listener: near,
         clients: Clients::new(1),
-        start: Instant::now(&rt)?,
-        told: Mutex::new(Told::new(Sums::new(alloc, 1)?)),
+        start: Instant::now(&rt).expect(&rt, "the time"),
+        told: Mutex::new(Told::new(Sums::new(alloc, 1).expect(&rt, "memory"))),
     };
-    let mut gate = SocketGate::new(alloc, &rt, &front)?;
-    let Some(mut accepted) = gate.next() else {
-        return Err(Fail::from("no client"));
-    };
+    let mut gate = SocketGate::new(alloc, &rt, &front).expect(&rt, "a gate");
+    let mut accepted = gate.next().expect(&rt, "a client");
     assert!(rt; gate.next().is_none());
     assert!(rt; !gate.gone(&mut accepted));
     assert_eq!(rt; checked(&rt, &mut gate), Some(true));
     drop(far);
     assert_eq!(rt; checked(&rt, &mut gate), Some(false));
     drop(client);
-    Ok(())
 }

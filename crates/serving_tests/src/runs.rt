@@ -3,8 +3,8 @@ use proxy_run::{Sizes, serve_at};
 use std::alloc::Global;
 use std::io::{Read, Write};
 use std::net::{Net, SocketAddr, TcpListener, TcpStream};
+use std::process::Abort;
 use std::sync::Wait;
-use std::test::Fail;
 use std::thread;
 use std::thread::Threads;
 use std::time::Clock;
@@ -46,19 +46,19 @@ fn answer_all(listener: &TcpListener, count: u32, text: &[u8]) -> bool {
     answer_all(listener, count - 1, text) && answer(client, text)
 }
 
-fn come<R: Net<Stream = TcpStream>>(
+fn come<R: Abort + Net<Stream = TcpStream>>(
     rt: &R,
     alloc: Global,
     proxy: SocketAddr,
     row: &Row,
-) -> Result<Vec<TcpStream>, Fail> {
+) -> Vec<TcpStream> {
     let mut clients = Vec::new(alloc);
     for _ in 0..row.clients {
-        let mut client = TcpStream::connect(rt, proxy)?;
-        client.write_all(row.says)?;
-        clients.push(client)?;
+        let mut client = TcpStream::connect(rt, proxy).expect(rt, "a connection");
+        client.write_all(row.says).expect(rt, "a request written");
+        clients.push(client).expect(rt, "memory");
     }
-    Ok(clients)
+    clients
 }
 
 // Serves as a text says.
@@ -112,32 +112,38 @@ fn play<
         + AllocGlobal
         + Threads
         + Wait
+        + Abort
         + Sync,
->(rt: &R, row: &Row) -> Result<(), Fail> {
+>(rt: &R, row: &Row) {
     let alloc = rt.alloc();
-    let far = TcpListener::bind(rt, "127.0.0.1:0")?;
-    let near = TcpListener::bind(rt, "127.0.0.1:0")?;
-    let port = far.local_addr()?.port();
+    let far = TcpListener::bind(rt, "127.0.0.1:0").expect(rt, "a server");
+    let near = TcpListener::bind(rt, "127.0.0.1:0").expect(rt, "a proxy");
+    let port = port_of(rt, &far);
     let settings = row.settings;
     let text = format!(in alloc;
         "listen w\n bind :1\n{settings} server none 127.0.0.1:1 weight 0\n server it 127.0.0.1:{port} maxconn 2\n"
-    )?;
-    let mut clients = come(rt, alloc, near.local_addr()?, row)?;
-    if !serve_between(rt, text.as_str(), near, &far, row) {
-        return Err(Fail::from("it didn't end well"));
-    }
+    ).expect(rt, "memory");
+    let proxy = near.local_addr().expect(rt, "the proxy's address");
+    let mut clients = come(rt, alloc, proxy, row);
+    assert!(rt; serve_between(rt, text.as_str(), near, &far, row));
     for client in clients.iter_mut() {
-        let mut got = Vec::new(alloc);
-        client.read_to_end(&mut got)?;
-        if got.as_slice() != row.gets {
-            return Err(Fail::from("a client got something else"));
-        }
+        gets(rt, alloc, client, row.gets);
     }
-    Ok(())
+}
+
+fn port_of(rt: &impl Abort, listener: &TcpListener) -> u16 {
+    listener.local_addr().expect(rt, "an address").port()
+}
+
+// The client gets this, and then the end.
+fn gets(rt: &impl Abort, alloc: Global, client: &mut TcpStream, expected: &[u8]) {
+    let mut got = Vec::new(alloc);
+    client.read_to_end(&mut got).expect(rt, "an end");
+    assert_eq!(rt; got.as_slice(), expected);
 }
 
 #[test]
-fn one_request(rt: HostRuntime) -> Result<(), Fail> {
+fn one_request(rt: HostRuntime) {
     let row = Row {
         settings: "",
         clients: 1,
@@ -146,11 +152,11 @@ fn one_request(rt: HostRuntime) -> Result<(), Fail> {
         answer: WHOLE,
         answers: 1,
     };
-    play(&rt, &row)
+    play(&rt, &row);
 }
 
 #[test]
-fn two_at_once(rt: HostRuntime) -> Result<(), Fail> {
+fn two_at_once(rt: HostRuntime) {
     let row = Row {
         settings: " timeout server 5s\n",
         clients: 2,
@@ -159,11 +165,11 @@ fn two_at_once(rt: HostRuntime) -> Result<(), Fail> {
         answer: WHOLE,
         answers: 2,
     };
-    play(&rt, &row)
+    play(&rt, &row);
 }
 
 #[test]
-fn a_silent_server_is_a_bad_gateway(rt: HostRuntime) -> Result<(), Fail> {
+fn a_silent_server_is_a_bad_gateway(rt: HostRuntime) {
     let row = Row {
         settings: " timeout server 50ms\n",
         clients: 1,
@@ -172,11 +178,11 @@ fn a_silent_server_is_a_bad_gateway(rt: HostRuntime) -> Result<(), Fail> {
         answer: WHOLE,
         answers: 0,
     };
-    play(&rt, &row)
+    play(&rt, &row);
 }
 
 #[test]
-fn a_part_of_an_answer_is_handed_on_while_its_server_pauses(rt: HostRuntime) -> Result<(), Fail> {
+fn a_part_of_an_answer_is_handed_on_while_its_server_pauses(rt: HostRuntime) {
     let row = Row {
         settings: " timeout server 500ms\n",
         clients: 1,
@@ -185,11 +191,11 @@ fn a_part_of_an_answer_is_handed_on_while_its_server_pauses(rt: HostRuntime) -> 
         answer: b"HTTP/1.1 200 OK\r\nContent-Length: 2\r\n\r\nh",
         answers: 1,
     };
-    play(&rt, &row)
+    play(&rt, &row);
 }
 
 #[test]
-fn a_silent_client_gets_nothing(rt: HostRuntime) -> Result<(), Fail> {
+fn a_silent_client_gets_nothing(rt: HostRuntime) {
     let row = Row {
         settings: " timeout client 50ms\n",
         clients: 1,
@@ -198,5 +204,5 @@ fn a_silent_client_gets_nothing(rt: HostRuntime) -> Result<(), Fail> {
         answer: WHOLE,
         answers: 0,
     };
-    play(&rt, &row)
+    play(&rt, &row);
 }

@@ -19,9 +19,9 @@ use reporting_core::Window;
 use std::alloc::Global;
 use std::io::{self, Read, Write};
 use std::marker::Brand;
+use std::process::Abort;
 use std::sync::Wait;
 use std::sync::atomic::{AtomicU64, Ordering};
-use std::test::Fail;
 
 mod checks;
 mod fakes;
@@ -64,26 +64,24 @@ fn server(limit: u32) -> ServerSet
     }
 }
 
-fn open(alloc: Global, setup: Setup, limits: &[u32]) -> Result<Opened, Fail>
+fn open(rt: &impl Abort, alloc: Global, setup: Setup, limits: &[u32]) -> Opened
     requires limits { map (λ server. server.limit) setup.servers ≡ limits.now }
 {
-    if !setup.sound() {
-        return Err(Fail::from("not a sound setup"));
-    }
-    let running = Running::new(alloc, limits.len())?;
-    let (board, seat, relay) = Board::open(alloc, setup.places, limits)?;
-    Ok(Opened {
-        core: Core::new(alloc, setup)?,
+    assert!(rt; setup.sound());
+    let running = Running::new(alloc, limits.len()).expect(rt, "memory");
+    let (board, seat, relay) = Board::open(alloc, setup.places, limits).expect(rt, "a board");
+    Opened {
+        core: Core::new(alloc, setup).expect(rt, "a dispatcher"),
         board,
         seat,
         relay,
         running,
-    })
+    }
 }
 
 // One server of this limit, four places, and a log of this length.
-fn one_server(alloc: Global, limit: u32, log: usize) -> Result<Opened, Fail> {
-    let servers = vec![in alloc; server(limit)]?;
+fn one_server(rt: &impl Abort, alloc: Global, limit: u32, log: usize) -> Opened {
+    let servers = vec![in alloc; server(limit)].expect(rt, "memory");
     let setup = Setup {
         servers: Servers::from_vec(servers),
         places: 4,
@@ -92,12 +90,12 @@ fn one_server(alloc: Global, limit: u32, log: usize) -> Result<Opened, Fail> {
         redispatch: false,
         queue_timeout: 0,
     };
-    open(alloc, setup, &[limit])
+    open(rt, alloc, setup, &[limit])
 }
 
-fn config(alloc: Global) -> Result<Config, Fail> {
+fn config(rt: &impl Abort, alloc: Global) -> Config {
     let text = b"listen w\n    bind :80\n    server a 127.0.0.1:9001 maxconn 2 check\n";
-    Ok(read(alloc, text)?)
+    read(alloc, text).expect(rt, "a configuration")
 }
 
 // A proxy over what was opened, and the first of the seats that take.

@@ -1,6 +1,6 @@
 use script::Names;
 use std::alloc::{AllocError, Global};
-use std::test::Fail;
+use std::process::Abort;
 use trace_lines::{Trace, read_trace};
 
 /// A fixed sequence of scripts that look random.
@@ -62,22 +62,22 @@ impl Chance {
 }
 
 /// The trace that replaying a script writes.
-pub fn trace_of(alloc: Global, script: &str) -> Result<Vec<u8>, Fail> {
+pub fn trace_of(rt: &impl Abort, alloc: Global, script: &str) -> Vec<u8> {
     let mut rest = script.as_bytes();
     let mut trace = Vec::new(alloc);
-    replay::replay(alloc, &mut rest, &mut trace)?;
-    Ok(trace)
+    replay::replay(alloc, &mut rest, &mut trace).expect(rt, "a trace");
+    trace
 }
 
 /// What a trace tells.
-pub fn told(alloc: Global, trace: &[u8]) -> Result<Trace, Fail> {
-    Ok(read_trace(alloc, Vec::new(alloc), trace)?)
+pub fn told(rt: &impl Abort, alloc: Global, trace: &[u8]) -> Trace {
+    read_trace(alloc, Vec::new(alloc), trace).expect(rt, "a trace")
 }
 
 /// The lines of a trace that are no entry left out, and the entries written again.
-pub fn written_again(alloc: Global, told: &Trace) -> Result<String, AllocError> {
+pub fn written_again(rt: &impl Abort, alloc: Global, told: &Trace) -> String {
     let names: &Names = &told.names;
     let mut text = String::new(alloc);
-    script::push_entries(&mut text, names, told.entries.as_slice())?;
-    Ok(text)
+    script::push_entries(&mut text, names, told.entries.as_slice()).expect(rt, "memory");
+    text
 }

@@ -22,20 +22,22 @@ pub fn bars_in(alloc: Global, picture: &str) -> Result<Vec<Seen>, AllocError> {
 
 // `<path class="kN KIND" d="MX YhWv..z"><title>ticket T, ..`.
 fn bar_in(line: &str) -> Option<Seen> {
-    let rest = line.strip_prefix("<path class=\"k")?;
-    let (looks, rest) = rest.split_once("\" d=\"M")?;
+    let (looks, rest) = line
+        .strip_prefix("<path class=\"k")?
+        .split_once("\" d=\"M")?;
     let (_, kind) = looks.split_once(" ")?;
     let (from, rest) = rest.split_once(" ")?;
-    let (_, rest) = rest.split_once("h")?;
-    let (lasts, rest) = rest.split_once("v")?;
-    let (_, rest) = rest.split_once("<title>ticket ")?;
-    let (ticket, _) = rest.split_once(",")?;
     Some(Seen {
-        ticket: ticket.parse().ok()?,
+        ticket: number_between(rest, "<title>ticket ", ",")?,
         waits: kind.starts_with("w"),
         from: from.parse().ok()?,
-        lasts: lasts.parse().ok()?,
+        lasts: number_between(rest, "h", "v")?,
     })
+}
+
+fn number_between(text: &str, before: &str, behind: &str) -> Option<u64> {
+    let (_, rest) = text.split_once(before)?;
+    rest.split_once(behind)?.0.parse().ok()
 }
 
 /// Whether each tag that opens is closed in turn, and no sign stands bare.

@@ -4,7 +4,7 @@ use dispatch_log::Entry;
 use log_drawing::{Subject, push_drawing};
 use log_stretches::{Lane, Stretch, stretches_of};
 use std::alloc::Global;
-use std::test::Fail;
+use std::process::Abort;
 use trace_lines::Trace;
 
 const SCRIPTS: usize = 200;
@@ -12,52 +12,60 @@ const SCRIPTS: usize = 200;
 const EVENTS: usize = 40;
 
 #[test]
-fn a_picture_shows_the_stretches_and_no_other_bar(rt: HostRuntime) -> Result<(), Fail> {
+fn a_picture_shows_the_stretches_and_no_other_bar(rt: HostRuntime) {
     let alloc = rt.alloc();
     let mut chance = Chance::new(11);
     let mut bars = 0usize;
     for _ in 0..SCRIPTS {
-        let script = chance.script(alloc, EVENTS)?;
-        let trace = told(alloc, trace_of(alloc, script.as_str())?.as_slice())?;
-        let picture = picture_of(alloc, &trace)?;
-        let shown = bars_in(alloc, picture.as_str())?;
-        assert_eq!(rt; shown.as_slice(), expected(alloc, &trace)?.as_slice());
-        assert!(rt; is_well_formed(alloc, picture.as_str())?);
-        bars = bars.saturating_add(shown.len());
+        let script = chance.script(alloc, EVENTS).expect(&rt, "memory");
+        let trace = trace_of(&rt, alloc, script.as_str());
+        bars = bars.saturating_add(bars_of(&rt, alloc, trace.as_slice()));
     }
     assert!(rt; SCRIPTS * 10 < bars);
-    Ok(())
+}
+
+// How many bars the picture of a trace has, which are those that are expected.
+fn bars_of(rt: &impl Abort, alloc: Global, trace: &[u8]) -> usize {
+    let trace = told(rt, alloc, trace);
+    let picture = picture_of(rt, alloc, &trace);
+    let shown = bars_in(alloc, picture.as_str()).expect(rt, "memory");
+    assert_eq!(rt; shown.as_slice(), expected(rt, alloc, &trace).as_slice());
+    assert!(rt; is_well_formed(alloc, picture.as_str()).expect(rt, "memory"));
+    shown.len()
 }
 
 #[test]
-fn a_trace_is_read_as_it_is_written(rt: HostRuntime) -> Result<(), Fail> {
+fn a_trace_is_read_as_it_is_written(rt: HostRuntime) {
     let alloc = rt.alloc();
     let mut chance = Chance::new(12);
     for _ in 0..SCRIPTS {
-        let script = chance.script(alloc, EVENTS)?;
-        let trace = trace_of(alloc, script.as_str())?;
-        let told = told(alloc, trace.as_slice())?;
-        let again = written_again(alloc, &told)?;
-        let mut lines = String::new(alloc);
-        for line in proxy_words::Lines::new(trace.as_slice()) {
-            push_entry_line(&mut lines, line)?;
-        }
+        let script = chance.script(alloc, EVENTS).expect(&rt, "memory");
+        let trace = trace_of(&rt, alloc, script.as_str());
+        let told = told(&rt, alloc, trace.as_slice());
+        let again = written_again(&rt, alloc, &told);
+        let lines = entry_lines(&rt, alloc, trace.as_slice());
         assert_eq!(rt; again.as_str(), lines.as_str());
     }
-    Ok(())
+}
+
+fn entry_lines(rt: &impl Abort, alloc: Global, trace: &[u8]) -> String {
+    let mut lines = String::new(alloc);
+    for line in proxy_words::Lines::new(trace) {
+        push_entry_line(rt, &mut lines, line);
+    }
+    lines
 }
 
 // A line that is of an entry: no refusal, no roll and no report.
-fn push_entry_line(lines: &mut String, line: &[u8]) -> Result<(), Fail> {
+fn push_entry_line(rt: &impl Abort, lines: &mut String, line: &[u8]) {
     if let [b'r' | b'q', ..] = line {
-        return Ok(());
+        return;
     }
-    lines.push_str(std::str::from_utf8(line)?)?;
-    lines.push_str("\n")?;
-    Ok(())
+    let line = std::str::from_utf8(line).expect(rt, "a text");
+    writeln!(lines, "{line}").expect(rt, "memory");
 }
 
-fn picture_of(alloc: Global, trace: &Trace) -> Result<String, Fail> {
+fn picture_of(rt: &impl Abort, alloc: Global, trace: &Trace) -> String {
     let mut text = String::new(alloc);
     let subject = Subject {
         names: &trace.names,
@@ -66,22 +74,24 @@ fn picture_of(alloc: Global, trace: &Trace) -> Result<String, Fail> {
         reports: trace.reports.as_slice(),
         only: None,
     };
-    push_drawing(alloc, &mut text, &subject)?;
-    Ok(text)
+    push_drawing(alloc, &mut text, &subject).expect(rt, "memory");
+    text
 }
 
 // The stretches of a log over its moments, which the test reads for itself.
-fn expected(alloc: Global, trace: &Trace) -> Result<Vec<Seen>, Fail> {
+fn expected(rt: &impl Abort, alloc: Global, trace: &Trace) -> Vec<Seen> {
     let entries = trace.entries.as_slice();
     let first = moment_at(entries, 1);
     let last = moment_at(entries, entries.len());
     let lasting = last.saturating_sub(first);
     let end = last.saturating_add((lasting / 40).max(1));
     let mut seen = Vec::new(alloc);
-    for stretch in stretches_of(alloc, entries)?.as_slice() {
-        seen.push(seen_of(entries, stretch, first, end))?;
+    let stretches = stretches_of(alloc, entries).expect(rt, "memory");
+    for stretch in stretches.as_slice() {
+        let bar = seen_of(entries, stretch, first, end);
+        seen.push(bar).expect(rt, "memory");
     }
-    Ok(seen)
+    seen
 }
 
 fn seen_of(entries: &[Entry], stretch: &Stretch, first: u64, end: u64) -> Seen {

@@ -1,14 +1,14 @@
 use super::chance::{Chance, told, trace_of};
-use std::test::Fail;
 use ticket_story::{MOST_LINES, Telling, push_story};
 
 #[test]
-fn each_arrival_has_a_short_story(rt: HostRuntime) -> Result<(), Fail> {
+fn each_arrival_has_a_short_story(rt: HostRuntime) {
     let alloc = rt.alloc();
     let mut chance = Chance::new(13);
     for _ in 0..50 {
-        let script = chance.script(alloc, 40)?;
-        let trace = told(alloc, trace_of(alloc, script.as_str())?.as_slice())?;
+        let script = chance.script(alloc, 40).expect(&rt, "memory");
+        let trace = trace_of(&rt, alloc, script.as_str());
+        let trace = told(&rt, alloc, trace.as_slice());
         let telling = Telling {
             names: &trace.names,
             entries: trace.entries.as_slice(),
@@ -16,10 +16,9 @@ fn each_arrival_has_a_short_story(rt: HostRuntime) -> Result<(), Fail> {
         };
         for ticket in 1..=4 {
             let mut story = String::new(alloc);
-            let is_told = push_story(alloc, &mut story, &telling, ticket)?;
+            let is_told = push_story(alloc, &mut story, &telling, ticket).expect(&rt, "memory");
             assert_eq!(rt; is_told, !story.is_empty());
             assert!(rt; story.as_str().lines().count() <= MOST_LINES);
         }
     }
-    Ok(())
 }

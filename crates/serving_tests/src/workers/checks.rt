@@ -8,22 +8,22 @@ use super::*;
 use std::sync::atomic::AtomicBool;
 
 // The checker's pauses are spent. Whether the server is up then.
-fn check_thrice<N: BoardName, R: Wait>(rt: &R, proxy: &Proxy<N>, up: bool) -> Result<bool, Fail> {
+fn check_thrice<N: BoardName, R: Abort + Wait>(rt: &R, proxy: &Proxy<N>, up: bool) -> bool {
     let seen = Seen::new();
     let mut gate = Fake::new(Scene { up, ..plain() }, &seen);
     let stop = AtomicBool::new(false);
     checker(rt, proxy, &mut gate, &mut Few::new(3), &stop);
-    let lines = proxy.desk.servers(rt, proxy.alloc)?;
-    Ok(lines.iter().all(|line| line.up))
+    let lines = proxy.desk.servers(rt, proxy.alloc).expect(rt, "memory");
+    lines.iter().all(|line| line.up)
 }
 
-fn up_after<N: BoardName, R: Wait>(
+fn up_after<N: BoardName, R: Abort + Wait>(
     rt: &R,
     alloc: Global,
     config: Config,
     opened: Opened,
     up: bool,
-) -> Result<bool, Fail>
+) -> bool
     requires named { opened.board ≡ N.board }
     requires terms { N.terms ≡ terms_of opened.core.setup }
 {
@@ -34,10 +34,9 @@ fn up_after<N: BoardName, R: Wait>(
 }
 
 #[test]
-fn a_server_is_seen_down(rt: HostRuntime) -> Result<(), Fail> {
+fn a_server_is_seen_down(rt: HostRuntime) {
     let alloc = rt.alloc();
-    let config = config(alloc)?;
-    let opened = one_server(alloc, 2, 4096)?;
-    assert!(rt; !up_after::<Brand, _>(&rt, alloc, config, opened, false)?);
-    Ok(())
+    let config = config(&rt, alloc);
+    let opened = one_server(&rt, alloc, 2, 4096);
+    assert!(rt; !up_after::<Brand, _>(&rt, alloc, config, opened, false));
 }

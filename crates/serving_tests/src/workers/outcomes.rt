@@ -29,32 +29,19 @@ fn work<N: BoardName, R: Wait>(
 }
 
 // What a scene comes to in a log of this length.
-fn play<R: Wait>(rt: &R, alloc: Global, log: usize, scene: Scene) -> Result<Found, Fail> {
-    let config = config(alloc)?;
-    let opened = one_server(alloc, 2, log)?;
-    Ok(work::<Brand, _>(rt, alloc, config, opened, scene))
+fn play<R: Abort + Wait>(rt: &R, alloc: Global, log: usize, scene: Scene) -> Found {
+    let config = config(rt, alloc);
+    let opened = one_server(rt, alloc, 2, log);
+    work::<Brand, _>(rt, alloc, config, opened, scene)
 }
 
 // A scene comes to this tally, its peers are told so many bytes of what they expect and no other, and nothing is left on the board.
-fn expect<R: Wait>(
-    rt: &R,
-    alloc: Global,
-    scene: Scene,
-    told: usize,
-    tally: Tally,
-) -> Result<(), Fail> {
-    let found = play(rt, alloc, 4096, scene)?;
-    if found.tally != Ok(tally) {
-        return Err(Fail::from("another tally"));
-    }
-    let right = found.seen.right.load(Ordering::SeqCst);
-    if right != told as u64 || found.seen.wrong.load(Ordering::SeqCst) != 0 {
-        return Err(Fail::from("told something else"));
-    }
-    if found.closing != (Closing { left: 0 }) {
-        return Err(Fail::from("something is left"));
-    }
-    Ok(())
+fn expect<R: Abort + Wait>(rt: &R, alloc: Global, scene: Scene, told: usize, tally: Tally) {
+    let found = play(rt, alloc, 4096, scene);
+    assert_eq!(rt; found.tally, Ok(tally));
+    assert_eq!(rt; found.seen.right.load(Ordering::SeqCst), told as u64);
+    assert_eq!(rt; found.seen.wrong.load(Ordering::SeqCst), 0);
+    assert_eq!(rt; found.closing, Closing { left: 0 });
 }
 
 // Six clients, of whom nobody got anything whole.
@@ -73,13 +60,13 @@ const EVERYBODY: Tally = Tally {
 };
 
 #[test]
-fn clients_are_answered(rt: HostRuntime) -> Result<(), Fail> {
+fn clients_are_answered(rt: HostRuntime) {
     let told = 6 * (FORWARDED.len() + ANSWERED.len());
-    expect(&rt, rt.alloc(), plain(), told, EVERYBODY)
+    expect(&rt, rt.alloc(), plain(), told, EVERYBODY);
 }
 
 #[test]
-fn a_bad_head_is_refused(rt: HostRuntime) -> Result<(), Fail> {
+fn a_bad_head_is_refused(rt: HostRuntime) {
     let scene = Scene {
         request: b"POST /a HTTP/1.1\r\nHost: h\r\nContent-Length: 3\r\nContent-Length: 4\r\n\r\nabcd",
         to_client: BAD_REQUEST,
@@ -89,21 +76,21 @@ fn a_bad_head_is_refused(rt: HostRuntime) -> Result<(), Fail> {
         bad_requests: 6,
         ..NOBODY
     };
-    expect(&rt, rt.alloc(), scene, 6 * BAD_REQUEST.len(), tally)
+    expect(&rt, rt.alloc(), scene, 6 * BAD_REQUEST.len(), tally);
 }
 
 #[test]
-fn a_server_fails_twice(rt: HostRuntime) -> Result<(), Fail> {
+fn a_server_fails_twice(rt: HostRuntime) {
     let scene = Scene {
         failing: 2,
         ..plain()
     };
     let told = 6 * (FORWARDED.len() + ANSWERED.len());
-    expect(&rt, rt.alloc(), scene, told, EVERYBODY)
+    expect(&rt, rt.alloc(), scene, told, EVERYBODY);
 }
 
 #[test]
-fn a_server_is_never_there(rt: HostRuntime) -> Result<(), Fail> {
+fn a_server_is_never_there(rt: HostRuntime) {
     let scene = Scene {
         failing: 24,
         to_client: UNAVAILABLE,
@@ -113,11 +100,11 @@ fn a_server_is_never_there(rt: HostRuntime) -> Result<(), Fail> {
         unavailable: 6,
         ..NOBODY
     };
-    expect(&rt, rt.alloc(), scene, 6 * UNAVAILABLE.len(), tally)
+    expect(&rt, rt.alloc(), scene, 6 * UNAVAILABLE.len(), tally);
 }
 
 #[test]
-fn a_server_closes_before_a_head(rt: HostRuntime) -> Result<(), Fail> {
+fn a_server_closes_before_a_head(rt: HostRuntime) {
     let scene = Scene {
         answer: b"HTTP/1.1 2",
         to_client: BAD_GATEWAY,
@@ -128,53 +115,52 @@ fn a_server_closes_before_a_head(rt: HostRuntime) -> Result<(), Fail> {
         ..NOBODY
     };
     let told = 6 * (FORWARDED.len() + BAD_GATEWAY.len());
-    expect(&rt, rt.alloc(), scene, told, tally)
+    expect(&rt, rt.alloc(), scene, told, tally);
 }
 
 #[test]
-fn a_server_closes_inside_a_body(rt: HostRuntime) -> Result<(), Fail> {
+fn a_server_closes_inside_a_body(rt: HostRuntime) {
     let scene = Scene {
         answer: b"HTTP/1.1 200 OK\r\nContent-Length: 2\r\n\r\na",
         ..plain()
     };
     let told = 6 * (FORWARDED.len() + ANSWERED.len() - 1);
-    expect(&rt, rt.alloc(), scene, told, NOBODY)
+    expect(&rt, rt.alloc(), scene, told, NOBODY);
 }
 
 #[test]
-fn a_client_closes_inside_its_head(rt: HostRuntime) -> Result<(), Fail> {
+fn a_client_closes_inside_its_head(rt: HostRuntime) {
     let scene = Scene {
         request: b"GET / HTTP/1.1\r\nHost",
         ..plain()
     };
-    expect(&rt, rt.alloc(), scene, 0, NOBODY)
+    expect(&rt, rt.alloc(), scene, 0, NOBODY);
 }
 
 #[test]
-fn a_client_is_gone_while_served(rt: HostRuntime) -> Result<(), Fail> {
+fn a_client_is_gone_while_served(rt: HostRuntime) {
     let scene = Scene {
         taken: 0,
         ..plain()
     };
-    expect(&rt, rt.alloc(), scene, 6 * FORWARDED.len(), NOBODY)
+    expect(&rt, rt.alloc(), scene, 6 * FORWARDED.len(), NOBODY);
 }
 
 #[test]
-fn a_client_is_gone_after_a_byte(rt: HostRuntime) -> Result<(), Fail> {
+fn a_client_is_gone_after_a_byte(rt: HostRuntime) {
     let scene = Scene {
         taken: 1,
         ..plain()
     };
-    expect(&rt, rt.alloc(), scene, 6 * (FORWARDED.len() + 1), NOBODY)
+    expect(&rt, rt.alloc(), scene, 6 * (FORWARDED.len() + 1), NOBODY);
 }
 
 #[test]
-fn windows_go_to_the_gate(rt: HostRuntime) -> Result<(), Fail> {
+fn windows_go_to_the_gate(rt: HostRuntime) {
     // Such a log has room for one event.
-    let found = play(&rt, rt.alloc(), 16, plain())?;
+    let found = play(&rt, rt.alloc(), 16, plain());
     assert_eq!(rt; found.tally, Ok(EVERYBODY));
     // Each client after the first begins a window as it comes, and each as it goes.
     assert_eq!(rt; found.seen.windows.load(Ordering::SeqCst), 11);
     assert_eq!(rt; found.closing, Closing { left: 0 });
-    Ok(())
 }

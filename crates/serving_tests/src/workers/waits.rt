@@ -1,5 +1,5 @@
 // Clients that wait.
-ghost use Rattle.std.specs.Prelude.{◌≡◌, ◌<◌, [], IfOk};
+ghost use Rattle.std.specs.Prelude.{◌≡◌, ◌<◌, []};
 ghost use Rattle.outstanding.specs.Books.{terms_of};
 ghost use Rattle.grant_desk.specs.Seats.{IsSameSeat};
 
@@ -14,12 +14,8 @@ use place_set::PlaceSet;
 use verdict::Ending;
 
 // A request that has a slot before any client comes.
-fn come_first<N: BoardName, R: Wait>(
-    rt: &R,
-    alloc: Global,
-    desk: &Desk<N>,
-) -> Result<Ticketed, Fail>
-    ensures { IfOk result (λ it. it.place < N.terms.places) }
+fn come_first<N: BoardName, R: Abort + Wait>(rt: &R, alloc: Global, desk: &Desk<N>) -> Ticketed
+    ensures { result.place < N.terms.places }
 {
     let wanted = Wanted {
         class: Class::clamp(0),
@@ -27,10 +23,8 @@ fn come_first<N: BoardName, R: Wait>(
         pin: None,
     };
     let mut woken = PlaceSet::new();
-    match desk.arrive(rt, alloc, Moment::zero(), wanted, &mut woken) {
-        Ok(it) => Ok(it),
-        Err(_) => Err(Fail::from("refused")),
-    }
+    desk.arrive(rt, alloc, Moment::zero(), wanted, &mut woken)
+        .expect(rt, "a place")
 }
 
 // Its exchange is over. Whether it had its slot, and what it left was collected.
@@ -56,29 +50,27 @@ fn go_last<N: BoardName, R: Wait>(
 }
 
 // Clients come while the only slot is taken.
-fn come_behind<N: BoardName, R: Wait>(
+fn come_behind<N: BoardName, R: Abort + Wait>(
     rt: &R,
     proxy: &Proxy<N>,
     idle: &mut Idle<N>,
     gate: Fake<'_>,
-) -> Result<Result<Tally, Stopped>, Fail>
+) -> Result<Tally, Stopped>
     ensures { IsSameSeat idle.old.seat idle.new.seat }
 {
-    let first = come_first(rt, proxy.alloc, &proxy.desk)?;
+    let first = come_first(rt, proxy.alloc, &proxy.desk);
     let tally = worker(rt, proxy, idle, gate, Few::new(3));
-    if !go_last(rt, &proxy.desk, &mut idle.seat, first) {
-        return Err(Fail::from("the slot was lost"));
-    }
-    Ok(tally)
+    assert!(rt; go_last(rt, &proxy.desk, &mut idle.seat, first));
+    tally
 }
 
-fn work_behind<N: BoardName, R: Wait>(
+fn work_behind<N: BoardName, R: Abort + Wait>(
     rt: &R,
     alloc: Global,
     config: Config,
     opened: Opened,
     scene: Scene,
-) -> Result<Found, Fail>
+) -> Found
     requires named { opened.board ≡ N.board }
     requires terms { N.terms ≡ terms_of opened.core.setup }
 {
@@ -86,41 +78,37 @@ fn work_behind<N: BoardName, R: Wait>(
     let seen = Seen::new();
     let tally = come_behind(rt, &proxy, &mut idle, Fake::new(scene, &seen));
     let closing = close(proxy, idle);
-    Ok(Found {
-        tally: tally?,
+    Found {
+        tally,
         seen,
         closing,
-    })
+    }
 }
 
 // Six clients that are gone after so many looks get nothing, each is asked for so often, and nothing is left on the board.
-fn expect<R: Wait>(rt: &R, alloc: Global, patience: u32) -> Result<(), Fail> {
-    let config = config(alloc)?;
-    let opened = one_server(alloc, 1, 4096)?;
+fn expect<R: Abort + Wait>(rt: &R, alloc: Global, patience: u32) {
+    let config = config(rt, alloc);
+    let opened = one_server(rt, alloc, 1, 4096);
     let scene = Scene {
         patience,
         ..plain()
     };
-    let found = work_behind::<Brand, _>(rt, alloc, config, opened, scene)?;
+    let found = work_behind::<Brand, _>(rt, alloc, config, opened, scene);
     let nobody = Tally {
         clients: 6,
         ..Tally::zero()
     };
-    if found.tally != Ok(nobody) || found.seen.right.load(Ordering::SeqCst) != 0 {
-        return Err(Fail::from("somebody got something"));
-    }
-    if found.closing != (Closing { left: 0 }) {
-        return Err(Fail::from("something is left"));
-    }
-    Ok(())
+    assert_eq!(rt; found.tally, Ok(nobody));
+    assert_eq!(rt; found.seen.right.load(Ordering::SeqCst), 0);
+    assert_eq!(rt; found.closing, Closing { left: 0 });
 }
 
 #[test]
-fn clients_are_gone_while_they_wait(rt: HostRuntime) -> Result<(), Fail> {
-    expect(&rt, rt.alloc(), 1)
+fn clients_are_gone_while_they_wait(rt: HostRuntime) {
+    expect(&rt, rt.alloc(), 1);
 }
 
 #[test]
-fn pauses_are_spent(rt: HostRuntime) -> Result<(), Fail> {
-    expect(&rt, rt.alloc(), u32::MAX)
+fn pauses_are_spent(rt: HostRuntime) {
+    expect(&rt, rt.alloc(), u32::MAX);
 }

@@ -10,17 +10,17 @@ use Rattle.replay.specs.Defaults.{names_of, opening}
 use Rattle.replay.proofs.events.replay_events.Goals as goal
 
 -- what the header lines say is what all lines do
-pub returns-clause-ok : goal.returns-clause-ok
-returns-clause-ok g c =
+pub returns-in-Ok-run-clause-ok : goal.returns-in-Ok-run-clause-ok
+returns-in-Ok-run-clause-ok g c =
     let whole : c.in_ok-header.header ≡ settings_of (lines c.args.script.now) =
     c.in_ok-header.ensures.settings
-    ∙ sym (settings_whole (lines c.args.script.now) c.in_ok-header.before c.in_ok-header.ensures.header c.in_ok-text.ensures.faultless) in
+    ∙ sym (settings_whole (lines c.args.script.now) c.in_ok-header.before c.in_ok-header.ensures.header c.in-Ok-run.ensures.faultless) in
     record {
-      faultless = c.in_ok-header.ensures.short ∙ c.in_ok-text.ensures.faultless;
+      faultless = c.in_ok-header.ensures.short ∙ c.in-Ok-run.ensures.faultless;
       named = c.in-Ok.ensures.names ∙ ap names_of whole;
       answered = subst
-          (λ (settings : Settings). IsScriptText c.in-Ok.names (opening settings) (steps_of c.args.script.now) c.run.new.core (string_bytes c.in_ok-text.text))
+          (λ (settings : Settings). IsScriptText c.in-Ok.names (opening settings) (steps_of c.args.script.now) c.run.new.core (string_bytes c.in-Ok-run.text))
           whole
-          (subst (λ (history : History). IsScriptText c.in-Ok.names history (steps_of c.args.script.now) c.run.new.core (string_bytes c.in_ok-text.text))
-          (c.in-Ok-new.ensures ∙ ap (λ (setup : Setup). first_window setup []) c.in-Ok.ensures.setup) c.in_ok-text.ensures.ok);
+          (subst (λ (history : History). IsScriptText c.in-Ok.names history (steps_of c.args.script.now) c.run.new.core (string_bytes c.in-Ok-run.text))
+          (c.in-Ok-new.ensures ∙ ap (λ (setup : Setup). first_window setup []) c.in-Ok.ensures.setup) c.in-Ok-run.ensures.ok);
     }

@@ -6,7 +6,6 @@ use relay_http::{Code, Exchange, Fault};
 use req_view::View;
 use std::alloc::Global;
 use std::process::Abort;
-use std::test::Fail;
 
 fn reads_nothing(alloc: Global, exchange: &mut Exchange, reader: &mut &[u8]) -> bool {
     if !exchange.is_closed() {
@@ -109,13 +108,12 @@ fn is_closed_by_a_request(
 }
 
 #[test]
-fn each_fault_of_a_request_closes_the_exchange(rt: HostRuntime) -> Result<(), Fail> {
-    let view = view_of(rt.alloc(), GET)?;
+fn each_fault_of_a_request_closes_the_exchange(rt: HostRuntime) {
+    let view = view_of(&rt, rt.alloc(), GET);
     for (input, turns, fault) in REQUESTS {
-        let mut exchange = Exchange::new(rt.alloc(), turns)?;
+        let mut exchange = Exchange::new(rt.alloc(), turns).expect(&rt, "memory");
         is_closed_by_a_request(&rt, rt.alloc(), &mut exchange, &view, input, fault);
     }
-    Ok(())
 }
 
 // the same of answers, and whether a byte of one went out; the request takes two turns
@@ -158,11 +156,10 @@ fn is_closed_by_an_answer(
 }
 
 #[test]
-fn each_fault_of_an_answer_closes_the_exchange(rt: HostRuntime) -> Result<(), Fail> {
-    let view = view_of(rt.alloc(), GET)?;
+fn each_fault_of_an_answer_closes_the_exchange(rt: HostRuntime) {
+    let view = view_of(&rt, rt.alloc(), GET);
     for (input, turns, fault, begun) in ANSWERS {
-        let mut exchange = Exchange::new(rt.alloc(), turns)?;
+        let mut exchange = Exchange::new(rt.alloc(), turns).expect(&rt, "memory");
         is_closed_by_an_answer(&rt, rt.alloc(), &mut exchange, &view, input, fault, begun);
     }
-    Ok(())
 }

@@ -3,10 +3,10 @@ ghost use Rattle.relay_http.specs.States.{IsAt, Serves};
 use grant_board::{Board, Pass, Taking};
 use relay_http::{Exchange, Fault, Stage};
 use req_view::View;
-use std::alloc::{AllocError, Global};
+use std::alloc::Global;
 use std::io;
 use std::io::{Read, Write};
-use std::test::Fail;
+use std::process::Abort;
 use verdict::{Ending, Verdict};
 
 /// What a message is, its bytes, and what becomes of it.
@@ -36,10 +36,10 @@ impl Seen {
 }
 
 /// Hands a request on.
-pub(crate) fn forwarded(alloc: Global, input: &[u8]) -> Result<Seen, AllocError> {
-    let mut exchange = Exchange::new(alloc, TURNS)?;
+pub(crate) fn forwarded(rt: &impl Abort, alloc: Global, input: &[u8]) -> Seen {
+    let mut exchange = Exchange::new(alloc, TURNS).expect(rt, "memory");
     let mut reader = input;
-    Ok(forwarded_from(alloc, &mut exchange, &mut reader))
+    forwarded_from(alloc, &mut exchange, &mut reader)
 }
 
 /// Hands a request on by a new exchange.
@@ -61,18 +61,19 @@ pub(crate) fn forward_to<R: Read, W: Write>(
     writer: &mut W,
 ) -> Result<(), Fault> {
     exchange.renew();
-    let view = exchange.read_request(alloc, reader)?;
-    forward_view(alloc, exchange, &view, reader, writer)
+    match exchange.read_request(alloc, reader) {
+        Ok(view) => forward_view(alloc, exchange, &view, reader, writer),
+        Err(fault) => Err(fault),
+    }
 }
 
 /// The head of a request, read by an exchange of its own.
-pub(crate) fn view_of(alloc: Global, request: &[u8]) -> Result<View, Fail> {
-    let mut exchange = Exchange::new(alloc, TURNS)?;
+pub(crate) fn view_of(rt: &impl Abort, alloc: Global, request: &[u8]) -> View {
+    let mut exchange = Exchange::new(alloc, TURNS).expect(rt, "memory");
     let mut reader = request;
-    match exchange.read_request(alloc, &mut reader) {
-        Ok(view) => Ok(view),
-        Err(_) => Err(Fail::from("no request")),
-    }
+    exchange
+        .read_request(alloc, &mut reader)
+        .expect(rt, "a request")
 }
 
 /// Hands a request on whose head was read, on a pass of its own.
@@ -139,10 +140,10 @@ fn hand_on<R: Read, W: Write>(
 }
 
 /// Hands the answer to a request on.
-pub(crate) fn answered(alloc: Global, request: &[u8], input: &[u8]) -> Result<Seen, AllocError> {
-    let mut exchange = Exchange::new(alloc, TURNS)?;
+pub(crate) fn answered(rt: &impl Abort, alloc: Global, request: &[u8], input: &[u8]) -> Seen {
+    let mut exchange = Exchange::new(alloc, TURNS).expect(rt, "memory");
     let mut reader = input;
-    Ok(answered_from(alloc, &mut exchange, request, &mut reader))
+    answered_from(alloc, &mut exchange, request, &mut reader)
 }
 
 /// Hands the answer to a request without a body on by a new exchange.
@@ -167,8 +168,10 @@ pub(crate) fn answer_to<R: Read, W: Write>(
 ) -> Result<(), Fault> {
     exchange.renew();
     let mut client = request;
-    let view = exchange.read_request(alloc, &mut client)?;
-    answer_view(alloc, exchange, &view, reader, writer)
+    match exchange.read_request(alloc, &mut client) {
+        Ok(view) => answer_view(alloc, exchange, &view, reader, writer),
+        Err(fault) => Err(fault),
+    }
 }
 
 /// Hands a request without a body on whose head was read, and then its answer, on a pass of their own.

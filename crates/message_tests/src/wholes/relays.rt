@@ -1,11 +1,12 @@
 ghost use Rattle.std.specs.Prelude.{◌≤◌, length};
 ghost use Rattle.relay_http.specs.States.{Serves};
 
+use crate::assertions::holds;
 use grant_board::{Board, Pass, Taking};
 use relay_body::INBOX_BYTES;
 use relay_http::{Aside, Exchange, Fault};
-use std::alloc::{AllocError, Global};
-use std::test::Fail;
+use std::alloc::Global;
+use std::process::Abort;
 use verdict::{Ending, Verdict};
 use whole_messages::{Arrived, HandedOn, Progress, answer_whole, forward_whole, read_head};
 
@@ -29,7 +30,9 @@ pub(crate) struct Seen {
 impl Seen {
     /// The bytes of a message that was handed on, or what was told in place of it. Then nothing was put there.
     pub(crate) fn outcome(&self) -> Option<Progress<&[u8]>> {
-        let text = self.out.as_slice().strip_prefix(BEFORE)?;
+        let Some(text) = self.out.as_slice().strip_prefix(BEFORE) else {
+            return None;
+        };
         match self.told {
             Progress::Whole(()) => Some(Progress::Whole(text)),
             Progress::More if text.is_empty() => Some(Progress::More),
@@ -48,57 +51,66 @@ struct Input<'b> {
 }
 
 /// What becomes of a request of which these bytes have come.
-pub(crate) fn forwarded(alloc: Global, request: &[u8]) -> Result<Seen, Fail> {
+pub(crate) fn forwarded(rt: &impl Abort, alloc: Global, request: &[u8]) -> Seen {
     let input = Input {
         request,
         answer: b"",
         ended: false,
     };
-    Ok(relayed(alloc, &input)?.0)
+    relayed(rt, alloc, &input).0
 }
 
 /// What becomes of the answer to a request.
 pub(crate) fn answered(
+    rt: &impl Abort,
     alloc: Global,
     request: &[u8],
     answer: &[u8],
     ended: bool,
-) -> Result<Seen, Fail> {
+) -> Seen {
     let input = Input {
         request,
         answer,
         ended,
     };
-    Ok(relayed(alloc, &input)?.1)
+    relayed(rt, alloc, &input).1
 }
 
-fn nothing_seen(alloc: Global) -> Result<Seen, AllocError> {
-    Ok(Seen {
+fn nothing_seen(rt: &impl Abort, alloc: Global) -> Seen {
+    Seen {
         told: Progress::More,
-        out: Vec::from_slice(alloc, BEFORE)?,
-    })
+        out: Vec::from_slice(alloc, BEFORE).expect(rt, "memory"),
+    }
 }
 
 // A request is handed on, and then its answer, on a pass of their own.
-fn relayed(alloc: Global, input: &Input<'_>) -> Result<(Seen, Seen), Fail> {
-    let mut seen = (nothing_seen(alloc)?, nothing_seen(alloc)?);
-    let mut exchange = Exchange::new(alloc, TURNS)?;
-    if INBOX_BYTES < input.request.len() {
-        return Err(Fail::from("a long request"));
-    }
-    let (board, mut keeper, mut seat) = Board::open(alloc, 1, &[1])?;
+fn relayed(rt: &impl Abort, alloc: Global, input: &Input<'_>) -> (Seen, Seen) {
+    let mut seen = (nothing_seen(rt, alloc), nothing_seen(rt, alloc));
+    let mut exchange = Exchange::new(alloc, TURNS).expect(rt, "memory");
+    relay_on_a_pass(rt, alloc, &mut exchange, input, &mut seen);
+    seen
+}
+
+fn relay_on_a_pass(
+    rt: &impl Abort,
+    alloc: Global,
+    exchange: &mut Exchange,
+    input: &Input<'_>,
+    seen: &mut (Seen, Seen),
+) {
+    holds(rt, input.request.len() <= INBOX_BYTES);
+    let (board, mut keeper, mut seat) = Board::open(alloc, 1, &[1]).expect(rt, "memory");
     keeper.offer(&board, 0, 1, Verdict::Serve(0));
     match seat.try_take(&board, 0, 1) {
         Taking::Taken(pass) => {
             match pass.verdict() {
-                Verdict::Serve(_) => relay(alloc, &mut exchange, &pass, input, &mut seen),
+                Verdict::Serve(_) => relay(alloc, exchange, &pass, input, seen),
                 Verdict::Told(_) => {}
             }
             seat.post(&board, pass, Ending::Done);
         }
         Taking::NotYet => {}
     }
-    Ok(seen)
 }
 
 fn relay(

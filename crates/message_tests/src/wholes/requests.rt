@@ -1,7 +1,8 @@
 use crate::assertions::same;
 use crate::wholes::relays::{GET, Row, TURNS, forwarded};
 use relay_http::{Exchange, Fault, Stage};
-use std::test::Fail;
+use std::alloc::Global;
+use std::process::Abort;
 use whole_messages::{Progress, read_head};
 
 // a request by length, its head 73 bytes
@@ -64,46 +65,50 @@ const ROWS: [Row; 8] = [
 ];
 
 #[test]
-fn requests_that_came(rt: HostRuntime) -> Result<(), Fail> {
+fn requests_that_came(rt: HostRuntime) {
     for (what, input, expected) in ROWS {
-        let seen = forwarded(rt.alloc(), input)?;
+        let seen = forwarded(&rt, rt.alloc(), input);
         assert_eq!(rt; seen.outcome(), Some(expected), "{what}");
     }
-    Ok(())
+}
+
+fn waits_for_each_byte(rt: &impl Abort, alloc: Global, input: &[u8]) {
+    for len in 0..input.len() {
+        let seen = forwarded(rt, alloc, &input[..len]);
+        assert_eq!(rt; seen.outcome(), Some(Progress::More), "{len}");
+    }
+}
+
+fn is_whole(rt: &impl Abort, alloc: Global, input: &[u8], text: &[u8]) {
+    let seen = forwarded(rt, alloc, input);
+    same(rt, seen.outcome(), Some(Progress::Whole(text)));
 }
 
 // Until its last byte came, a request waits, in its head as in its body.
 #[test]
-fn requests_in_two_pieces(rt: HostRuntime) -> Result<(), Fail> {
+fn requests_in_two_pieces(rt: HostRuntime) {
     for (input, text) in [(POST, POST_TEXT), (CHUNKS, CHUNKS_TEXT)] {
-        for len in 0..input.len() {
-            let seen = forwarded(rt.alloc(), &input[..len])?;
-            assert_eq!(rt; seen.outcome(), Some(Progress::More), "{len}");
-        }
-        let seen = forwarded(rt.alloc(), input)?;
-        same(&rt, seen.outcome(), Some(Progress::Whole(text)));
+        waits_for_each_byte(&rt, rt.alloc(), input);
+        is_whole(&rt, rt.alloc(), input, text);
     }
-    Ok(())
 }
 
 #[test]
-fn a_head_that_came(rt: HostRuntime) -> Result<(), Fail> {
-    let mut exchange = Exchange::new(rt.alloc(), TURNS)?;
+fn a_head_that_came(rt: HostRuntime) {
+    let mut exchange = Exchange::new(rt.alloc(), TURNS).expect(&rt, "memory");
     match read_head(&mut exchange, rt.alloc(), POST, false) {
         Progress::Whole(view) => same(&rt, view.method(), b"POST".as_slice()),
-        _ => return Err(Fail::from("no request")),
+        _ => panic!(rt; "no request"),
     }
     same(&rt, exchange.stage(), Stage::Asked);
     same(&rt, exchange.held(), b"abc".as_slice());
-    Ok(())
 }
 
 #[test]
-fn an_input_that_ended_in_a_head(rt: HostRuntime) -> Result<(), Fail> {
-    let mut exchange = Exchange::new(rt.alloc(), TURNS)?;
+fn an_input_that_ended_in_a_head(rt: HostRuntime) {
+    let mut exchange = Exchange::new(rt.alloc(), TURNS).expect(&rt, "memory");
     for len in 0..GET.len() {
         let told = read_head(&mut exchange, rt.alloc(), &GET[..len], true);
         assert!(rt; matches!(told, Progress::Refused(Fault::Read)), "{len}");
     }
-    Ok(())
 }

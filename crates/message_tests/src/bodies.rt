@@ -63,67 +63,71 @@ const CHUNKED: &[u8] = b"3;x=1\r\nabc\r\n0\r\nT: 1\r\n\r\n";
 
 const CHUNKED_TEXT: &[u8] = b"3\r\nabc\r\n0\r\n\r\n";
 
+// bodies, how they are framed and whether they are told to be, what is written and what is left
+static HANDED_ON: [(&[u8], Framing, bool, &[u8], &[u8]); 6] = [
+    (b"abc", Framing::Empty, true, b"", b""),
+    (b"abcd", Framing::Length(3), true, b"abc", b"d"),
+    (b"", Framing::Length(0), true, b"", b""),
+    (b"abc", Framing::ToEnd, true, b"abc", b""),
+    (CHUNKED, Framing::Chunked, true, CHUNKED_TEXT, b""),
+    (
+        b"00B \r\nhello world\r\n0\r\n\nmore",
+        Framing::Chunked,
+        false,
+        b"hello world",
+        b"more",
+    ),
+];
+
 #[test]
 fn bodies_are_handed_on(rt: HostRuntime) {
-    let rows: [(&[u8], Framing, bool, &[u8], &[u8]); 6] = [
-        (b"abc", Framing::Empty, true, b"", b""),
-        (b"abcd", Framing::Length(3), true, b"abc", b"d"),
-        (b"", Framing::Length(0), true, b"", b""),
-        (b"abc", Framing::ToEnd, true, b"abc", b""),
-        (CHUNKED, Framing::Chunked, true, CHUNKED_TEXT, b""),
-        (
-            b"00B \r\nhello world\r\n0\r\n\nmore",
-            Framing::Chunked,
-            false,
-            b"hello world",
-            b"more",
-        ),
-    ];
-    for (input, framing, framed, text, left) in rows {
-        let seen = hand_on(&rt, rt.alloc(), input, framing, framed);
+    for (input, framing, framed, text, left) in &HANDED_ON {
+        let seen = hand_on(&rt, rt.alloc(), input, *framing, *framed);
         same(&rt, seen.result, Ok(()));
-        same(&rt, seen.written.as_slice(), text);
-        same(&rt, seen.held.as_slice(), left);
+        same(&rt, seen.written.as_slice(), *text);
+        same(&rt, seen.held.as_slice(), *left);
     }
 }
 
+// bodies, how they are framed, the fault, and what is written
+static BROKEN: [(&[u8], Framing, Fault, &[u8]); 14] = [
+    (b"ab", Framing::Length(3), Fault::Read, b"ab"),
+    (b"", Framing::Chunked, Fault::Read, b""),
+    (b"3\r\nab", Framing::Chunked, Fault::Read, b"3\r\nab"),
+    (
+        b"3\r\nabc\n0\r\n\r\n",
+        Framing::Chunked,
+        Fault::Framing,
+        b"",
+    ),
+    (
+        b"3\r\nabcd\r\n0\r\n\r\n",
+        Framing::Chunked,
+        Fault::Framing,
+        b"",
+    ),
+    (b"0x3\r\nabc\r\n", Framing::Chunked, Fault::Framing, b""),
+    (b" 3\r\nabc\r\n", Framing::Chunked, Fault::Framing, b""),
+    (b"+3\r\nabc\r\n", Framing::Chunked, Fault::Framing, b""),
+    (b"-1\r\nabc\r\n", Framing::Chunked, Fault::Framing, b""),
+    (b"\r\nabc\r\n", Framing::Chunked, Fault::Framing, b""),
+    (b"3\nabc\r\n", Framing::Chunked, Fault::Framing, b""),
+    (
+        b"10000000000000000\r\n",
+        Framing::Chunked,
+        Fault::Framing,
+        b"",
+    ),
+    (b"0\r\n", Framing::Chunked, Fault::Read, b""),
+    (b"0\r\nT: 1\r\n", Framing::Chunked, Fault::Read, b""),
+];
+
 #[test]
 fn broken_bodies_are_refused(rt: HostRuntime) {
-    let rows: [(&[u8], Framing, Fault, &[u8]); 14] = [
-        (b"ab", Framing::Length(3), Fault::Read, b"ab"),
-        (b"", Framing::Chunked, Fault::Read, b""),
-        (b"3\r\nab", Framing::Chunked, Fault::Read, b"3\r\nab"),
-        (
-            b"3\r\nabc\n0\r\n\r\n",
-            Framing::Chunked,
-            Fault::Framing,
-            b"",
-        ),
-        (
-            b"3\r\nabcd\r\n0\r\n\r\n",
-            Framing::Chunked,
-            Fault::Framing,
-            b"",
-        ),
-        (b"0x3\r\nabc\r\n", Framing::Chunked, Fault::Framing, b""),
-        (b" 3\r\nabc\r\n", Framing::Chunked, Fault::Framing, b""),
-        (b"+3\r\nabc\r\n", Framing::Chunked, Fault::Framing, b""),
-        (b"-1\r\nabc\r\n", Framing::Chunked, Fault::Framing, b""),
-        (b"\r\nabc\r\n", Framing::Chunked, Fault::Framing, b""),
-        (b"3\nabc\r\n", Framing::Chunked, Fault::Framing, b""),
-        (
-            b"10000000000000000\r\n",
-            Framing::Chunked,
-            Fault::Framing,
-            b"",
-        ),
-        (b"0\r\n", Framing::Chunked, Fault::Read, b""),
-        (b"0\r\nT: 1\r\n", Framing::Chunked, Fault::Read, b""),
-    ];
-    for (input, framing, fault, text) in rows {
-        let seen = hand_on(&rt, rt.alloc(), input, framing, true);
-        same(&rt, seen.result, Err(fault));
-        same(&rt, seen.written.as_slice(), text);
+    for (input, framing, fault, text) in &BROKEN {
+        let seen = hand_on(&rt, rt.alloc(), input, *framing, true);
+        same(&rt, seen.result, Err(*fault));
+        same(&rt, seen.written.as_slice(), *text);
     }
 }
 
@@ -300,11 +304,15 @@ fn a_read_leaves_what_waits(rt: HostRuntime) {
     reads_before_it_writes(&rt, &mut pipe, &mut writer);
 }
 
+fn passes_to_its_end(rt: &impl Abort, alloc: Global, input: &[u8]) {
+    let seen = hand_on(rt, alloc, input, Framing::ToEnd, true);
+    same(rt, seen.result, Ok(()));
+    same(rt, seen.written.as_slice(), input);
+}
+
 #[test]
 fn a_large_body_passes(rt: HostRuntime) {
-    let mut input = Vec::with_capacity(rt.alloc(), 3 * INBOX_BYTES).expect(&rt, "memory");
+    let mut input = Vec::new(rt.alloc());
     input.resize(3 * INBOX_BYTES, b'x').expect(&rt, "memory");
-    let seen = hand_on(&rt, rt.alloc(), input.as_slice(), Framing::ToEnd, true);
-    same(&rt, seen.result, Ok(()));
-    same(&rt, seen.written.as_slice(), input.as_slice());
+    passes_to_its_end(&rt, rt.alloc(), input.as_slice());
 }

@@ -6,7 +6,7 @@ use std::process::Abort;
 const HEAD: &[u8] = b"HEAD / HTTP/1.1\r\nHost: h\r\n\r\n";
 
 // answers that are handed on (RFC 9112, sections 4 to 7)
-const WHOLE: [Row; 14] = [
+static WHOLE: [Row; 14] = [
     (
         "an answer to the end",
         b"HTTP/1.1 200 OK\r\n\r\nabc",
@@ -84,7 +84,7 @@ const WHOLE: [Row; 14] = [
 ];
 
 // answers that are not
-const BROKEN: [Row; 19] = [
+static BROKEN: [Row; 19] = [
     (
         "another protocol",
         b"HTTP/1.1 101 X\r\nUpgrade: h2c\r\n\r\n",
@@ -175,7 +175,7 @@ const BROKEN: [Row; 19] = [
 ];
 
 // answers to a client of version 1.0
-const TO_OLD_CLIENTS: [Row; 3] = [
+static TO_OLD_CLIENTS: [Row; 3] = [
     (
         "chunks for an old client",
         b"HTTP/1.1 200 OK\r\nTransfer-Encoding: chunked\r\n\r\n3\r\nabc\r\n0\r\n\r\n",
@@ -194,7 +194,7 @@ const TO_OLD_CLIENTS: [Row; 3] = [
 ];
 
 // answers to HEAD
-const TO_HEAD: [Row; 6] = [
+static TO_HEAD: [Row; 6] = [
     (
         "the length of the body",
         b"HTTP/1.1 200 OK\r\nContent-Length: 7\r\n\r\n",
@@ -230,7 +230,7 @@ const TO_HEAD: [Row; 6] = [
 fn become_of_each(rt: &impl Abort, alloc: Global, request: &[u8], rows: &[Row]) {
     for (what, input, expected) in rows {
         let seen = answered(rt, alloc, request, input);
-        assert_eq!(rt; seen.outcome(), *expected, "{what}");
+        seen.becomes(rt, *expected, what);
     }
 }
 

@@ -15,44 +15,46 @@ fn framing(rt: &impl Abort, alloc: Global, lines: &[u8]) -> Option<Framing> {
     }
 }
 
+// lines, and the framing of a request that has them
+static OF_REQUESTS: [(&[u8], Option<Framing>); 20] = [
+    (b"", Some(Framing::Empty)),
+    (b"Content-Length: 3\r\n", Some(Framing::Length(3))),
+    (b"content-length: 003\r\n", Some(Framing::Length(3))),
+    (
+        b"Content-Length: 5, 05\r\nContent-Length: 5\r\n",
+        Some(Framing::Length(5)),
+    ),
+    (
+        b"Content-Length: 999999999999999999\r\n",
+        Some(Framing::Length(999_999_999_999_999_999)),
+    ),
+    (b"Content-Length: 1000000000000000000\r\n", None),
+    (b"Content-Length: 3\r\nContent-Length: 4\r\n", None),
+    (b"Content-Length: 3, 4\r\n", None),
+    (b"Content-Length: +3\r\n", None),
+    (b"Content-Length: -3\r\n", None),
+    (b"Content-Length: 3 3\r\n", None),
+    (b"Content-Length: 0x3\r\n", None),
+    (b"Content-Length:\r\n", None),
+    (b"Content-Length: 3,\r\n", None),
+    (b"Transfer-Encoding: chunked\r\n", Some(Framing::Chunked)),
+    (
+        b"transfer-encoding: \t CHUNKED \r\n",
+        Some(Framing::Chunked),
+    ),
+    (b"Transfer-Encoding: chunked\r\nContent-Length: 3\r\n", None),
+    (b"Content-Length: 3\r\nTransfer-Encoding: chunked\r\n", None),
+    (
+        b"Transfer-Encoding: chunked\r\nTransfer-Encoding: chunked\r\n",
+        None,
+    ),
+    (b"Transfer-Encoding: gzip, chunked\r\n", None),
+];
+
 #[test]
 fn framings_of_requests(rt: HostRuntime) {
-    let rows: [(&[u8], Option<Framing>); 20] = [
-        (b"", Some(Framing::Empty)),
-        (b"Content-Length: 3\r\n", Some(Framing::Length(3))),
-        (b"content-length: 003\r\n", Some(Framing::Length(3))),
-        (
-            b"Content-Length: 5, 05\r\nContent-Length: 5\r\n",
-            Some(Framing::Length(5)),
-        ),
-        (
-            b"Content-Length: 999999999999999999\r\n",
-            Some(Framing::Length(999_999_999_999_999_999)),
-        ),
-        (b"Content-Length: 1000000000000000000\r\n", None),
-        (b"Content-Length: 3\r\nContent-Length: 4\r\n", None),
-        (b"Content-Length: 3, 4\r\n", None),
-        (b"Content-Length: +3\r\n", None),
-        (b"Content-Length: -3\r\n", None),
-        (b"Content-Length: 3 3\r\n", None),
-        (b"Content-Length: 0x3\r\n", None),
-        (b"Content-Length:\r\n", None),
-        (b"Content-Length: 3,\r\n", None),
-        (b"Transfer-Encoding: chunked\r\n", Some(Framing::Chunked)),
-        (
-            b"transfer-encoding: \t CHUNKED \r\n",
-            Some(Framing::Chunked),
-        ),
-        (b"Transfer-Encoding: chunked\r\nContent-Length: 3\r\n", None),
-        (b"Content-Length: 3\r\nTransfer-Encoding: chunked\r\n", None),
-        (
-            b"Transfer-Encoding: chunked\r\nTransfer-Encoding: chunked\r\n",
-            None,
-        ),
-        (b"Transfer-Encoding: gzip, chunked\r\n", None),
-    ];
-    for (lines, expected) in rows {
-        same(&rt, framing(&rt, rt.alloc(), lines), expected);
+    for (lines, expected) in &OF_REQUESTS {
+        same(&rt, framing(&rt, rt.alloc(), lines), *expected);
     }
 }
 

@@ -4,7 +4,7 @@ use std::alloc::Global;
 use std::process::Abort;
 
 // first lines (RFC 9112, sections 2.2 and 3)
-const LINES: [Row; 17] = [
+static LINES: [Row; 17] = [
     (
         "a request without a body",
         b"GET / HTTP/1.1\r\nHost: h\r\n\r\n",
@@ -81,7 +81,7 @@ const LINES: [Row; 17] = [
 ];
 
 // fields (RFC 9112, section 5)
-const FIELDS: [Row; 16] = [
+static FIELDS: [Row; 16] = [
     (
         "a folded line",
         b"POST / HTTP/1.1\r\nHost: h\r\nX: 1\r\n 2\r\n\r\n",
@@ -165,7 +165,7 @@ const FIELDS: [Row; 16] = [
 ];
 
 // bodies of a length (RFC 9112, section 6)
-const LENGTHS: [Row; 15] = [
+static LENGTHS: [Row; 15] = [
     (
         "a length",
         b"POST / HTTP/1.1\r\nHost: h\r\nContent-Length: 3\r\n\r\nabcd",
@@ -244,7 +244,7 @@ const LENGTHS: [Row; 15] = [
 ];
 
 // bodies in chunks (RFC 9112, sections 6.1 and 7.1)
-const CHUNKS: [Row; 23] = [
+static CHUNKS: [Row; 23] = [
     (
         "chunks",
         b"POST / HTTP/1.1\r\nHost: h\r\nTransfer-Encoding: chunked\r\n\r\n3\r\nabc\r\n0\r\n\r\nmore",
@@ -375,7 +375,7 @@ const CHUNKS: [Row; 23] = [
 fn become_of_each(rt: &impl Abort, alloc: Global, rows: &[Row]) {
     for (what, input, expected) in rows {
         let seen = forwarded(rt, alloc, input);
-        assert_eq!(rt; seen.outcome(), *expected, "{what}");
+        seen.becomes(rt, *expected, what);
     }
 }
 

@@ -1,13 +1,13 @@
 ghost use Rattle.relay_http.specs.States.{IsAt, Serves};
 
-use grant_board::{Board, Pass, Taking};
+use crate::passes::Held;
+use grant_board::Pass;
 use relay_http::{Exchange, Fault, Stage};
 use req_view::View;
 use std::alloc::Global;
 use std::io;
 use std::io::{Read, Write};
 use std::process::Abort;
-use verdict::{Ending, Verdict};
 
 /// What a message is, its bytes, and what becomes of it.
 pub(crate) type Row = (&'static str, &'static [u8], Result<&'static [u8], Fault>);
@@ -32,6 +32,11 @@ impl Seen {
             Ok(()) => Ok(self.written.as_slice()),
             Err(fault) => Err(fault),
         }
+    }
+
+    /// Stops the test where the outcome isn't so, and prints of what it is.
+    pub(crate) fn becomes(&self, rt: &impl Abort, expected: Result<&[u8], Fault>, what: &str) {
+        assert_eq!(rt; self.outcome(), expected, "{what}");
     }
 }
 
@@ -86,56 +91,13 @@ pub(crate) fn forward_view<R: Read, W: Write>(
 ) -> Result<(), Fault>
     requires { IsAt Stage.Asked exchange.old }
 {
-    on_a_pass(alloc, exchange, Part::Request, view, reader, writer)
-}
-
-/// What of an exchange goes from a reader to a writer.
-#[derive(Clone, Copy)]
-enum Part {
-    Request,
-    /// Its request has no body.
-    Answer,
-}
-
-fn on_a_pass<R: Read, W: Write>(
-    alloc: Global,
-    exchange: &mut Exchange,
-    part: Part,
-    view: &View,
-    reader: &mut R,
-    writer: &mut W,
-) -> Result<(), Fault>
-    requires { IsAt Stage.Asked exchange.old }
-{
-    let Ok((board, mut keeper, mut seat)) = Board::open(alloc, 1, &[1]) else {
-        return Err(Fault::NoMemory);
-    };
-    keeper.offer(&board, 0, 1, Verdict::Serve(0));
-    match seat.try_take(&board, 0, 1) {
-        Taking::Taken(pass) => {
-            let result = hand_on(alloc, exchange, part, &pass, view, reader, writer);
-            seat.post(&board, pass, Ending::Done);
+    match Held::take(alloc) {
+        Ok(held) => {
+            let result = exchange.forward(held.pass(), view, reader, writer);
+            held.post();
             result
         }
-        Taking::NotYet => Err(Fault::Closed),
-    }
-}
-
-fn hand_on<R: Read, W: Write>(
-    alloc: Global,
-    exchange: &mut Exchange,
-    part: Part,
-    pass: &Pass,
-    view: &View,
-    reader: &mut R,
-    writer: &mut W,
-) -> Result<(), Fault>
-    requires { IsAt Stage.Asked exchange.old }
-{
-    match (pass.verdict(), part) {
-        (Verdict::Serve(_), Part::Request) => exchange.forward(pass, view, reader, writer),
-        (Verdict::Serve(_), Part::Answer) => answer_on(alloc, exchange, pass, view, reader, writer),
-        (Verdict::Told(_), _) => Err(Fault::Closed),
+        Err(fault) => Err(fault),
     }
 }
 
@@ -184,7 +146,14 @@ pub(crate) fn answer_view<R: Read, W: Write>(
 ) -> Result<(), Fault>
     requires { IsAt Stage.Asked exchange.old }
 {
-    on_a_pass(alloc, exchange, Part::Answer, view, reader, writer)
+    match Held::take(alloc) {
+        Ok(held) => {
+            let result = answer_on(alloc, exchange, held.pass(), view, reader, writer);
+            held.post();
+            result
+        }
+        Err(fault) => Err(fault),
+    }
 }
 
 // An exchange that is closed is asked for both.

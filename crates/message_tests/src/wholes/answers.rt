@@ -25,7 +25,7 @@ const INTERIM_TEXT: &[u8] =
     b"HTTP/1.1 103 X\r\nLink: a\r\n\r\nHTTP/1.1 200 OK\r\nContent-Length: 0\r\nConnection: close\r\n\r\n";
 
 // answers that their own bytes end
-const WHOLE: [Row; 6] = [
+static WHOLE: [Row; 6] = [
     ("a length", BY_LENGTH, Progress::Whole(BY_LENGTH_TEXT)),
     ("chunks", CHUNKS, Progress::Whole(CHUNKS_TEXT)),
     ("heads before it", INTERIM, Progress::Whole(INTERIM_TEXT)),
@@ -47,7 +47,7 @@ const WHOLE: [Row; 6] = [
 ];
 
 // bytes that are no answer, whatever comes
-const FAULTS: [Row; 4] = [
+static FAULTS: [Row; 4] = [
     (
         "no head at all",
         b"SSH-2.0-x\r\n",
@@ -73,7 +73,7 @@ const FAULTS: [Row; 4] = [
 fn become_of_each(rt: &impl Abort, alloc: Global, rows: &[Row], ended: bool) {
     for (what, input, expected) in rows {
         let seen = answered(rt, alloc, GET, input, ended);
-        assert_eq!(rt; seen.outcome(), Some(*expected), "{what}");
+        seen.becomes(rt, *expected, what);
     }
 }
 
@@ -87,7 +87,7 @@ fn answers_that_came(rt: HostRuntime) {
 
 fn is_cut(rt: &impl Abort, alloc: Global, front: &[u8], ended: bool, told: Progress<&[u8]>) {
     let seen = answered(rt, alloc, GET, front, ended);
-    assert_eq!(rt; seen.outcome(), Some(told), "{}", front.len());
+    seen.becomes(rt, told, &front.len());
 }
 
 fn is_cut_after_each_byte(rt: &impl Abort, alloc: Global, input: &[u8]) {

@@ -1,13 +1,17 @@
-ghost use Rattle.std.specs.Prelude.{◌≤◌, length};
-ghost use Rattle.relay_http.specs.States.{Serves};
+ghost use Rattle.std.specs.Prelude.{◌≡◌};
+ghost use Rattle.relay_http.specs.Asides.{stage_of};
+ghost use Rattle.relay_http.specs.States.{Serves, forwarded_on};
+ghost use Rattle.whole_messages.specs.Outcomes.{IfWhole};
 
 use crate::assertions::holds;
-use grant_board::{Board, Pass, Taking};
+use crate::passes::Held;
+use grant_board::Pass;
 use relay_body::INBOX_BYTES;
 use relay_http::{Aside, Exchange, Fault};
+use req_view::View;
 use std::alloc::Global;
+use std::fmt::Display;
 use std::process::Abort;
-use verdict::{Ending, Verdict};
 use whole_messages::{Arrived, HandedOn, Progress, answer_whole, forward_whole, read_head};
 
 /// What a message is, its bytes, and what becomes of it.
@@ -39,6 +43,11 @@ impl Seen {
             Progress::Refused(fault) if text.is_empty() => Some(Progress::Refused(fault)),
             _ => None,
         }
+    }
+
+    /// Stops the test where the outcome isn't so, and prints of what it is.
+    pub(crate) fn becomes(&self, rt: &impl Abort, expected: Progress<&[u8]>, what: &impl Display) {
+        assert_eq!(rt; self.outcome(), Some(expected), "{what}");
     }
 }
 
@@ -83,15 +92,14 @@ fn nothing_seen(rt: &impl Abort, alloc: Global) -> Seen {
     }
 }
 
-// A request is handed on, and then its answer, on a pass of their own.
 fn relayed(rt: &impl Abort, alloc: Global, input: &Input<'_>) -> (Seen, Seen) {
     let mut seen = (nothing_seen(rt, alloc), nothing_seen(rt, alloc));
     let mut exchange = Exchange::new(alloc, TURNS).expect(rt, "memory");
-    relay_on_a_pass(rt, alloc, &mut exchange, input, &mut seen);
+    relay(rt, alloc, &mut exchange, input, &mut seen);
     seen
 }
 
-fn relay_on_a_pass(
+fn relay(
     rt: &impl Abort,
     alloc: Global,
     exchange: &mut Exchange,
@@ -99,55 +107,63 @@ fn relay_on_a_pass(
     seen: &mut (Seen, Seen),
 ) {
     holds(rt, input.request.len() <= INBOX_BYTES);
-    let (board, mut keeper, mut seat) = Board::open(alloc, 1, &[1]).expect(rt, "memory");
-    keeper.offer(&board, 0, 1, Verdict::Serve(0));
-    match seat.try_take(&board, 0, 1) {
-        Taking::Taken(pass) => {
-            match pass.verdict() {
-                Verdict::Serve(_) => relay(alloc, exchange, &pass, input, seen),
-                Verdict::Told(_) => {}
-            }
-            seat.post(&board, pass, Ending::Done);
-        }
-        Taking::NotYet => {}
-    }
-}
-
-fn relay(
-    alloc: Global,
-    exchange: &mut Exchange,
-    pass: &Pass,
-    input: &Input<'_>,
-    seen: &mut (Seen, Seen),
-)
-    requires few { length input.now.request.now ≤ INBOX_BYTES }
-    requires serves { Serves pass.now.verdict }
-{
     match read_head(exchange, alloc, input.request, false) {
-        Progress::Whole(view) => {
-            if let Ok(behind) = Vec::from_slice(alloc, exchange.held()) {
-                let told = forward_whole(exchange, pass, &view, behind.as_slice(), &mut seen.0.out);
-                seen.0.told = told_of(told);
-                if let Progress::Whole(aside) = told {
-                    let mut arrived = Arrived::new(input.answer, input.ended);
-                    let request = HandedOn {
-                        pass,
-                        view: &view,
-                        aside: &aside,
-                    };
-                    seen.1.told = answer_whole(
-                        exchange,
-                        alloc,
-                        &request,
-                        &mut arrived,
-                        &mut seen.1.out,
-                    );
-                }
-            }
-        }
+        Progress::Whole(view) => relay_on_a_pass(rt, alloc, exchange, &view, input, seen),
         Progress::More => {}
         Progress::Refused(fault) => seen.0.told = Progress::Refused(fault),
     }
+}
+
+// A request is handed on, and then its answer, on a pass of their own.
+fn relay_on_a_pass(
+    rt: &impl Abort,
+    alloc: Global,
+    exchange: &mut Exchange,
+    view: &View,
+    input: &Input<'_>,
+    seen: &mut (Seen, Seen),
+) {
+    let held = Held::take(alloc).expect(rt, "a pass");
+    let told = forward(rt, alloc, exchange, held.pass(), view, &mut seen.0.out);
+    seen.0.told = told_of(told);
+    if let Progress::Whole(aside) = told {
+        let request = HandedOn {
+            pass: held.pass(),
+            view,
+            aside: &aside,
+        };
+        answer(alloc, exchange, &request, input, &mut seen.1);
+    }
+    held.post();
+}
+
+fn forward(
+    rt: &impl Abort,
+    alloc: Global,
+    exchange: &mut Exchange,
+    pass: &Pass,
+    view: &View,
+    out: &mut Vec<u8>,
+) -> Progress<Aside>
+    requires { Serves pass.now.verdict }
+    ensures { IfWhole result (λ aside. stage_of aside ≡ forwarded_on pass.now) }
+{
+    let behind = Vec::from_slice(alloc, exchange.held()).expect(rt, "memory");
+    forward_whole(exchange, pass, view, behind.as_slice(), out)
+}
+
+fn answer(
+    alloc: Global,
+    exchange: &mut Exchange,
+    request: &HandedOn<'_>,
+    input: &Input<'_>,
+    seen: &mut Seen,
+)
+    requires serves { Serves request.now.pass.now.verdict }
+    requires same_pass { stage_of request.now.aside.now ≡ forwarded_on request.now.pass.now }
+{
+    let mut arrived = Arrived::new(input.answer, input.ended);
+    seen.told = answer_whole(exchange, alloc, request, &mut arrived, &mut seen.out);
 }
 
 fn told_of(told: Progress<Aside>) -> Progress<()> {

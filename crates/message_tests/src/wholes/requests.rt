@@ -1,5 +1,8 @@
+ghost use Rattle.std.specs.Prelude.{◌≤◌, length};
+
 use crate::assertions::same;
 use crate::wholes::relays::{GET, Row, TURNS, forwarded};
+use relay_body::INBOX_BYTES;
 use relay_http::{Exchange, Fault, Stage};
 use std::alloc::Global;
 use std::process::Abort;
@@ -19,7 +22,7 @@ const CHUNKS: &[u8] =
 const CHUNKS_TEXT: &[u8] =
     b"POST / HTTP/1.1\r\nHost: h\r\nTransfer-Encoding: chunked\r\nConnection: close\r\n\r\n3\r\nabc\r\n0\r\n\r\n";
 
-const ROWS: [Row; 8] = [
+static ROWS: [Row; 8] = [
     (
         "no body",
         GET,
@@ -66,16 +69,16 @@ const ROWS: [Row; 8] = [
 
 #[test]
 fn requests_that_came(rt: HostRuntime) {
-    for (what, input, expected) in ROWS {
+    for (what, input, expected) in &ROWS {
         let seen = forwarded(&rt, rt.alloc(), input);
-        assert_eq!(rt; seen.outcome(), Some(expected), "{what}");
+        seen.becomes(&rt, *expected, what);
     }
 }
 
 fn waits_for_each_byte(rt: &impl Abort, alloc: Global, input: &[u8]) {
     for len in 0..input.len() {
         let seen = forwarded(rt, alloc, &input[..len]);
-        assert_eq!(rt; seen.outcome(), Some(Progress::More), "{len}");
+        seen.becomes(rt, Progress::More, &len);
     }
 }
 
@@ -93,22 +96,36 @@ fn requests_in_two_pieces(rt: HostRuntime) {
     }
 }
 
+fn has_a_head(rt: &impl Abort, alloc: Global, exchange: &mut Exchange) {
+    match read_head(exchange, alloc, POST, false) {
+        Progress::Whole(view) => same(rt, view.method(), b"POST".as_slice()),
+        _ => panic!(rt; "no request"),
+    }
+}
+
 #[test]
 fn a_head_that_came(rt: HostRuntime) {
     let mut exchange = Exchange::new(rt.alloc(), TURNS).expect(&rt, "memory");
-    match read_head(&mut exchange, rt.alloc(), POST, false) {
-        Progress::Whole(view) => same(&rt, view.method(), b"POST".as_slice()),
-        _ => panic!(rt; "no request"),
-    }
+    has_a_head(&rt, rt.alloc(), &mut exchange);
     same(&rt, exchange.stage(), Stage::Asked);
     same(&rt, exchange.held(), b"abc".as_slice());
+}
+
+fn ended_too_early(rt: &impl Abort, alloc: Global, exchange: &mut Exchange, front: &[u8])
+    requires { length front.now ≤ INBOX_BYTES }
+{
+    let told = read_head(exchange, alloc, front, true);
+    assert!(rt;
+        matches!(told, Progress::Refused(Fault::Read)),
+        "{}",
+        front.len()
+    );
 }
 
 #[test]
 fn an_input_that_ended_in_a_head(rt: HostRuntime) {
     let mut exchange = Exchange::new(rt.alloc(), TURNS).expect(&rt, "memory");
     for len in 0..GET.len() {
-        let told = read_head(&mut exchange, rt.alloc(), &GET[..len], true);
-        assert!(rt; matches!(told, Progress::Refused(Fault::Read)), "{len}");
+        ended_too_early(&rt, rt.alloc(), &mut exchange, &GET[..len]);
     }
 }

@@ -2,10 +2,9 @@ use crate::assertions::{holds, same};
 use config_advice::explain;
 use config_check::{Checked, status_of};
 use proxy_config::{ConfigFault, FaultCause};
-use std::test::Fail;
 
 #[test]
-fn each_end_has_its_line_and_status(rt: HostRuntime) -> Result<(), Fail> {
+fn each_end_has_its_line_and_status(rt: HostRuntime) {
     let fault = ConfigFault {
         line: 7,
         cause: FaultCause::Keyword,
@@ -17,18 +16,17 @@ fn each_end_has_its_line_and_status(rt: HostRuntime) -> Result<(), Fail> {
         (Checked::Unread, "read fault", 1),
     ];
     for (checked, line, status) in rows {
-        let text = format!(in rt.alloc(); "{checked}")?;
+        let text = format!(in rt.alloc(); "{checked}").expect(&rt, "memory");
         same(&rt, text.as_str(), line);
         same(&rt, status_of(checked), status);
     }
-    Ok(())
 }
 
 #[test]
-fn each_faulty_line_has_its_mark_and_its_advice(rt: HostRuntime) -> Result<(), Fail> {
+fn each_faulty_line_has_its_mark_and_its_advice(rt: HostRuntime) {
     let file =
         b"defaults\n  errorfile 400 /x\nfrontend f\n  bind :443 ssl\n  timeout client 1x\nbackend b\n  server a h:80 cookie c\n  mode\n";
-    let explained = explain(rt.alloc(), file)?;
+    let explained = explain(rt.alloc(), file).expect(&rt, "memory");
     same(&rt, explained.faulty, 7);
     holds(&rt, !explained.whole);
     same(
@@ -71,11 +69,10 @@ line 8:   mode
 
 ",
     );
-    Ok(())
 }
 
 #[test]
-fn what_is_missing_is_said_last(rt: HostRuntime) -> Result<(), Fail> {
+fn what_is_missing_is_said_last(rt: HostRuntime) {
     let rows = [
         ("", 0, "Then there is no listen.\n\n"),
         (
@@ -85,17 +82,16 @@ fn what_is_missing_is_said_last(rt: HostRuntime) -> Result<(), Fail> {
         ),
     ];
     for (file, faulty, text) in rows {
-        let explained = explain(rt.alloc(), file.as_bytes())?;
+        let explained = explain(rt.alloc(), file.as_bytes()).expect(&rt, "memory");
         same(&rt, explained.faulty, faulty);
         same(&rt, explained.text.as_str(), text);
     }
-    Ok(())
 }
 
 #[test]
-fn nothing_is_said_of_a_good_file(rt: HostRuntime) -> Result<(), Fail> {
-    let explained = explain(rt.alloc(), b"listen w\nbind :80\nserver a h:80\n")?;
+fn nothing_is_said_of_a_good_file(rt: HostRuntime) {
+    let file = b"listen w\nbind :80\nserver a h:80\n";
+    let explained = explain(rt.alloc(), file).expect(&rt, "memory");
     holds(&rt, explained.whole);
     holds(&rt, explained.text.as_str().is_empty());
-    Ok(())
 }

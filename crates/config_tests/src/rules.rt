@@ -7,7 +7,6 @@ use proxy_config::{Config, read};
 use req_view::{View, Viewed, view};
 use std::alloc::Global;
 use std::process::Abort;
-use std::test::Fail;
 
 // A request's first line and fields, and what is wished for it.
 #[derive(Clone, Copy)]
@@ -36,28 +35,30 @@ fn row(
 }
 
 // A configuration of the servers a, b and c with these lines.
-fn rules(alloc: Global, lines: &[u8]) -> Result<Config, Fail> {
-    let mut text = Vec::from_slice(alloc, b"listen front\nbind :80\n")?;
-    text.extend_from_slice(b"server a 127.0.0.1:1\nserver b 127.0.0.1:2\nserver c 127.0.0.1:3\n")?;
-    text.extend_from_slice(lines)?;
-    Ok(read(alloc, &text)?)
+fn rules(rt: &impl Abort, alloc: Global, lines: &[u8]) -> Config {
+    let mut text = Vec::from_slice(alloc, b"listen front\nbind :80\n").expect(rt, "memory");
+    let servers = b"server a 127.0.0.1:1\nserver b 127.0.0.1:2\nserver c 127.0.0.1:3\n";
+    text.extend_from_slice(servers).expect(rt, "memory");
+    text.extend_from_slice(lines).expect(rt, "memory");
+    read(alloc, &text).expect(rt, "a configuration")
 }
 
-fn request(alloc: Global, line: &[u8], fields: &[u8]) -> Result<View, Fail> {
-    let mut text = Vec::from_slice(alloc, line)?;
-    text.extend_from_slice(b" HTTP/1.1\r\nHost: h\r\n")?;
-    text.extend_from_slice(fields)?;
-    text.extend_from_slice(b"\r\n")?;
+fn request(rt: &impl Abort, alloc: Global, line: &[u8], fields: &[u8]) -> View {
+    let mut text = Vec::from_slice(alloc, line).expect(rt, "memory");
+    text.extend_from_slice(b" HTTP/1.1\r\nHost: h\r\n")
+        .expect(rt, "memory");
+    text.extend_from_slice(fields).expect(rt, "memory");
+    text.extend_from_slice(b"\r\n").expect(rt, "memory");
     match view(alloc, &text) {
-        Viewed::Whole(head, _) => Ok(head),
-        _ => Err("not a head".into()),
+        Viewed::Whole(head, _) => head,
+        _ => panic!(rt; "not a head"),
     }
 }
 
-fn wishes(rt: &impl Abort, alloc: Global, lines: &[u8], rows: &[Expected]) -> Result<(), Fail> {
-    let config = rules(alloc, lines)?;
+fn wishes(rt: &impl Abort, alloc: Global, lines: &[u8], rows: &[Expected]) {
+    let config = rules(rt, alloc, lines);
     for row in rows {
-        let head = request(alloc, row.line, row.fields)?;
+        let head = request(rt, alloc, row.line, row.fields);
         let wish = Wish {
             class: Class::clamp(row.class),
             offset: Offset::clamp(row.offset),
@@ -65,11 +66,10 @@ fn wishes(rt: &impl Abort, alloc: Global, lines: &[u8], rows: &[Expected]) -> Re
         };
         same(rt, decide(&config, &head), wish);
     }
-    Ok(())
 }
 
 #[test]
-fn the_sample(rt: HostRuntime) -> Result<(), Fail> {
+fn the_sample(rt: HostRuntime) {
     let lines = b"http-request set-priority-class int(-9999)
 http-request set-priority-offset req.hdr_val(x-due) if { path_beg /a }
 acl slow hdr(x-t) slow
@@ -93,16 +93,16 @@ use-server b if slow or { method POST }
         row(b"POST /b", b"X-Due: 5\r\n", -2047, 0, Some(1)),
         row(b"post /b", b"", -2047, 0, None),
     ];
-    wishes(&rt, rt.alloc(), lines, &rows)
+    wishes(&rt, rt.alloc(), lines, &rows);
 }
 
 #[test]
-fn no_rule_wishes_nothing(rt: HostRuntime) -> Result<(), Fail> {
-    wishes(&rt, rt.alloc(), b"", &[row(b"GET /", b"", 0, 0, None)])
+fn no_rule_wishes_nothing(rt: HostRuntime) {
+    wishes(&rt, rt.alloc(), b"", &[row(b"GET /", b"", 0, 0, None)]);
 }
 
 #[test]
-fn paths_end_before_the_query(rt: HostRuntime) -> Result<(), Fail> {
+fn paths_end_before_the_query(rt: HostRuntime) {
     let lines = b"use-server b if { path /a }\nuse-server c if { path_end ? b }\n";
     let rows = [
         row(b"GET /a?b", b"", 0, 0, Some(1)),
@@ -110,11 +110,11 @@ fn paths_end_before_the_query(rt: HostRuntime) -> Result<(), Fail> {
         row(b"GET /c?b", b"", 0, 0, None),
         row(b"GET /b", b"", 0, 0, Some(2)),
     ];
-    wishes(&rt, rt.alloc(), lines, &rows)
+    wishes(&rt, rt.alloc(), lines, &rows);
 }
 
 #[test]
-fn where_there_is_no_path(rt: HostRuntime) -> Result<(), Fail> {
+fn where_there_is_no_path(rt: HostRuntime) {
     let lines = b"use-server b if { path_beg * } or { path_end * } or { path * }
 use-server c if ! { path_beg / }
 ";
@@ -122,11 +122,11 @@ use-server c if ! { path_beg / }
         row(b"OPTIONS *", b"", 0, 0, Some(2)),
         row(b"GET /", b"", 0, 0, None),
     ];
-    wishes(&rt, rt.alloc(), lines, &rows)
+    wishes(&rt, rt.alloc(), lines, &rows);
 }
 
 #[test]
-fn each_field_of_a_name_counts(rt: HostRuntime) -> Result<(), Fail> {
+fn each_field_of_a_name_counts(rt: HostRuntime) {
     let lines = b"http-request set-priority-offset req.hdr_val(x-due)
 use-server b if { hdr(x-t) slow }
 ";
@@ -146,11 +146,11 @@ use-server b if { hdr(x-t) slow }
             None,
         ),
     ];
-    wishes(&rt, rt.alloc(), lines, &rows)
+    wishes(&rt, rt.alloc(), lines, &rows);
 }
 
 #[test]
-fn letters_in_either_case(rt: HostRuntime) -> Result<(), Fail> {
+fn letters_in_either_case(rt: HostRuntime) {
     let lines = b"use-server b if { method -i get } { path_beg -i /AB } { path_end -i .JPG }
 use-server c if { method get }
 ";
@@ -159,11 +159,11 @@ use-server c if { method get }
         row(b"GET /ab/c.gif", b"", 0, 0, None),
         row(b"get /", b"", 0, 0, Some(2)),
     ];
-    wishes(&rt, rt.alloc(), lines, &rows)
+    wishes(&rt, rt.alloc(), lines, &rows);
 }
 
 #[test]
-fn unless_reverses_the_whole(rt: HostRuntime) -> Result<(), Fail> {
+fn unless_reverses_the_whole(rt: HostRuntime) {
     let lines = b"acl a path_beg /a
 acl b path_end b
 use-server b unless a b or { method POST }
@@ -173,11 +173,11 @@ use-server b unless a b or { method POST }
         row(b"GET /a/c", b"", 0, 0, Some(1)),
         row(b"POST /c", b"", 0, 0, None),
     ];
-    wishes(&rt, rt.alloc(), lines, &rows)
+    wishes(&rt, rt.alloc(), lines, &rows);
 }
 
 #[test]
-fn the_last_action_and_the_first_pin_stand(rt: HostRuntime) -> Result<(), Fail> {
+fn the_last_action_and_the_first_pin_stand(rt: HostRuntime) {
     let lines = b"http-request set-priority-class int(3)
 http-request set-priority-class int(4) if { method GET }
 http-request set-priority-class int(5) if { method POST }
@@ -204,5 +204,5 @@ use-server a if { path_beg / }
             Some(2),
         ),
     ];
-    wishes(&rt, rt.alloc(), lines, &rows)
+    wishes(&rt, rt.alloc(), lines, &rows);
 }

@@ -10,4 +10,6 @@ mod counted;
 #[cfg(test)]
 mod exchanges;
 #[cfg(test)]
+mod passes;
+#[cfg(test)]
 mod wholes;

@@ -18,7 +18,7 @@ fn faulty_lines(rt: &impl Abort, alloc: Global, rows: &[LineRow]) {
     }
 }
 
-const WHOLE_FILES: [FileRow; 13] = [
+static WHOLE_FILES: [FileRow; 13] = [
     ("", 0, FaultCause::Missing),
     ("listen w\nbind :80", 1, FaultCause::Missing),
     ("listen w\nserver a h:80", 1, FaultCause::Missing),
@@ -44,7 +44,7 @@ fn whole_files(rt: HostRuntime) {
     faulty_files(&rt, rt.alloc(), &WHOLE_FILES);
 }
 
-const SECTIONS_FILES: [FileRow; 9] = [
+static SECTIONS_FILES: [FileRow; 9] = [
     ("global x", 1, FaultCause::Words),
     ("global \"x\"", 1, FaultCause::Quoting),
     ("global\n\"anything' \\\nfrontend x", 3, FaultCause::Section),
@@ -60,7 +60,7 @@ const SECTIONS_FILES: [FileRow; 9] = [
     ),
 ];
 
-const SECTIONS_LINES: [LineRow; 7] = [
+static SECTIONS_LINES: [LineRow; 7] = [
     ("listen", FaultCause::Section),
     ("frontend", FaultCause::Section),
     ("peers", FaultCause::Section),
@@ -76,7 +76,7 @@ fn sections(rt: HostRuntime) {
     faulty_lines(&rt, rt.alloc(), &SECTIONS_LINES);
 }
 
-const PLACES: [FileRow; 7] = [
+static PLACES: [FileRow; 7] = [
     ("mode", 1, FaultCause::Place),
     ("cookie", 1, FaultCause::Keyword),
     ("bind", 1, FaultCause::Place),
@@ -91,7 +91,7 @@ fn places(rt: HostRuntime) {
     faulty_files(&rt, rt.alloc(), &PLACES);
 }
 
-const VALUES: [LineRow; 19] = [
+static VALUES: [LineRow; 19] = [
     ("mode", FaultCause::Words),
     ("mode tcp", FaultCause::Keyword),
     ("mode http x", FaultCause::Words),
@@ -118,7 +118,7 @@ fn values(rt: HostRuntime) {
     faulty_lines(&rt, rt.alloc(), &VALUES);
 }
 
-const BINDS_AND_SERVERS_FILES: [FileRow; 8] = [
+static BINDS_AND_SERVERS_FILES: [FileRow; 8] = [
     ("listen w\nbind", 2, FaultCause::Words),
     ("listen w\nbind :80 x", 2, FaultCause::Words),
     ("listen w\nbind h:80", 2, FaultCause::Address),
@@ -129,7 +129,7 @@ const BINDS_AND_SERVERS_FILES: [FileRow; 8] = [
     ("listen w\nbind ::80", 2, FaultCause::Address),
 ];
 
-const BINDS_AND_SERVERS_LINES: [LineRow; 16] = [
+static BINDS_AND_SERVERS_LINES: [LineRow; 16] = [
     ("bind", FaultCause::Twice),
     ("server", FaultCause::Words),
     ("server b/c", FaultCause::Name),
@@ -154,7 +154,7 @@ fn binds_and_servers(rt: HostRuntime) {
     faulty_lines(&rt, rt.alloc(), &BINDS_AND_SERVERS_LINES);
 }
 
-const TESTS_AND_ACLS: [LineRow; 11] = [
+static TESTS_AND_ACLS: [LineRow; 11] = [
     ("acl", FaultCause::Words),
     ("acl a/b", FaultCause::Name),
     ("acl x", FaultCause::Words),
@@ -173,7 +173,7 @@ fn tests_and_acls(rt: HostRuntime) {
     faulty_lines(&rt, rt.alloc(), &TESTS_AND_ACLS);
 }
 
-const RULES: [LineRow; 15] = [
+static RULES: [LineRow; 15] = [
     ("http-request", FaultCause::Words),
     ("http-request deny", FaultCause::Keyword),
     ("http-request set-priority-class", FaultCause::Words),
@@ -211,29 +211,31 @@ fn rules(rt: HostRuntime) {
     faulty_lines(&rt, rt.alloc(), &RULES);
 }
 
+/// What stands behind `if`, and the cause why its line is refused.
+static CONDITIONS: [LineRow; 17] = [
+    ("or known", FaultCause::Condition),
+    ("known or", FaultCause::Words),
+    ("known or or known", FaultCause::Condition),
+    ("known || known x", FaultCause::Unknown),
+    ("!", FaultCause::Words),
+    ("! ! known", FaultCause::Condition),
+    ("!!known", FaultCause::Condition),
+    ("!or", FaultCause::Condition),
+    ("a/b", FaultCause::Condition),
+    ("}", FaultCause::Condition),
+    ("{", FaultCause::Words),
+    ("{ path", FaultCause::Words),
+    ("{ path }", FaultCause::Condition),
+    ("{ path /", FaultCause::Words),
+    ("{ path -i }", FaultCause::Condition),
+    ("{ known }", FaultCause::Condition),
+    ("later\nacl later path /", FaultCause::Unknown),
+];
+
 #[test]
 fn conditions(rt: HostRuntime) {
-    let rows = [
-        ("or known", FaultCause::Condition),
-        ("known or", FaultCause::Words),
-        ("known or or known", FaultCause::Condition),
-        ("known || known x", FaultCause::Unknown),
-        ("!", FaultCause::Words),
-        ("! ! known", FaultCause::Condition),
-        ("!!known", FaultCause::Condition),
-        ("!or", FaultCause::Condition),
-        ("a/b", FaultCause::Condition),
-        ("}", FaultCause::Condition),
-        ("{", FaultCause::Words),
-        ("{ path", FaultCause::Words),
-        ("{ path }", FaultCause::Condition),
-        ("{ path /", FaultCause::Words),
-        ("{ path -i }", FaultCause::Condition),
-        ("{ known }", FaultCause::Condition),
-        ("later\nacl later path /", FaultCause::Unknown),
-    ];
-    for (condition, cause) in rows {
+    for (condition, cause) in &CONDITIONS {
         let line = format!(in rt.alloc(); "http-request set-priority-class int(5) if {condition}");
-        faulty_line(&rt, rt.alloc(), line.expect(&rt, "memory").as_str(), cause);
+        faulty_line(&rt, rt.alloc(), line.expect(&rt, "memory").as_str(), *cause);
     }
 }

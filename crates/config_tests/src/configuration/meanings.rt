@@ -1,15 +1,13 @@
 use super::*;
 use crate::assertions::{holds, same};
-use std::test::Fail;
 
 #[test]
-fn a_time_is_rounded_up_and_the_rest_is_built_in(rt: HostRuntime) -> Result<(), Fail> {
+fn a_time_is_rounded_up_and_the_rest_is_built_in(rt: HostRuntime) {
     let text =
         b"global\n  daemon \"x\"\ndefaults\n  timeout queue 1500us\nlisten web\n  bind 127.0.0.1:8080\n  server a 127.0.0.1:9001 maxconn 1 check\n";
-    let config = read(rt.alloc(), text)?;
+    let config = read(rt.alloc(), text).expect(&rt, "a configuration");
     has_built_in_values(&rt, &config);
     has_a_checked_server(&rt, &config);
-    Ok(())
 }
 
 fn has_built_in_values(rt: &impl Abort, config: &Config) {
@@ -51,11 +49,10 @@ fn has_a_checked_server(rt: &impl Abort, config: &Config) {
 }
 
 #[test]
-fn of_a_repeated_setting_the_last_stands(rt: HostRuntime) -> Result<(), Fail> {
+fn of_a_repeated_setting_the_last_stands(rt: HostRuntime) {
     let text = b"listen w\nbind :80\nserver a h:80 maxconn 2 maxconn 3 # x";
-    let config = read(rt.alloc(), text)?;
+    let config = read(rt.alloc(), text).expect(&rt, "a configuration");
     has_the_last_settings(&rt, &config);
-    Ok(())
 }
 
 fn has_the_last_settings(rt: &impl Abort, config: &Config) {
@@ -67,12 +64,11 @@ fn has_the_last_settings(rt: &impl Abort, config: &Config) {
 }
 
 #[test]
-fn settings_stand_in_any_order(rt: HostRuntime) -> Result<(), Fail> {
+fn settings_stand_in_any_order(rt: HostRuntime) {
     let text =
         b"listen w\r\nbind *:1\r\nserver a 01.2.3.004:00080 fall 9 rise 8 inter 1us check maxqueue 7 weight 256\r\n";
-    let config = read(rt.alloc(), text)?;
+    let config = read(rt.alloc(), text).expect(&rt, "a configuration");
     has_each_setting(&rt, config.servers.as_slice());
-    Ok(())
 }
 
 fn has_each_setting(rt: &impl Abort, servers: &[Server]) {
@@ -96,12 +92,11 @@ fn has_each_setting(rt: &impl Abort, servers: &[Server]) {
 }
 
 #[test]
-fn listen_takes_the_values_of_defaults(rt: HostRuntime) -> Result<(), Fail> {
+fn listen_takes_the_values_of_defaults(rt: HostRuntime) {
     let text =
         b"defaults\nretries 9\noption abortonclose\ndefaults x\nretries 5\noption redispatch\ntimeout connect 4s\ntimeout queue 3\nlisten w\ntimeout queue 0\nbind :80\nserver a h:80\ndefaults\nretries 1\n";
-    let config = read(rt.alloc(), text)?;
+    let config = read(rt.alloc(), text).expect(&rt, "a configuration");
     has_the_values_of_defaults(&rt, &config);
-    Ok(())
 }
 
 fn has_the_values_of_defaults(rt: &impl Abort, config: &Config) {
@@ -121,37 +116,35 @@ fn timeouts(config: &Config) -> [Option<u64>; 4] {
 }
 
 #[test]
-fn each_timeout_is_kept(rt: HostRuntime) -> Result<(), Fail> {
+fn each_timeout_is_kept(rt: HostRuntime) {
     let text =
         b"defaults\ntimeout connect 4s\ntimeout client 5s\nlisten w\nbind :80\nserver a h:80\ntimeout server 6s\n";
-    let config = read(rt.alloc(), text)?;
+    let config = read(rt.alloc(), text).expect(&rt, "a configuration");
     same(
         &rt,
         timeouts(&config),
         [Some(4000), Some(4000), Some(5000), Some(6000)],
     );
-    Ok(())
 }
 
 #[test]
-fn no_timeout_is_no_limit(rt: HostRuntime) -> Result<(), Fail> {
+fn no_timeout_is_no_limit(rt: HostRuntime) {
     let config = read(
         rt.alloc(),
         b"listen w\nbind :80\nserver a h:80\ntimeout queue 0\ntimeout connect 0\n",
-    )?;
+    )
+    .expect(&rt, "a configuration");
     same(&rt, timeouts(&config), [None; 4]);
-    Ok(())
 }
 
 #[test]
-fn rules_name_acls_and_servers(rt: HostRuntime) -> Result<(), Fail> {
+fn rules_name_acls_and_servers(rt: HostRuntime) {
     let text =
         b"listen w\nbind :80\nacl slow hdr(x-t) -i slow later\nuse-server b if slow or !{ method POST } !slow\nacl slow path_beg /s\nserver a h:80\nserver b h:81\nhttp-request set-priority-class int(-9999)\nhttp-request set-priority-offset req.hdr_val(x-due) unless { path_end a } || slow\n";
-    let config = read(rt.alloc(), text)?;
+    let config = read(rt.alloc(), text).expect(&rt, "a configuration");
     has_acls(&rt, &config);
     has_pins(&rt, &config);
     has_rules(&rt, &config);
-    Ok(())
 }
 
 fn has_acls(rt: &impl Abort, config: &Config) {
@@ -162,7 +155,7 @@ fn has_acls(rt: &impl Abort, config: &Config) {
     holds(rt, tests.len() == 2);
     holds(rt, tests[0].ignore_case && !tests[1].ignore_case);
     holds(rt, matches!(tests[1].subject, Subject::PathBegin));
-    holds(rt, tests[0].values.len() == 2);
+    same(rt, tests[0].values.len(), 2);
 }
 
 fn has_pins(rt: &impl Abort, config: &Config) {
@@ -174,7 +167,7 @@ fn has_pins(rt: &impl Abort, config: &Config) {
     };
     let alternatives = condition.alternatives.as_slice();
     holds(rt, alternatives.len() == 2);
-    holds(rt, alternatives[0].len() == 1);
+    same(rt, alternatives[0].len(), 1);
     let terms = alternatives[1].as_slice();
     holds(rt, terms.len() == 2);
     holds(
@@ -202,10 +195,10 @@ fn has_rules(rt: &impl Abort, config: &Config) {
     let Some(Guard::Unless(condition)) = &rules[1].guard else {
         panic!(rt; "not unless")
     };
-    holds(rt, condition.alternatives.len() == 2);
+    same(rt, condition.alternatives.len(), 2);
 }
 
-const ACCEPTED: [&str; 19] = [
+static ACCEPTED: [&str; 19] = [
     "mode http",
     "balance leastconn",
     "log",
@@ -229,14 +222,13 @@ const ACCEPTED: [&str; 19] = [
 
 #[test]
 fn what_is_accepted(rt: HostRuntime) {
-    for line in ACCEPTED {
+    for line in &ACCEPTED {
         good_line(&rt, rt.alloc(), line);
     }
 }
 
 #[test]
-fn the_sample_is_accepted(rt: HostRuntime) -> Result<(), Fail> {
-    let config = read(rt.alloc(), sample::SAMPLE.as_bytes())?;
+fn the_sample_is_accepted(rt: HostRuntime) {
+    let config = read(rt.alloc(), sample::SAMPLE.as_bytes()).expect(&rt, "a configuration");
     same(&rt, config.servers.len(), 3);
-    Ok(())
 }

@@ -1,6 +1,5 @@
 use super::*;
 use crate::assertions::{holds, same};
-use std::test::Fail;
 
 /// A `listen` in its first two lines, with an ACL in the third, and these lines.
 fn pinned(rt: &impl Abort, alloc: Global, lines: &str, line: u64, cause: FaultCause) {
@@ -18,12 +17,11 @@ fn each_pinned(rt: &impl Abort, alloc: Global, rows: &[PinRow]) {
 }
 
 #[test]
-fn a_pin_may_stand_before_its_server(rt: HostRuntime) -> Result<(), Fail> {
+fn a_pin_may_stand_before_its_server(rt: HostRuntime) {
     let text =
         b"listen w\nbind :80\nacl x path /\nuse-server c if x\nserver a h:80\nuse-server a unless x\nserver b h:80\nserver c h:80\nuse-server b if x";
-    let config = read(rt.alloc(), text)?;
+    let config = read(rt.alloc(), text).expect(&rt, "a configuration");
     are_pinned_to_later_servers(&rt, config.pins.as_slice());
-    Ok(())
 }
 
 fn are_pinned_to_later_servers(rt: &impl Abort, pins: &[Pin]) {
@@ -48,88 +46,82 @@ fn a_refused_section_declares_no_server(rt: HostRuntime) {
     }
 }
 
+static PAST_FAULTY_LINES: [PinRow; 4] = [
+    (
+        "use-server b if x\ncookie\nserver b h:80",
+        5,
+        FaultCause::Keyword,
+    ),
+    (
+        "use-server b if x\ncookie\ndefaults\nserver b h:80",
+        4,
+        FaultCause::Unknown,
+    ),
+    ("use-server b if x\nserver b h:80 x", 4, FaultCause::Unknown),
+    (
+        "use-server b if x\nbind :81\nserver b h:80 x\nserver b h:80",
+        5,
+        FaultCause::Twice,
+    ),
+];
+
 #[test]
 fn a_server_counts_past_a_faulty_line(rt: HostRuntime) {
-    each_pinned(
-        &rt,
-        rt.alloc(),
-        &[
-            (
-                "use-server b if x\ncookie\nserver b h:80",
-                5,
-                FaultCause::Keyword,
-            ),
-            (
-                "use-server b if x\ncookie\ndefaults\nserver b h:80",
-                4,
-                FaultCause::Unknown,
-            ),
-            ("use-server b if x\nserver b h:80 x", 4, FaultCause::Unknown),
-            (
-                "use-server b if x\nbind :81\nserver b h:80 x\nserver b h:80",
-                5,
-                FaultCause::Twice,
-            ),
-        ],
-    );
+    each_pinned(&rt, rt.alloc(), &PAST_FAULTY_LINES);
 }
+
+static FAULTY_CONDITIONS: [PinRow; 5] = [
+    ("use-server b if y\nserver a h:80", 4, FaultCause::Unknown),
+    (
+        "use-server b if !!x\nserver b h:80",
+        4,
+        FaultCause::Condition,
+    ),
+    ("use-server b if !!x\nserver a h:80", 4, FaultCause::Unknown),
+    (
+        "use-server b if { path\nserver b h:80",
+        4,
+        FaultCause::Words,
+    ),
+    ("use-server b\ncookie\nserver b h:80", 4, FaultCause::Words),
+];
 
 #[test]
 fn a_faulty_condition_counts_behind_a_declared_server(rt: HostRuntime) {
-    each_pinned(
-        &rt,
-        rt.alloc(),
-        &[
-            ("use-server b if y\nserver a h:80", 4, FaultCause::Unknown),
-            (
-                "use-server b if !!x\nserver b h:80",
-                4,
-                FaultCause::Condition,
-            ),
-            ("use-server b if !!x\nserver a h:80", 4, FaultCause::Unknown),
-            (
-                "use-server b if { path\nserver b h:80",
-                4,
-                FaultCause::Words,
-            ),
-            ("use-server b\ncookie\nserver b h:80", 4, FaultCause::Words),
-        ],
-    );
+    each_pinned(&rt, rt.alloc(), &FAULTY_CONDITIONS);
 }
+
+static FIRST_FAULTS: [PinRow; 5] = [
+    (
+        "use-server b if x\ncookie\nserver a h:80",
+        4,
+        FaultCause::Unknown,
+    ),
+    (
+        "server a h:80\ncookie\nuse-server b if x",
+        5,
+        FaultCause::Keyword,
+    ),
+    (
+        "use-server a if x\ncookie\nuse-server b if x\nserver a h:80",
+        5,
+        FaultCause::Keyword,
+    ),
+    (
+        "use-server a if x\nuse-server b if x\nuse-server c if x\nserver a h:80\nserver c h:80",
+        5,
+        FaultCause::Unknown,
+    ),
+    (
+        "use-server a if x\nretries x\ncookie\n\"\nserver a h:80",
+        5,
+        FaultCause::Number,
+    ),
+];
 
 #[test]
 fn the_first_of_pins_and_other_lines_is_named(rt: HostRuntime) {
-    each_pinned(
-        &rt,
-        rt.alloc(),
-        &[
-            (
-                "use-server b if x\ncookie\nserver a h:80",
-                4,
-                FaultCause::Unknown,
-            ),
-            (
-                "server a h:80\ncookie\nuse-server b if x",
-                5,
-                FaultCause::Keyword,
-            ),
-            (
-                "use-server a if x\ncookie\nuse-server b if x\nserver a h:80",
-                5,
-                FaultCause::Keyword,
-            ),
-            (
-                "use-server a if x\nuse-server b if x\nuse-server c if x\nserver a h:80\nserver c h:80",
-                5,
-                FaultCause::Unknown,
-            ),
-            (
-                "use-server a if x\nretries x\ncookie\n\"\nserver a h:80",
-                5,
-                FaultCause::Number,
-            ),
-        ],
-    );
+    each_pinned(&rt, rt.alloc(), &FIRST_FAULTS);
 }
 
 #[test]
@@ -151,18 +143,24 @@ fn a_pin_may_end_the_file(rt: HostRuntime) {
     );
 }
 
-#[test]
-fn pins_of_later_servers_count_as_rules(rt: HostRuntime) -> Result<(), Fail> {
-    let alloc = rt.alloc();
-    let mut text = String::from_str(alloc, "listen w\nbind :80\nacl x path /\n")?;
+/// As many pins as there may be rules, and these lines.
+fn most_pins(rt: &impl Abort, alloc: Global, lines: &str) -> String {
+    let start = String::from_str(alloc, "listen w\nbind :80\nacl x path /\n");
+    let mut text = start.expect(rt, "memory");
     for _ in 0..256 {
-        text.push_str("use-server a if x\n")?;
+        text.push_str("use-server a if x\n").expect(rt, "memory");
     }
-    let mut more = text.clone()?;
-    text.push_str("server a h:80\n")?;
-    let config = read(alloc, text.as_bytes())?;
+    text.push_str(lines).expect(rt, "memory");
+    text
+}
+
+#[test]
+fn pins_of_later_servers_count_as_rules(rt: HostRuntime) {
+    let alloc = rt.alloc();
+    let text = most_pins(&rt, alloc, "server a h:80\n");
+    let config = read(alloc, text.as_bytes()).expect(&rt, "a configuration");
     same(&rt, config.pins.len(), 256);
-    more.push_str("http-request set-priority-class int(1)\nserver a h:80\n")?;
+    let rule = "http-request set-priority-class int(1)\nserver a h:80\n";
+    let more = most_pins(&rt, alloc, rule);
     faulty(&rt, alloc, more.as_str(), 260, FaultCause::Limit);
-    Ok(())
 }

@@ -2,12 +2,11 @@ use crate::exchanges::streams::{GET, OLD_GET, Row, answered};
 use relay_http::Fault;
 use std::alloc::Global;
 use std::process::Abort;
-use std::test::Fail;
 
 const HEAD: &[u8] = b"HEAD / HTTP/1.1\r\nHost: h\r\n\r\n";
 
 // answers that are handed on (RFC 9112, sections 4 to 7)
-const WHOLE: [Row; 14] = [
+static WHOLE: [Row; 14] = [
     (
         "an answer to the end",
         b"HTTP/1.1 200 OK\r\n\r\nabc",
@@ -85,7 +84,7 @@ const WHOLE: [Row; 14] = [
 ];
 
 // answers that are not
-const BROKEN: [Row; 19] = [
+static BROKEN: [Row; 19] = [
     (
         "another protocol",
         b"HTTP/1.1 101 X\r\nUpgrade: h2c\r\n\r\n",
@@ -176,7 +175,7 @@ const BROKEN: [Row; 19] = [
 ];
 
 // answers to a client of version 1.0
-const TO_OLD_CLIENTS: [Row; 3] = [
+static TO_OLD_CLIENTS: [Row; 3] = [
     (
         "chunks for an old client",
         b"HTTP/1.1 200 OK\r\nTransfer-Encoding: chunked\r\n\r\n3\r\nabc\r\n0\r\n\r\n",
@@ -195,7 +194,7 @@ const TO_OLD_CLIENTS: [Row; 3] = [
 ];
 
 // answers to HEAD
-const TO_HEAD: [Row; 6] = [
+static TO_HEAD: [Row; 6] = [
     (
         "the length of the body",
         b"HTTP/1.1 200 OK\r\nContent-Length: 7\r\n\r\n",
@@ -228,35 +227,29 @@ const TO_HEAD: [Row; 6] = [
     ),
 ];
 
-fn become_of_each(
-    rt: &impl Abort,
-    alloc: Global,
-    request: &[u8],
-    rows: &[Row],
-) -> Result<(), Fail> {
+fn become_of_each(rt: &impl Abort, alloc: Global, request: &[u8], rows: &[Row]) {
     for (what, input, expected) in rows {
-        let seen = answered(alloc, request, input)?;
-        assert_eq!(rt; seen.outcome(), *expected, "{what}");
+        let seen = answered(rt, alloc, request, input);
+        seen.becomes(rt, *expected, what);
     }
-    Ok(())
 }
 
 #[test]
-fn answers_are_handed_on(rt: HostRuntime) -> Result<(), Fail> {
-    become_of_each(&rt, rt.alloc(), GET, &WHOLE)
+fn answers_are_handed_on(rt: HostRuntime) {
+    become_of_each(&rt, rt.alloc(), GET, &WHOLE);
 }
 
 #[test]
-fn broken_answers(rt: HostRuntime) -> Result<(), Fail> {
-    become_of_each(&rt, rt.alloc(), GET, &BROKEN)
+fn broken_answers(rt: HostRuntime) {
+    become_of_each(&rt, rt.alloc(), GET, &BROKEN);
 }
 
 #[test]
-fn answers_to_old_clients(rt: HostRuntime) -> Result<(), Fail> {
-    become_of_each(&rt, rt.alloc(), OLD_GET, &TO_OLD_CLIENTS)
+fn answers_to_old_clients(rt: HostRuntime) {
+    become_of_each(&rt, rt.alloc(), OLD_GET, &TO_OLD_CLIENTS);
 }
 
 #[test]
-fn answers_to_head(rt: HostRuntime) -> Result<(), Fail> {
-    become_of_each(&rt, rt.alloc(), HEAD, &TO_HEAD)
+fn answers_to_head(rt: HostRuntime) {
+    become_of_each(&rt, rt.alloc(), HEAD, &TO_HEAD);
 }

@@ -7,7 +7,6 @@ use relay_http::{Exchange, Fault, Stage};
 use req_view::View;
 use std::alloc::Global;
 use std::process::Abort;
-use std::test::Fail;
 
 // 77 bytes, the last of which is behind the body
 const POST: &[u8] =
@@ -35,12 +34,11 @@ fn is_cut_after(rt: &impl Abort, seen: &Seen, len: usize) {
 }
 
 #[test]
-fn a_request_is_cut_after_each_byte(rt: HostRuntime) -> Result<(), Fail> {
+fn a_request_is_cut_after_each_byte(rt: HostRuntime) {
     for len in 0..POST.len() + 1 {
-        let seen = forwarded(rt.alloc(), &POST[..len])?;
+        let seen = forwarded(&rt, rt.alloc(), &POST[..len]);
         is_cut_after(&rt, &seen, len);
     }
-    Ok(())
 }
 
 fn slow(bytes: &'static [u8], fails_at: usize) -> Slow<'static> {
@@ -61,14 +59,13 @@ fn has_read_until(rt: &impl Abort, seen: &Seen, fails_at: usize) {
 }
 
 #[test]
-fn each_read_of_a_request_fails_in_turn(rt: HostRuntime) -> Result<(), Fail> {
-    let mut exchange = Exchange::new(rt.alloc(), TURNS)?;
+fn each_read_of_a_request_fails_in_turn(rt: HostRuntime) {
+    let mut exchange = Exchange::new(rt.alloc(), TURNS).expect(&rt, "memory");
     for fails_at in 1..POST.len() + 1 {
         let mut reader = slow(POST, fails_at);
         let seen = forwarded_from(rt.alloc(), &mut exchange, &mut reader);
         has_read_until(&rt, &seen, fails_at);
     }
-    Ok(())
 }
 
 fn narrow(alloc: Global, fails_at: usize) -> Narrow {
@@ -98,15 +95,14 @@ fn has_written_request_until(
 }
 
 #[test]
-fn each_write_of_a_request_fails_in_turn(rt: HostRuntime) -> Result<(), Fail> {
-    let mut exchange = Exchange::new(rt.alloc(), TURNS)?;
+fn each_write_of_a_request_fails_in_turn(rt: HostRuntime) {
+    let mut exchange = Exchange::new(rt.alloc(), TURNS).expect(&rt, "memory");
     for fails_at in 1..POST_TEXT.len() + 2 {
         let mut reader = POST;
         let mut writer = narrow(rt.alloc(), fails_at);
         let result = forward_to(rt.alloc(), &mut exchange, &mut reader, &mut writer);
         has_written_request_until(&rt, &exchange, result, writer.bytes.as_slice(), fails_at);
     }
-    Ok(())
 }
 
 fn has_read_answer_until(rt: &impl Abort, exchange: &Exchange, seen: &Seen, fails_at: usize) {
@@ -120,14 +116,13 @@ fn has_read_answer_until(rt: &impl Abort, exchange: &Exchange, seen: &Seen, fail
 }
 
 #[test]
-fn each_read_of_an_answer_fails_in_turn(rt: HostRuntime) -> Result<(), Fail> {
-    let mut exchange = Exchange::new(rt.alloc(), TURNS)?;
+fn each_read_of_an_answer_fails_in_turn(rt: HostRuntime) {
+    let mut exchange = Exchange::new(rt.alloc(), TURNS).expect(&rt, "memory");
     for fails_at in 1..ANSWER.len() + 2 {
         let mut reader = slow(ANSWER, fails_at);
         let seen = answered_from(rt.alloc(), &mut exchange, GET, &mut reader);
         has_read_answer_until(&rt, &exchange, &seen, fails_at);
     }
-    Ok(())
 }
 
 fn has_written_answer_until(
@@ -148,15 +143,14 @@ fn has_written_answer_until(
 }
 
 #[test]
-fn each_write_of_an_answer_fails_in_turn(rt: HostRuntime) -> Result<(), Fail> {
-    let mut exchange = Exchange::new(rt.alloc(), TURNS)?;
+fn each_write_of_an_answer_fails_in_turn(rt: HostRuntime) {
+    let mut exchange = Exchange::new(rt.alloc(), TURNS).expect(&rt, "memory");
     for fails_at in 1..ANSWER_TEXT.len() + 2 {
         let mut reader = ANSWER;
         let mut writer = narrow(rt.alloc(), fails_at);
         let result = answer_to(rt.alloc(), &mut exchange, GET, &mut reader, &mut writer);
         has_written_answer_until(&rt, &exchange, result, writer.bytes.as_slice(), fails_at);
     }
-    Ok(())
 }
 
 // Of interim heads alone the client gets what it can take, and the answer is missed.
@@ -175,13 +169,12 @@ fn has_no_answer(
 }
 
 #[test]
-fn an_interim_head_alone(rt: HostRuntime) -> Result<(), Fail> {
-    let mut exchange = Exchange::new(rt.alloc(), TURNS)?;
+fn an_interim_head_alone(rt: HostRuntime) {
+    let mut exchange = Exchange::new(rt.alloc(), TURNS).expect(&rt, "memory");
     let rows: [(&[u8], &[u8]); 2] = [(GET, b"HTTP/1.1 103 X\r\n\r\n"), (OLD_GET, b"")];
     for (request, text) in rows {
         has_no_answer(&rt, rt.alloc(), &mut exchange, request, text);
     }
-    Ok(())
 }
 
 fn is_one_write_of_a_request(rt: &impl Abort, alloc: Global, exchange: &mut Exchange) {
@@ -203,18 +196,19 @@ fn is_one_write_of_an_answer(rt: &impl Abort, alloc: Global, exchange: &mut Exch
 
 // What is read together goes out together.
 #[test]
-fn a_head_and_its_body_are_one_write(rt: HostRuntime) -> Result<(), Fail> {
-    let mut exchange = Exchange::new(rt.alloc(), TURNS)?;
+fn a_head_and_its_body_are_one_write(rt: HostRuntime) {
+    let mut exchange = Exchange::new(rt.alloc(), TURNS).expect(&rt, "memory");
     is_one_write_of_a_request(&rt, rt.alloc(), &mut exchange);
     is_one_write_of_an_answer(&rt, rt.alloc(), &mut exchange);
-    Ok(())
 }
 
 // The view of a request, of which the exchange holds what came behind its head.
-fn view_before(rt: &impl Abort, alloc: Global, exchange: &mut Exchange) -> Result<View, Fault> {
+fn view_before(rt: &impl Abort, alloc: Global, exchange: &mut Exchange) -> View {
     let mut reader = POST;
     exchange.renew();
-    let view = exchange.read_request(alloc, &mut reader);
+    let view = exchange
+        .read_request(alloc, &mut reader)
+        .expect(rt, "a request");
     same(rt, exchange.held(), b"abcd".as_slice());
     view
 }
@@ -228,16 +222,14 @@ fn take_up(alloc: Global, exchange: &mut Exchange, view: &View) -> Seen {
     Seen { result, written }
 }
 
-fn is_taken_up(rt: &impl Abort, alloc: Global, exchange: &mut Exchange) -> Result<(), Fault> {
-    let view = view_before(rt, alloc, exchange)?;
+fn is_taken_up(rt: &impl Abort, alloc: Global, exchange: &mut Exchange) {
+    let view = view_before(rt, alloc, exchange);
     let seen = take_up(alloc, exchange, &view);
     same(rt, seen.outcome(), Ok(POST_TEXT));
-    Ok(())
 }
 
 #[test]
-fn a_request_is_taken_up(rt: HostRuntime) -> Result<(), Fail> {
-    let mut exchange = Exchange::new(rt.alloc(), TURNS)?;
-    same(&rt, is_taken_up(&rt, rt.alloc(), &mut exchange), Ok(()));
-    Ok(())
+fn a_request_is_taken_up(rt: HostRuntime) {
+    let mut exchange = Exchange::new(rt.alloc(), TURNS).expect(&rt, "memory");
+    is_taken_up(&rt, rt.alloc(), &mut exchange);
 }

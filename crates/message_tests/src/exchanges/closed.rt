@@ -6,7 +6,6 @@ use relay_http::{Code, Exchange, Fault};
 use req_view::View;
 use std::alloc::Global;
 use std::process::Abort;
-use std::test::Fail;
 
 fn reads_nothing(alloc: Global, exchange: &mut Exchange, reader: &mut &[u8]) -> bool {
     if !exchange.is_closed() {
@@ -65,7 +64,7 @@ fn is_over(alloc: Global, exchange: &mut Exchange, view: &View) -> bool {
 }
 
 // requests, the turns that there are, and the fault
-const REQUESTS: [(&[u8], u64, Fault); 8] = [
+static REQUESTS: [(&[u8], u64, Fault); 8] = [
     (b"GET / HTTP/2.0\r\n", TURNS, Fault::Head),
     (b"GET / HTTP/1.1\r\n", TURNS, Fault::Read),
     (GET, 0, Fault::Turns),
@@ -109,17 +108,16 @@ fn is_closed_by_a_request(
 }
 
 #[test]
-fn each_fault_of_a_request_closes_the_exchange(rt: HostRuntime) -> Result<(), Fail> {
-    let view = view_of(rt.alloc(), GET)?;
-    for (input, turns, fault) in REQUESTS {
-        let mut exchange = Exchange::new(rt.alloc(), turns)?;
-        is_closed_by_a_request(&rt, rt.alloc(), &mut exchange, &view, input, fault);
+fn each_fault_of_a_request_closes_the_exchange(rt: HostRuntime) {
+    let view = view_of(&rt, rt.alloc(), GET);
+    for (input, turns, fault) in &REQUESTS {
+        let mut exchange = Exchange::new(rt.alloc(), *turns).expect(&rt, "memory");
+        is_closed_by_a_request(&rt, rt.alloc(), &mut exchange, &view, input, *fault);
     }
-    Ok(())
 }
 
 // the same of answers, and whether a byte of one went out; the request takes two turns
-const ANSWERS: [(&[u8], u64, Fault, bool); 8] = [
+static ANSWERS: [(&[u8], u64, Fault, bool); 8] = [
     (b"HTTP/2.0 200 OK\r\n", TURNS, Fault::Head, false),
     (b"", TURNS, Fault::Read, false),
     (b"HTTP/1.1 101 X\r\n\r\n", TURNS, Fault::Framing, false),
@@ -158,11 +156,10 @@ fn is_closed_by_an_answer(
 }
 
 #[test]
-fn each_fault_of_an_answer_closes_the_exchange(rt: HostRuntime) -> Result<(), Fail> {
-    let view = view_of(rt.alloc(), GET)?;
-    for (input, turns, fault, begun) in ANSWERS {
-        let mut exchange = Exchange::new(rt.alloc(), turns)?;
-        is_closed_by_an_answer(&rt, rt.alloc(), &mut exchange, &view, input, fault, begun);
+fn each_fault_of_an_answer_closes_the_exchange(rt: HostRuntime) {
+    let view = view_of(&rt, rt.alloc(), GET);
+    for (input, turns, fault, begun) in &ANSWERS {
+        let mut exchange = Exchange::new(rt.alloc(), *turns).expect(&rt, "memory");
+        is_closed_by_an_answer(&rt, rt.alloc(), &mut exchange, &view, input, *fault, *begun);
     }
-    Ok(())
 }

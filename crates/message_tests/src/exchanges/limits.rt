@@ -5,9 +5,8 @@ use crate::exchanges::streams::{
 };
 use relay_http::{Code, Exchange, Fault, MOST_INTERIMS};
 use req_view::{HEAD_BYTES, HEAD_FIELDS, View};
-use std::alloc::{AllocError, Global};
+use std::alloc::Global;
 use std::process::Abort;
-use std::test::Fail;
 
 const START: &[u8] = b"GET / HTTP/1.1\r\nHost: h\r\n";
 
@@ -19,66 +18,69 @@ const TRAILER_START: &[u8] =
     b"POST / HTTP/1.1\r\nHost: h\r\nTransfer-Encoding: chunked\r\n\r\n0\r\n";
 
 // a head of so many bytes
-fn with_bytes(alloc: Global, count: usize) -> Result<Vec<u8>, AllocError> {
-    let mut head = Vec::from_slice(alloc, START)?;
-    head.extend_from_slice(b"X: ")?;
+fn with_bytes(rt: &impl Abort, alloc: Global, count: usize) -> Vec<u8> {
+    let mut head = Vec::from_slice(alloc, START).expect(rt, "memory");
+    head.extend_from_slice(b"X: ").expect(rt, "memory");
     for _ in START.len() + 7..count {
-        head.push(b'x')?;
+        head.push(b'x').expect(rt, "memory");
     }
-    head.extend_from_slice(b"\r\n\r\n")?;
-    Ok(head)
+    head.extend_from_slice(b"\r\n\r\n").expect(rt, "memory");
+    head
 }
 
 // a head of so many fields
-fn with_fields(alloc: Global, count: usize) -> Result<Vec<u8>, AllocError> {
-    let mut head = Vec::from_slice(alloc, START)?;
+fn with_fields(rt: &impl Abort, alloc: Global, count: usize) -> Vec<u8> {
+    let mut head = Vec::from_slice(alloc, START).expect(rt, "memory");
     for _ in 1..count {
-        head.extend_from_slice(b"X: 1\r\n")?;
+        head.extend_from_slice(b"X: 1\r\n").expect(rt, "memory");
     }
-    head.extend_from_slice(b"\r\n")?;
-    Ok(head)
+    head.extend_from_slice(b"\r\n").expect(rt, "memory");
+    head
 }
 
 // an answer with so many heads before it
-fn with_interims(alloc: Global, count: usize) -> Result<Vec<u8>, AllocError> {
+fn with_interims(rt: &impl Abort, alloc: Global, count: usize) -> Vec<u8> {
     let mut input = Vec::new(alloc);
     for _ in 0..count {
-        input.extend_from_slice(b"HTTP/1.1 103 X\r\n\r\n")?;
+        input
+            .extend_from_slice(b"HTTP/1.1 103 X\r\n\r\n")
+            .expect(rt, "memory");
     }
-    input.extend_from_slice(b"HTTP/1.1 200 OK\r\nContent-Length: 0\r\n\r\n")?;
-    Ok(input)
+    input
+        .extend_from_slice(b"HTTP/1.1 200 OK\r\nContent-Length: 0\r\n\r\n")
+        .expect(rt, "memory");
+    input
 }
 
-fn result_of(alloc: Global, request: &[u8]) -> Result<Result<(), Fault>, AllocError> {
-    Ok(forwarded(alloc, request)?.result)
+fn result_of(rt: &impl Abort, alloc: Global, request: &[u8]) -> Result<(), Fault> {
+    forwarded(rt, alloc, request).result
 }
 
 #[test]
-fn the_longest_heads(rt: HostRuntime) -> Result<(), Fail> {
+fn the_longest_heads(rt: HostRuntime) {
     for (count, expected) in [(HEAD_BYTES, Ok(())), (HEAD_BYTES + 1, Err(Fault::Head))] {
-        let head = with_bytes(rt.alloc(), count)?;
+        let head = with_bytes(&rt, rt.alloc(), count);
         same(&rt, head.len(), count);
-        same(&rt, result_of(rt.alloc(), head.as_slice())?, expected);
+        same(&rt, result_of(&rt, rt.alloc(), head.as_slice()), expected);
     }
     for (count, expected) in [(HEAD_FIELDS, Ok(())), (HEAD_FIELDS + 1, Err(Fault::Head))] {
-        let head = with_fields(rt.alloc(), count)?;
-        same(&rt, result_of(rt.alloc(), head.as_slice())?, expected);
+        let head = with_fields(&rt, rt.alloc(), count);
+        same(&rt, result_of(&rt, rt.alloc(), head.as_slice()), expected);
     }
-    Ok(())
 }
 
 // so many bytes more, and then the end
-fn with_more(alloc: Global, start: &[u8], more: usize, end: &[u8]) -> Result<Vec<u8>, AllocError> {
-    let mut input = Vec::from_slice(alloc, start)?;
+fn with_more(rt: &impl Abort, alloc: Global, start: &[u8], more: usize, end: &[u8]) -> Vec<u8> {
+    let mut input = Vec::from_slice(alloc, start).expect(rt, "memory");
     for _ in 0..more {
-        input.push(b'x')?;
+        input.push(b'x').expect(rt, "memory");
     }
-    input.extend_from_slice(end)?;
-    Ok(input)
+    input.extend_from_slice(end).expect(rt, "memory");
+    input
 }
 
 #[test]
-fn the_longest_lines_of_a_body(rt: HostRuntime) -> Result<(), Fail> {
+fn the_longest_lines_of_a_body(rt: HostRuntime) {
     let end = b"\r\na\r\n0\r\n\r\n".as_slice();
     let rows: [(&[u8], usize, &[u8], Result<(), Fault>); 4] = [
         (SIZE_START, 256 - 4, end, Ok(())),
@@ -87,10 +89,9 @@ fn the_longest_lines_of_a_body(rt: HostRuntime) -> Result<(), Fail> {
         (TRAILER_START, 16_385 - 4, b"\r\n\r\n", Err(Fault::Framing)),
     ];
     for (start, more, end, expected) in rows {
-        let input = with_more(rt.alloc(), start, more, end)?;
-        same(&rt, result_of(rt.alloc(), input.as_slice())?, expected);
+        let input = with_more(&rt, rt.alloc(), start, more, end);
+        same(&rt, result_of(&rt, rt.alloc(), input.as_slice()), expected);
     }
-    Ok(())
 }
 
 fn are_handed_on(rt: &impl Abort, seen: &Seen, answer: &[u8]) {
@@ -108,14 +109,13 @@ fn are_too_many(rt: &impl Abort, seen: &Seen, answer: &[u8]) {
 }
 
 #[test]
-fn the_most_heads_before_an_answer(rt: HostRuntime) -> Result<(), Fail> {
-    let most = with_interims(rt.alloc(), MOST_INTERIMS)?;
-    let seen = answered(rt.alloc(), GET, most.as_slice())?;
+fn the_most_heads_before_an_answer(rt: HostRuntime) {
+    let most = with_interims(&rt, rt.alloc(), MOST_INTERIMS);
+    let seen = answered(&rt, rt.alloc(), GET, most.as_slice());
     are_handed_on(&rt, &seen, most.as_slice());
-    let more = with_interims(rt.alloc(), MOST_INTERIMS + 1)?;
-    let seen = answered(rt.alloc(), GET, more.as_slice())?;
+    let more = with_interims(&rt, rt.alloc(), MOST_INTERIMS + 1);
+    let seen = answered(&rt, rt.alloc(), GET, more.as_slice());
     are_too_many(&rt, &seen, more.as_slice());
-    Ok(())
 }
 
 fn slow(bytes: &'static [u8]) -> Slow<'static> {
@@ -133,12 +133,11 @@ fn spends_all(rt: &impl Abort, alloc: Global, exchange: &mut Exchange) {
 }
 
 #[test]
-fn turns_are_spent(rt: HostRuntime) -> Result<(), Fail> {
+fn turns_are_spent(rt: HostRuntime) {
     for turns in 0..GET.len() as u64 {
-        let mut exchange = Exchange::new(rt.alloc(), turns)?;
+        let mut exchange = Exchange::new(rt.alloc(), turns).expect(&rt, "memory");
         spends_all(&rt, rt.alloc(), &mut exchange);
     }
-    Ok(())
 }
 
 const BY_LENGTH: &[u8] = b"HTTP/1.1 200 OK\r\nContent-Length: 2\r\n\r\nab";
@@ -158,12 +157,11 @@ fn answers_within(rt: &impl Abort, alloc: Global, exchange: &mut Exchange, turns
 }
 
 #[test]
-fn turns_are_spent_by_an_answer(rt: HostRuntime) -> Result<(), Fail> {
+fn turns_are_spent_by_an_answer(rt: HostRuntime) {
     for turns in 0..BY_LENGTH.len() as u64 + 4 {
-        let mut exchange = Exchange::new(rt.alloc(), turns)?;
+        let mut exchange = Exchange::new(rt.alloc(), turns).expect(&rt, "memory");
         answers_within(&rt, rt.alloc(), &mut exchange, turns);
     }
-    Ok(())
 }
 
 fn reads_no_request(alloc: Global, exchange: &mut Exchange) -> bool {
@@ -207,25 +205,25 @@ fn has_no_turn(rt: &impl Abort, alloc: Global, exchange: &mut Exchange, view: &V
 }
 
 #[test]
-fn no_turn_at_all(rt: HostRuntime) -> Result<(), Fail> {
-    let view = view_of(rt.alloc(), WAITING)?;
-    let mut exchange = Exchange::new(rt.alloc(), 0)?;
+fn no_turn_at_all(rt: HostRuntime) {
+    let view = view_of(&rt, rt.alloc(), WAITING);
+    let mut exchange = Exchange::new(rt.alloc(), 0).expect(&rt, "memory");
     has_no_turn(&rt, rt.alloc(), &mut exchange, &view);
-    Ok(())
 }
 
 fn endless_request(
+    rt: &impl Abort,
     alloc: Global,
     turns: u64,
     reader: Endless<'_>,
-) -> Result<Result<(), Fault>, AllocError> {
-    let mut exchange = Exchange::new(alloc, turns)?;
+) -> Result<(), Fault> {
+    let mut exchange = Exchange::new(alloc, turns).expect(rt, "memory");
     let mut reader = reader;
-    Ok(forward_to(alloc, &mut exchange, &mut reader, &mut Tally::new()))
+    forward_to(alloc, &mut exchange, &mut reader, &mut Tally::new())
 }
 
 #[test]
-fn an_input_without_end_ends(rt: HostRuntime) -> Result<(), Fail> {
+fn an_input_without_end_ends(rt: HostRuntime) {
     let rows: [(&[u8], u8, u64, Fault); 6] = [
         (b"", b'x', 100, Fault::Turns),
         (b"", b'x', TURNS, Fault::Head),
@@ -236,23 +234,27 @@ fn an_input_without_end_ends(rt: HostRuntime) -> Result<(), Fail> {
     ];
     for (start, byte, turns, fault) in rows {
         let reader = Endless { start, byte };
-        same(&rt, endless_request(rt.alloc(), turns, reader)?, Err(fault));
+        same(
+            &rt,
+            endless_request(&rt, rt.alloc(), turns, reader),
+            Err(fault),
+        );
     }
-    Ok(())
 }
 
 fn endless_answer(
+    rt: &impl Abort,
     alloc: Global,
     turns: u64,
     reader: Endless<'_>,
-) -> Result<Result<(), Fault>, AllocError> {
-    let mut exchange = Exchange::new(alloc, turns)?;
+) -> Result<(), Fault> {
+    let mut exchange = Exchange::new(alloc, turns).expect(rt, "memory");
     let mut reader = reader;
-    Ok(answer_to(alloc, &mut exchange, GET, &mut reader, &mut Tally::new()))
+    answer_to(alloc, &mut exchange, GET, &mut reader, &mut Tally::new())
 }
 
 #[test]
-fn an_answer_without_end_ends(rt: HostRuntime) -> Result<(), Fail> {
+fn an_answer_without_end_ends(rt: HostRuntime) {
     let rows: [(&[u8], u8, u64, Fault); 4] = [
         (b"", b'x', TURNS, Fault::Head),
         (b"", b'\n', 100, Fault::Turns),
@@ -266,15 +268,18 @@ fn an_answer_without_end_ends(rt: HostRuntime) -> Result<(), Fail> {
     ];
     for (start, byte, turns, fault) in rows {
         let reader = Endless { start, byte };
-        same(&rt, endless_answer(rt.alloc(), turns, reader)?, Err(fault));
+        same(
+            &rt,
+            endless_answer(&rt, rt.alloc(), turns, reader),
+            Err(fault),
+        );
     }
-    Ok(())
 }
 
 // The leave for a row's request, which has 25 bytes or none. None where it isn't given.
-fn leave(alloc: Global, head: &[u8]) -> Result<Option<usize>, AllocError> {
-    let mut exchange = Exchange::new(alloc, TURNS)?;
-    Ok(leave_by(alloc, &mut exchange, head))
+fn leave(rt: &impl Abort, alloc: Global, head: &[u8]) -> Option<usize> {
+    let mut exchange = Exchange::new(alloc, TURNS).expect(rt, "memory");
+    leave_by(alloc, &mut exchange, head)
 }
 
 fn leave_by(alloc: Global, exchange: &mut Exchange, head: &[u8]) -> Option<usize> {
@@ -295,7 +300,7 @@ const WAITING: &[u8] =
     b"POST / HTTP/1.1\r\nHost: h\r\nContent-Length: 3\r\nExpect: 100-Continue\r\n\r\n";
 
 #[test]
-fn leave_is_given_to_those_who_wait(rt: HostRuntime) -> Result<(), Fail> {
+fn leave_is_given_to_those_who_wait(rt: HostRuntime) {
     let rows: [(&[u8], usize); 6] = [
         (WAITING, 25),
         (
@@ -320,20 +325,19 @@ fn leave_is_given_to_those_who_wait(rt: HostRuntime) -> Result<(), Fail> {
         ),
     ];
     for (head, count) in rows {
-        same(&rt, leave(rt.alloc(), head)?, Some(count));
+        same(&rt, leave(&rt, rt.alloc(), head), Some(count));
     }
-    Ok(())
 }
 
-fn refused(alloc: Global, code: Code) -> Result<Seen, AllocError> {
-    let mut exchange = Exchange::new(alloc, 0)?;
+fn refused(rt: &impl Abort, alloc: Global, code: Code) -> Seen {
+    let mut exchange = Exchange::new(alloc, 0).expect(rt, "memory");
     let mut written = Vec::new(alloc);
     let result = exchange.refuse(code, &mut written);
-    Ok(Seen { result, written })
+    Seen { result, written }
 }
 
 #[test]
-fn refusals(rt: HostRuntime) -> Result<(), Fail> {
+fn refusals(rt: HostRuntime) {
     let rows: [(Code, &[u8]); 3] = [
         (
             Code::BadRequest,
@@ -349,7 +353,6 @@ fn refusals(rt: HostRuntime) -> Result<(), Fail> {
         ),
     ];
     for (code, text) in rows {
-        same(&rt, refused(rt.alloc(), code)?.outcome(), Ok(text));
+        same(&rt, refused(&rt, rt.alloc(), code).outcome(), Ok(text));
     }
-    Ok(())
 }

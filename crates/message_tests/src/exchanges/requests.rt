@@ -2,10 +2,9 @@ use crate::exchanges::streams::{Row, forwarded};
 use relay_http::Fault;
 use std::alloc::Global;
 use std::process::Abort;
-use std::test::Fail;
 
 // first lines (RFC 9112, sections 2.2 and 3)
-const LINES: [Row; 17] = [
+static LINES: [Row; 17] = [
     (
         "a request without a body",
         b"GET / HTTP/1.1\r\nHost: h\r\n\r\n",
@@ -82,7 +81,7 @@ const LINES: [Row; 17] = [
 ];
 
 // fields (RFC 9112, section 5)
-const FIELDS: [Row; 16] = [
+static FIELDS: [Row; 16] = [
     (
         "a folded line",
         b"POST / HTTP/1.1\r\nHost: h\r\nX: 1\r\n 2\r\n\r\n",
@@ -166,7 +165,7 @@ const FIELDS: [Row; 16] = [
 ];
 
 // bodies of a length (RFC 9112, section 6)
-const LENGTHS: [Row; 15] = [
+static LENGTHS: [Row; 15] = [
     (
         "a length",
         b"POST / HTTP/1.1\r\nHost: h\r\nContent-Length: 3\r\n\r\nabcd",
@@ -245,7 +244,7 @@ const LENGTHS: [Row; 15] = [
 ];
 
 // bodies in chunks (RFC 9112, sections 6.1 and 7.1)
-const CHUNKS: [Row; 23] = [
+static CHUNKS: [Row; 23] = [
     (
         "chunks",
         b"POST / HTTP/1.1\r\nHost: h\r\nTransfer-Encoding: chunked\r\n\r\n3\r\nabc\r\n0\r\n\r\nmore",
@@ -373,30 +372,29 @@ const CHUNKS: [Row; 23] = [
     ),
 ];
 
-fn become_of_each(rt: &impl Abort, alloc: Global, rows: &[Row]) -> Result<(), Fail> {
+fn become_of_each(rt: &impl Abort, alloc: Global, rows: &[Row]) {
     for (what, input, expected) in rows {
-        let seen = forwarded(alloc, input)?;
-        assert_eq!(rt; seen.outcome(), *expected, "{what}");
+        let seen = forwarded(rt, alloc, input);
+        seen.becomes(rt, *expected, what);
     }
-    Ok(())
 }
 
 #[test]
-fn first_lines_of_requests(rt: HostRuntime) -> Result<(), Fail> {
-    become_of_each(&rt, rt.alloc(), &LINES)
+fn first_lines_of_requests(rt: HostRuntime) {
+    become_of_each(&rt, rt.alloc(), &LINES);
 }
 
 #[test]
-fn fields_of_requests(rt: HostRuntime) -> Result<(), Fail> {
-    become_of_each(&rt, rt.alloc(), &FIELDS)
+fn fields_of_requests(rt: HostRuntime) {
+    become_of_each(&rt, rt.alloc(), &FIELDS);
 }
 
 #[test]
-fn requests_of_a_length(rt: HostRuntime) -> Result<(), Fail> {
-    become_of_each(&rt, rt.alloc(), &LENGTHS)
+fn requests_of_a_length(rt: HostRuntime) {
+    become_of_each(&rt, rt.alloc(), &LENGTHS);
 }
 
 #[test]
-fn requests_in_chunks(rt: HostRuntime) -> Result<(), Fail> {
-    become_of_each(&rt, rt.alloc(), &CHUNKS)
+fn requests_in_chunks(rt: HostRuntime) {
+    become_of_each(&rt, rt.alloc(), &CHUNKS);
 }

@@ -1,13 +1,13 @@
 ghost use Rattle.relay_http.specs.States.{IsAt, Serves};
 
-use grant_board::{Board, Pass, Taking};
+use crate::passes::Held;
+use grant_board::Pass;
 use relay_http::{Exchange, Fault, Stage};
 use req_view::View;
-use std::alloc::{AllocError, Global};
+use std::alloc::Global;
 use std::io;
 use std::io::{Read, Write};
-use std::test::Fail;
-use verdict::{Ending, Verdict};
+use std::process::Abort;
 
 /// What a message is, its bytes, and what becomes of it.
 pub(crate) type Row = (&'static str, &'static [u8], Result<&'static [u8], Fault>);
@@ -33,13 +33,18 @@ impl Seen {
             Err(fault) => Err(fault),
         }
     }
+
+    /// Stops the test where the outcome isn't so, and prints of what it is.
+    pub(crate) fn becomes(&self, rt: &impl Abort, expected: Result<&[u8], Fault>, what: &str) {
+        assert_eq!(rt; self.outcome(), expected, "{what}");
+    }
 }
 
 /// Hands a request on.
-pub(crate) fn forwarded(alloc: Global, input: &[u8]) -> Result<Seen, AllocError> {
-    let mut exchange = Exchange::new(alloc, TURNS)?;
+pub(crate) fn forwarded(rt: &impl Abort, alloc: Global, input: &[u8]) -> Seen {
+    let mut exchange = Exchange::new(alloc, TURNS).expect(rt, "memory");
     let mut reader = input;
-    Ok(forwarded_from(alloc, &mut exchange, &mut reader))
+    forwarded_from(alloc, &mut exchange, &mut reader)
 }
 
 /// Hands a request on by a new exchange.
@@ -61,18 +66,19 @@ pub(crate) fn forward_to<R: Read, W: Write>(
     writer: &mut W,
 ) -> Result<(), Fault> {
     exchange.renew();
-    let view = exchange.read_request(alloc, reader)?;
-    forward_view(alloc, exchange, &view, reader, writer)
+    match exchange.read_request(alloc, reader) {
+        Ok(view) => forward_view(alloc, exchange, &view, reader, writer),
+        Err(fault) => Err(fault),
+    }
 }
 
 /// The head of a request, read by an exchange of its own.
-pub(crate) fn view_of(alloc: Global, request: &[u8]) -> Result<View, Fail> {
-    let mut exchange = Exchange::new(alloc, TURNS)?;
+pub(crate) fn view_of(rt: &impl Abort, alloc: Global, request: &[u8]) -> View {
+    let mut exchange = Exchange::new(alloc, TURNS).expect(rt, "memory");
     let mut reader = request;
-    match exchange.read_request(alloc, &mut reader) {
-        Ok(view) => Ok(view),
-        Err(_) => Err(Fail::from("no request")),
-    }
+    exchange
+        .read_request(alloc, &mut reader)
+        .expect(rt, "a request")
 }
 
 /// Hands a request on whose head was read, on a pass of its own.
@@ -85,64 +91,21 @@ pub(crate) fn forward_view<R: Read, W: Write>(
 ) -> Result<(), Fault>
     requires { IsAt Stage.Asked exchange.old }
 {
-    on_a_pass(alloc, exchange, Part::Request, view, reader, writer)
-}
-
-/// What of an exchange goes from a reader to a writer.
-#[derive(Clone, Copy)]
-enum Part {
-    Request,
-    /// Its request has no body.
-    Answer,
-}
-
-fn on_a_pass<R: Read, W: Write>(
-    alloc: Global,
-    exchange: &mut Exchange,
-    part: Part,
-    view: &View,
-    reader: &mut R,
-    writer: &mut W,
-) -> Result<(), Fault>
-    requires { IsAt Stage.Asked exchange.old }
-{
-    let Ok((board, mut keeper, mut seat)) = Board::open(alloc, 1, &[1]) else {
-        return Err(Fault::NoMemory);
-    };
-    keeper.offer(&board, 0, 1, Verdict::Serve(0));
-    match seat.try_take(&board, 0, 1) {
-        Taking::Taken(pass) => {
-            let result = hand_on(alloc, exchange, part, &pass, view, reader, writer);
-            seat.post(&board, pass, Ending::Done);
+    match Held::take(alloc) {
+        Ok(held) => {
+            let result = exchange.forward(held.pass(), view, reader, writer);
+            held.post();
             result
         }
-        Taking::NotYet => Err(Fault::Closed),
-    }
-}
-
-fn hand_on<R: Read, W: Write>(
-    alloc: Global,
-    exchange: &mut Exchange,
-    part: Part,
-    pass: &Pass,
-    view: &View,
-    reader: &mut R,
-    writer: &mut W,
-) -> Result<(), Fault>
-    requires { IsAt Stage.Asked exchange.old }
-{
-    match (pass.verdict(), part) {
-        (Verdict::Serve(_), Part::Request) => exchange.forward(pass, view, reader, writer),
-        (Verdict::Serve(_), Part::Answer) => answer_on(alloc, exchange, pass, view, reader, writer),
-        (Verdict::Told(_), _) => Err(Fault::Closed),
+        Err(fault) => Err(fault),
     }
 }
 
 /// Hands the answer to a request on.
-pub(crate) fn answered(alloc: Global, request: &[u8], input: &[u8]) -> Result<Seen, AllocError> {
-    let mut exchange = Exchange::new(alloc, TURNS)?;
+pub(crate) fn answered(rt: &impl Abort, alloc: Global, request: &[u8], input: &[u8]) -> Seen {
+    let mut exchange = Exchange::new(alloc, TURNS).expect(rt, "memory");
     let mut reader = input;
-    Ok(answered_from(alloc, &mut exchange, request, &mut reader))
+    answered_from(alloc, &mut exchange, request, &mut reader)
 }
 
 /// Hands the answer to a request without a body on by a new exchange.
@@ -167,8 +130,10 @@ pub(crate) fn answer_to<R: Read, W: Write>(
 ) -> Result<(), Fault> {
     exchange.renew();
     let mut client = request;
-    let view = exchange.read_request(alloc, &mut client)?;
-    answer_view(alloc, exchange, &view, reader, writer)
+    match exchange.read_request(alloc, &mut client) {
+        Ok(view) => answer_view(alloc, exchange, &view, reader, writer),
+        Err(fault) => Err(fault),
+    }
 }
 
 /// Hands a request without a body on whose head was read, and then its answer, on a pass of their own.
@@ -181,7 +146,14 @@ pub(crate) fn answer_view<R: Read, W: Write>(
 ) -> Result<(), Fault>
     requires { IsAt Stage.Asked exchange.old }
 {
-    on_a_pass(alloc, exchange, Part::Answer, view, reader, writer)
+    match Held::take(alloc) {
+        Ok(held) => {
+            let result = answer_on(alloc, exchange, held.pass(), view, reader, writer);
+            held.post();
+            result
+        }
+        Err(fault) => Err(fault),
+    }
 }
 
 // An exchange that is closed is asked for both.

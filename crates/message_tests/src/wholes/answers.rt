@@ -1,8 +1,8 @@
 use crate::assertions::same;
 use crate::wholes::relays::{GET, Row, TURNS, answered};
 use relay_http::{Code, Exchange, Fault};
-use std::alloc::{AllocError, Global};
-use std::test::Fail;
+use std::alloc::Global;
+use std::process::Abort;
 use whole_messages::{Progress, refusal};
 
 const HEAD: &[u8] = b"HEAD / HTTP/1.1\r\nHost: h\r\n\r\n";
@@ -25,7 +25,7 @@ const INTERIM_TEXT: &[u8] =
     b"HTTP/1.1 103 X\r\nLink: a\r\n\r\nHTTP/1.1 200 OK\r\nContent-Length: 0\r\nConnection: close\r\n\r\n";
 
 // answers that their own bytes end
-const WHOLE: [Row; 6] = [
+static WHOLE: [Row; 6] = [
     ("a length", BY_LENGTH, Progress::Whole(BY_LENGTH_TEXT)),
     ("chunks", CHUNKS, Progress::Whole(CHUNKS_TEXT)),
     ("heads before it", INTERIM, Progress::Whole(INTERIM_TEXT)),
@@ -47,7 +47,7 @@ const WHOLE: [Row; 6] = [
 ];
 
 // bytes that are no answer, whatever comes
-const FAULTS: [Row; 4] = [
+static FAULTS: [Row; 4] = [
     (
         "no head at all",
         b"SSH-2.0-x\r\n",
@@ -70,67 +70,79 @@ const FAULTS: [Row; 4] = [
     ),
 ];
 
-#[test]
-fn answers_that_came(rt: HostRuntime) -> Result<(), Fail> {
-    for ended in [false, true] {
-        for rows in [WHOLE.as_slice(), FAULTS.as_slice()] {
-            for (what, input, expected) in rows {
-                let seen = answered(rt.alloc(), GET, input, ended)?;
-                assert_eq!(rt; seen.outcome(), Some(*expected), "{what}");
-            }
-        }
+fn become_of_each(rt: &impl Abort, alloc: Global, rows: &[Row], ended: bool) {
+    for (what, input, expected) in rows {
+        let seen = answered(rt, alloc, GET, input, ended);
+        seen.becomes(rt, *expected, what);
     }
-    Ok(())
+}
+
+#[test]
+fn answers_that_came(rt: HostRuntime) {
+    for ended in [false, true] {
+        become_of_each(&rt, rt.alloc(), &WHOLE, ended);
+        become_of_each(&rt, rt.alloc(), &FAULTS, ended);
+    }
+}
+
+fn is_cut(rt: &impl Abort, alloc: Global, front: &[u8], ended: bool, told: Progress<&[u8]>) {
+    let seen = answered(rt, alloc, GET, front, ended);
+    seen.becomes(rt, told, &front.len());
+}
+
+fn is_cut_after_each_byte(rt: &impl Abort, alloc: Global, input: &[u8]) {
+    for len in 0..input.len() {
+        is_cut(rt, alloc, &input[..len], false, Progress::More);
+        is_cut(
+            rt,
+            alloc,
+            &input[..len],
+            true,
+            Progress::Refused(Fault::Read),
+        );
+    }
 }
 
 // Until its last byte came, an answer waits, or it ended too early.
 #[test]
-fn answers_in_two_pieces(rt: HostRuntime) -> Result<(), Fail> {
+fn answers_in_two_pieces(rt: HostRuntime) {
     for input in [BY_LENGTH, CHUNKS, INTERIM] {
-        for len in 0..input.len() {
-            let seen = answered(rt.alloc(), GET, &input[..len], false)?;
-            assert_eq!(rt; seen.outcome(), Some(Progress::More), "{len}");
-            let seen = answered(rt.alloc(), GET, &input[..len], true)?;
-            let expected = Progress::Refused(Fault::Read);
-            assert_eq!(rt; seen.outcome(), Some(expected), "{len}");
-        }
+        is_cut_after_each_byte(&rt, rt.alloc(), input);
     }
-    Ok(())
 }
 
 #[test]
-fn answers_to_the_end(rt: HostRuntime) -> Result<(), Fail> {
+fn answers_to_the_end(rt: HostRuntime) {
     let input = b"HTTP/1.1 200 OK\r\n\r\nabc";
-    let seen = answered(rt.alloc(), GET, input, false)?;
+    let seen = answered(&rt, rt.alloc(), GET, input, false);
     same(&rt, seen.outcome(), Some(Progress::More));
-    let seen = answered(rt.alloc(), GET, input, true)?;
+    let seen = answered(&rt, rt.alloc(), GET, input, true);
     let text = b"HTTP/1.1 200 OK\r\nConnection: close\r\n\r\nabc".as_slice();
     same(&rt, seen.outcome(), Some(Progress::Whole(text)));
-    let seen = answered(rt.alloc(), HEAD, input, false)?;
+    let seen = answered(&rt, rt.alloc(), HEAD, input, false);
     let text = b"HTTP/1.1 200 OK\r\nConnection: close\r\n\r\n".as_slice();
     same(&rt, seen.outcome(), Some(Progress::Whole(text)));
-    Ok(())
 }
 
 #[test]
-fn answers_to_head(rt: HostRuntime) -> Result<(), Fail> {
+fn answers_to_head(rt: HostRuntime) {
     let input = b"HTTP/1.1 200 OK\r\nContent-Length: 7\r\n\r\n";
-    let seen = answered(rt.alloc(), HEAD, input, false)?;
+    let seen = answered(&rt, rt.alloc(), HEAD, input, false);
     let text = b"HTTP/1.1 200 OK\r\nContent-Length: 7\r\nConnection: close\r\n\r\n".as_slice();
     same(&rt, seen.outcome(), Some(Progress::Whole(text)));
-    Ok(())
 }
 
 // More than an exchange's buffers hold.
 #[test]
-fn a_long_answer(rt: HostRuntime) -> Result<(), Fail> {
+fn a_long_answer(rt: HostRuntime) {
     let mut input = Vec::from_slice(
         rt.alloc(),
         b"HTTP/1.1 200 OK\r\nContent-Length: 200000\r\n\r\n",
-    )?;
+    )
+    .expect(&rt, "memory");
     let head = input.len();
-    input.resize(head + 200_000, b'x')?;
-    let seen = answered(rt.alloc(), GET, input.as_slice(), false)?;
+    input.resize(head + 200_000, b'x').expect(&rt, "memory");
+    let seen = answered(&rt, rt.alloc(), GET, input.as_slice(), false);
     match seen.outcome() {
         Some(Progress::Whole(text)) => {
             same(
@@ -139,27 +151,25 @@ fn a_long_answer(rt: HostRuntime) -> Result<(), Fail> {
                 head + b"Connection: close\r\n".len() + 200_000,
             );
         }
-        _ => return Err(Fail::from("no answer")),
+        _ => panic!(rt; "no answer"),
     }
     input.pop();
-    let seen = answered(rt.alloc(), GET, input.as_slice(), false)?;
+    let seen = answered(&rt, rt.alloc(), GET, input.as_slice(), false);
     same(&rt, seen.outcome(), Some(Progress::More));
-    Ok(())
 }
 
-fn refused(alloc: Global, out: &mut Vec<u8>) -> Result<(), AllocError> {
-    let mut exchange = Exchange::new(alloc, TURNS)?;
-    refusal(&mut exchange, Code::BadGateway, out)
+fn refused(rt: &impl Abort, alloc: Global, out: &mut Vec<u8>) {
+    let mut exchange = Exchange::new(alloc, TURNS).expect(rt, "memory");
+    refusal(&mut exchange, Code::BadGateway, out).expect(rt, "memory");
 }
 
 #[test]
-fn refusals(rt: HostRuntime) -> Result<(), Fail> {
-    let mut out = Vec::from_slice(rt.alloc(), b"before ")?;
-    refused(rt.alloc(), &mut out)?;
+fn refusals(rt: HostRuntime) {
+    let mut out = Vec::from_slice(rt.alloc(), b"before ").expect(&rt, "memory");
+    refused(&rt, rt.alloc(), &mut out);
     same(
         &rt,
         out.as_slice(),
         b"before HTTP/1.1 502 Bad Gateway\r\nContent-Length: 0\r\nConnection: close\r\n\r\n".as_slice(),
     );
-    Ok(())
 }

@@ -1,12 +1,17 @@
-ghost use Rattle.std.specs.Prelude.{◌≤◌, length};
-ghost use Rattle.relay_http.specs.States.{Serves};
+ghost use Rattle.std.specs.Prelude.{◌≡◌};
+ghost use Rattle.relay_http.specs.Asides.{stage_of};
+ghost use Rattle.relay_http.specs.States.{Serves, forwarded_on};
+ghost use Rattle.whole_messages.specs.Outcomes.{IfWhole};
 
-use grant_board::{Board, Pass, Taking};
+use crate::assertions::holds;
+use crate::passes::Held;
+use grant_board::Pass;
 use relay_body::INBOX_BYTES;
 use relay_http::{Aside, Exchange, Fault};
-use std::alloc::{AllocError, Global};
-use std::test::Fail;
-use verdict::{Ending, Verdict};
+use req_view::View;
+use std::alloc::Global;
+use std::fmt::Display;
+use std::process::Abort;
 use whole_messages::{Arrived, HandedOn, Progress, answer_whole, forward_whole, read_head};
 
 /// What a message is, its bytes, and what becomes of it.
@@ -29,13 +34,20 @@ pub(crate) struct Seen {
 impl Seen {
     /// The bytes of a message that was handed on, or what was told in place of it. Then nothing was put there.
     pub(crate) fn outcome(&self) -> Option<Progress<&[u8]>> {
-        let text = self.out.as_slice().strip_prefix(BEFORE)?;
+        let Some(text) = self.out.as_slice().strip_prefix(BEFORE) else {
+            return None;
+        };
         match self.told {
             Progress::Whole(()) => Some(Progress::Whole(text)),
             Progress::More if text.is_empty() => Some(Progress::More),
             Progress::Refused(fault) if text.is_empty() => Some(Progress::Refused(fault)),
             _ => None,
         }
+    }
+
+    /// Stops the test where the outcome isn't so, and prints of what it is.
+    pub(crate) fn becomes(&self, rt: &impl Abort, expected: Progress<&[u8]>, what: &impl Display) {
+        assert_eq!(rt; self.outcome(), Some(expected), "{what}");
     }
 }
 
@@ -48,94 +60,110 @@ struct Input<'b> {
 }
 
 /// What becomes of a request of which these bytes have come.
-pub(crate) fn forwarded(alloc: Global, request: &[u8]) -> Result<Seen, Fail> {
+pub(crate) fn forwarded(rt: &impl Abort, alloc: Global, request: &[u8]) -> Seen {
     let input = Input {
         request,
         answer: b"",
         ended: false,
     };
-    Ok(relayed(alloc, &input)?.0)
+    relayed(rt, alloc, &input).0
 }
 
 /// What becomes of the answer to a request.
 pub(crate) fn answered(
+    rt: &impl Abort,
     alloc: Global,
     request: &[u8],
     answer: &[u8],
     ended: bool,
-) -> Result<Seen, Fail> {
+) -> Seen {
     let input = Input {
         request,
         answer,
         ended,
     };
-    Ok(relayed(alloc, &input)?.1)
+    relayed(rt, alloc, &input).1
 }
 
-fn nothing_seen(alloc: Global) -> Result<Seen, AllocError> {
-    Ok(Seen {
+fn nothing_seen(rt: &impl Abort, alloc: Global) -> Seen {
+    Seen {
         told: Progress::More,
-        out: Vec::from_slice(alloc, BEFORE)?,
-    })
+        out: Vec::from_slice(alloc, BEFORE).expect(rt, "memory"),
+    }
 }
 
-// A request is handed on, and then its answer, on a pass of their own.
-fn relayed(alloc: Global, input: &Input<'_>) -> Result<(Seen, Seen), Fail> {
-    let mut seen = (nothing_seen(alloc)?, nothing_seen(alloc)?);
-    let mut exchange = Exchange::new(alloc, TURNS)?;
-    if INBOX_BYTES < input.request.len() {
-        return Err(Fail::from("a long request"));
-    }
-    let (board, mut keeper, mut seat) = Board::open(alloc, 1, &[1])?;
-    keeper.offer(&board, 0, 1, Verdict::Serve(0));
-    match seat.try_take(&board, 0, 1) {
-        Taking::Taken(pass) => {
-            match pass.verdict() {
-                Verdict::Serve(_) => relay(alloc, &mut exchange, &pass, input, &mut seen),
-                Verdict::Told(_) => {}
-            }
-            seat.post(&board, pass, Ending::Done);
-        }
-        Taking::NotYet => {}
-    }
-    Ok(seen)
+fn relayed(rt: &impl Abort, alloc: Global, input: &Input<'_>) -> (Seen, Seen) {
+    let mut seen = (nothing_seen(rt, alloc), nothing_seen(rt, alloc));
+    let mut exchange = Exchange::new(alloc, TURNS).expect(rt, "memory");
+    relay(rt, alloc, &mut exchange, input, &mut seen);
+    seen
 }
 
 fn relay(
+    rt: &impl Abort,
     alloc: Global,
     exchange: &mut Exchange,
-    pass: &Pass,
     input: &Input<'_>,
     seen: &mut (Seen, Seen),
-)
-    requires few { length input.now.request.now ≤ INBOX_BYTES }
-    requires serves { Serves pass.now.verdict }
-{
+) {
+    holds(rt, input.request.len() <= INBOX_BYTES);
     match read_head(exchange, alloc, input.request, false) {
-        Progress::Whole(view) => {
-            if let Ok(behind) = Vec::from_slice(alloc, exchange.held()) {
-                let told = forward_whole(exchange, pass, &view, behind.as_slice(), &mut seen.0.out);
-                seen.0.told = told_of(told);
-                if let Progress::Whole(aside) = told {
-                    let mut arrived = Arrived::new(input.answer, input.ended);
-                    let request = HandedOn {
-                        pass,
-                        view: &view,
-                        aside: &aside,
-                    };
-                    seen.1.told = answer_whole(
-                        exchange,
-                        alloc,
-                        &request,
-                        &mut arrived,
-                        &mut seen.1.out,
-                    );
-                }
-            }
-        }
+        Progress::Whole(view) => relay_on_a_pass(rt, alloc, exchange, &view, input, seen),
         Progress::More => {}
         Progress::Refused(fault) => seen.0.told = Progress::Refused(fault),
     }
+}
+
+// A request is handed on, and then its answer, on a pass of their own.
+fn relay_on_a_pass(
+    rt: &impl Abort,
+    alloc: Global,
+    exchange: &mut Exchange,
+    view: &View,
+    input: &Input<'_>,
+    seen: &mut (Seen, Seen),
+) {
+    let held = Held::take(alloc).expect(rt, "a pass");
+    let told = forward(rt, alloc, exchange, held.pass(), view, &mut seen.0.out);
+    seen.0.told = told_of(told);
+    if let Progress::Whole(aside) = told {
+        let request = HandedOn {
+            pass: held.pass(),
+            view,
+            aside: &aside,
+        };
+        answer(alloc, exchange, &request, input, &mut seen.1);
+    }
+    held.post();
+}
+
+fn forward(
+    rt: &impl Abort,
+    alloc: Global,
+    exchange: &mut Exchange,
+    pass: &Pass,
+    view: &View,
+    out: &mut Vec<u8>,
+) -> Progress<Aside>
+    requires { Serves pass.now.verdict }
+    ensures { IfWhole result (λ aside. stage_of aside ≡ forwarded_on pass.now) }
+{
+    let behind = Vec::from_slice(alloc, exchange.held()).expect(rt, "memory");
+    forward_whole(exchange, pass, view, behind.as_slice(), out)
+}
+
+fn answer(
+    alloc: Global,
+    exchange: &mut Exchange,
+    request: &HandedOn<'_>,
+    input: &Input<'_>,
+    seen: &mut Seen,
+)
+    requires serves { Serves request.now.pass.now.verdict }
+    requires same_pass { stage_of request.now.aside.now ≡ forwarded_on request.now.pass.now }
+{
+    let mut arrived = Arrived::new(input.answer, input.ended);
+    seen.told = answer_whole(exchange, alloc, request, &mut arrived, &mut seen.out);
 }
 
 fn told_of(told: Progress<Aside>) -> Progress<()> {

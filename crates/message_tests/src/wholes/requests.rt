@@ -1,7 +1,11 @@
+ghost use Rattle.std.specs.Prelude.{◌≤◌, length};
+
 use crate::assertions::same;
 use crate::wholes::relays::{GET, Row, TURNS, forwarded};
+use relay_body::INBOX_BYTES;
 use relay_http::{Exchange, Fault, Stage};
-use std::test::Fail;
+use std::alloc::Global;
+use std::process::Abort;
 use whole_messages::{Progress, read_head};
 
 // a request by length, its head 73 bytes
@@ -18,7 +22,7 @@ const CHUNKS: &[u8] =
 const CHUNKS_TEXT: &[u8] =
     b"POST / HTTP/1.1\r\nHost: h\r\nTransfer-Encoding: chunked\r\nConnection: close\r\n\r\n3\r\nabc\r\n0\r\n\r\n";
 
-const ROWS: [Row; 8] = [
+static ROWS: [Row; 8] = [
     (
         "no body",
         GET,
@@ -64,46 +68,64 @@ const ROWS: [Row; 8] = [
 ];
 
 #[test]
-fn requests_that_came(rt: HostRuntime) -> Result<(), Fail> {
-    for (what, input, expected) in ROWS {
-        let seen = forwarded(rt.alloc(), input)?;
-        assert_eq!(rt; seen.outcome(), Some(expected), "{what}");
+fn requests_that_came(rt: HostRuntime) {
+    for (what, input, expected) in &ROWS {
+        let seen = forwarded(&rt, rt.alloc(), input);
+        seen.becomes(&rt, *expected, what);
     }
-    Ok(())
+}
+
+fn waits_for_each_byte(rt: &impl Abort, alloc: Global, input: &[u8]) {
+    for len in 0..input.len() {
+        let seen = forwarded(rt, alloc, &input[..len]);
+        seen.becomes(rt, Progress::More, &len);
+    }
+}
+
+fn is_whole(rt: &impl Abort, alloc: Global, input: &[u8], text: &[u8]) {
+    let seen = forwarded(rt, alloc, input);
+    same(rt, seen.outcome(), Some(Progress::Whole(text)));
 }
 
 // Until its last byte came, a request waits, in its head as in its body.
 #[test]
-fn requests_in_two_pieces(rt: HostRuntime) -> Result<(), Fail> {
+fn requests_in_two_pieces(rt: HostRuntime) {
     for (input, text) in [(POST, POST_TEXT), (CHUNKS, CHUNKS_TEXT)] {
-        for len in 0..input.len() {
-            let seen = forwarded(rt.alloc(), &input[..len])?;
-            assert_eq!(rt; seen.outcome(), Some(Progress::More), "{len}");
-        }
-        let seen = forwarded(rt.alloc(), input)?;
-        same(&rt, seen.outcome(), Some(Progress::Whole(text)));
+        waits_for_each_byte(&rt, rt.alloc(), input);
+        is_whole(&rt, rt.alloc(), input, text);
     }
-    Ok(())
+}
+
+fn has_a_head(rt: &impl Abort, alloc: Global, exchange: &mut Exchange) {
+    match read_head(exchange, alloc, POST, false) {
+        Progress::Whole(view) => same(rt, view.method(), b"POST".as_slice()),
+        _ => panic!(rt; "no request"),
+    }
 }
 
 #[test]
-fn a_head_that_came(rt: HostRuntime) -> Result<(), Fail> {
-    let mut exchange = Exchange::new(rt.alloc(), TURNS)?;
-    match read_head(&mut exchange, rt.alloc(), POST, false) {
-        Progress::Whole(view) => same(&rt, view.method(), b"POST".as_slice()),
-        _ => return Err(Fail::from("no request")),
-    }
+fn a_head_that_came(rt: HostRuntime) {
+    let mut exchange = Exchange::new(rt.alloc(), TURNS).expect(&rt, "memory");
+    has_a_head(&rt, rt.alloc(), &mut exchange);
     same(&rt, exchange.stage(), Stage::Asked);
     same(&rt, exchange.held(), b"abc".as_slice());
-    Ok(())
+}
+
+fn ended_too_early(rt: &impl Abort, alloc: Global, exchange: &mut Exchange, front: &[u8])
+    requires { length front.now ≤ INBOX_BYTES }
+{
+    let told = read_head(exchange, alloc, front, true);
+    assert!(rt;
+        matches!(told, Progress::Refused(Fault::Read)),
+        "{}",
+        front.len()
+    );
 }
 
 #[test]
-fn an_input_that_ended_in_a_head(rt: HostRuntime) -> Result<(), Fail> {
-    let mut exchange = Exchange::new(rt.alloc(), TURNS)?;
+fn an_input_that_ended_in_a_head(rt: HostRuntime) {
+    let mut exchange = Exchange::new(rt.alloc(), TURNS).expect(&rt, "memory");
     for len in 0..GET.len() {
-        let told = read_head(&mut exchange, rt.alloc(), &GET[..len], true);
-        assert!(rt; matches!(told, Progress::Refused(Fault::Read)), "{len}");
+        ended_too_early(&rt, rt.alloc(), &mut exchange, &GET[..len]);
     }
-    Ok(())
 }

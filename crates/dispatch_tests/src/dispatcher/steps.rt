@@ -7,7 +7,6 @@ use due_key::Key;
 use pend_queue::PendQueue;
 use std::alloc::Global;
 use std::process::Abort;
-use std::test::Fail;
 
 /// A step of a test, which is played on two dispatchers, one over each kind of queue.
 #[derive(Clone, Copy)]
@@ -27,21 +26,14 @@ pub enum Step {
 }
 
 /// Plays the steps on dispatchers of a plan. No function owns both of them, since each way out of it would drop both.
-pub fn play(rt: &impl Abort, alloc: Global, plan: Plan, steps: &[Step]) -> Result<(), Fail> {
-    let mut lists = made(alloc, plan)?;
-    play_beside(rt, alloc, plan, &mut lists, steps)
+pub fn play(rt: &impl Abort, alloc: Global, plan: Plan, steps: &[Step]) {
+    let mut lists = made(rt, alloc, plan);
+    play_beside(rt, alloc, plan, &mut lists, steps);
 }
 
-fn play_beside(
-    rt: &impl Abort,
-    alloc: Global,
-    plan: Plan,
-    lists: &mut OfLists,
-    steps: &[Step],
-) -> Result<(), Fail> {
-    let mut trees = made(alloc, plan)?;
+fn play_beside(rt: &impl Abort, alloc: Global, plan: Plan, lists: &mut OfLists, steps: &[Step]) {
+    let mut trees = made(rt, alloc, plan);
     play_on(rt, alloc, lists, &mut trees, steps);
-    Ok(())
 }
 
 fn play_on(

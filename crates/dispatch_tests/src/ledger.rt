@@ -103,6 +103,7 @@ fn pass(rt: &impl Abort, ledger: &mut Ledger<char>, ticket: u64)
 fn an_old_ticket_is_found_after_many(rt: HostRuntime) {
     let mut ledger = made(&rt, rt.alloc(), 4);
     find_the_first(&rt, &mut ledger);
+    drop(ledger);
 }
 
 fn find_the_first(rt: &impl Abort, ledger: &mut Ledger<char>)
@@ -126,6 +127,7 @@ fn find_the_first(rt: &impl Abort, ledger: &mut Ledger<char>)
 fn a_lower_ticket_comes_after_a_higher_one(rt: HostRuntime) {
     let mut ledger = made(&rt, rt.alloc(), 2);
     find_both(&rt, &mut ledger);
+    drop(ledger);
 }
 
 fn find_both(rt: &impl Abort, ledger: &mut Ledger<char>)
@@ -146,6 +148,7 @@ fn find_both(rt: &impl Abort, ledger: &mut Ledger<char>)
 fn a_request_goes_its_way(rt: HostRuntime) {
     let mut ledger = made(&rt, rt.alloc(), 2);
     go_its_way(&rt, &mut ledger);
+    drop(ledger);
 }
 
 fn go_its_way(rt: &impl Abort, ledger: &mut Ledger<char>)
@@ -186,6 +189,7 @@ fn go_its_way(rt: &impl Abort, ledger: &mut Ledger<char>)
 fn a_server_goes_down_and_up(rt: HostRuntime) {
     let mut ledger = made(&rt, rt.alloc(), 2);
     go_down_and_up(&rt, &mut ledger);
+    drop(ledger);
 }
 
 fn go_down_and_up(rt: &impl Abort, ledger: &mut Ledger<char>)
@@ -227,6 +231,7 @@ fn go_down_and_up(rt: &impl Abort, ledger: &mut Ledger<char>)
 fn a_limit_is_set_while_a_request_is_served(rt: HostRuntime) {
     let mut ledger = made(&rt, rt.alloc(), 2);
     set_a_limit(&rt, &mut ledger);
+    drop(ledger);
 }
 
 fn set_a_limit(rt: &impl Abort, ledger: &mut Ledger<char>)

@@ -109,6 +109,7 @@ fn idle_servers_are_picked_in_turn(rt: HostRuntime) {
         Step::Candidate(Some(1), 1, false),
     ];
     play(&rt, &mut ledger, &steps);
+    drop(ledger);
 }
 
 #[test]
@@ -126,12 +127,14 @@ fn servers_that_are_down_are_passed_over(rt: HostRuntime) {
         Step::Place(None, None, Placement::Slot(0)),
     ];
     play(&rt, &mut ledger, &steps);
+    drop(ledger);
 }
 
 #[test]
 fn a_server_that_is_down_takes_nothing(rt: HostRuntime) {
     let mut ledger = three_servers(&rt, rt.alloc());
     take_past_a_fall(&rt, &mut ledger, &key(1));
+    drop(ledger);
 }
 
 fn take_past_a_fall(rt: &impl Abort, ledger: &mut Ledger<char>, key: &Key)
@@ -166,6 +169,7 @@ fn a_server_takes_up_to_its_present_limit(rt: HostRuntime) {
         Step::Place(Some(0), None, Placement::OwnQueue(0)),
     ];
     play(&rt, &mut ledger, &steps);
+    drop(ledger);
 }
 
 // The first server serves a request.

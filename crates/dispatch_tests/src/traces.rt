@@ -61,14 +61,14 @@ fn arrive(rt: &impl Abort, alloc: Global, trace: &mut OfLists) -> Ticketed
     ensures { IsLegal trace.new }
 {
     holds(rt, trace.refuses_arrival(None).is_none());
-    let it = trace.arrive(
+    let answer = trace.arrive(
         alloc,
         Moment::zero(),
         Class::clamp(0),
         Offset::clamp(0),
         None,
     );
-    let it = it.expect(rt, "memory");
+    let it = answer.expect(rt, "memory");
     put(rt, trace, it);
     // No request that waits could be granted a slot.
     holds(rt, !trace.grant());
@@ -79,6 +79,7 @@ fn arrive(rt: &impl Abort, alloc: Global, trace: &mut OfLists) -> Ticketed
 fn an_arrival_takes_a_free_slot_and_the_next_one_waits(rt: HostRuntime) {
     let mut trace = made(&rt, rt.alloc(), 32);
     arrive_twice(&rt, rt.alloc(), &mut trace);
+    drop(trace);
 }
 
 fn arrive_twice(rt: &impl Abort, alloc: Global, trace: &mut OfLists)
@@ -98,6 +99,7 @@ fn arrive_twice(rt: &impl Abort, alloc: Global, trace: &mut OfLists)
 fn a_full_log_refuses_all_calls(rt: HostRuntime) {
     let mut trace = made(&rt, rt.alloc(), 16);
     fill(&rt, rt.alloc(), &mut trace);
+    drop(trace);
 }
 
 fn fill(rt: &impl Abort, alloc: Global, trace: &mut OfLists)

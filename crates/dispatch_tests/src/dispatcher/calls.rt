@@ -12,7 +12,7 @@ pub type OfLists = Core<ListQueue<Key, usize>>;
 pub type OfTrees = Core<BinomQueue<Key, usize>>;
 
 /// What is asked of a dispatcher.
-#[derive(Clone, Copy, Debug)]
+#[derive(Clone, Copy)]
 pub enum Call {
     Arrive(Class, Offset, Option<usize>),
     Done(u64),

@@ -7,7 +7,6 @@ use due_key::{Class, Key, Offset};
 use pend_queue::{ListQueue, PendQueue};
 use std::alloc::{AllocError, Global};
 use std::process::Abort;
-use std::test::Fail;
 
 // It goes well whichever single allocation is refused.
 
@@ -54,16 +53,15 @@ fn come<Q: PendQueue<Key, usize>>(rt: &impl Abort, alloc: Global, core: &mut Cor
     same(rt, (core.served(0), core.queued(Queue::Backend)), (1, 2));
 }
 
-fn come_to<Q: PendQueue<Key, usize>>(rt: &impl Abort, alloc: Global) -> Result<(), Fail> {
-    let Some(mut core) = made_in_the_end::<Q>(alloc)? else {
-        return Err(Fail::from("not a sound setup"));
-    };
+fn come_to<Q: PendQueue<Key, usize>>(rt: &impl Abort, alloc: Global) {
+    let made = made_in_the_end::<Q>(alloc).expect(rt, "memory");
+    let mut core = made.expect(rt, "a sound setup");
     come(rt, alloc, &mut core);
-    Ok(())
+    drop(core);
 }
 
 #[test]
-fn a_refused_growth_changes_no_dispatcher(rt: HostRuntime) -> Result<(), Fail> {
-    come_to::<ListQueue<Key, usize>>(&rt, rt.alloc())?;
-    come_to::<BinomQueue<Key, usize>>(&rt, rt.alloc())
+fn a_refused_growth_changes_no_dispatcher(rt: HostRuntime) {
+    come_to::<ListQueue<Key, usize>>(&rt, rt.alloc());
+    come_to::<BinomQueue<Key, usize>>(&rt, rt.alloc());
 }

@@ -1,5 +1,4 @@
-//! What tests ask: a call at each place is proved faster than an assertion there. Each crate of tests has its own, since outside of tests none may end
-//! the process.
+//! What tests ask, by a call, which is proved faster than an assertion at each place. Crates of tests that ask much have a copy each: outside of tests none may end the process.
 ghost use Rattle.std.specs.Prelude.{◌≡◌, true};
 
 use std::fmt::Debug;

@@ -1,11 +1,11 @@
-ghost use Rattle.std.specs.Prelude.{◌≡◌, ◌<◌, ◌∷◌, [], IfOk, length};
+ghost use Rattle.std.specs.Prelude.{◌≡◌, ◌<◌, ◌∷◌, [], length};
 ghost use Rattle.dispatch_log.specs.Histories.{first_window};
 ghost use Rattle.grant_board.specs.KeeperCalls.{new_keeper};
 ghost use Rattle.grant_board.specs.Views.{terms};
 ghost use Rattle.outstanding.specs.Books.{terms_of};
 ghost use Rattle.reporting_core.specs.Reporting.{IsNew};
 
-use crate::assertions::same;
+use crate::assertions::{holds, same};
 use dispatch_core::Core;
 use dispatch_log::{Queue, ServerSet, Servers, Setup};
 use dispatch_trace::Ticketed;
@@ -17,16 +17,16 @@ use pend_queue::ListQueue;
 use place_set::PlaceSet;
 use std::alloc::Global;
 use std::marker::Brand;
-use std::test::Fail;
+use std::process::Abort;
 use verdict::Ending;
 
 type Lists = ListQueue<Key, usize>;
 
 // One server that serves one request at a time, and four places.
-fn dispatcher(alloc: Global) -> Result<Core<Lists>, Fail>
-    ensures first { IfOk result (λ core. core ≡ first_window core.setup []) }
-    ensures terms { IfOk result (λ core. terms_of core.setup ≡ terms 4 (1 ∷ [])) }
-    ensures one_server { IfOk result (λ core. length core.setup.servers ≡ 1) }
+fn dispatcher(rt: &impl Abort, alloc: Global) -> Core<Lists>
+    ensures first { result ≡ first_window result.setup [] }
+    ensures terms { terms_of result.setup ≡ terms 4 (1 ∷ []) }
+    ensures one_server { length result.setup.servers ≡ 1 }
 {
     let server = ServerSet {
         limit: 1,
@@ -35,27 +35,26 @@ fn dispatcher(alloc: Global) -> Result<Core<Lists>, Fail>
         rise_fall: None,
     };
     let setup = Setup {
-        servers: Servers::from_vec(vec![in alloc; server]?),
+        servers: Servers::from_vec(vec![in alloc; server].expect(rt, "memory")),
         places: 4,
         log: 64,
         retries: 3,
         redispatch: false,
         queue_timeout: 0,
     };
-    if !setup.sound() {
-        return Err(Fail::from("not a sound setup"));
-    }
-    Ok(Core::new(alloc, setup)?)
+    holds(rt, setup.sound());
+    Core::new(alloc, setup).expect(rt, "memory")
 }
 
 // A request without a class, an offset and a pin arrives.
 fn arrive<N: BoardName>(
+    rt: &impl Abort,
     alloc: Global,
     board: &Board,
     book: &mut Book<Lists, N>,
-) -> Result<Ticketed, Fail>
+) -> Ticketed
     requires { board.now ≡ N.board }
-    ensures { IfOk result (λ it. it.place < N.terms.places) }
+    ensures { result.place < N.terms.places }
 {
     let wanted = Wanted {
         class: Class::clamp(0),
@@ -63,21 +62,18 @@ fn arrive<N: BoardName>(
         pin: None,
     };
     let mut woken = PlaceSet::new();
-    let Ok(it) = book.arrive(alloc, board, Moment::zero(), wanted, &mut woken) else {
-        return Err(Fail::from("refused"));
-    };
-    Ok(it)
+    let answer = book.arrive(alloc, board, Moment::zero(), wanted, &mut woken);
+    answer.expect(rt, "an arrival")
 }
 
 // The first place that a turn wakes.
-fn turn<N: BoardName>(board: &Board, book: &mut Book<Lists, N>) -> Result<Option<usize>, Fail>
+fn turn<N: BoardName>(rt: &impl Abort, board: &Board, book: &mut Book<Lists, N>) -> Option<usize>
     requires { board.now ≡ N.board }
 {
     let mut woken = PlaceSet::new();
-    let Ok(()) = book.turn(board, Moment::zero(), &mut woken) else {
-        return Err(Fail::from("refused"));
-    };
-    Ok(woken.next(0))
+    let answer = book.turn(board, Moment::zero(), &mut woken);
+    answer.expect(rt, "a turn");
+    woken.next(0)
 }
 
 fn worst<N: BoardName>(book: &Book<Lists, N>) -> Option<i64> {
@@ -86,48 +82,51 @@ fn worst<N: BoardName>(book: &Book<Lists, N>) -> Option<i64> {
 
 // How many passes the seat has between its take and its post, and after it.
 fn vouch<N: BoardName>(
+    rt: &impl Abort,
     board: &Board,
     book: &mut Book<Lists, N>,
     relay: RelaySeat,
     it: Ticketed,
-) -> Result<(u64, u64), Fail>
+) -> (u64, u64)
     requires named { (board.now ≡ N.board) × (relay.board ≡ N.board) }
     requires in_range { it.place < relay.view.terms.places }
 {
     let mut relay = relay;
     let pass = match relay.try_take(board, it.place, it.ticket) {
         Taking::Taken(pass) => pass,
-        Taking::NotYet => return Err(Fail::from("not offered")),
+        Taking::NotYet => panic!(rt; "not offered"),
     };
     let (mut relay, taken) = book.vouch(board, relay);
     relay.post(board, pass, Ending::Done);
     let (_, posted) = book.vouch(board, relay);
-    Ok((taken, posted))
+    (taken, posted)
 }
 
 // Two requests arrive; the second one is offered once the first one is over. Passes, the place that was woken, and the worst.
 fn serve_two<N: BoardName>(
+    rt: &impl Abort,
     alloc: Global,
     board: &Board,
     book: &mut Book<Lists, N>,
     relay: RelaySeat,
-) -> Result<(u64, u64, Option<usize>, Option<i64>), Fail>
+) -> (u64, u64, Option<usize>, Option<i64>)
     requires named { (board.now ≡ N.board) × (relay.board ≡ N.board) }
     requires terms { relay.view.terms ≡ N.terms }
 {
-    let first = arrive(alloc, board, book)?;
-    arrive(alloc, board, book)?;
-    let (taken, posted) = vouch(board, book, relay, first)?;
-    let woken = turn(board, book)?;
-    Ok((taken, posted, woken, worst(book)))
+    let first = arrive(rt, alloc, board, book);
+    arrive(rt, alloc, board, book);
+    let (taken, posted) = vouch(rt, board, book, relay, first);
+    let woken = turn(rt, board, book);
+    (taken, posted, woken, worst(book))
 }
 
 fn keep_book<N: BoardName>(
+    rt: &impl Abort,
     alloc: Global,
     core: Core<Lists>,
     running: Running,
     opened: (Board, KeeperSeat, RelaySeat),
-) -> Result<(u64, u64, Option<usize>, Option<i64>), Fail>
+) -> (u64, u64, Option<usize>, Option<i64>)
     requires first { core ≡ first_window core.setup [] }
     requires named { (opened.0 ≡ N.board) × (opened.1.board ≡ N.board) × (opened.2.board ≡ N.board) }
     requires terms { N.terms ≡ terms_of core.setup }
@@ -136,16 +135,18 @@ fn keep_book<N: BoardName>(
 {
     let (board, seat, relay) = opened;
     let mut book: Book<Lists, N> = Book::new(core, seat, running);
-    serve_two(alloc, &board, &mut book, relay)
+    let told = serve_two(rt, alloc, &board, &mut book, relay);
+    drop(book);
+    drop(board);
+    told
 }
 
 #[test]
-fn a_slot_is_handed_on(rt: HostRuntime) -> Result<(), Fail> {
+fn a_slot_is_handed_on(rt: HostRuntime) {
     let alloc = rt.alloc();
-    let running = Running::new(alloc, 1)?;
-    let opened = Board::open(alloc, 4, &[1])?;
-    let core = dispatcher(alloc)?;
-    let told = keep_book::<Brand>(alloc, core, running, opened)?;
+    let running = Running::new(alloc, 1).expect(&rt, "memory");
+    let opened = Board::open(alloc, 4, &[1]).expect(&rt, "memory");
+    let core = dispatcher(&rt, alloc);
+    let told = keep_book::<Brand>(&rt, alloc, core, running, opened);
     same(&rt, told, (1, 0, Some(1), Some(0)));
-    Ok(())
 }

@@ -18,8 +18,8 @@ use place_set::PlaceSet;
 use reporting_core::{ServerLine, Window};
 use std::alloc::{AllocError, Global};
 use std::marker::Brand;
+use std::process::Abort;
 use std::sync::Wait;
-use std::test::Fail;
 use verdict::{Cause, Ending, Verdict};
 
 mod changes;
@@ -57,13 +57,11 @@ fn server(limit: u32) -> ServerSet
     }
 }
 
-fn open(alloc: Global, setup: Setup, limits: &[u32]) -> Result<Opened, Fail>
+fn open(rt: &impl Abort, alloc: Global, setup: Setup, limits: &[u32]) -> Opened
     requires limits { map (λ server. server.limit) setup.servers ≡ limits.now }
 {
-    match open_sound(alloc, setup, limits)? {
-        Some(opened) => Ok(opened),
-        None => Err(Fail::from("not a sound setup")),
-    }
+    let opened = open_sound(alloc, setup, limits).expect(rt, "memory");
+    opened.expect(rt, "a sound setup")
 }
 
 // None where the setup isn't sound.
@@ -85,9 +83,9 @@ fn open_sound(alloc: Global, setup: Setup, limits: &[u32]) -> Result<Option<Open
 }
 
 // One server, so many places, and a timeout of 10 ms in queues.
-fn one_server(alloc: Global, places: usize, log: usize, limit: u32) -> Result<Opened, Fail> {
-    let setup = setup_of_one(alloc, places, log, limit)?;
-    open(alloc, setup, &[limit])
+fn one_server(rt: &impl Abort, alloc: Global, places: usize, log: usize, limit: u32) -> Opened {
+    let setup = setup_of_one(alloc, places, log, limit).expect(rt, "memory");
+    open(rt, alloc, setup, &[limit])
 }
 
 fn setup_of_one(alloc: Global, places: usize, log: usize, limit: u32) -> Result<Setup, AllocError>
@@ -130,51 +128,44 @@ fn offset(millis: i64) -> Wanted {
     }
 }
 
-fn at(millis: u64) -> Result<Moment, Fail> {
-    let Some(moment) = Moment::new(millis) else {
-        return Err(Fail::from("no moment"));
-    };
-    Ok(moment)
+// A moment; 0 for a number that is none.
+fn at(millis: u64) -> Moment {
+    Moment::new(millis).unwrap_or(Moment::zero())
 }
 
 // A request arrives and isn't refused.
-fn arrive<N: BoardName, R: Wait>(
+fn arrive<N: BoardName, R: Abort + Wait>(
     rt: &R,
     alloc: Global,
     desk: &Desk<N>,
     moment: u64,
     wanted: Wanted,
-) -> Result<Ticketed, Fail>
-    ensures { IfOk result (λ it. it.place < N.terms.places) }
+) -> Ticketed
+    ensures { result.place < N.terms.places }
 {
     let mut woken = PlaceSet::new();
-    let Ok(it) = desk.arrive(rt, alloc, at(moment)?, wanted, &mut woken) else {
-        return Err(Fail::from("refused"));
-    };
-    Ok(it)
+    let answer = desk.arrive(rt, alloc, at(moment), wanted, &mut woken);
+    answer.expect(rt, "an arrival")
 }
 
 // A turn that isn't refused, and the first place that it woke.
-fn turn<N: BoardName, R: Wait>(rt: &R, desk: &Desk<N>, moment: u64) -> Result<Option<usize>, Fail> {
+fn turn<N: BoardName, R: Abort + Wait>(rt: &R, desk: &Desk<N>, moment: u64) -> Option<usize> {
     let mut woken = PlaceSet::new();
-    let Ok(()) = desk.turn(rt, at(moment)?, &mut woken) else {
-        return Err(Fail::from("refused"));
-    };
-    Ok(woken.next(0))
+    let answer = desk.turn(rt, at(moment), &mut woken);
+    answer.expect(rt, "a turn");
+    woken.next(0)
 }
 
-fn check<N: BoardName, R: Wait>(
+fn check<N: BoardName, R: Abort + Wait>(
     rt: &R,
     desk: &Desk<N>,
     moment: u64,
     server: usize,
     ok: bool,
-) -> Result<(), Fail> {
+) {
     let mut woken = PlaceSet::new();
-    let Ok(()) = desk.check(rt, at(moment)?, server, ok, &mut woken) else {
-        return Err(Fail::from("refused"));
-    };
-    Ok(())
+    let answer = desk.check(rt, at(moment), server, ok, &mut woken);
+    answer.expect(rt, "a check");
 }
 
 // Takes the request's verdict where it is offered, and posts that the exchange is over.
@@ -198,17 +189,17 @@ fn worst<N: BoardName, R: Wait>(rt: &R, desk: &Desk<N>, class: i64) -> Option<i6
     desk.worst(rt, Queue::Backend, Class::clamp(class))
 }
 
-fn reports<N: BoardName, R: Wait>(rt: &R, alloc: Global, desk: &Desk<N>) -> Result<Reports, Fail> {
-    Ok(desk.report(rt, alloc)?)
+fn reports<N: BoardName, R: Abort + Wait>(rt: &R, alloc: Global, desk: &Desk<N>) -> Reports {
+    desk.report(rt, alloc).expect(rt, "memory")
 }
 
-fn stay(ticket: u64, joined: usize, slot: usize, moment: u64, offset: i64) -> Result<Stay, Fail> {
-    Ok(Stay {
+fn stay(ticket: u64, joined: usize, slot: usize, moment: u64, offset: i64) -> Stay {
+    Stay {
         ticket,
         joined,
         slot,
-        due: Due::of(at(moment)?, Offset::clamp(offset)),
-    })
+        due: Due::of(at(moment), Offset::clamp(offset)),
+    }
 }
 
 // Whether these are one report on class 0 of the backend's queue: how many, the worst and its due date; the cut and the slot.

@@ -1,7 +1,7 @@
-ghost use Rattle.std.specs.Prelude.{◌≡◌, [], IfOk, length};
+ghost use Rattle.std.specs.Prelude.{◌≡◌, [], length};
 ghost use Rattle.dispatch_log.specs.Histories.{first_window};
 
-use crate::assertions::same;
+use crate::assertions::{holds, same};
 use dispatch_core::Core;
 use dispatch_log::{Queue, ServerSet, Servers, Setup};
 use due_key::{Class, Key, Moment, Offset};
@@ -9,14 +9,14 @@ use late_cert::Running;
 use pend_queue::ListQueue;
 use reporting_core::{ReportingCore, ServerLine};
 use std::alloc::Global;
-use std::test::Fail;
+use std::process::Abort;
 
 type Lists = ListQueue<Key, usize>;
 
 // One server that serves one request at a time, four places, and a log of so many entries.
-fn dispatcher(alloc: Global, log: usize) -> Result<Core<Lists>, Fail>
-    ensures first { IfOk result (λ core. core ≡ first_window core.setup []) }
-    ensures one_server { IfOk result (λ core. length core.setup.servers ≡ 1) }
+fn dispatcher(rt: &impl Abort, alloc: Global, log: usize) -> Core<Lists>
+    ensures first { result ≡ first_window result.setup [] }
+    ensures one_server { length result.setup.servers ≡ 1 }
 {
     let server = ServerSet {
         limit: 1,
@@ -25,46 +25,44 @@ fn dispatcher(alloc: Global, log: usize) -> Result<Core<Lists>, Fail>
         rise_fall: None,
     };
     let setup = Setup {
-        servers: Servers::from_vec(vec![in alloc; server]?),
+        servers: Servers::from_vec(vec![in alloc; server].expect(rt, "memory")),
         places: 4,
         log,
         retries: 3,
         redispatch: false,
         queue_timeout: 0,
     };
-    if !setup.sound() {
-        return Err(Fail::from("not a sound setup"));
-    }
-    Ok(Core::new(alloc, setup)?)
+    holds(rt, setup.sound());
+    Core::new(alloc, setup).expect(rt, "memory")
 }
 
-fn reporting(alloc: Global, log: usize) -> Result<ReportingCore<Lists>, Fail> {
-    let running = Running::new(alloc, 1)?;
-    Ok(ReportingCore::new(dispatcher(alloc, log)?, running))
+fn reporting(rt: &impl Abort, alloc: Global, log: usize) -> ReportingCore<Lists> {
+    let running = Running::new(alloc, 1).expect(rt, "memory");
+    ReportingCore::new(dispatcher(rt, alloc, log), running)
 }
 
-fn moment(number: u64) -> Result<Moment, Fail> {
-    Ok(Moment::new(number).ok_or("a moment out of range")?)
+// A moment; 0 for a number that is none.
+fn moment(number: u64) -> Moment {
+    Moment::new(number).unwrap_or(Moment::zero())
 }
 
 // A request of class 0 without an offset and a pin.
-fn arrive(alloc: Global, core: &mut ReportingCore<Lists>, number: u64) -> Result<u64, Fail> {
+fn arrive(rt: &impl Abort, alloc: Global, core: &mut ReportingCore<Lists>, number: u64) -> u64 {
     let class = Class::clamp(0);
     let offset = Offset::clamp(0);
-    let it = core.arrive(alloc, moment(number)?, class, offset, None)?;
-    Ok(it.ticket)
+    let answer = core.arrive(alloc, moment(number), class, offset, None);
+    answer.expect(rt, "an arrival").ticket
 }
 
-fn done(core: &mut ReportingCore<Lists>, number: u64, ticket: u64) -> Result<(), Fail> {
-    core.done(moment(number)?, ticket)?;
-    Ok(())
+fn done(rt: &impl Abort, core: &mut ReportingCore<Lists>, number: u64, ticket: u64) {
+    core.done(moment(number), ticket).expect(rt, "an end");
 }
 
 // Two requests, and the end of the first one.
-fn serve_one(alloc: Global, core: &mut ReportingCore<Lists>) -> Result<(), Fail> {
-    let first = arrive(alloc, core, 1)?;
-    arrive(alloc, core, 2)?;
-    done(core, 9, first)
+fn serve_one(rt: &impl Abort, alloc: Global, core: &mut ReportingCore<Lists>) {
+    let first = arrive(rt, alloc, core, 1);
+    arrive(rt, alloc, core, 2);
+    done(rt, core, 9, first);
 }
 
 fn worst(core: &ReportingCore<Lists>, class: i64) -> Option<i64> {
@@ -72,23 +70,23 @@ fn worst(core: &ReportingCore<Lists>, class: i64) -> Option<i64> {
 }
 
 // How many reports there are, and the line of the one server.
-fn window_told(alloc: Global, core: &ReportingCore<Lists>) -> Result<(usize, ServerLine), Fail> {
-    let lines = core.servers(alloc)?;
-    let [line] = lines.as_slice() else {
-        return Err(Fail::from("not one server"));
-    };
-    Ok((core.report(alloc)?.len(), *line))
+fn window_told(rt: &impl Abort, alloc: Global, core: &ReportingCore<Lists>) -> (usize, ServerLine) {
+    let lines = core.servers(alloc).expect(rt, "memory");
+    holds(rt, lines.len() == 1);
+    let reports = core.report(alloc).expect(rt, "memory");
+    (reports.len(), lines[0])
 }
 
 // How many reports and lines the window has that makes room; `None` where there is room.
 fn make_room(
+    rt: &impl Abort,
     alloc: Global,
     core: &mut ReportingCore<Lists>,
-) -> Result<Option<(usize, usize)>, Fail> {
-    let Some(window) = core.make_room(alloc)? else {
-        return Ok(None);
-    };
-    Ok(Some((window.reports.len(), window.servers.len())))
+) -> Option<(usize, usize)> {
+    match core.make_room(alloc).expect(rt, "memory") {
+        Some(window) => Some((window.reports.len(), window.servers.len())),
+        None => None,
+    }
 }
 
 // What is told of a window in which one request was served: the worst of two classes, how many reports, and the server's line.
@@ -99,27 +97,29 @@ struct Told {
     line: ServerLine,
 }
 
-fn serve_and_tell(alloc: Global, core: &mut ReportingCore<Lists>) -> Result<Told, Fail> {
-    serve_one(alloc, core)?;
-    let (reports, line) = window_told(alloc, core)?;
-    Ok(Told {
+fn serve_and_tell(rt: &impl Abort, alloc: Global, core: &mut ReportingCore<Lists>) -> Told {
+    serve_one(rt, alloc, core);
+    let (reports, line) = window_told(rt, alloc, core);
+    Told {
         worst: (worst(core, 0), worst(core, 1)),
         reports,
         line,
-    })
+    }
 }
 
 // The same, and the worst of class 0 in the window after it.
-fn window_of_one(alloc: Global) -> Result<(Result<Told, Fail>, Option<i64>), Fail> {
-    let mut core = reporting(alloc, 64)?;
-    let told = serve_and_tell(alloc, &mut core);
+fn window_of_one(rt: &impl Abort, alloc: Global) -> (Told, Option<i64>) {
+    let mut core = reporting(rt, alloc, 64);
+    let told = serve_and_tell(rt, alloc, &mut core);
     core.roll();
-    Ok((told, worst(&core, 0)))
+    let later = worst(&core, 0);
+    drop(core);
+    (told, later)
 }
 
 #[test]
-fn the_window_is_reported(rt: HostRuntime) -> Result<(), Fail> {
-    let (told, later) = window_of_one(rt.alloc())?;
+fn the_window_is_reported(rt: HostRuntime) {
+    let (told, later) = window_of_one(&rt, rt.alloc());
     let line = ServerLine {
         up: true,
         direct: 1,
@@ -130,28 +130,29 @@ fn the_window_is_reported(rt: HostRuntime) -> Result<(), Fail> {
         reports: 1,
         line,
     };
-    same(&rt, told?, expected);
+    same(&rt, told, expected);
     same(&rt, later, None);
-    Ok(())
 }
 
 // Fills the log, and makes room in it twice.
 fn make_room_twice(
+    rt: &impl Abort,
     alloc: Global,
     core: &mut ReportingCore<Lists>,
-) -> Result<[Option<(usize, usize)>; 2], Fail> {
-    serve_one(alloc, core)?;
-    Ok([make_room(alloc, core)?, make_room(alloc, core)?])
+) -> [Option<(usize, usize)>; 2] {
+    serve_one(rt, alloc, core);
+    [make_room(rt, alloc, core), make_room(rt, alloc, core)]
 }
 
-fn full_log(alloc: Global) -> Result<[Option<(usize, usize)>; 2], Fail> {
-    let mut core = reporting(alloc, 20)?;
-    make_room_twice(alloc, &mut core)
+fn full_log(rt: &impl Abort, alloc: Global) -> [Option<(usize, usize)>; 2] {
+    let mut core = reporting(rt, alloc, 20);
+    let rooms = make_room_twice(rt, alloc, &mut core);
+    drop(core);
+    rooms
 }
 
 #[test]
-fn a_full_log_is_handed_out(rt: HostRuntime) -> Result<(), Fail> {
-    let rooms = full_log(rt.alloc())?;
+fn a_full_log_is_handed_out(rt: HostRuntime) {
+    let rooms = full_log(&rt, rt.alloc());
     same(&rt, rooms, [Some((1, 1)), None]);
-    Ok(())
 }

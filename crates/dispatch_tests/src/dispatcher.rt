@@ -11,7 +11,6 @@ use self::steps::{Step, play};
 use dispatch_core::{Phase, Queue, Refusal};
 use dispatch_log::{Arrival, Entry};
 use due_key::{Class, Due, Offset};
-use std::test::Fail;
 use verdict::Cause;
 
 // The entry of an arrival of class 0 without a pin.
@@ -27,7 +26,7 @@ fn arrived(at: u64, ticket: u64, offset: i64, place: usize) -> Entry {
 }
 
 #[test]
-fn overtaking_by_offset(rt: HostRuntime) -> Result<(), Fail> {
+fn overtaking_by_offset(rt: HostRuntime) {
     let steps = [
         Step::Call(0, arrive(0, 0)),
         Step::Call(1, arrive(0, 0)),
@@ -45,11 +44,11 @@ fn overtaking_by_offset(rt: HostRuntime) -> Result<(), Fail> {
         Step::Entry(9, Entry::Granted(3, Queue::Backend, 0)),
         Step::Tells(Fact::Entries(10)),
     ];
-    play(&rt, rt.alloc(), Plan::Alone, &steps)
+    play(&rt, rt.alloc(), Plan::Alone, &steps);
 }
 
 #[test]
-fn a_grant_is_noted(rt: HostRuntime) -> Result<(), Fail> {
+fn a_grant_is_noted(rt: HostRuntime) {
     let steps = [
         Step::Call(0, arrive(0, 0)),
         Step::Call(1, arrive(0, 0)),
@@ -57,11 +56,11 @@ fn a_grant_is_noted(rt: HostRuntime) -> Result<(), Fail> {
         Step::Tells(Fact::FirstGrant(Some((Class::clamp(0), moment(10))))),
         Step::Tells(Fact::FirstStay(Some((4, 8)))),
     ];
-    play(&rt, rt.alloc(), Plan::Alone, &steps)
+    play(&rt, rt.alloc(), Plan::Alone, &steps);
 }
 
 #[test]
-fn ties_go_by_ticket(rt: HostRuntime) -> Result<(), Fail> {
+fn ties_go_by_ticket(rt: HostRuntime) {
     let steps = [
         Step::Call(0, arrive(0, 0)),
         Step::Call(1, arrive(0, 4)),
@@ -69,11 +68,11 @@ fn ties_go_by_ticket(rt: HostRuntime) -> Result<(), Fail> {
         Step::Call(6, Call::Done(1)),
         Step::LastEntry(Entry::Granted(2, Queue::Backend, 0)),
     ];
-    play(&rt, rt.alloc(), Plan::Alone, &steps)
+    play(&rt, rt.alloc(), Plan::Alone, &steps);
 }
 
 #[test]
-fn a_class_goes_before_a_due_date(rt: HostRuntime) -> Result<(), Fail> {
+fn a_class_goes_before_a_due_date(rt: HostRuntime) {
     let steps = [
         Step::Call(0, arrive(0, 0)),
         Step::Call(1, arrive(0, -1)),
@@ -81,11 +80,11 @@ fn a_class_goes_before_a_due_date(rt: HostRuntime) -> Result<(), Fail> {
         Step::Call(3, Call::Done(1)),
         Step::LastEntry(Entry::Granted(3, Queue::Backend, 0)),
     ];
-    play(&rt, rt.alloc(), Plan::Alone, &steps)
+    play(&rt, rt.alloc(), Plan::Alone, &steps);
 }
 
 #[test]
-fn an_earlier_moment_counts_as_the_last(rt: HostRuntime) -> Result<(), Fail> {
+fn an_earlier_moment_counts_as_the_last(rt: HostRuntime) {
     let steps = [
         Step::Call(7, arrive(0, 0)),
         Step::Call(3, arrive(0, 1)),
@@ -93,11 +92,11 @@ fn an_earlier_moment_counts_as_the_last(rt: HostRuntime) -> Result<(), Fail> {
         Step::Entry(3, Entry::Joined(2, Queue::Backend)),
         Step::Tells(Fact::Entries(4)),
     ];
-    play(&rt, rt.alloc(), Plan::Alone, &steps)
+    play(&rt, rt.alloc(), Plan::Alone, &steps);
 }
 
 #[test]
-fn tells_where_requests_stand(rt: HostRuntime) -> Result<(), Fail> {
+fn tells_where_requests_stand(rt: HostRuntime) {
     let steps = [
         Step::Call(0, arrive(0, 0)),
         Step::Call(3, arrive(0, 0)),
@@ -109,11 +108,11 @@ fn tells_where_requests_stand(rt: HostRuntime) -> Result<(), Fail> {
         Step::Tells(Fact::Queued(Queue::Server(0), 0)),
         Step::Tells(Fact::HasRoom(true)),
     ];
-    play(&rt, rt.alloc(), Plan::Alone, &steps)
+    play(&rt, rt.alloc(), Plan::Alone, &steps);
 }
 
 #[test]
-fn tells_the_places_of_live_requests(rt: HostRuntime) -> Result<(), Fail> {
+fn tells_the_places_of_live_requests(rt: HostRuntime) {
     let steps = [
         Step::Call(0, arrive(0, 0)),
         Step::Call(0, arrive(0, 0)),
@@ -127,11 +126,11 @@ fn tells_the_places_of_live_requests(rt: HostRuntime) -> Result<(), Fail> {
         Step::Tells(Fact::Place(1, None)),
         Step::Tells(Fact::Place(2, Some(1))),
     ];
-    play(&rt, rt.alloc(), Plan::Alone, &steps)
+    play(&rt, rt.alloc(), Plan::Alone, &steps);
 }
 
 #[test]
-fn tells_which_servers_are_up(rt: HostRuntime) -> Result<(), Fail> {
+fn tells_which_servers_are_up(rt: HostRuntime) {
     let steps = [
         Step::Call(0, Call::Check(0, false)),
         Step::Tells(Fact::Servers(2)),
@@ -139,11 +138,11 @@ fn tells_which_servers_are_up(rt: HostRuntime) -> Result<(), Fail> {
         Step::Tells(Fact::Up(1, true)),
         Step::Tells(Fact::Up(2, false)),
     ];
-    play(&rt, rt.alloc(), Plan::Checked, &steps)
+    play(&rt, rt.alloc(), Plan::Checked, &steps);
 }
 
 #[test]
-fn refusals_come_in_order(rt: HostRuntime) -> Result<(), Fail> {
+fn refusals_come_in_order(rt: HostRuntime) {
     let steps = [
         Step::Call(0, arrive(0, 0)),
         Step::Call(0, arrive(0, 0)),
@@ -155,20 +154,20 @@ fn refusals_come_in_order(rt: HostRuntime) -> Result<(), Fail> {
         Step::Refused(0, Call::Done(9), Refusal::LogFull),
         Step::Refused(0, arrive(0, 0), Refusal::LogFull),
     ];
-    play(&rt, rt.alloc(), Plan::Cramped, &steps)
+    play(&rt, rt.alloc(), Plan::Cramped, &steps);
 }
 
 #[test]
-fn a_new_core_serves_nothing(rt: HostRuntime) -> Result<(), Fail> {
+fn a_new_core_serves_nothing(rt: HostRuntime) {
     let steps = [
         Step::Tells(Fact::Served(0, 0)),
         Step::Tells(Fact::LogIsEmpty(true)),
     ];
-    play(&rt, rt.alloc(), Plan::Alone, &steps)
+    play(&rt, rt.alloc(), Plan::Alone, &steps);
 }
 
 #[test]
-fn idle_servers_are_picked_in_turn(rt: HostRuntime) -> Result<(), Fail> {
+fn idle_servers_are_picked_in_turn(rt: HostRuntime) {
     let steps = [
         Step::Call(0, arrive(0, 0)),
         Step::LastEntry(Entry::Direct(1, 0)),
@@ -177,11 +176,11 @@ fn idle_servers_are_picked_in_turn(rt: HostRuntime) -> Result<(), Fail> {
         Step::Call(0, pinned(0, 1)),
         Step::LastEntry(Entry::Direct(3, 1)),
     ];
-    play(&rt, rt.alloc(), Plan::TwoWide, &steps)
+    play(&rt, rt.alloc(), Plan::TwoWide, &steps);
 }
 
 #[test]
-fn a_request_that_no_server_takes_is_told_so(rt: HostRuntime) -> Result<(), Fail> {
+fn a_request_that_no_server_takes_is_told_so(rt: HostRuntime) {
     let steps = [
         Step::Call(0, arrive(0, 0)),
         Step::LastEntry(Entry::Left(1, Cause::NoServer)),
@@ -189,21 +188,21 @@ fn a_request_that_no_server_takes_is_told_so(rt: HostRuntime) -> Result<(), Fail
         Step::Call(1, Call::Done(1)),
         Step::LastEntry(Entry::Ended(1)),
     ];
-    play(&rt, rt.alloc(), Plan::Weightless, &steps)
+    play(&rt, rt.alloc(), Plan::Weightless, &steps);
 }
 
 #[test]
-fn a_pin_to_no_server_is_refused(rt: HostRuntime) -> Result<(), Fail> {
+fn a_pin_to_no_server_is_refused(rt: HostRuntime) {
     let steps = [
         Step::Refused(0, pinned(0, 1), Refusal::NoSuchServer),
         Step::Call(0, pinned(0, 0)),
         Step::Tells(Fact::Entries(2)),
     ];
-    play(&rt, rt.alloc(), Plan::Alone, &steps)
+    play(&rt, rt.alloc(), Plan::Alone, &steps);
 }
 
 #[test]
-fn aborts(rt: HostRuntime) -> Result<(), Fail> {
+fn aborts(rt: HostRuntime) {
     let steps = [
         Step::Call(0, arrive(0, 0)),
         Step::Call(0, arrive(0, 0)),
@@ -218,11 +217,11 @@ fn aborts(rt: HostRuntime) -> Result<(), Fail> {
         Step::Refused(3, Call::Abort(1), Refusal::WrongPhase),
         Step::Refused(4, Call::Abort(2), Refusal::NoSuchTicket),
     ];
-    play(&rt, rt.alloc(), Plan::Alone, &steps)
+    play(&rt, rt.alloc(), Plan::Alone, &steps);
 }
 
 #[test]
-fn a_stay_ends_at_the_first_tick_after_its_timeout(rt: HostRuntime) -> Result<(), Fail> {
+fn a_stay_ends_at_the_first_tick_after_its_timeout(rt: HostRuntime) {
     let steps = [
         Step::Call(0, arrive(0, 0)),
         Step::Call(5, arrive(0, 0)),
@@ -236,11 +235,11 @@ fn a_stay_ends_at_the_first_tick_after_its_timeout(rt: HostRuntime) -> Result<()
         Step::Tells(Fact::Entries(7)),
         Step::Tells(Fact::Expired(99, false)),
     ];
-    play(&rt, rt.alloc(), Plan::Patient, &steps)
+    play(&rt, rt.alloc(), Plan::Patient, &steps);
 }
 
 #[test]
-fn timeouts_are_told_by_ticket(rt: HostRuntime) -> Result<(), Fail> {
+fn timeouts_are_told_by_ticket(rt: HostRuntime) {
     let steps = [
         Step::Call(0, arrive(0, 0)),
         Step::Call(0, arrive(0, 3)),
@@ -255,11 +254,11 @@ fn timeouts_are_told_by_ticket(rt: HostRuntime) -> Result<(), Fail> {
         Step::Tells(Fact::Entries(14)),
         Step::Tells(Fact::Queued(Queue::Backend, 1)),
     ];
-    play(&rt, rt.alloc(), Plan::Patient, &steps)
+    play(&rt, rt.alloc(), Plan::Patient, &steps);
 }
 
 #[test]
-fn failures_are_retried_until_they_are_spent(rt: HostRuntime) -> Result<(), Fail> {
+fn failures_are_retried_until_they_are_spent(rt: HostRuntime) {
     let steps = [
         Step::Call(0, arrive(0, 0)),
         Step::Call(0, arrive(0, 0)),
@@ -279,11 +278,11 @@ fn failures_are_retried_until_they_are_spent(rt: HostRuntime) -> Result<(), Fail
         Step::Refused(1, Call::Fail(1), Refusal::WrongPhase),
         Step::Refused(1, Call::Fail(9), Refusal::NoSuchTicket),
     ];
-    play(&rt, rt.alloc(), Plan::Alone, &steps)
+    play(&rt, rt.alloc(), Plan::Alone, &steps);
 }
 
 #[test]
-fn the_last_retry_goes_to_another_server(rt: HostRuntime) -> Result<(), Fail> {
+fn the_last_retry_goes_to_another_server(rt: HostRuntime) {
     let steps = [
         Step::Call(0, pinned(0, 0)),
         Step::Call(0, pinned(0, 0)),
@@ -294,11 +293,11 @@ fn the_last_retry_goes_to_another_server(rt: HostRuntime) -> Result<(), Fail> {
         Step::Entry(7, Entry::Direct(1, 1)),
         Step::Tells(Fact::Entries(8)),
     ];
-    play(&rt, rt.alloc(), Plan::Checked, &steps)
+    play(&rt, rt.alloc(), Plan::Checked, &steps);
 }
 
 #[test]
-fn a_fall_moves_a_queue_and_a_rise_grants(rt: HostRuntime) -> Result<(), Fail> {
+fn a_fall_moves_a_queue_and_a_rise_grants(rt: HostRuntime) {
     let steps = [
         Step::Call(0, pinned(0, 0)),
         Step::Call(0, pinned(2, 0)),
@@ -318,17 +317,17 @@ fn a_fall_moves_a_queue_and_a_rise_grants(rt: HostRuntime) -> Result<(), Fail> {
         Step::Tells(Fact::Entries(17)),
         Step::Refused(3, Call::Check(2, true), Refusal::NoSuchServer),
     ];
-    play(&rt, rt.alloc(), Plan::Checked, &steps)
+    play(&rt, rt.alloc(), Plan::Checked, &steps);
 }
 
 #[test]
-fn a_server_without_checks_has_no_results(rt: HostRuntime) -> Result<(), Fail> {
+fn a_server_without_checks_has_no_results(rt: HostRuntime) {
     let steps = [Step::Refused(0, Call::Check(0, true), Refusal::WrongPhase)];
-    play(&rt, rt.alloc(), Plan::Alone, &steps)
+    play(&rt, rt.alloc(), Plan::Alone, &steps);
 }
 
 #[test]
-fn a_risen_limit_grants(rt: HostRuntime) -> Result<(), Fail> {
+fn a_risen_limit_grants(rt: HostRuntime) {
     let steps = [
         Step::Call(0, arrive(0, 0)),
         Step::Call(1, arrive(0, 0)),
@@ -343,11 +342,11 @@ fn a_risen_limit_grants(rt: HostRuntime) -> Result<(), Fail> {
         Step::Tells(Fact::Entries(10)),
         Step::Refused(5, Call::Limit(1, 1), Refusal::NoSuchServer),
     ];
-    play(&rt, rt.alloc(), Plan::Alone, &steps)
+    play(&rt, rt.alloc(), Plan::Alone, &steps);
 }
 
 #[test]
-fn a_lowered_limit_stops_nobody(rt: HostRuntime) -> Result<(), Fail> {
+fn a_lowered_limit_stops_nobody(rt: HostRuntime) {
     let steps = [
         Step::Call(0, arrive(0, 0)),
         Step::Call(0, arrive(0, 0)),
@@ -365,11 +364,11 @@ fn a_lowered_limit_stops_nobody(rt: HostRuntime) -> Result<(), Fail> {
         Step::Call(4, Call::Done(2)),
         Step::LastEntry(Entry::Granted(3, Queue::Backend, 0)),
     ];
-    play(&rt, rt.alloc(), Plan::Wide, &steps)
+    play(&rt, rt.alloc(), Plan::Wide, &steps);
 }
 
 #[test]
-fn a_roll_keeps_who_waits_and_is_served(rt: HostRuntime) -> Result<(), Fail> {
+fn a_roll_keeps_who_waits_and_is_served(rt: HostRuntime) {
     let steps = [
         Step::Call(0, arrive(0, 0)),
         Step::Call(1, arrive(0, 0)),
@@ -386,11 +385,11 @@ fn a_roll_keeps_who_waits_and_is_served(rt: HostRuntime) -> Result<(), Fail> {
         Step::Tells(Fact::Entries(4)),
         Step::Tells(Fact::FirstStay(Some((0, 4)))),
     ];
-    play(&rt, rt.alloc(), Plan::Alone, &steps)
+    play(&rt, rt.alloc(), Plan::Alone, &steps);
 }
 
 #[test]
-fn a_full_log_has_room_after_a_roll(rt: HostRuntime) -> Result<(), Fail> {
+fn a_full_log_has_room_after_a_roll(rt: HostRuntime) {
     let steps = [
         Step::Call(0, arrive(0, 0)),
         Step::Call(0, arrive(0, 0)),
@@ -401,5 +400,5 @@ fn a_full_log_has_room_after_a_roll(rt: HostRuntime) -> Result<(), Fail> {
         Step::Call(0, Call::Tick),
         Step::Tells(Fact::BaseRows(1)),
     ];
-    play(&rt, rt.alloc(), Plan::Cramped, &steps)
+    play(&rt, rt.alloc(), Plan::Cramped, &steps);
 }

@@ -1,13 +1,12 @@
-ghost use Rattle.std.specs.Prelude.{◌≡◌, ℕ, ◌<◌, None, IfOk, OnOk, length, replicate};
+ghost use Rattle.std.specs.Prelude.{◌≡◌, ℕ, ◌<◌, None, length, replicate};
 ghost use Rattle.slot_ledger.specs.Slots.{AreBelow};
 
-use crate::assertions::same;
+use crate::assertions::{holds, same};
 use dispatch_log::{Allowance, Phase, Queue, Row, ServerSet, Servers, Setup};
 use due_key::{Class, Due, Key, Moment, Offset};
 use slot_ledger::Ledger;
 use std::alloc::Global;
 use std::process::Abort;
-use std::test::Fail;
 use verdict::Cause;
 
 // A moment; 0 for a number that is none.
@@ -16,9 +15,9 @@ fn moment(number: u64) -> Moment {
 }
 
 // Two servers of one slot each, and no request.
-fn made(alloc: Global, places: usize) -> Result<Ledger<char>, Fail>
-    ensures servers { IfOk result (λ ledger. length ledger.setup.servers ≡ 2) }
-    ensures empty { IfOk result (λ ledger. ledger.slots ≡ replicate places None) }
+fn made(rt: &impl Abort, alloc: Global, places: usize) -> Ledger<char>
+    ensures servers { length result.setup.servers ≡ 2 }
+    ensures empty { result.slots ≡ replicate places None }
 {
     let server = ServerSet {
         limit: 1,
@@ -27,17 +26,15 @@ fn made(alloc: Global, places: usize) -> Result<Ledger<char>, Fail>
         rise_fall: None,
     };
     let setup = Setup {
-        servers: Servers::from_vec(vec![in alloc; server; 2]?),
+        servers: Servers::from_vec(vec![in alloc; server; 2].expect(rt, "memory")),
         places,
         log: 64,
         retries: 3,
         redispatch: false,
         queue_timeout: 0,
     };
-    if !setup.sound() {
-        return Err(Fail::from("not a sound setup"));
-    }
-    Ok(Ledger::new(alloc, setup)?)
+    holds(rt, setup.sound());
+    Ledger::new(alloc, setup).expect(rt, "memory")
 }
 
 fn key_of(ticket: u64) -> Key
@@ -63,13 +60,11 @@ fn row_of(ticket: u64, pin: Option<usize>, phase: Phase) -> Row
 }
 
 // Puts a row with the ticket at a free place.
-fn admit(ledger: &mut Ledger<char>, ticket: u64) -> Result<usize, Fail>
+fn admit(rt: &impl Abort, ledger: &mut Ledger<char>, ticket: u64) -> usize
     requires { AreBelow ticket ledger.old.slots }
-    ensures { OnOk result ((n : ℕ) → ticket < n → AreBelow n ledger.new.slots) }
+    ensures { (n : ℕ) → ticket < n → AreBelow n ledger.new.slots }
 {
-    if ledger.len() == ledger.places() {
-        return Err(Fail::from("no free place"));
-    }
+    holds(rt, ledger.len() < ledger.places());
     let key = key_of(ticket);
     let row = Row {
         key,
@@ -77,25 +72,22 @@ fn admit(ledger: &mut Ledger<char>, ticket: u64) -> Result<usize, Fail>
         failures: 0,
         phase: Phase::Loose,
     };
-    Ok(ledger.admit(row))
+    ledger.admit(row)
 }
 
-fn end(ledger: &mut Ledger<char>, ticket: u64) -> Result<(), Fail>
-    ensures { OnOk result ((n : ℕ) → AreBelow n ledger.old.slots → AreBelow n ledger.new.slots) }
+fn end(rt: &impl Abort, ledger: &mut Ledger<char>, ticket: u64)
+    ensures { (n : ℕ) → AreBelow n ledger.old.slots → AreBelow n ledger.new.slots }
 {
-    let place = ledger.find(ticket).ok_or("no such ticket")?;
+    let place = ledger.find(ticket).expect(rt, "a place");
     ledger.end(place);
-    Ok(())
 }
 
 // A request that comes and goes.
-fn pass(ledger: &mut Ledger<char>, ticket: u64) -> Result<(), Fail>
+fn pass(rt: &impl Abort, ledger: &mut Ledger<char>, ticket: u64)
     requires { AreBelow ticket ledger.old.slots }
-    ensures { OnOk result (ledger.new ≡ ledger.old) }
+    ensures { ledger.new ≡ ledger.old }
 {
-    if ledger.len() == ledger.places() {
-        return Err(Fail::from("no free place"));
-    }
+    holds(rt, ledger.len() < ledger.places());
     let key = key_of(ticket);
     let row = Row {
         key,
@@ -105,23 +97,23 @@ fn pass(ledger: &mut Ledger<char>, ticket: u64) -> Result<(), Fail>
     };
     let place = ledger.admit(row);
     ledger.end(place);
-    Ok(())
 }
 
 #[test]
-fn an_old_ticket_is_found_after_many(rt: HostRuntime) -> Result<(), Fail> {
-    let mut ledger = made(rt.alloc(), 4)?;
-    find_the_first(&rt, &mut ledger)
+fn an_old_ticket_is_found_after_many(rt: HostRuntime) {
+    let mut ledger = made(&rt, rt.alloc(), 4);
+    find_the_first(&rt, &mut ledger);
+    drop(ledger);
 }
 
-fn find_the_first(rt: &impl Abort, ledger: &mut Ledger<char>) -> Result<(), Fail>
+fn find_the_first(rt: &impl Abort, ledger: &mut Ledger<char>)
     requires { ledger.old.slots ≡ replicate 4 None }
 {
-    let place = admit(ledger, 0)?;
+    let place = admit(rt, ledger, 0);
     for ticket in 1..200 {
-        admit(ledger, ticket)?;
+        admit(rt, ledger, ticket);
         if ticket > 2 {
-            end(ledger, ticket - 2)?;
+            end(rt, ledger, ticket - 2);
         }
         same(rt, ledger.find(0), Some(place));
         same(rt, ledger.find(ticket).is_some(), true);
@@ -129,35 +121,34 @@ fn find_the_first(rt: &impl Abort, ledger: &mut Ledger<char>) -> Result<(), Fail
     same(rt, ledger.len(), 3);
     same(rt, ledger.find(197), None);
     same(rt, ledger.find(198).is_some(), true);
-    Ok(())
 }
 
 #[test]
-fn a_lower_ticket_comes_after_a_higher_one(rt: HostRuntime) -> Result<(), Fail> {
-    let mut ledger = made(rt.alloc(), 2)?;
-    find_both(&rt, &mut ledger)
+fn a_lower_ticket_comes_after_a_higher_one(rt: HostRuntime) {
+    let mut ledger = made(&rt, rt.alloc(), 2);
+    find_both(&rt, &mut ledger);
+    drop(ledger);
 }
 
-fn find_both(rt: &impl Abort, ledger: &mut Ledger<char>) -> Result<(), Fail>
+fn find_both(rt: &impl Abort, ledger: &mut Ledger<char>)
     requires { ledger.old.slots ≡ replicate 2 None }
 {
-    let first = admit(ledger, 3)?;
-    pass(ledger, 9)?;
-    let second = admit(ledger, 5)?;
+    let first = admit(rt, ledger, 3);
+    pass(rt, ledger, 9);
+    let second = admit(rt, ledger, 5);
     same(
         rt,
         (ledger.find(3), ledger.find(5)),
         (Some(first), Some(second)),
     );
     same(rt, ledger.find(9), None);
-    Ok(())
 }
 
 #[test]
-fn a_request_goes_its_way(rt: HostRuntime) -> Result<(), Fail> {
-    let mut ledger = made(rt.alloc(), 2)?;
+fn a_request_goes_its_way(rt: HostRuntime) {
+    let mut ledger = made(&rt, rt.alloc(), 2);
     go_its_way(&rt, &mut ledger);
-    Ok(())
+    drop(ledger);
 }
 
 fn go_its_way(rt: &impl Abort, ledger: &mut Ledger<char>)
@@ -195,10 +186,10 @@ fn go_its_way(rt: &impl Abort, ledger: &mut Ledger<char>)
 }
 
 #[test]
-fn a_server_goes_down_and_up(rt: HostRuntime) -> Result<(), Fail> {
-    let mut ledger = made(rt.alloc(), 2)?;
+fn a_server_goes_down_and_up(rt: HostRuntime) {
+    let mut ledger = made(&rt, rt.alloc(), 2);
     go_down_and_up(&rt, &mut ledger);
-    Ok(())
+    drop(ledger);
 }
 
 fn go_down_and_up(rt: &impl Abort, ledger: &mut Ledger<char>)
@@ -237,10 +228,10 @@ fn go_down_and_up(rt: &impl Abort, ledger: &mut Ledger<char>)
 }
 
 #[test]
-fn a_limit_is_set_while_a_request_is_served(rt: HostRuntime) -> Result<(), Fail> {
-    let mut ledger = made(rt.alloc(), 2)?;
+fn a_limit_is_set_while_a_request_is_served(rt: HostRuntime) {
+    let mut ledger = made(&rt, rt.alloc(), 2);
     set_a_limit(&rt, &mut ledger);
-    Ok(())
+    drop(ledger);
 }
 
 fn set_a_limit(rt: &impl Abort, ledger: &mut Ledger<char>)

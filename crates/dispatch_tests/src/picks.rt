@@ -1,4 +1,4 @@
-ghost use Rattle.std.specs.Prelude.{◌≡◌, None, IfOk, length, replicate};
+ghost use Rattle.std.specs.Prelude.{◌≡◌, None, length, replicate};
 
 use crate::assertions::{holds, same};
 use dispatch_log::{Phase, Queue, Row, ServerSet, Servers, Setup};
@@ -7,7 +7,6 @@ use server_pick::{Cursor, Heads, Placement, Set64, candidates, next_queue, next_
 use slot_ledger::Ledger;
 use std::alloc::Global;
 use std::process::Abort;
-use std::test::Fail;
 
 // A step of a test, which is played on a ledger of three servers and the cursor of balancing.
 #[derive(Clone, Copy)]
@@ -23,24 +22,18 @@ enum Step {
     Cursor(usize),
 }
 
-fn play(rt: &impl Abort, ledger: &mut Ledger<char>, steps: &[Step]) -> Result<(), Fail> {
+fn play(rt: &impl Abort, ledger: &mut Ledger<char>, steps: &[Step]) {
     let mut cursor = Cursor::new(3);
     for step in steps {
-        play_one(rt, ledger, &mut cursor, *step)?;
+        play_one(rt, ledger, &mut cursor, *step);
     }
-    Ok(())
 }
 
-fn play_one(
-    rt: &impl Abort,
-    ledger: &mut Ledger<char>,
-    cursor: &mut Cursor,
-    step: Step,
-) -> Result<(), Fail> {
+fn play_one(rt: &impl Abort, ledger: &mut Ledger<char>, cursor: &mut Cursor, step: Step) {
     match step {
-        Step::Down(server) => set_up(ledger, server, false)?,
-        Step::Up(server) => set_up(ledger, server, true)?,
-        Step::Limit(server, limit) => set_limit(ledger, server, limit)?,
+        Step::Down(server) => set_up(rt, ledger, server, false),
+        Step::Up(server) => set_up(rt, ledger, server, true),
+        Step::Limit(server, limit) => set_limit(rt, ledger, server, limit),
         Step::Place(pin, avoid, placement) => {
             same(rt, place(ledger, cursor, pin, avoid), placement);
         }
@@ -49,23 +42,16 @@ fn play_one(
         }
         Step::Cursor(server) => same(rt, cursor.server(), server),
     }
-    Ok(())
 }
 
-fn set_up(ledger: &mut Ledger<char>, server: usize, up: bool) -> Result<(), Fail> {
-    if server >= ledger.setup().servers.len() {
-        return Err(Fail::from("no such server"));
-    }
+fn set_up(rt: &impl Abort, ledger: &mut Ledger<char>, server: usize, up: bool) {
+    holds(rt, server < ledger.setup().servers.len());
     ledger.set_up(server, up);
-    Ok(())
 }
 
-fn set_limit(ledger: &mut Ledger<char>, server: usize, limit: u32) -> Result<(), Fail> {
-    if server >= ledger.setup().servers.len() {
-        return Err(Fail::from("no such server"));
-    }
+fn set_limit(rt: &impl Abort, ledger: &mut Ledger<char>, server: usize, limit: u32) {
+    holds(rt, server < ledger.setup().servers.len());
     ledger.set_limit(server, limit);
-    Ok(())
 }
 
 fn key(ticket: u64) -> Key {
@@ -88,9 +74,9 @@ fn sets_have_what_was_inserted(rt: HostRuntime) {
 }
 
 // Three servers of one slot each, and four places without a request.
-fn three_servers(alloc: Global) -> Result<Ledger<char>, Fail>
-    ensures servers { IfOk result (λ ledger. length ledger.setup.servers ≡ 3) }
-    ensures empty { IfOk result (λ ledger. ledger.slots ≡ replicate 4 None) }
+fn three_servers(rt: &impl Abort, alloc: Global) -> Ledger<char>
+    ensures servers { length result.setup.servers ≡ 3 }
+    ensures empty { result.slots ≡ replicate 4 None }
 {
     let server = ServerSet {
         limit: 1,
@@ -99,22 +85,20 @@ fn three_servers(alloc: Global) -> Result<Ledger<char>, Fail>
         rise_fall: None,
     };
     let setup = Setup {
-        servers: Servers::from_vec(vec![in alloc; server; 3]?),
+        servers: Servers::from_vec(vec![in alloc; server; 3].expect(rt, "memory")),
         places: 4,
         log: 64,
         retries: 3,
         redispatch: false,
         queue_timeout: 0,
     };
-    if !setup.sound() {
-        return Err(Fail::from("not a sound setup"));
-    }
-    Ok(Ledger::new(alloc, setup)?)
+    holds(rt, setup.sound());
+    Ledger::new(alloc, setup).expect(rt, "memory")
 }
 
 #[test]
-fn idle_servers_are_picked_in_turn(rt: HostRuntime) -> Result<(), Fail> {
-    let mut ledger = three_servers(rt.alloc())?;
+fn idle_servers_are_picked_in_turn(rt: HostRuntime) {
+    let mut ledger = three_servers(&rt, rt.alloc());
     let steps = [
         Step::Cursor(2),
         Step::Place(None, None, Placement::Slot(0)),
@@ -124,12 +108,13 @@ fn idle_servers_are_picked_in_turn(rt: HostRuntime) -> Result<(), Fail> {
         Step::Candidate(Some(1), 0, true),
         Step::Candidate(Some(1), 1, false),
     ];
-    play(&rt, &mut ledger, &steps)
+    play(&rt, &mut ledger, &steps);
+    drop(ledger);
 }
 
 #[test]
-fn servers_that_are_down_are_passed_over(rt: HostRuntime) -> Result<(), Fail> {
-    let mut ledger = three_servers(rt.alloc())?;
+fn servers_that_are_down_are_passed_over(rt: HostRuntime) {
+    let mut ledger = three_servers(&rt, rt.alloc());
     let steps = [
         Step::Down(0),
         Step::Place(None, None, Placement::Slot(1)),
@@ -141,14 +126,15 @@ fn servers_that_are_down_are_passed_over(rt: HostRuntime) -> Result<(), Fail> {
         Step::Up(0),
         Step::Place(None, None, Placement::Slot(0)),
     ];
-    play(&rt, &mut ledger, &steps)
+    play(&rt, &mut ledger, &steps);
+    drop(ledger);
 }
 
 #[test]
-fn a_server_that_is_down_takes_nothing(rt: HostRuntime) -> Result<(), Fail> {
-    let mut ledger = three_servers(rt.alloc())?;
+fn a_server_that_is_down_takes_nothing(rt: HostRuntime) {
+    let mut ledger = three_servers(&rt, rt.alloc());
     take_past_a_fall(&rt, &mut ledger, &key(1));
-    Ok(())
+    drop(ledger);
 }
 
 fn take_past_a_fall(rt: &impl Abort, ledger: &mut Ledger<char>, key: &Key)
@@ -173,8 +159,8 @@ fn take_past_a_fall(rt: &impl Abort, ledger: &mut Ledger<char>, key: &Key)
 }
 
 #[test]
-fn a_server_takes_up_to_its_present_limit(rt: HostRuntime) -> Result<(), Fail> {
-    let mut ledger = three_servers(rt.alloc())?;
+fn a_server_takes_up_to_its_present_limit(rt: HostRuntime) {
+    let mut ledger = three_servers(&rt, rt.alloc());
     serve_one(&mut ledger);
     let steps = [
         Step::Limit(0, 2),
@@ -182,7 +168,8 @@ fn a_server_takes_up_to_its_present_limit(rt: HostRuntime) -> Result<(), Fail> {
         Step::Limit(0, 1),
         Step::Place(Some(0), None, Placement::OwnQueue(0)),
     ];
-    play(&rt, &mut ledger, &steps)
+    play(&rt, &mut ledger, &steps);
+    drop(ledger);
 }
 
 // The first server serves a request.

@@ -9,6 +9,7 @@ use self::calls::{Call, ask, made};
 use self::chance::Chance;
 use self::events::Stage;
 use self::state::Plain;
+use crate::assertions::{holds, same};
 use binom_queue::BinomQueue;
 use dispatch_core::Core;
 use dispatch_log::{Entry, Queue, ServerSet, Servers, Setup};
@@ -16,7 +17,6 @@ use due_key::{Key, Moment};
 use pend_queue::{ListQueue, PendQueue};
 use std::alloc::Global;
 use std::process::Abort;
-use std::test::Fail;
 use verdict::Cause;
 
 fn server(limit: u32, maxqueue: u32, weight: u32) -> ServerSet {
@@ -36,7 +36,7 @@ fn probed(limit: u32, maxqueue: u32, weight: u32, rise: u32, fall: u32) -> Serve
 }
 
 // Each server that balancing may choose is checked, so that there are times without one.
-fn many_checks(alloc: Global) -> Result<Setup, Fail> {
+fn many_checks(rt: &impl Abort, alloc: Global) -> Setup {
     let list = [
         probed(2, 3, 2, 2, 3),
         probed(1, 1, 1, 1, 1),
@@ -44,50 +44,47 @@ fn many_checks(alloc: Global) -> Result<Setup, Fail> {
         server(1, 0, 0),
         probed(2, 2, 0, 2, 1),
     ];
-    let mut servers = Vec::new(alloc);
-    servers.extend_from_slice(&list)?;
-    Ok(Setup {
+    let servers = Vec::from_slice(alloc, &list).expect(rt, "memory");
+    Setup {
         servers: Servers::from_vec(servers),
         places: 24,
         log: 3000,
         retries: 2,
         redispatch: true,
         queue_timeout: 60,
-    })
+    }
 }
 
 // A server has no limit at first, one isn't checked, and what waits stays where it is.
-fn few_checks(alloc: Global) -> Result<Setup, Fail> {
+fn few_checks(rt: &impl Abort, alloc: Global) -> Setup {
     let list = [
         probed(0, 4, 1, 3, 1),
         server(2, 2, 2),
         probed(1, 5, 256, 1, 4),
     ];
-    let mut servers = Vec::new(alloc);
-    servers.extend_from_slice(&list)?;
-    Ok(Setup {
+    let servers = Vec::from_slice(alloc, &list).expect(rt, "memory");
+    Setup {
         servers: Servers::from_vec(servers),
         places: 20,
         log: 1500,
         retries: 1,
         redispatch: false,
         queue_timeout: 0,
-    })
+    }
 }
 
 // Each entry that was written is the one that the definitions say, and none is missing.
-fn follow(rt: &impl Abort, plain: &mut Plain, event: Entry, written: &[Entry]) -> Result<(), Fail> {
-    assert!(rt; plain.has_place_for(&event));
+fn follow(rt: &impl Abort, plain: &mut Plain, event: Entry, written: &[Entry]) {
+    holds(rt, plain.has_place_for(&event));
     let mut stage = Stage::Granting;
     let mut expected = Some(event);
     for entry in written {
-        assert_eq!(rt; Some(entry), expected.as_ref());
-        plain.take(*entry)?;
+        same(rt, Some(*entry), expected);
+        plain.take(rt, *entry);
         stage = stage.after(*entry);
         expected = plain.next(stage);
     }
-    assert_eq!(rt; expected, None);
-    Ok(())
+    same(rt, expected, None);
 }
 
 // A call is answered as the definitions say.
@@ -98,20 +95,19 @@ fn agree<Q: PendQueue<Key, usize>>(
     plain: &mut Plain,
     moment: Moment,
     call: &Call,
-) -> Result<(), Fail> {
+) {
     let before = core.log().len();
     let refused = plain.refuses(*call);
     match ask(alloc, core, moment, *call) {
         Ok(place) => {
-            assert_eq!(rt; refused, None);
+            same(rt, refused, None);
             let event = plain.event(moment, *call, place);
             let written = core.log().entries().get(before..).unwrap_or(&[]);
-            follow(rt, plain, event, written)
+            follow(rt, plain, event, written);
         }
         Err(refusal) => {
-            assert_eq!(rt; refused, Some(refusal));
-            assert_eq!(rt; core.log().len(), before);
-            Ok(())
+            same(rt, refused, Some(refusal));
+            same(rt, core.log().len(), before);
         }
     }
 }
@@ -120,13 +116,13 @@ fn agree<Q: PendQueue<Key, usize>>(
 fn has_base<Q: PendQueue<Key, usize>>(core: &Core<Q>, plain: &Plain) -> bool {
     let base = core.log().base();
     let rows = plain.rows.iter().flatten();
-    let same = plain.rows.iter().flatten().zip(base).all(|(row, it)| {
+    let alike = plain.rows.iter().flatten().zip(base).all(|(row, it)| {
         row.key.ticket == it.ticket
             && row.key.class == it.class
             && row.key.due == it.due
             && row.phase.queue() == it.queue
     });
-    same && rows.count() == base.len()
+    alike && rows.count() == base.len()
 }
 
 // The windows that have ended: their entries, and how many of them were full.
@@ -144,16 +140,16 @@ impl Course {
         rt: &impl Abort,
         core: &mut Core<Q>,
         plain: &mut Plain,
-    ) -> Result<(), Fail> {
-        self.entries.extend_from_slice(core.log().entries())?;
+    ) {
+        let entries = core.log().entries();
+        self.entries.extend_from_slice(entries).expect(rt, "memory");
         self.windows = self.windows.saturating_add(1);
         if !core.has_room() {
             self.full = self.full.saturating_add(1);
         }
         core.roll();
-        plain.roll()?;
-        assert!(rt; core.log().is_empty() && has_base(core, plain));
-        Ok(())
+        plain.roll(rt);
+        holds(rt, core.log().is_empty() && has_base(core, plain));
     }
 }
 
@@ -164,7 +160,7 @@ fn agree_on_all<Q: PendQueue<Key, usize>>(
     core: &mut Core<Q>,
     plain: &mut Plain,
     calls: u32,
-) -> Result<Course, Fail> {
+) -> Course {
     let mut chance = Chance::new(20_260_101);
     let mut course = Course {
         entries: Vec::new(alloc),
@@ -173,14 +169,14 @@ fn agree_on_all<Q: PendQueue<Key, usize>>(
     };
     for _ in 0..calls {
         let moment = chance.moment();
-        assert_eq!(rt; core.expired(moment), plain.some_expire(moment));
+        same(rt, core.expired(moment), plain.some_expire(moment));
         let call = chance.call(plain);
-        agree(rt, alloc, core, plain, moment, &call)?;
+        agree(rt, alloc, core, plain, moment, &call);
         if chance.rolls() {
-            course.roll(rt, core, plain)?;
+            course.roll(rt, core, plain);
         }
     }
-    Ok(course)
+    course
 }
 
 // So many calls are answered by a dispatcher of a setup, which is given twice, as the definitions say.
@@ -188,12 +184,15 @@ fn both_agree<Q: PendQueue<Key, usize>>(
     rt: &impl Abort,
     alloc: Global,
     setup: Setup,
-    same: Setup,
+    copy: Setup,
     calls: u32,
-) -> Result<Course, Fail> {
-    let mut core = made::<Q>(alloc, setup)?;
-    let mut plain = Plain::new(alloc, same)?;
-    agree_on_all(rt, alloc, &mut core, &mut plain, calls)
+) -> Course {
+    let mut core = made::<Q>(rt, alloc, setup);
+    let mut plain = Plain::new(rt, alloc, copy);
+    let course = agree_on_all(rt, alloc, &mut core, &mut plain, calls);
+    drop(core);
+    drop(plain);
+    course
 }
 
 // The log has decisions of every kind.
@@ -202,28 +201,34 @@ fn has_every_kind(rt: &impl Abort, log: &[Entry]) {
     let of_backend = |it: &Entry| matches!(it, Entry::Joined(_, Queue::Backend));
     let from_server = |it: &Entry| matches!(it, Entry::Granted(_, Queue::Server(_), _));
     let from_backend = |it: &Entry| matches!(it, Entry::Granted(_, Queue::Backend, _));
-    assert!(rt; log.iter().any(|it| matches!(it, Entry::Direct(_, _))));
-    assert!(rt; log.iter().any(of_server));
-    assert!(rt; log.iter().any(of_backend));
-    assert!(rt; log.iter().any(from_server));
-    assert!(rt; log.iter().any(from_backend));
-    assert!(rt; log.iter().any(|it| matches!(it, Entry::Moved(_, _))));
-    assert!(rt; log.iter().any(|it| matches!(it, Entry::Retried(_, _, _))));
-    assert!(rt; log.iter().any(|it| matches!(it, Entry::Health(_, true))));
+    holds(rt, log.iter().any(|it| matches!(it, Entry::Direct(_, _))));
+    holds(rt, log.iter().any(of_server));
+    holds(rt, log.iter().any(of_backend));
+    holds(rt, log.iter().any(from_server));
+    holds(rt, log.iter().any(from_backend));
+    holds(rt, log.iter().any(|it| matches!(it, Entry::Moved(_, _))));
+    holds(
+        rt,
+        log.iter().any(|it| matches!(it, Entry::Retried(_, _, _))),
+    );
+    holds(
+        rt,
+        log.iter().any(|it| matches!(it, Entry::Health(_, true))),
+    );
 }
 
 // Requests left for this cause.
 fn has_left_for(rt: &impl Abort, log: &[Entry], cause: Cause) {
-    assert!(rt; log.iter().any(|it| matches!(it, Entry::Left(_, of_it) if *of_it == cause)));
+    holds(
+        rt,
+        log.iter().any(|it| matches!(it, Entry::Left(_, of_it) if *of_it == cause)),
+    );
 }
 
 // Of servers that are checked, over such queues.
-fn follows_the_definitions<Q: PendQueue<Key, usize>>(
-    rt: &impl Abort,
-    alloc: Global,
-) -> Result<(), Fail> {
-    let (setup, same) = (many_checks(alloc)?, many_checks(alloc)?);
-    let course = both_agree::<Q>(rt, alloc, setup, same, 20_000)?;
+fn follows_the_definitions<Q: PendQueue<Key, usize>>(rt: &impl Abort, alloc: Global) {
+    let (setup, copy) = (many_checks(rt, alloc), many_checks(rt, alloc));
+    let course = both_agree::<Q>(rt, alloc, setup, copy, 20_000);
     let log = course.entries.as_slice();
     has_every_kind(rt, log);
     for cause in [
@@ -234,31 +239,31 @@ fn follows_the_definitions<Q: PendQueue<Key, usize>>(
     ] {
         has_left_for(rt, log, cause);
     }
-    assert!(rt; course.windows > 8);
-    assert!(rt; course.full > 0 && course.full < course.windows);
-    Ok(())
+    holds(rt, course.windows > 8);
+    holds(rt, course.full > 0 && course.full < course.windows);
+    drop(course);
 }
 
 // Where logs fill, over such queues.
-fn fills_logs<Q: PendQueue<Key, usize>>(rt: &impl Abort, alloc: Global) -> Result<(), Fail> {
-    let (setup, same) = (few_checks(alloc)?, few_checks(alloc)?);
-    let course = both_agree::<Q>(rt, alloc, setup, same, 5000)?;
-    assert!(rt; course.full > 1);
-    Ok(())
+fn fills_logs<Q: PendQueue<Key, usize>>(rt: &impl Abort, alloc: Global) {
+    let (setup, copy) = (few_checks(rt, alloc), few_checks(rt, alloc));
+    let course = both_agree::<Q>(rt, alloc, setup, copy, 5000);
+    holds(rt, course.full > 1);
+    drop(course);
 }
 
 #[test]
-fn the_log_over_lists_is_that_of_the_definitions(rt: HostRuntime) -> Result<(), Fail> {
-    follows_the_definitions::<ListQueue<Key, usize>>(&rt, rt.alloc())
+fn the_log_over_lists_is_that_of_the_definitions(rt: HostRuntime) {
+    follows_the_definitions::<ListQueue<Key, usize>>(&rt, rt.alloc());
 }
 
 #[test]
-fn the_log_over_trees_is_that_of_the_definitions(rt: HostRuntime) -> Result<(), Fail> {
-    follows_the_definitions::<BinomQueue<Key, usize>>(&rt, rt.alloc())
+fn the_log_over_trees_is_that_of_the_definitions(rt: HostRuntime) {
+    follows_the_definitions::<BinomQueue<Key, usize>>(&rt, rt.alloc());
 }
 
 #[test]
-fn full_logs_are_those_of_the_definitions(rt: HostRuntime) -> Result<(), Fail> {
-    fills_logs::<ListQueue<Key, usize>>(&rt, rt.alloc())?;
-    fills_logs::<BinomQueue<Key, usize>>(&rt, rt.alloc())
+fn full_logs_are_those_of_the_definitions(rt: HostRuntime) {
+    fills_logs::<ListQueue<Key, usize>>(&rt, rt.alloc());
+    fills_logs::<BinomQueue<Key, usize>>(&rt, rt.alloc());
 }

@@ -6,54 +6,53 @@ use super::*;
 use crate::assertions::{holds, same};
 
 // Sets the server's limit, and answers the first place that was woken.
-fn limit<N: BoardName, R: Wait>(
+fn limit<N: BoardName, R: Abort + Wait>(
     rt: &R,
     desk: &Desk<N>,
     moment: u64,
     limit: u32,
-) -> Result<Option<usize>, Fail> {
+) -> Option<usize> {
     let mut woken = PlaceSet::new();
-    let Ok(()) = desk.limit(rt, at(moment)?, 0, limit, &mut woken) else {
-        return Err(Fail::from("refused"));
-    };
-    Ok(woken.next(0))
+    let answer = desk.limit(rt, at(moment), 0, limit, &mut woken);
+    answer.expect(rt, "a limit");
+    woken.next(0)
 }
 
 // Of four requests two are served. The limit falls to one, so that the end of the first gives no slot; then it is lifted.
-fn lower_and_lift<N: BoardName, R: Wait>(
+fn lower_and_lift<N: BoardName, R: Abort + Wait>(
     rt: &R,
     alloc: Global,
     desk: &Desk<N>,
     relay: &mut RelaySeat,
-) -> Result<Reports, Fail>
+) -> Reports
     requires named { relay.old.board ≡ N.board }
     requires terms { relay.old.view.terms ≡ N.terms }
     ensures { IsSameSeat relay.old relay.new }
 {
-    let first = arrive(rt, alloc, desk, 0, offset(0))?;
-    let second = arrive(rt, alloc, desk, 0, offset(0))?;
-    let third = arrive(rt, alloc, desk, 1, offset(0))?;
-    let fourth = arrive(rt, alloc, desk, 2, offset(0))?;
-    let lowered = limit(rt, desk, 3, 1)?;
+    let first = arrive(rt, alloc, desk, 0, offset(0));
+    let second = arrive(rt, alloc, desk, 0, offset(0));
+    let third = arrive(rt, alloc, desk, 1, offset(0));
+    let fourth = arrive(rt, alloc, desk, 2, offset(0));
+    let lowered = limit(rt, desk, 3, 1);
     serve(desk.board(), relay, first);
-    let ended = turn(rt, desk, 4)?;
+    let ended = turn(rt, desk, 4);
     serve(desk.board(), relay, second);
-    let ended_too = turn(rt, desk, 5)?;
-    let lifted = limit(rt, desk, 6, 0)?;
-    if (lowered, ended) != (None, None) {
-        return Err(Fail::from("a slot beyond the limit"));
-    }
-    if (ended_too, lifted) != (Some(third.place), Some(fourth.place)) {
-        return Err(Fail::from("others were woken"));
-    }
+    let ended_too = turn(rt, desk, 5);
+    let lifted = limit(rt, desk, 6, 0);
+    same(rt, (lowered, ended), (None, None));
+    same(
+        rt,
+        (ended_too, lifted),
+        (Some(third.place), Some(fourth.place)),
+    );
     reports(rt, alloc, desk)
 }
 
-fn change_limits<N: BoardName, R: Wait>(
+fn change_limits<N: BoardName, R: Abort + Wait>(
     rt: &R,
     alloc: Global,
     opened: Opened,
-) -> (Result<Reports, Fail>, Closing)
+) -> (Reports, Closing)
     requires named { opened.board ≡ N.board }
     requires terms { N.terms ≡ terms_of opened.core.setup }
 {
@@ -63,16 +62,14 @@ fn change_limits<N: BoardName, R: Wait>(
 }
 
 #[test]
-fn a_limit_falls_and_is_lifted(rt: HostRuntime) -> Result<(), Fail> {
+fn a_limit_falls_and_is_lifted(rt: HostRuntime) {
     let alloc = rt.alloc();
-    let opened = one_server(alloc, 8, 4096, 2)?;
+    let opened = one_server(&rt, alloc, 8, 4096, 2);
     let (told, closing) = change_limits::<Brand, _>(&rt, alloc, opened);
-    let told = told?;
-    let critical = [stay(3, 6, 16, 1, 0)?];
+    let critical = [stay(3, 6, 16, 1, 0)];
     holds(
         &rt,
         is_report(&told, (2, 4, 1), (0, 16), critical.as_slice()),
     );
     same(&rt, closing, Closing { left: 2 });
-    Ok(())
 }

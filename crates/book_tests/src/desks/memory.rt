@@ -4,6 +4,7 @@ ghost use Rattle.outstanding.specs.Books.{terms_of};
 
 use super::*;
 use crate::assertions::same;
+use std::test::Fail;
 
 // The test goes well whichever single allocation is refused: the same call is made again.
 

@@ -6,33 +6,36 @@ use super::*;
 use crate::assertions::{holds, same};
 
 // Of two requests that wait, the later one is due earlier: it is woken and served first.
-fn overtake<N: BoardName, R: Wait>(
+fn overtake<N: BoardName, R: Abort + Wait>(
     rt: &R,
     alloc: Global,
     desk: &Desk<N>,
     relay: &mut RelaySeat,
-) -> Result<(), Fail>
+)
     requires named { relay.old.board ≡ N.board }
     requires terms { relay.old.view.terms ≡ N.terms }
     ensures { IsSameSeat relay.old relay.new }
 {
-    let first = arrive(rt, alloc, desk, 0, offset(0))?;
-    let second = arrive(rt, alloc, desk, 1, offset(0))?;
-    let third = arrive(rt, alloc, desk, 2, offset(-5))?;
+    let first = arrive(rt, alloc, desk, 0, offset(0));
+    let second = arrive(rt, alloc, desk, 1, offset(0));
+    let third = arrive(rt, alloc, desk, 2, offset(-5));
     let told = serve(desk.board(), relay, first);
-    let woken = turn(rt, desk, 10)?;
+    let woken = turn(rt, desk, 10);
     let early = serve(desk.board(), relay, second);
     let overtaking = serve(desk.board(), relay, third);
-    let woken_later = turn(rt, desk, 20)?;
+    let woken_later = turn(rt, desk, 20);
     let last = serve(desk.board(), relay, second);
     let slot = Some(Verdict::Serve(0));
-    if (told, early, overtaking, last) != (slot, None, slot, slot) {
-        return Err(Fail::from("not served in this order"));
-    }
-    if (woken, woken_later) != (Some(third.place), Some(second.place)) {
-        return Err(Fail::from("others were woken"));
-    }
-    Ok(())
+    same(
+        rt,
+        (told, early, overtaking, last),
+        (slot, None, slot, slot),
+    );
+    same(
+        rt,
+        (woken, woken_later),
+        (Some(third.place), Some(second.place)),
+    );
 }
 
 // What a desk tells of its window, of class 0 and class 1.
@@ -44,36 +47,36 @@ struct Told {
     is_full: bool,
 }
 
-fn tell<N: BoardName, R: Wait>(rt: &R, alloc: Global, desk: &Desk<N>) -> Result<Told, Fail> {
-    Ok(Told {
-        reports: reports(rt, alloc, desk)?,
-        servers: desk.servers(rt, alloc)?,
+fn tell<N: BoardName, R: Abort + Wait>(rt: &R, alloc: Global, desk: &Desk<N>) -> Told {
+    Told {
+        reports: reports(rt, alloc, desk),
+        servers: desk.servers(rt, alloc).expect(rt, "memory"),
         worst: (worst(rt, desk, 0), worst(rt, desk, 1)),
-        is_full: desk.make_room(rt, alloc)?.is_some(),
-    })
+        is_full: desk.make_room(rt, alloc).expect(rt, "memory").is_some(),
+    }
 }
 
-fn overtake_and_tell<N: BoardName, R: Wait>(
+fn overtake_and_tell<N: BoardName, R: Abort + Wait>(
     rt: &R,
     alloc: Global,
     desk: &Desk<N>,
     relay: &mut RelaySeat,
-) -> Result<Told, Fail>
+) -> Told
     requires named { relay.old.board ≡ N.board }
     requires terms { relay.old.view.terms ≡ N.terms }
     ensures { IsSameSeat relay.old relay.new }
 {
-    overtake(rt, alloc, desk, relay)?;
-    let told = tell(rt, alloc, desk)?;
-    turn(rt, desk, 30)?;
-    Ok(told)
+    overtake(rt, alloc, desk, relay);
+    let told = tell(rt, alloc, desk);
+    turn(rt, desk, 30);
+    told
 }
 
-fn overtake_once<N: BoardName, R: Wait>(
+fn overtake_once<N: BoardName, R: Abort + Wait>(
     rt: &R,
     alloc: Global,
     opened: Opened,
-) -> (Result<Told, Fail>, Closing)
+) -> (Told, Closing)
     requires named { opened.board ≡ N.board }
     requires terms { N.terms ≡ terms_of opened.core.setup }
 {
@@ -83,12 +86,11 @@ fn overtake_once<N: BoardName, R: Wait>(
 }
 
 #[test]
-fn overtaking_through_a_desk(rt: HostRuntime) -> Result<(), Fail> {
+fn overtaking_through_a_desk(rt: HostRuntime) {
     let alloc = rt.alloc();
-    let opened = one_server(alloc, 8, 4096, 1)?;
+    let opened = one_server(&rt, alloc, 8, 4096, 1);
     let (told, closing) = overtake_once::<Brand, _>(&rt, alloc, opened);
-    let told = told?;
-    let critical = [stay(3, 6, 10, 2, -5)?, stay(2, 4, 14, 1, 0)?];
+    let critical = [stay(3, 6, 10, 2, -5), stay(2, 4, 14, 1, 0)];
     holds(
         &rt,
         is_report(&told.reports, (2, 19, 1), (0, 14), critical.as_slice()),
@@ -102,5 +104,4 @@ fn overtaking_through_a_desk(rt: HostRuntime) -> Result<(), Fail> {
     same(&rt, told.worst, (Some(19), None));
     holds(&rt, !told.is_full);
     same(&rt, closing, Closing { left: 0 });
-    Ok(())
 }

@@ -5,14 +5,14 @@ use super::*;
 use crate::assertions::{holds, same};
 
 // Three servers of one slot each, of which three failed checks in a row take the first one down.
-fn three_servers(alloc: Global) -> Result<Opened, Fail> {
+fn three_servers(rt: &impl Abort, alloc: Global) -> Opened {
     let checked = ServerSet {
         limit: 1,
         maxqueue: 0,
         weight: 1,
         rise_fall: Some((2, 3)),
     };
-    let servers = vec![in alloc; checked, server(1), server(1)]?;
+    let servers = vec![in alloc; checked, server(1), server(1)].expect(rt, "memory");
     let setup = Setup {
         servers: Servers::from_vec(servers),
         places: 8,
@@ -21,7 +21,7 @@ fn three_servers(alloc: Global) -> Result<Opened, Fail> {
         redispatch: true,
         queue_timeout: 10,
     };
-    open(alloc, setup, &[1, 1, 1])
+    open(rt, alloc, setup, &[1, 1, 1])
 }
 
 // A request that is bound to the first server.
@@ -33,43 +33,44 @@ fn pinned(millis: i64) -> Wanted {
 }
 
 // Four requests are bound to the first server; as it falls, two of those that wait are given the other servers.
-fn take_down<N: BoardName, R: Wait>(
+fn take_down<N: BoardName, R: Abort + Wait>(
     rt: &R,
     alloc: Global,
     desk: &Desk<N>,
-) -> Result<(Option<i64>, Reports), Fail> {
-    arrive(rt, alloc, desk, 0, pinned(0))?;
-    arrive(rt, alloc, desk, 1, pinned(0))?;
-    arrive(rt, alloc, desk, 2, pinned(0))?;
-    arrive(rt, alloc, desk, 3, pinned(-3))?;
-    check(rt, desk, 4, 0, false)?;
-    check(rt, desk, 5, 0, false)?;
-    check(rt, desk, 6, 0, false)?;
-    Ok((worst(rt, desk, 0), reports(rt, alloc, desk)?))
+) -> (Option<i64>, Reports) {
+    arrive(rt, alloc, desk, 0, pinned(0));
+    arrive(rt, alloc, desk, 1, pinned(0));
+    arrive(rt, alloc, desk, 2, pinned(0));
+    arrive(rt, alloc, desk, 3, pinned(-3));
+    check(rt, desk, 4, 0, false);
+    check(rt, desk, 5, 0, false);
+    check(rt, desk, 6, 0, false);
+    (worst(rt, desk, 0), reports(rt, alloc, desk))
 }
 
-fn fall_once<N: BoardName, R: Wait>(
+fn fall_once<N: BoardName, R: Abort + Wait>(
     rt: &R,
     alloc: Global,
     opened: Opened,
-) -> Result<(Option<i64>, Reports), Fail>
+) -> (Option<i64>, Reports)
     requires named { opened.board ≡ N.board }
     requires terms { N.terms ≡ terms_of opened.core.setup }
 {
     let (desk, _) = start::<N>(opened);
-    take_down(rt, alloc, &desk)
+    let told = take_down(rt, alloc, &desk);
+    drop(desk);
+    told
 }
 
 #[test]
-fn the_worst_is_not_the_last(rt: HostRuntime) -> Result<(), Fail> {
+fn the_worst_is_not_the_last(rt: HostRuntime) {
     let alloc = rt.alloc();
-    let opened = three_servers(alloc)?;
-    let (worst, told) = fall_once::<Brand, _>(&rt, alloc, opened)?;
+    let opened = three_servers(&rt, alloc);
+    let (worst, told) = fall_once::<Brand, _>(&rt, alloc, opened);
     same(&rt, worst, Some(6));
-    let critical = [stay(4, 13, 16, 3, -3)?];
+    let critical = [stay(4, 13, 16, 3, -3)];
     holds(
         &rt,
         is_report(&told, (2, 6, 0), (0, 16), critical.as_slice()),
     );
-    Ok(())
 }

@@ -1,19 +1,18 @@
 use super::setups::{Plan, setup_of};
-use crate::assertions::same;
+use crate::assertions::{holds, same};
 use binom_queue::BinomQueue;
 use dispatch_core::{Core, Refusal};
 use due_key::{Class, Key, Moment, Offset};
 use pend_queue::{ListQueue, PendQueue};
 use std::alloc::Global;
 use std::process::Abort;
-use std::test::Fail;
 
 pub type OfLists = Core<ListQueue<Key, usize>>;
 
 pub type OfTrees = Core<BinomQueue<Key, usize>>;
 
 /// What is asked of a dispatcher.
-#[derive(Clone, Copy, Debug)]
+#[derive(Clone, Copy)]
 pub enum Call {
     Arrive(Class, Offset, Option<usize>),
     Done(u64),
@@ -46,19 +45,19 @@ fn ask_one<Q: PendQueue<Key, usize>>(
     moment: Moment,
     call: Call,
 ) -> Result<usize, Refusal> {
-    match call {
+    let answer = match call {
         Call::Arrive(class, offset, pin) => {
-            let it = core.arrive(alloc, moment, class, offset, pin)?;
-            return Ok(it.place);
+            let arrival = core.arrive(alloc, moment, class, offset, pin);
+            return arrival.map(|it| it.place);
         }
-        Call::Done(ticket) => core.done(moment, ticket)?,
-        Call::Fail(ticket) => core.failed(moment, ticket)?,
-        Call::Abort(ticket) => core.abort(moment, ticket)?,
-        Call::Tick => core.tick(moment)?,
-        Call::Check(server, ok) => core.check(moment, server, ok)?,
-        Call::Limit(server, limit) => core.limit(moment, server, limit)?,
-    }
-    Ok(0)
+        Call::Done(ticket) => core.done(moment, ticket),
+        Call::Fail(ticket) => core.failed(moment, ticket),
+        Call::Abort(ticket) => core.abort(moment, ticket),
+        Call::Tick => core.tick(moment),
+        Call::Check(server, ok) => core.check(moment, server, ok),
+        Call::Limit(server, limit) => core.limit(moment, server, limit),
+    };
+    answer.map(|()| 0)
 }
 
 /// Asks a call of two dispatchers, whose answers and logs are the same. Tells why it was refused.
@@ -78,10 +77,8 @@ pub fn ask(
 }
 
 /// A dispatcher of a plan, without a request.
-pub fn made<Q: PendQueue<Key, usize>>(alloc: Global, plan: Plan) -> Result<Core<Q>, Fail> {
-    let setup = setup_of(alloc, plan)?;
-    if !setup.sound() {
-        return Err(Fail::from("not a sound setup"));
-    }
-    Ok(Core::new(alloc, setup)?)
+pub fn made<Q: PendQueue<Key, usize>>(rt: &impl Abort, alloc: Global, plan: Plan) -> Core<Q> {
+    let setup = setup_of(rt, alloc, plan);
+    holds(rt, setup.sound());
+    Core::new(alloc, setup).expect(rt, "memory")
 }

@@ -2,9 +2,11 @@ use super::calls::moment;
 use dispatch_core::{Core, Phase, Queue};
 use due_key::{Class, Key, Moment};
 use pend_queue::PendQueue;
+use std::fmt::Debug;
+use std::process::Abort;
 
 /// What a dispatcher tells of itself.
-#[derive(Clone, Copy, Debug, PartialEq)]
+#[derive(Clone, Copy)]
 pub enum Fact {
     /// Where the request with this ticket stands.
     Phase(u64, Option<Phase>),
@@ -32,24 +34,34 @@ pub enum Fact {
     FirstStay(Option<(usize, usize)>),
 }
 
-/// What the dispatcher tells where this was expected.
-pub fn told<Q: PendQueue<Key, usize>>(core: &Core<Q>, expected: &Fact) -> Fact {
-    match expected {
-        Fact::Phase(ticket, _) => Fact::Phase(*ticket, core.phase(*ticket)),
-        Fact::Place(ticket, _) => Fact::Place(*ticket, core.place(*ticket)),
-        Fact::Places(_) => Fact::Places(core.places()),
-        Fact::Servers(_) => Fact::Servers(core.servers()),
-        Fact::Up(server, _) => Fact::Up(*server, core.up(*server)),
-        Fact::Served(server, _) => Fact::Served(*server, core.served(*server)),
-        Fact::Queued(queue, _) => Fact::Queued(*queue, core.queued(*queue)),
-        Fact::HasRoom(_) => Fact::HasRoom(core.has_room()),
-        Fact::Expired(at, _) => Fact::Expired(*at, core.expired(moment(*at))),
-        Fact::LogIsEmpty(_) => Fact::LogIsEmpty(core.log().is_empty()),
-        Fact::Entries(_) => Fact::Entries(core.log().len()),
-        Fact::BaseRows(_) => Fact::BaseRows(core.log().base().len()),
-        Fact::FirstGrant(_) => Fact::FirstGrant(first_grant(core)),
-        Fact::FirstStay(_) => Fact::FirstStay(first_stay(core)),
+/// Stops the test at this step, counted from 0, where the dispatcher tells something else.
+pub fn tells<Q: PendQueue<Key, usize>>(
+    rt: &impl Abort,
+    core: &Core<Q>,
+    number: usize,
+    fact: &Fact,
+) {
+    match fact {
+        Fact::Phase(ticket, phase) => same_at(rt, number, core.phase(*ticket), *phase),
+        Fact::Place(ticket, place) => same_at(rt, number, core.place(*ticket), *place),
+        Fact::Places(count) => same_at(rt, number, core.places(), *count),
+        Fact::Servers(count) => same_at(rt, number, core.servers(), *count),
+        Fact::Up(server, up) => same_at(rt, number, core.up(*server), *up),
+        Fact::Served(server, count) => same_at(rt, number, core.served(*server), *count),
+        Fact::Queued(queue, count) => same_at(rt, number, core.queued(*queue), *count),
+        Fact::HasRoom(so) => same_at(rt, number, core.has_room(), *so),
+        Fact::Expired(at, so) => same_at(rt, number, core.expired(moment(*at)), *so),
+        Fact::LogIsEmpty(so) => same_at(rt, number, core.log().is_empty(), *so),
+        Fact::Entries(count) => same_at(rt, number, core.log().len(), *count),
+        Fact::BaseRows(count) => same_at(rt, number, core.log().base().len(), *count),
+        Fact::FirstGrant(grant) => same_at(rt, number, first_grant(core), *grant),
+        Fact::FirstStay(stay) => same_at(rt, number, first_stay(core), *stay),
     }
+}
+
+/// Stops the test at this step, counted from 0, where the two differ, and prints both.
+pub fn same_at<T: PartialEq + Debug + Drop>(rt: &impl Abort, number: usize, found: T, expected: T) {
+    assert_eq!(rt; found, expected, "step {number}");
 }
 
 fn first_grant<Q: PendQueue<Key, usize>>(core: &Core<Q>) -> Option<(Class, Moment)> {

@@ -1,32 +1,18 @@
 use super::calls::moment;
+use super::setups::{of_servers, server};
 use crate::assertions::same;
 use binom_queue::BinomQueue;
-use dispatch_core::{Core, Queue, Refusal, ServerSet, Servers, Setup};
+use dispatch_core::{Core, Queue, Refusal};
 use due_key::{Class, Key, Offset};
 use pend_queue::{ListQueue, PendQueue};
 use std::alloc::{AllocError, Global};
 use std::process::Abort;
-use std::test::Fail;
 
-// Each of these tests goes well whichever single allocation is refused.
+// It goes well whichever single allocation is refused.
 
 // A dispatcher of one server that takes one request at a time. None where its setup isn't sound.
 fn made<Q: PendQueue<Key, usize>>(alloc: Global) -> Result<Option<Core<Q>>, AllocError> {
-    let mut servers = Vec::new(alloc);
-    servers.push(ServerSet {
-        limit: 1,
-        maxqueue: 0,
-        weight: 1,
-        rise_fall: None,
-    })?;
-    let setup = Setup {
-        servers: Servers::from_vec(servers),
-        places: 8,
-        log: 64,
-        retries: 3,
-        redispatch: false,
-        queue_timeout: 0,
-    };
+    let setup = of_servers(alloc, &[server(1, 1)])?;
     if !setup.sound() {
         return Ok(None);
     }
@@ -67,16 +53,15 @@ fn come<Q: PendQueue<Key, usize>>(rt: &impl Abort, alloc: Global, core: &mut Cor
     same(rt, (core.served(0), core.queued(Queue::Backend)), (1, 2));
 }
 
-fn come_to<Q: PendQueue<Key, usize>>(rt: &impl Abort, alloc: Global) -> Result<(), Fail> {
-    let Some(mut core) = made_in_the_end::<Q>(alloc)? else {
-        return Err(Fail::from("not a sound setup"));
-    };
+fn come_to<Q: PendQueue<Key, usize>>(rt: &impl Abort, alloc: Global) {
+    let made = made_in_the_end::<Q>(alloc).expect(rt, "memory");
+    let mut core = made.expect(rt, "a sound setup");
     come(rt, alloc, &mut core);
-    Ok(())
+    drop(core);
 }
 
 #[test]
-fn a_refused_growth_changes_no_dispatcher(rt: HostRuntime) -> Result<(), Fail> {
-    come_to::<ListQueue<Key, usize>>(&rt, rt.alloc())?;
-    come_to::<BinomQueue<Key, usize>>(&rt, rt.alloc())
+fn a_refused_growth_changes_no_dispatcher(rt: HostRuntime) {
+    come_to::<ListQueue<Key, usize>>(&rt, rt.alloc());
+    come_to::<BinomQueue<Key, usize>>(&rt, rt.alloc());
 }

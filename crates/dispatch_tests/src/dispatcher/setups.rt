@@ -1,6 +1,6 @@
 use dispatch_core::{ServerSet, Servers, Setup};
-use std::alloc::Global;
-use std::test::Fail;
+use std::alloc::{AllocError, Global};
+use std::process::Abort;
 
 /// The servers that a test is played on, and the rules for them.
 #[derive(Clone, Copy)]
@@ -23,7 +23,7 @@ pub enum Plan {
 }
 
 // A server without checks.
-fn server(limit: u32, weight: u32) -> ServerSet {
+pub(super) fn server(limit: u32, weight: u32) -> ServerSet {
     ServerSet {
         limit,
         maxqueue: 0,
@@ -33,7 +33,7 @@ fn server(limit: u32, weight: u32) -> ServerSet {
 }
 
 // These servers, with 8 places and room for 64 entries.
-fn of_servers(alloc: Global, list: &[ServerSet]) -> Result<Setup, Fail> {
+pub(super) fn of_servers(alloc: Global, list: &[ServerSet]) -> Result<Setup, AllocError> {
     let mut servers = Vec::new(alloc);
     servers.extend_from_slice(list)?;
     Ok(Setup {
@@ -46,36 +46,41 @@ fn of_servers(alloc: Global, list: &[ServerSet]) -> Result<Setup, Fail> {
     })
 }
 
+// The same, where there is memory.
+fn plain(rt: &impl Abort, alloc: Global, list: &[ServerSet]) -> Setup {
+    of_servers(alloc, list).expect(rt, "memory")
+}
+
 /// The setup of a plan.
-pub fn setup_of(alloc: Global, plan: Plan) -> Result<Setup, Fail> {
+pub fn setup_of(rt: &impl Abort, alloc: Global, plan: Plan) -> Setup {
     match plan {
-        Plan::Alone => of_servers(alloc, &[server(1, 1)]),
-        Plan::Cramped => cramped(alloc),
-        Plan::Patient => patient(alloc),
-        Plan::Wide => of_servers(alloc, &[server(2, 1)]),
-        Plan::TwoWide => of_servers(alloc, &[server(2, 1), server(2, 1)]),
-        Plan::Weightless => of_servers(alloc, &[server(1, 0)]),
-        Plan::Checked => checked(alloc),
+        Plan::Alone => plain(rt, alloc, &[server(1, 1)]),
+        Plan::Cramped => cramped(rt, alloc),
+        Plan::Patient => patient(rt, alloc),
+        Plan::Wide => plain(rt, alloc, &[server(2, 1)]),
+        Plan::TwoWide => plain(rt, alloc, &[server(2, 1), server(2, 1)]),
+        Plan::Weightless => plain(rt, alloc, &[server(1, 0)]),
+        Plan::Checked => checked(rt, alloc),
     }
 }
 
-fn cramped(alloc: Global) -> Result<Setup, Fail> {
-    let mut setup = of_servers(alloc, &[server(1, 1)])?;
+fn cramped(rt: &impl Abort, alloc: Global) -> Setup {
+    let mut setup = plain(rt, alloc, &[server(1, 1)]);
     (setup.places, setup.log) = (2, 16);
-    Ok(setup)
+    setup
 }
 
-fn patient(alloc: Global) -> Result<Setup, Fail> {
-    let mut setup = of_servers(alloc, &[server(1, 1)])?;
+fn patient(rt: &impl Abort, alloc: Global) -> Setup {
+    let mut setup = plain(rt, alloc, &[server(1, 1)]);
     setup.queue_timeout = 10;
-    Ok(setup)
+    setup
 }
 
-fn checked(alloc: Global) -> Result<Setup, Fail> {
+fn checked(rt: &impl Abort, alloc: Global) -> Setup {
     let mut one = server(1, 1);
     one.rise_fall = Some((1, 1));
-    let mut setup = of_servers(alloc, &[one, one])?;
+    let mut setup = plain(rt, alloc, &[one, one]);
     setup.retries = 1;
     setup.redispatch = true;
-    Ok(setup)
+    setup
 }

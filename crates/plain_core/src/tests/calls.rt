@@ -1,11 +1,12 @@
+use crate::assertions::holds;
 use dispatch_core::{Core, Refusal, Setup};
 use due_key::{Class, Key, Moment, Offset};
 use pend_queue::PendQueue;
 use std::alloc::Global;
-use std::test::Fail;
+use std::process::Abort;
 
 /// What is asked of a dispatcher.
-#[derive(Clone, Copy, Debug)]
+#[derive(Clone, Copy)]
 pub enum Call {
     Arrive(Class, Offset, Option<usize>),
     Done(u64),
@@ -23,25 +24,23 @@ pub fn ask<Q: PendQueue<Key, usize>>(
     moment: Moment,
     call: Call,
 ) -> Result<usize, Refusal> {
-    match call {
+    let answer = match call {
         Call::Arrive(class, offset, pin) => {
-            let it = core.arrive(alloc, moment, class, offset, pin)?;
-            return Ok(it.place);
+            let arrival = core.arrive(alloc, moment, class, offset, pin);
+            return arrival.map(|it| it.place);
         }
-        Call::Done(ticket) => core.done(moment, ticket)?,
-        Call::Fail(ticket) => core.failed(moment, ticket)?,
-        Call::Abort(ticket) => core.abort(moment, ticket)?,
-        Call::Tick => core.tick(moment)?,
-        Call::Check(server, ok) => core.check(moment, server, ok)?,
-        Call::Limit(server, limit) => core.limit(moment, server, limit)?,
-    }
-    Ok(0)
+        Call::Done(ticket) => core.done(moment, ticket),
+        Call::Fail(ticket) => core.failed(moment, ticket),
+        Call::Abort(ticket) => core.abort(moment, ticket),
+        Call::Tick => core.tick(moment),
+        Call::Check(server, ok) => core.check(moment, server, ok),
+        Call::Limit(server, limit) => core.limit(moment, server, limit),
+    };
+    answer.map(|()| 0)
 }
 
 /// A dispatcher without a request.
-pub fn made<Q: PendQueue<Key, usize>>(alloc: Global, setup: Setup) -> Result<Core<Q>, Fail> {
-    if !setup.sound() {
-        return Err(Fail::from("not a sound setup"));
-    }
-    Ok(Core::new(alloc, setup)?)
+pub fn made<Q: PendQueue<Key, usize>>(rt: &impl Abort, alloc: Global, setup: Setup) -> Core<Q> {
+    holds(rt, setup.sound());
+    Core::new(alloc, setup).expect(rt, "memory")
 }

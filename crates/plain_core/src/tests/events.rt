@@ -5,7 +5,7 @@ use due_key::{Due, Moment};
 use verdict::Cause;
 
 /// What comes next in an event.
-#[derive(Clone, Copy, Debug)]
+#[derive(Clone, Copy)]
 pub enum Stage {
     Placing(u64),
     Returning(u64),

@@ -1,6 +1,7 @@
 use dispatch_log::{Arrival, Entry, Phase, Queue, Row, Setup};
 use due_key::{Key, Moment};
-use std::alloc::{AllocError, Global};
+use std::alloc::Global;
+use std::process::Abort;
 
 /// What a log leaves of its base: the rows in a list and the results of the checks in lists, with no count, heap or index
 /// beside them.
@@ -22,25 +23,25 @@ pub struct Plain {
 }
 
 impl Plain {
-    pub fn new(alloc: Global, setup: Setup) -> Result<Plain, AllocError> {
+    pub fn new(rt: &impl Abort, alloc: Global, setup: Setup) -> Plain {
         let servers = setup.servers.len();
         let mut results = Vec::new(alloc);
         let mut limits = Vec::new(alloc);
         for server in setup.servers.as_slice() {
-            results.push(Vec::new(alloc))?;
-            limits.push(server.limit)?;
+            results.push(Vec::new(alloc)).expect(rt, "memory");
+            limits.push(server.limit).expect(rt, "memory");
         }
-        Ok(Plain {
-            rows: vacant(alloc, setup.places)?,
+        Plain {
+            rows: vacant(rt, alloc, setup.places),
             results,
-            ups: vec![in alloc; true; servers]?,
+            ups: vec![in alloc; true; servers].expect(rt, "memory"),
             limits,
             moment: Moment::zero(),
             ticket: 0,
             cursor: servers.saturating_sub(1),
             used: 0,
             setup,
-        })
+        }
     }
 
     pub fn row_of(&self, ticket: u64) -> Option<&Row> {
@@ -55,7 +56,7 @@ impl Plain {
     }
 
     /// Takes in what an entry leaves.
-    pub fn take(&mut self, entry: Entry) -> Result<(), AllocError> {
+    pub fn take(&mut self, rt: &impl Abort, entry: Entry) {
         self.used = self.used.saturating_add(1);
         match entry {
             Entry::Arrive(moment, arrival) => self.arrive(moment, arrival),
@@ -68,7 +69,7 @@ impl Plain {
             }
             Entry::Check(moment, server, ok) => {
                 self.moment = moment;
-                self.add_result(server, ok)?;
+                self.add_result(rt, server, ok);
             }
             Entry::Limit(moment, server, limit) => {
                 self.moment = moment;
@@ -99,21 +100,19 @@ impl Plain {
             Entry::Ended(ticket) => self.set(ticket, None),
             Entry::Retried(_, _, _) | Entry::Health(_, _) => {}
         }
-        Ok(())
     }
 
     /// Begins the next window: what is left is its base.
-    pub fn roll(&mut self) -> Result<(), AllocError> {
+    pub fn roll(&mut self, rt: &impl Abort) {
         self.used = 0;
         for server in 0..self.servers() {
-            self.shorten(server)?;
+            self.shorten(rt, server);
         }
-        Ok(())
     }
 
     // Of a server's results those stand that its health goes by: where it is up the failures since the last success, and
     // where it is down so many failures as let it fall, and the successes since the last failure.
-    fn shorten(&mut self, server: usize) -> Result<(), AllocError> {
+    fn shorten(&mut self, rt: &impl Abort, server: usize) {
         let up = self.is_up(server);
         let fall = match self.server(server).and_then(|it| it.rise_fall) {
             Some((_, fall)) if !up => fall as usize,
@@ -123,13 +122,12 @@ impl Plain {
             let against = results.iter().rev().take_while(|&&ok| ok != up).count();
             results.clear();
             for _ in 0..fall {
-                results.push(false)?;
+                results.push(false).expect(rt, "memory");
             }
             for _ in 0..against {
-                results.push(!up)?;
+                results.push(!up).expect(rt, "memory");
             }
         }
-        Ok(())
     }
 
     /// The weight of a server; 0 where no server has the number.
@@ -179,15 +177,14 @@ impl Plain {
         }
     }
 
-    fn add_result(&mut self, server: usize, ok: bool) -> Result<(), AllocError> {
+    fn add_result(&mut self, rt: &impl Abort, server: usize, ok: bool) {
         if let Some(results) = self.results.get_mut(server) {
-            results.push(ok)?;
+            results.push(ok).expect(rt, "memory");
         }
         let up = self.is_up_by_results(server, false);
         if let Some(cell) = self.ups.get_mut(server) {
             *cell = up;
         }
-        Ok(())
     }
 
     // One failure more; a request that is redispatched has no pin any more.
@@ -226,10 +223,10 @@ impl Plain {
     }
 }
 
-fn vacant<T: Drop>(alloc: Global, places: usize) -> Result<Vec<Option<T>>, AllocError> {
+fn vacant<T: Drop>(rt: &impl Abort, alloc: Global, places: usize) -> Vec<Option<T>> {
     let mut rows = Vec::new(alloc);
     for _ in 0..places {
-        rows.push(None)?;
+        rows.push(None).expect(rt, "memory");
     }
-    Ok(rows)
+    rows
 }

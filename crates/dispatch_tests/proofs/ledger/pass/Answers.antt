@@ -7,11 +7,11 @@ use Rattle.list_facts.proofs.Places.{set_read}
 use Rattle.dispatch_tests.proofs.ledger.pass.Goals as goal
 
 pub end-requires : goal.end-requires
-end-requires c = (_, put_stands _ _ _ _ c.admit-place.ensures.vacant (ap (λ (k : Kept _). k.slots) c.admit-place.ensures.admitted))
+end-requires g c = (_, put_stands _ _ _ _ c.admit-place.ensures.vacant (ap (λ (k : Kept _). k.slots) c.admit-place.ensures.admitted))
 
 -- the place is free again
 pub returns : goal.returns
-returns c =
+returns g c =
     let place = c.admit-place.result in
     let old = c.args.ledger.now in
     c.end.ensures

@@ -1,7 +1,7 @@
 #!/usr/bin/env bash
 # bench/refused.sh [NAME..]: runs each test of the crates NAME (all that are built but those of sockets, without names) again and again, and refuses one allocation in each
-# run, each in its turn. A run has to end well, or with the test's own word: an error that it answers, or an assertion that saw another answer than with memory. What is no
-# such end: a signal, a wait without end. A test whose name begins with a_refused_growth makes a refused call again, and has to end well each time. Of a test with more than 400
+# run, each in its turn. A run has to end well, or with the test's own word: want of memory where the test expected a value, or an assertion that saw another answer than with
+# memory. What is no such end: a signal, a wait without end. A test whose name begins with a_refused_growth makes a refused call again, and has to end well each time. Of a test with more than 400
 # allocations (MOST) so many are refused, evenly spread. One line for each crate; the status is 1 where a run had no such end. Needs gcc, and the tests that `rt ci` or `rt test`
 # leaves in crates/NAME/out.
 set -u
@@ -16,6 +16,11 @@ run() { # PROGRAM TEST N: the run's status, and what it wrote in $work/said.PID
     timeout 20 env REFUSED="$3" COUNTED="$work/count.$$" LD_PRELOAD="$work/refused.so" "$1" "$2" >"$work/said.$$" 2>&1 </dev/null
 }
 
+stopped_at() { # WHAT A RUN WROTE: whether it stopped at its own word, and which
+    grep -q '^test stopped at' "$1" || return 1
+    grep -qE 'AllocError|AllocFailed|NoMemory' "$1" && echo told || echo another
+}
+
 refuse_each() { # NAME PROGRAM TEST
     run "$2" "$3" 0 || { echo "$1 $3: fails with all memory: status $?" >>"$work/$1.bad"; return; }
     count=$(cat "$work/count.$$")
@@ -25,13 +30,13 @@ refuse_each() { # NAME PROGRAM TEST
         case $status.$3 in
             0.*) echo well ;;
             *.*a_refused_growth*) echo "$1 $3, allocation $n: status $status" >>"$work/$1.bad" ;;
-            101.*) echo error ;;
-            134.*) grep -q '^test stopped at' "$work/said.$$" && echo assertion || echo "$1 $3, allocation $n: status $status" >>"$work/$1.bad" ;;
+            101.*) echo told ;;
+            134.*) stopped_at "$work/said.$$" || echo "$1 $3, allocation $n: status $status" >>"$work/$1.bad" ;;
             *) echo "$1 $3, allocation $n: status $status" >>"$work/$1.bad" ;;
         esac
     done >>"$work/ends.$1.$$"
 }
-export -f run refuse_each
+export -f run stopped_at refuse_each
 
 names=("$@")
 if [ $# -eq 0 ]; then
@@ -48,7 +53,7 @@ for name in "${names[@]}"; do
     "$program" --list | sed -n 's/: test$//p' | xargs -P "$at_once" -I T bash -c 'refuse_each "$@"' refuse_each "$name" "$program" T
     ends() { cat "$work"/ends."$name".* 2>/dev/null | grep -c "^$1\$"; }
     failed=$(cat "$work/$name.bad" 2>/dev/null | wc -l)
-    echo "$name: an allocation refused in each of $(($(ends well) + $(ends error) + $(ends assertion) + failed)) runs: $(ends error) told so, $(ends assertion) saw another answer, $(ends well) went well, $failed had no such end"
+    echo "$name: an allocation refused in each of $(($(ends well) + $(ends told) + $(ends another) + failed)) runs: $(ends told) told so, $(ends another) saw another answer, $(ends well) went well, $failed had no such end"
     [ "$failed" -eq 0 ] || { head -5 "$work/$name.bad"; bad=1; }
 done
 exit "$bad"

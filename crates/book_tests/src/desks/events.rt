@@ -46,7 +46,7 @@ fn come<N: BoardName, R: Abort + Wait>(
 fn abort<N: BoardName, R: Abort + Wait>(rt: &R, desk: &Desk<N>, moment: u64, ticket: u64) {
     let mut woken = PlaceSet::new();
     let answer = desk.abort(rt, at(moment), ticket, &mut woken);
-    answer.expect(rt, "an end");
+    answer.expect(rt, "an abort");
 }
 
 // What the four were told.
@@ -131,7 +131,7 @@ fn collect<N: BoardName, R: Abort + Wait>(
 {
     let mut woken = PlaceSet::new();
     let answer = desk.collect_at(rt, at(moment), place, &mut woken);
-    let found = answer.expect(rt, "a look");
+    let found = answer.expect(rt, "a collection");
     found.map(|back| back.ticket)
 }
 

@@ -1,4 +1,3 @@
-use Rattle.std.proofs.Common.{◌≡◌}
 use Rattle.grant_desk.specs.Seats.{IsSameSeat}
 use Rattle.book_tests.proofs.desks.threads.come.Given as goal
 

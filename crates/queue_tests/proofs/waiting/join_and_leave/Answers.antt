@@ -1,4 +1,4 @@
-use Rattle.std.proofs.Common.{ap, subst}
+use Rattle.std.proofs.Common.{subst}
 use Rattle.wait_queues.specs.Waitlists.{Waitlist, WaitsAt}
 use Rattle.wait_queues.proofs.Changes.{nobody}
 use Rattle.queue_tests.proofs.waiting.join_and_leave.Goals as goal

@@ -29,6 +29,22 @@ fn whole(viewed: Viewed<View>) -> Option<View> {
     }
 }
 
+fn head_of(rt: &impl Abort, alloc: Global, text: &[u8]) -> View {
+    whole(view(alloc, text)).expect(rt, "a head")
+}
+
+fn is_refused(rt: &impl Abort, alloc: Global, text: &[u8]) {
+    holds(rt, is_fault(&view(alloc, text)));
+}
+
+fn waits(rt: &impl Abort, alloc: Global, text: &[u8]) {
+    holds(rt, is_more(&view(alloc, text)));
+}
+
+fn has_length(rt: &impl Abort, alloc: Global, text: &[u8], len: usize) {
+    same(rt, whole_len(&view(alloc, text)), Some(len));
+}
+
 // a head of so many fields, the first of them its Host field
 fn with_fields(rt: &impl Abort, alloc: Global, count: usize) -> Vec<u8> {
     let mut head = Vec::from_slice(alloc, b"GET / HTTP/1.1\r\nHost: h\r\n").expect(rt, "memory");
@@ -80,89 +96,68 @@ fn has_fields(rt: &impl Abort, head: &View) {
 #[test]
 fn each_prefix_waits(rt: HostRuntime) {
     for end in 0..PLAIN.len() {
-        holds(&rt, is_more(&view(rt.alloc(), &PLAIN[..end])));
+        waits(&rt, rt.alloc(), &PLAIN[..end]);
     }
-    same(&rt, whole_len(&view(rt.alloc(), PLAIN)), Some(27));
+    has_length(&rt, rt.alloc(), PLAIN, 27);
+}
+
+fn says_the_same(rt: &impl Abort, alloc: Global, front: &[u8], back: &[u8]) {
+    let mut bytes = Vec::from_slice(alloc, front).expect(rt, "memory");
+    waits(rt, alloc, &bytes);
+    bytes.extend_from_slice(back).expect(rt, "memory");
+    bytes.extend_from_slice(b"rest").expect(rt, "memory");
+    has_length(rt, alloc, &bytes, 27);
+    same(rt, head_of(rt, alloc, &bytes).field_count(), 1);
 }
 
 #[test]
 fn two_pieces_say_the_same(rt: HostRuntime) {
     for end in 0..PLAIN.len() {
-        let mut bytes = Vec::from_slice(rt.alloc(), &PLAIN[..end]).expect(&rt, "memory");
-        holds(&rt, is_more(&view(rt.alloc(), &bytes)));
-        bytes.extend_from_slice(&PLAIN[end..]).expect(&rt, "memory");
-        bytes.extend_from_slice(b"rest").expect(&rt, "memory");
-        let seen = view(rt.alloc(), &bytes);
-        same(&rt, whole_len(&seen), Some(27));
-        same(&rt, whole(seen).expect(&rt, "a head").field_count(), 1);
+        says_the_same(&rt, rt.alloc(), &PLAIN[..end], &PLAIN[end..]);
     }
 }
 
 #[test]
 fn hosts_suit_the_version(rt: HostRuntime) {
     let alloc = rt.alloc();
-    holds(&rt, is_fault(&view(alloc, b"GET / HTTP/1.1\r\n\r\n")));
-    holds(
-        &rt,
-        is_fault(&view(alloc, b"GET / HTTP/1.1\r\nHost: h\r\nHOST: h\r\n\r\n")),
-    );
-    holds(
-        &rt,
-        is_fault(&view(alloc, b"GET / HTTP/1.0\r\nHost: h\r\nHost: g\r\n\r\n")),
-    );
-    same(
-        &rt,
-        whole_len(&view(alloc, b"GET / HTTP/1.0\r\n\r\n")),
-        Some(18),
-    );
-    let one = whole(view(alloc, b"GET / HTTP/1.0\r\nHost:\r\n\r\n")).expect(&rt, "a head");
+    is_refused(&rt, alloc, b"GET / HTTP/1.1\r\n\r\n");
+    is_refused(&rt, alloc, b"GET / HTTP/1.1\r\nHost: h\r\nHOST: h\r\n\r\n");
+    is_refused(&rt, alloc, b"GET / HTTP/1.0\r\nHost: h\r\nHost: g\r\n\r\n");
+    has_length(&rt, alloc, b"GET / HTTP/1.0\r\n\r\n", 18);
+    let one = head_of(&rt, alloc, b"GET / HTTP/1.0\r\nHost:\r\n\r\n");
     same(&rt, one.version(), Version::Http10);
 }
 
 #[test]
 fn tunnels_are_refused(rt: HostRuntime) {
     let alloc = rt.alloc();
-    holds(
-        &rt,
-        is_fault(&view(alloc, b"CONNECT h:1 HTTP/1.1\r\nHost: h\r\n\r\n")),
-    );
-    let lower = view(alloc, b"connect h:1 HTTP/1.1\r\nHost: h\r\n\r\n");
-    same(&rt, whole(lower).expect(&rt, "a head").path(), None);
+    is_refused(&rt, alloc, b"CONNECT h:1 HTTP/1.1\r\nHost: h\r\n\r\n");
+    let lower = head_of(&rt, alloc, b"connect h:1 HTTP/1.1\r\nHost: h\r\n\r\n");
+    same(&rt, lower.path(), None);
+}
+
+/// A head, and the path of its request.
+type PathRow = (&'static [u8], Option<&'static [u8]>);
+
+static PATHS: [PathRow; 7] = [
+    (b"GET http://h/a?b HTTP/1.0\r\n\r\n", Some(b"/a")),
+    (b"GET https://h/a/?b/c HTTP/1.0\r\n\r\n", Some(b"/a/")),
+    (b"GET http://h?b/c HTTP/1.0\r\n\r\n", Some(b"")),
+    (b"GET http://h HTTP/1.0\r\n\r\n", Some(b"")),
+    (b"GET /?/a HTTP/1.0\r\n\r\n", Some(b"/")),
+    (b"OPTIONS * HTTP/1.0\r\n\r\n", None),
+    (b"GET HTTP://h/a HTTP/1.0\r\n\r\n", None),
+];
+
+fn has_path(rt: &impl Abort, alloc: Global, row: &PathRow) {
+    let (text, path) = *row;
+    same(rt, head_of(rt, alloc, text).path(), path);
 }
 
 #[test]
 fn paths(rt: HostRuntime) {
-    let alloc = rt.alloc();
-    let rows = [
-        (
-            b"GET http://h/a?b HTTP/1.0\r\n\r\n".as_slice(),
-            Some(b"/a".as_slice()),
-        ),
-        (
-            b"GET https://h/a/?b/c HTTP/1.0\r\n\r\n".as_slice(),
-            Some(b"/a/".as_slice()),
-        ),
-        (
-            b"GET http://h?b/c HTTP/1.0\r\n\r\n".as_slice(),
-            Some(b"".as_slice()),
-        ),
-        (
-            b"GET http://h HTTP/1.0\r\n\r\n".as_slice(),
-            Some(b"".as_slice()),
-        ),
-        (
-            b"GET /?/a HTTP/1.0\r\n\r\n".as_slice(),
-            Some(b"/".as_slice()),
-        ),
-        (b"OPTIONS * HTTP/1.0\r\n\r\n".as_slice(), None),
-        (b"GET HTTP://h/a HTTP/1.0\r\n\r\n".as_slice(), None),
-    ];
-    for (text, path) in rows {
-        same(
-            &rt,
-            whole(view(alloc, text)).expect(&rt, "a head").path(),
-            path,
-        );
+    for row in &PATHS {
+        has_path(&rt, rt.alloc(), row);
     }
 }
 
@@ -170,43 +165,46 @@ fn paths(rt: HostRuntime) {
 fn sixty_four_fields(rt: HostRuntime) {
     let alloc = rt.alloc();
     let most = with_fields(&rt, alloc, HEAD_FIELDS);
-    let head = whole(view(alloc, &most)).expect(&rt, "a head");
-    same(&rt, head.field_count(), 64);
+    same(&rt, head_of(&rt, alloc, &most).field_count(), 64);
     let over = with_fields(&rt, alloc, HEAD_FIELDS + 1);
-    holds(&rt, is_fault(&view(alloc, &over)));
+    is_refused(&rt, alloc, &over);
+}
+
+fn may_be_so_large(rt: &impl Abort, alloc: Global, most: &mut Vec<u8>) {
+    has_length(rt, alloc, most, 16_384);
+    most.truncate(HEAD_BYTES - 1);
+    waits(rt, alloc, most);
+}
+
+fn is_too_large(rt: &impl Abort, alloc: Global, over: &mut Vec<u8>) {
+    same(rt, over.len(), 16_385);
+    is_refused(rt, alloc, over);
+    over.truncate(HEAD_BYTES);
+    is_refused(rt, alloc, over);
 }
 
 #[test]
 fn the_largest_head(rt: HostRuntime) {
-    let alloc = rt.alloc();
-    let mut most = with_bytes(&rt, alloc, HEAD_BYTES);
-    same(&rt, whole_len(&view(alloc, &most)), Some(16_384));
-    most.truncate(HEAD_BYTES - 1);
-    holds(&rt, is_more(&view(alloc, &most)));
-    let mut over = with_bytes(&rt, alloc, HEAD_BYTES + 1);
-    same(&rt, over.len(), 16_385);
-    holds(&rt, is_fault(&view(alloc, &over)));
-    over.truncate(HEAD_BYTES);
-    holds(&rt, is_fault(&view(alloc, &over)));
+    let mut most = with_bytes(&rt, rt.alloc(), HEAD_BYTES);
+    may_be_so_large(&rt, rt.alloc(), &mut most);
+    let mut over = with_bytes(&rt, rt.alloc(), HEAD_BYTES + 1);
+    is_too_large(&rt, rt.alloc(), &mut over);
 }
 
 #[test]
 fn what_is_no_head(rt: HostRuntime) {
     let alloc = rt.alloc();
-    holds(&rt, is_fault(&view(alloc, b"GET  / HTTP/1.1\r\n")));
-    holds(&rt, is_fault(&view(alloc, b"GET / HTTP/2.0\r\n")));
-    holds(
-        &rt,
-        is_fault(&view(alloc, b"GET / HTTP/1.1\r\nHost : h\r\n")),
-    );
-    holds(&rt, is_fault(&view(alloc, b"GET / HTTP/1.1\r\n a: b\r\n")));
-    holds(&rt, is_more(&view(alloc, b"")));
+    is_refused(&rt, alloc, b"GET  / HTTP/1.1\r\n");
+    is_refused(&rt, alloc, b"GET / HTTP/2.0\r\n");
+    is_refused(&rt, alloc, b"GET / HTTP/1.1\r\nHost : h\r\n");
+    is_refused(&rt, alloc, b"GET / HTTP/1.1\r\n a: b\r\n");
+    waits(&rt, alloc, b"");
 }
 
 #[test]
 fn values_by_name(rt: HostRuntime) {
     let text = b"GET / HTTP/1.1\r\nHost: h\r\nX-Due: 5, 70\r\na:\r\nx-DUE: 6\r\n\r\n";
-    let head = whole(view(rt.alloc(), text)).expect(&rt, "a head");
+    let head = head_of(&rt, rt.alloc(), text);
     has_due_dates(&rt, &head);
     has_values(&rt, &head);
 }
@@ -282,26 +280,23 @@ fn an_answer_head_needs_no_field_and_no_reason(rt: HostRuntime) {
     same(&rt, head.reason(), b"".as_slice());
 }
 
+fn is_faulty_answer(rt: &impl Abort, alloc: Global, text: &[u8], faulty: bool) {
+    same(rt, is_fault(&answer_head(alloc, text)), faulty);
+}
+
+fn answer_waits(rt: &impl Abort, alloc: Global, text: &[u8]) {
+    holds(rt, is_more(&answer_head(alloc, text)));
+}
+
 #[test]
 fn parts_of_an_answer_head_wait_for_more(rt: HostRuntime) {
+    let alloc = rt.alloc();
     let whole = b"HTTP/1.1 200 OK\r\nA: b\r\n\r\n";
     for len in 0..whole.len() {
-        holds(&rt, is_more(&answer_head(rt.alloc(), &whole[..len])));
+        answer_waits(&rt, alloc, &whole[..len]);
     }
-    holds(
-        &rt,
-        is_fault(&answer_head(rt.alloc(), b"HTTP/1.1 20")) == false,
-    );
-    holds(
-        &rt,
-        is_fault(&answer_head(rt.alloc(), b"HTTP/1.1 2x0 OK\r\n\r\n")),
-    );
-    holds(
-        &rt,
-        is_fault(&answer_head(rt.alloc(), b"HTTP/2.0 200 OK\r\n\r\n")),
-    );
-    holds(
-        &rt,
-        is_fault(&answer_head(rt.alloc(), b"GET / HTTP/1.1\r\n\r\n")),
-    );
+    is_faulty_answer(&rt, alloc, b"HTTP/1.1 20", false);
+    is_faulty_answer(&rt, alloc, b"HTTP/1.1 2x0 OK\r\n\r\n", true);
+    is_faulty_answer(&rt, alloc, b"HTTP/2.0 200 OK\r\n\r\n", true);
+    is_faulty_answer(&rt, alloc, b"GET / HTTP/1.1\r\n\r\n", true);
 }

@@ -63,8 +63,10 @@ const CHUNKED: &[u8] = b"3;x=1\r\nabc\r\n0\r\nT: 1\r\n\r\n";
 
 const CHUNKED_TEXT: &[u8] = b"3\r\nabc\r\n0\r\n\r\n";
 
-// bodies, how they are framed and whether they are told to be, what is written and what is left
-static HANDED_ON: [(&[u8], Framing, bool, &[u8], &[u8]); 6] = [
+/// A body, how it is framed and whether it is told to be, what is written and what is left.
+type BodyRow = (&'static [u8], Framing, bool, &'static [u8], &'static [u8]);
+
+static HANDED_ON: [BodyRow; 6] = [
     (b"abc", Framing::Empty, true, b"", b""),
     (b"abcd", Framing::Length(3), true, b"abc", b"d"),
     (b"", Framing::Length(0), true, b"", b""),
@@ -79,18 +81,25 @@ static HANDED_ON: [(&[u8], Framing, bool, &[u8], &[u8]); 6] = [
     ),
 ];
 
+fn is_handed_on(rt: &impl Abort, alloc: Global, row: &BodyRow) {
+    let (input, framing, framed, text, left) = *row;
+    let seen = hand_on(rt, alloc, input, framing, framed);
+    same(rt, seen.result, Ok(()));
+    same(rt, seen.written.as_slice(), text);
+    same(rt, seen.held.as_slice(), left);
+}
+
 #[test]
 fn bodies_are_handed_on(rt: HostRuntime) {
-    for (input, framing, framed, text, left) in &HANDED_ON {
-        let seen = hand_on(&rt, rt.alloc(), input, *framing, *framed);
-        same(&rt, seen.result, Ok(()));
-        same(&rt, seen.written.as_slice(), *text);
-        same(&rt, seen.held.as_slice(), *left);
+    for row in &HANDED_ON {
+        is_handed_on(&rt, rt.alloc(), row);
     }
 }
 
-// bodies, how they are framed, the fault, and what is written
-static BROKEN: [(&[u8], Framing, Fault, &[u8]); 14] = [
+/// A body, how it is framed, the fault, and what is written.
+type BrokenRow = (&'static [u8], Framing, Fault, &'static [u8]);
+
+static BROKEN: [BrokenRow; 14] = [
     (b"ab", Framing::Length(3), Fault::Read, b"ab"),
     (b"", Framing::Chunked, Fault::Read, b""),
     (b"3\r\nab", Framing::Chunked, Fault::Read, b"3\r\nab"),
@@ -122,12 +131,17 @@ static BROKEN: [(&[u8], Framing, Fault, &[u8]); 14] = [
     (b"0\r\nT: 1\r\n", Framing::Chunked, Fault::Read, b""),
 ];
 
+fn is_refused(rt: &impl Abort, alloc: Global, row: &BrokenRow) {
+    let (input, framing, fault, text) = *row;
+    let seen = hand_on(rt, alloc, input, framing, true);
+    same(rt, seen.result, Err(fault));
+    same(rt, seen.written.as_slice(), text);
+}
+
 #[test]
 fn broken_bodies_are_refused(rt: HostRuntime) {
-    for (input, framing, fault, text) in &BROKEN {
-        let seen = hand_on(&rt, rt.alloc(), input, *framing, true);
-        same(&rt, seen.result, Err(*fault));
-        same(&rt, seen.written.as_slice(), *text);
+    for row in &BROKEN {
+        is_refused(&rt, rt.alloc(), row);
     }
 }
 

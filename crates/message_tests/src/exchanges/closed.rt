@@ -63,8 +63,10 @@ fn is_over(alloc: Global, exchange: &mut Exchange, view: &View) -> bool {
     exchange.refuse(Code::Unavailable, &mut writer) == Ok(()) && 0 < writer.bytes
 }
 
-// requests, the turns that there are, and the fault
-static REQUESTS: [(&[u8], u64, Fault); 8] = [
+/// A request, the turns that there are, and the fault.
+type RequestRow = (&'static [u8], u64, Fault);
+
+static REQUESTS: [RequestRow; 8] = [
     (b"GET / HTTP/2.0\r\n", TURNS, Fault::Head),
     (b"GET / HTTP/1.1\r\n", TURNS, Fault::Read),
     (GET, 0, Fault::Turns),
@@ -107,17 +109,24 @@ fn is_closed_by_a_request(
     holds(rt, is_over(alloc, exchange, view));
 }
 
+fn request_closes(rt: &impl Abort, alloc: Global, view: &View, row: &RequestRow) {
+    let (input, turns, fault) = *row;
+    let mut exchange = Exchange::new(alloc, turns).expect(rt, "memory");
+    is_closed_by_a_request(rt, alloc, &mut exchange, view, input, fault);
+}
+
 #[test]
 fn each_fault_of_a_request_closes_the_exchange(rt: HostRuntime) {
     let view = view_of(&rt, rt.alloc(), GET);
-    for (input, turns, fault) in &REQUESTS {
-        let mut exchange = Exchange::new(rt.alloc(), *turns).expect(&rt, "memory");
-        is_closed_by_a_request(&rt, rt.alloc(), &mut exchange, &view, input, *fault);
+    for row in &REQUESTS {
+        request_closes(&rt, rt.alloc(), &view, row);
     }
 }
 
-// the same of answers, and whether a byte of one went out; the request takes two turns
-static ANSWERS: [(&[u8], u64, Fault, bool); 8] = [
+/// The same of an answer, and whether a byte of one went out. The request takes two turns.
+type AnswerRow = (&'static [u8], u64, Fault, bool);
+
+static ANSWERS: [AnswerRow; 8] = [
     (b"HTTP/2.0 200 OK\r\n", TURNS, Fault::Head, false),
     (b"", TURNS, Fault::Read, false),
     (b"HTTP/1.1 101 X\r\n\r\n", TURNS, Fault::Framing, false),
@@ -155,11 +164,16 @@ fn is_closed_by_an_answer(
     holds(rt, is_over(alloc, exchange, view));
 }
 
+fn answer_closes(rt: &impl Abort, alloc: Global, view: &View, row: &AnswerRow) {
+    let (input, turns, fault, begun) = *row;
+    let mut exchange = Exchange::new(alloc, turns).expect(rt, "memory");
+    is_closed_by_an_answer(rt, alloc, &mut exchange, view, input, fault, begun);
+}
+
 #[test]
 fn each_fault_of_an_answer_closes_the_exchange(rt: HostRuntime) {
     let view = view_of(&rt, rt.alloc(), GET);
-    for (input, turns, fault, begun) in &ANSWERS {
-        let mut exchange = Exchange::new(rt.alloc(), *turns).expect(&rt, "memory");
-        is_closed_by_an_answer(&rt, rt.alloc(), &mut exchange, &view, input, *fault, *begun);
+    for row in &ANSWERS {
+        answer_closes(&rt, rt.alloc(), &view, row);
     }
 }

@@ -1,11 +1,10 @@
-ghost use Rattle.std.specs.Prelude.{◌≡◌};
+ghost use Rattle.std.specs.Prelude.{◌≡◌, ◌≤◌, length};
+ghost use Rattle.relay_body.specs.declared.inbox.TheConstants.{INBOX_BYTES};
 ghost use Rattle.relay_http.specs.Asides.{stage_of};
 ghost use Rattle.relay_http.specs.States.{Serves, forwarded_on};
-ghost use Rattle.whole_messages.specs.Outcomes.{IfWhole};
 
 use crate::assertions::holds;
 use crate::passes::Held;
-use grant_board::Pass;
 use relay_body::INBOX_BYTES;
 use relay_http::{Aside, Exchange, Fault};
 use req_view::View;
@@ -108,48 +107,52 @@ fn relay(
 ) {
     holds(rt, input.request.len() <= INBOX_BYTES);
     match read_head(exchange, alloc, input.request, false) {
-        Progress::Whole(view) => relay_on_a_pass(rt, alloc, exchange, &view, input, seen),
+        Progress::Whole(view) => {
+            let behind = Vec::from_slice(alloc, exchange.held()).expect(rt, "memory");
+            let request = Request {
+                view: &view,
+                behind: behind.as_slice(),
+                input,
+            };
+            let held = Held::take(alloc).expect(rt, "a pass");
+            relay_on(alloc, exchange, &held, &request, seen);
+            held.post();
+        }
         Progress::More => {}
         Progress::Refused(fault) => seen.0.told = Progress::Refused(fault),
     }
 }
 
-// A request is handed on, and then its answer, on a pass of their own.
-fn relay_on_a_pass(
-    rt: &impl Abort,
-    alloc: Global,
-    exchange: &mut Exchange,
-    view: &View,
-    input: &Input<'_>,
-    seen: &mut (Seen, Seen),
-) {
-    let held = Held::take(alloc).expect(rt, "a pass");
-    let told = forward(rt, alloc, exchange, held.pass(), view, &mut seen.0.out);
-    seen.0.told = told_of(told);
-    if let Progress::Whole(aside) = told {
-        let request = HandedOn {
-            pass: held.pass(),
-            view,
-            aside: &aside,
-        };
-        answer(alloc, exchange, &request, input, &mut seen.1);
-    }
-    held.post();
+// A request whose head was read, what came behind that, and what else is given.
+#[derive(Clone, Copy)]
+struct Request<'a> {
+    view: &'a View,
+    behind: &'a [u8],
+    input: &'a Input<'a>,
+    ghost few: { length behind.now ≤ INBOX_BYTES },
 }
 
-fn forward(
-    rt: &impl Abort,
+// A request is handed on, and then its answer, on one pass.
+fn relay_on(
     alloc: Global,
     exchange: &mut Exchange,
-    pass: &Pass,
-    view: &View,
-    out: &mut Vec<u8>,
-) -> Progress<Aside>
-    requires { Serves pass.now.verdict }
-    ensures { IfWhole result (λ aside. stage_of aside ≡ forwarded_on pass.now) }
+    held: &Held,
+    request: &Request<'_>,
+    seen: &mut (Seen, Seen),
+)
+    requires { Serves held.now.pass.verdict }
 {
-    let behind = Vec::from_slice(alloc, exchange.held()).expect(rt, "memory");
-    forward_whole(exchange, pass, view, behind.as_slice(), out)
+    let out = &mut seen.0.out;
+    let told = forward_whole(exchange, held.pass(), request.view, request.behind, out);
+    seen.0.told = told_of(told);
+    if let Progress::Whole(aside) = told {
+        let handed_on = HandedOn {
+            pass: held.pass(),
+            view: request.view,
+            aside: &aside,
+        };
+        answer(alloc, exchange, &handed_on, request.input, &mut seen.1);
+    }
 }
 
 fn answer(

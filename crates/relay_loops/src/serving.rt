@@ -23,8 +23,17 @@ pub struct Sizes {
     pub slots: usize,
 }
 
+impl Sizes {
+    // Each place and each thread has one.
+    fn seats(self) -> usize {
+        self.places
+            .saturating_add(self.loops)
+            .saturating_add(self.runners)
+    }
+}
+
 /// Serves until as many clients as may come were served. The seat is the board's first; each place and each thread has one split off it, which is joined
-/// again. `NoMemory` also where a thread can't be started, or where a seat didn't come back since the list of them found no room for it.
+/// again. `NoMemory` also where a thread can't be started, or where fewer seats came back than were lent, which no path is known to do.
 pub fn serve<
     R: Net<Listener = TcpListener, Stream = TcpStream> + Clock + Print + Threads + Wait + Sync,
     N: BoardName + Send + Sync,
@@ -45,11 +54,7 @@ pub fn serve<
 {
     let mut first = seat;
     let mut seats = Vec::new(proxy.alloc);
-    let count = sizes
-        .places
-        .saturating_add(sizes.loops)
-        .saturating_add(sizes.runners);
-    if !split_off(proxy, &mut first, &mut seats, count) {
+    if !split_off(proxy, &mut first, &mut seats, sizes.seats()) {
         join_all(proxy, &mut first, seats);
         return (first, Err(Stopped::NoMemory));
     }
@@ -64,9 +69,8 @@ pub fn serve<
     };
     let all_back = seats.len() == lent;
     join_all(proxy, &mut first, seats);
-    if all_back {
-        (first, served)
-    } else {
-        (first, Err(Stopped::NoMemory))
+    if !all_back {
+        return (first, Err(Stopped::NoMemory));
     }
+    (first, served)
 }

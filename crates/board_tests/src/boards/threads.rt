@@ -120,16 +120,17 @@ fn several_threads(rt: HostRuntime) -> Result<(), Fail> {
     let second = first.split(&board);
     let second = holds_one_each(&rt, &board, &mut keeper, &mut first, second);
     let third = first.split(&board);
-    let ((second, third), keeper) = join(
+    // Where no thread can be made the first is called last, so that it finds what it waits for.
+    let (keeper, (second, third)) = join(
         &rt,
-        || -> (RelaySeat, RelaySeat)
-            requires { (second.board ≡ board) × (second.view.terms.places ≡ 4) × (third.board ≡ board) × (third.view.terms.places ≡ 4) }
-            ensures { (result.0.board ≡ board) × (result.1.board ≡ board) }
-        { serve_both(&rt, &board, second, third) },
         || -> KeeperSeat
             requires { (keeper.board ≡ board) × (keeper.view.terms ≡ terms 4 (2 ∷ 0 ∷ [])) × (count_of 0 keeper.view.out ≤ 2) }
             ensures { result.board ≡ board }
         { collect_all(&rt, &board, keeper) },
+        || -> (RelaySeat, RelaySeat)
+            requires { (second.board ≡ board) × (second.view.terms.places ≡ 4) × (third.board ≡ board) × (third.view.terms.places ≡ 4) }
+            ensures { (result.0.board ≡ board) × (result.1.board ≡ board) }
+        { serve_both(&rt, &board, second, third) },
     );
     first.join(&board, second);
     first.join(&board, third);

@@ -5,20 +5,28 @@ use crate::queue::Queue;
 use due_key::{Class, Due, Key, Moment};
 use verdict::Cause;
 
-/// An accepted arrival.
+/// An accepted arrival. A log is mostly entries, so its numbers are no wider than servers and places want, and the wide
+/// ones stand first.
 #[derive(Clone, Copy, Debug, PartialEq, Eq)]
 pub struct Arrival {
     /// Accepted arrivals are counted from 1.
     pub ticket: u64,
-    pub class: Class,
     pub due: Due,
-    /// The server that the request is bound to.
-    pub pin: Option<usize>,
+    pub class: Class,
     /// Where its row is kept until it ends. No line of a trace shows it.
-    pub place: usize,
+    pub place: u16,
+    /// The server that the request is bound to.
+    pub pin: Option<u8>,
 }
 
 impl Arrival {
+    /// The server that the request is bound to, as servers are numbered elsewhere.
+    pub fn pin(&self) -> Option<usize>
+        ensures { result ≡ self.now.pin }
+    {
+        self.pin.map(usize::from)
+    }
+
     /// The key that the request has in a queue.
     pub fn key(&self) -> Key
         ensures { result ≡ key_of self.now }

@@ -14,7 +14,7 @@ use due_key::{Class, Due, Offset};
 use verdict::Cause;
 
 // The entry of an arrival of class 0 without a pin.
-fn arrived(at: u64, ticket: u64, offset: i64, place: usize) -> Entry {
+fn arrived(at: u64, ticket: u64, offset: i64, place: u16) -> Entry {
     let arrival = Arrival {
         ticket,
         class: Class::clamp(0),

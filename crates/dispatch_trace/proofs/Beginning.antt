@@ -2,12 +2,12 @@
 use Rattle.std.proofs.Common.{◌≡◌, ℕ, zero, suc, ◌+◌, ◌-◌, ◌^◌, ◌≤◌, ◌<◌, max, Bool, true, false, List, [], ◌∷◌, ◌++◌}
 use Rattle.std.proofs.Common.{Option, None, Some, is_some, option_map, slice_get, count_by, length, replicate, ℤ, pos, ◌+ℤ◌, refl, ap, sym, ◌∙◌}
 use Rattle.std.proofs.Common.{subst, arith}
-use Rattle.std.specs.Option.{option_and_then}
+use Rattle.std.specs.Option.{option_and_then, IfSome}
 use Rattle.std.proofs.Math.ListN.{set}
 use Rattle.std.proofs.lemmas.Bool.Decides.{nat_tests}
 use Rattle.std.proofs.lemmas.List.{length-map, map-set}
 use Rattle.std.proofs.lemmas.List.Sums.{sum_by-cons}
-use Rattle.std.proofs.lemmas.Option.{same_Some, slice_get-map}
+use Rattle.std.proofs.lemmas.Option.{same_Some, slice_get-map, slice_get_within}
 use Rattle.due_key.specs.declared.key.Key.{Key}
 use Rattle.due_key.specs.declared.class.TheConstants.{LOWEST_CLASS, HIGHEST_CLASS}
 use Rattle.due_key.specs.declared.offset.TheConstants.{LOWEST_OFFSET, HIGHEST_OFFSET}
@@ -163,6 +163,19 @@ not_full false false true d e = cc
 not_full false false false true e = cc
 not_full false false false false e = refl
 
+not_unknown : (a b c d : Bool) → first_of ((a, LogFull) ∷ (b, NoSuchServer) ∷ (c, TicketsSpent) ∷ (d, PlacesFull) ∷ []) ≡ None → b ≡ false
+not_unknown true b c d e = cc
+not_unknown false true c d e = cc
+not_unknown false false c d e = refl
+
+-- a server that there is has a small number
+pin_below : (setup : Setup) (pin : Option ℕ) → IsSound setup → pins_to_none setup pin ≡ false → IfSome pin (λ server. server < 2 ^ 8)
+pin_below setup None sound known = tt
+pin_below setup (Some server) sound known =
+    let few = sound.servers in
+    let below : server < length setup.servers = grind (arith, nat_tests) in
+    omega arith
+
 first_none : (a b c d : Bool) → a ≡ false → b ≡ false → c ≡ false → d ≡ false
     → first_of ((a, LogFull) ∷ (b, NoSuchServer) ∷ (c, TicketsSpent) ∷ (d, PlacesFull) ∷ []) ≡ None
 first_none a b c d e f g h = rw (e, f, g, h) refl
@@ -189,6 +202,20 @@ module _ {N : Type 0} (pair_of : N → Key × ℕ) where
       let long : length (rows_in t.kept.slots) ≡ length (state_of h).rows = ap length is.holds.rows in
       let same : length (rows_in t.kept.slots) ≡ length t.kept.slots = length-map t.kept.slots row_in in
       omega arith
+
+  -- a free place and a server that there is have small numbers
+  pub place_is_small : (t : Traced N) (place : ℕ) → IsTrace pair_of t → slice_get t.kept.slots place ≡ Some None → place < 2 ^ 16
+  place_is_small t place is vacant =
+      let within = slice_get_within t.kept.slots place None vacant in
+      let places = trace_places pair_of t is in
+      let long : length (rows_in t.kept.slots) ≡ length (state_of (history_of t)).rows = ap length is.holds.rows in
+      let same : length (rows_in t.kept.slots) ≡ length t.kept.slots = length-map t.kept.slots row_in in
+      let few = is.sound.places in
+      omega arith
+
+  pub pin_is_small : (t : Traced N) (pin : Option ℕ) → IsTrace pair_of t → refuses_arrival (history_of t) pin ≡ None
+      → IfSome pin (λ server. server < 2 ^ 8)
+  pin_is_small t pin is accepted = pin_below t.kept.setup pin is.sound (not_unknown _ _ _ _ accepted)
 
   -- the next ticket is above all others
   pub next_is_highest : (t : Traced N) → IsTrace pair_of t → (p : ℕ) (s : Slot N) → StandsIn t.kept.slots p s

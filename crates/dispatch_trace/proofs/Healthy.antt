@@ -1,13 +1,12 @@
 -- Which servers are up by the results of their checks.
 use Rattle.std.proofs.Common.{◌≡◌, ℕ, zero, suc, Bool, true, List, [], ◌∷◌, Option, None, Some, length, replicate, refl, ap, sym, ◌∙◌}
 use Rattle.std.proofs.Common.{arith}
-use Rattle.std.proofs.Math.ListN.{set, length-replicate}
-use Rattle.dispatch_log.specs.declared.entry.Entry.{Entry}
+use Rattle.std.proofs.Math.ListN.{set}
 use Rattle.dispatch_log.specs.declared.setup.ServerSet.{ServerSet}
 use Rattle.dispatch_log.specs.declared.setup.Setup.{Setup}
 use Rattle.dispatch_log.specs.Health.{is_up_by, ups_of, with_result}
 use Rattle.dispatch_log.specs.Histories.{History, state_of}
-use Rattle.dispatch_log.specs.States.{State, after, after_all, opening_state}
+use Rattle.dispatch_log.specs.States.{opening_state}
 use Rattle.dispatch_log.specs.Legal.{IsBase}
 use Rattle.dispatch_log.proofs.Judged.{results_all}
 use Rattle.dispatch_trace.specs.Traces.{is_up_at}

@@ -1,4 +1,4 @@
-ghost use Rattle.std.specs.Prelude.{◌≡◌, ◌<◌, length, None, Some, count_by, is_some, slice_get, slice_set, IfOk, OnErr, pos, ◌+ℤ◌};
+ghost use Rattle.std.specs.Prelude.{◌≡◌, ◌<◌, ◌^◌, length, None, Some, IfSome, count_by, is_some, slice_get, slice_set, IfOk, OnErr, pos, ◌+ℤ◌};
 ghost use Rattle.slot_ledger.specs.Ledgers.{with_slots};
 ghost use Rattle.slot_ledger.specs.Slots.{AreBelow};
 ghost use Rattle.dispatch_log.specs.declared.entry.Entry.TheVariants.{Arrive};
@@ -47,19 +47,30 @@ impl<Q: PendQueue<Key, usize>> Trace<Q> {
                 phase: Phase::Loose,
             },
         )?;
-        self.log.note(Entry::Arrive(
-            now,
-            Arrival {
-                ticket,
-                class,
-                due,
-                pin,
-                place,
-            },
-        ));
+        let it = Ticketed { place, ticket };
+        self.log
+            .note(Entry::Arrive(now, arrival_of(it, class, due, pin)));
         self.position.last = now;
         self.position.ticket = ticket;
-        Ok(Ticketed { place, ticket })
+        Ok(it)
+    }
+}
+
+/// What an entry keeps of an arrival. Its numbers are small: there are 4,096 places and 64 servers at most.
+fn arrival_of(it: Ticketed, class: Class, due: Due, pin: Option<usize>) -> Arrival
+    requires place { it.place < 2 ^ 16 }
+    requires pin { IfSome pin (λ server. server < 2 ^ 8) }
+    ensures { result ≡ record { ticket = it.ticket; due = due; class = class; place = it.place; pin = pin } }
+{
+    Arrival {
+        ticket: it.ticket,
+        due,
+        class,
+        place: it.place as u16,
+        pin: match pin {
+            Some(server) => Some(server as u8),
+            None => None,
+        },
     }
 }
 

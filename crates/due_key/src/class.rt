@@ -17,7 +17,7 @@ pub const HIGHEST_CLASS: i64 = 2047;
 /// Of the requests in a queue those of the lowest class are served first.
 #[derive(Clone, Copy, Debug, PartialEq, Eq, PartialOrd, Ord)]
 pub struct Class {
-    number: i64,
+    number: i16,
 }
 
 impl Model for Class {
@@ -40,7 +40,7 @@ impl Class {
         ensures { result ≡ nearest LOWEST_CLASS HIGHEST_CLASS number }
     {
         Class {
-            number: number.clamp(LOWEST_CLASS, HIGHEST_CLASS),
+            number: number.clamp(LOWEST_CLASS, HIGHEST_CLASS) as i16,
         }
     }
 
@@ -48,7 +48,7 @@ impl Class {
         ensures value { result ≡ self }
         ensures range { IsBetween LOWEST_CLASS HIGHEST_CLASS result }
     {
-        self.number
+        i64::from(self.number)
     }
 
     /// The key of a request of this class, due then, with this ticket.

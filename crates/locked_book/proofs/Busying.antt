@@ -1,5 +1,5 @@
 -- The set of the places that are out follows the seat.
-use Rattle.std.proofs.Common.{◌≡◌, ◌≢◌, ℕ, ◌+◌, ◌*◌, ◌<◌, ◌≤◌, ◌⊎◌, ◌↔◌, inl, inr, List, [], ◌∷◌, ◌++◌, refl, ap, sym, ◌∙◌, subst, arith}
+use Rattle.std.proofs.Common.{◌≡◌, ◌≢◌, ℕ, ◌+◌, ◌*◌, ◌<◌, ◌≤◌, ◌⊎◌, ◌↔◌, inl, inr, List, [], ◌∷◌, ◌++◌, sym, subst, arith}
 use mathlib.Core.Logic.{dite}
 use native.Mathlib.Decide.{ℕ_discrete}
 use Rattle.verdict.specs.declared.Verdict.{Verdict}
@@ -7,7 +7,7 @@ use Rattle.list_facts.specs.Weights.{total}
 use Rattle.list_facts.proofs.Totals.{total-push}
 use Rattle.place_set.specs.Sets.{Has}
 use Rattle.grant_board.specs.declared.returned.Return.{Return}
-use Rattle.grant_board.specs.Views.{Grant, grant, KeeperView, at_place, count_at}
+use Rattle.grant_board.specs.Views.{grant, KeeperView, at_place, count_at}
 use Rattle.grant_board.specs.KeeperCalls.{offer_after, Collects}
 use Rattle.grant_board.proofs.Grants.{at_place-yes, at_place-no}
 use Rattle.locked_book.specs.Busy.{IsKept}

@@ -1,5 +1,5 @@
 -- Returns, new limits and windows: what they owe.
-use Rattle.std.proofs.Common.{◌≡◌, ℕ, zero, suc, ◌+◌, ◌-◌, ◌*◌, ◌<◌, ◌≤◌, ◌==◌, max, min, nat_lt, nat_le, not, Bool, true, false, cond}
+use Rattle.std.proofs.Common.{◌≡◌, ℕ, zero, suc, ◌<◌, ◌≤◌, ◌==◌, max, min, nat_le, not, Bool, true, false, cond}
 use Rattle.std.proofs.Common.{List, [], ◌∷◌, ◌++◌, Option, None, Some, map, drop, length, set, is_none, ◌⊎◌, inl}
 use Rattle.std.proofs.Common.{inr, IfOk, IfSome, IfNone, OnErr, Result, Ok, Err, refl, ap, sym, ◌∙◌, subst, arith}
 use Rattle.std.specs.Option.{option_map_or}
@@ -10,13 +10,12 @@ use Rattle.verdict.specs.declared.Verdict.{Verdict}
 use Rattle.verdict.specs.declared.Verdict.TheVariants.{Serve}
 use Rattle.verdict.specs.declared.Ending.{Ending}
 use Rattle.verdict.specs.declared.Ending.TheVariants as ending
-use Rattle.list_facts.proofs.Never.{false_true, none_some}
+use Rattle.list_facts.proofs.Never.{none_some}
 use Rattle.grant_board.specs.declared.returned.Return.{Return}
-use Rattle.grant_board.specs.Views.{Grant, grant, Terms, KeeperView, serves_at, count_of}
+use Rattle.grant_board.specs.Views.{grant, Terms, KeeperView, serves_at, count_of}
 use Rattle.grant_board.specs.BoardWords.{MayEnd}
 use Rattle.grant_board.specs.KeeperCalls.{Keeper, Collects, FindsUnposted, MayLimit, limit_after}
 use Rattle.dispatch_log.specs.declared.allowance.Allowance.{Allowance}
-use Rattle.dispatch_log.specs.declared.entry.Entry.{Entry}
 use Rattle.dispatch_log.specs.declared.entry.Entry.TheVariants.{Done, Fail, Limit}
 use Rattle.dispatch_log.specs.declared.refusal.Refusal.TheVariants.{LogFull, NoSuchServer, NoSuchTicket, WrongPhase}
 use Rattle.dispatch_log.specs.declared.row.Phase.{Phase}
@@ -27,7 +26,7 @@ use Rattle.dispatch_log.specs.Dispatch.{bound_by}
 use Rattle.dispatch_log.specs.Histories.{History, state_of, next_window, refuses_limit}
 use Rattle.dispatch_log.specs.Legal.{IsLegal, AddsEvent}
 use Rattle.dispatch_log.specs.Refusals.{first_of, lacks_room, is_waiting, has_a_slot}
-use Rattle.dispatch_log.specs.Rows.{Rows, row_of, is_served_by, served}
+use Rattle.dispatch_log.specs.Rows.{row_of, is_served_by, served}
 use Rattle.dispatch_log.specs.States.{State, after}
 use Rattle.dispatch_log.proofs.RowLemmas.{row_of_at}
 use Rattle.dispatch_log.proofs.Within.{within}

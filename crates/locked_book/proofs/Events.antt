@@ -1,12 +1,11 @@
 -- Events that a book makes: what they owe, and that it is paid.
-use Rattle.std.proofs.Common.{◌≡◌, ◌<◌, ℕ, zero, suc, ◌+◌, ◌==◌, max, cond, replicate, Bool, true, false, List, []}
+use Rattle.std.proofs.Common.{◌≡◌, ◌<◌, ℕ, zero, suc, ◌==◌, max, cond, replicate, Bool, true, false, List, []}
 use Rattle.std.proofs.Common.{◌∷◌, ◌++◌, All, Option, None, Some, map, drop, length, refl, ap, sym, ◌∙◌, subst, arith}
 use Rattle.std.specs.List.{cons_option}
 use Rattle.std.proofs.lemmas.List.{append_assoc, append-nil}
 use Rattle.std.proofs.Math.Seq.{drop-append_seam}
 use Rattle.std.proofs.lemmas.List.Elements.{All-head, All-tail}
 use Rattle.verdict.specs.declared.Verdict.{Verdict}
-use Rattle.verdict.specs.declared.Ending.{Ending}
 use Rattle.grant_board.specs.Views.{Grant, grant, KeeperView}
 use Rattle.grant_board.specs.KeeperCalls.{Keeper, new_keeper, offer_after}
 use Rattle.std.proofs.lemmas.Bool.Decides.{Decides-eqb}
@@ -15,12 +14,10 @@ use Rattle.list_facts.proofs.Never.{false_true}
 use Rattle.dispatch_log.specs.declared.setup.ServerSet.{ServerSet}
 use Rattle.dispatch_log.specs.declared.entry.Entry.{Entry}
 use Rattle.dispatch_log.specs.declared.entry.Entry.TheVariants.{Arrive, Done, Fail, Abort, Tick, Check, Limit}
-use Rattle.dispatch_log.specs.declared.allowance.Allowance.{Allowance}
 use Rattle.dispatch_log.specs.declared.setup.Setup.{Setup}
 use Rattle.dispatch_log.specs.Dispatch.{bound_by}
 use Rattle.dispatch_log.specs.Histories.{History, first_window, state_of, begins_event}
 use Rattle.dispatch_log.specs.Legal.{IsLegal, AddsEvent}
-use Rattle.dispatch_log.specs.Rows.{Rows}
 use Rattle.dispatch_log.specs.States.{State, after, after_all, opening_limits}
 use Rattle.outstanding.specs.Books.{terms_of, IsBook, IsOwing}
 use Rattle.outstanding.specs.Calls.{Booked, added, grants_in, with_offers, Wakes, CarriesOut}

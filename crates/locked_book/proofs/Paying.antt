@@ -1,5 +1,5 @@
 -- Verdicts that are offered one after the other.
-use Rattle.std.proofs.Common.{◌≡◌, ◌≢◌, ℕ, suc, ◌+◌, ◌<◌, ◌≤◌, ◌⊎◌, ◌↔◌, inl, inr, List, [], ◌∷◌, ◌++◌}
+use Rattle.std.proofs.Common.{◌≡◌, ℕ, suc, ◌+◌, ◌<◌, ◌⊎◌, ◌↔◌, inl, inr, List, [], ◌∷◌, ◌++◌}
 use Rattle.std.proofs.Common.{Option, None, Some, Contains, map, drop, length, get_or, refl, ap, sym, ◌∙◌, subst, arith}
 use Rattle.std.specs.List.{cons_option}
 use Rattle.std.proofs.Math.Seq.{drop-cons}
@@ -11,8 +11,6 @@ use Rattle.grant_board.specs.Views.{Grant, grant, KeeperView}
 use Rattle.grant_board.specs.KeeperCalls.{Keeper, offer_after}
 use Rattle.dispatch_log.specs.declared.entry.Entry.{Entry}
 use Rattle.dispatch_log.specs.Histories.{History, state_of}
-use Rattle.dispatch_log.specs.Legal.{IsLegal}
-use Rattle.dispatch_log.specs.Rows.{StandsAt}
 use Rattle.outstanding.specs.Books.{IsOwing}
 use Rattle.outstanding.specs.Calls.{grants_in, with_offers, Wakes}
 use Rattle.outstanding.specs.Outstanding.{place_in, grants_of}

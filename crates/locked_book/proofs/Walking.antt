@@ -1,6 +1,5 @@
 -- A walk over a block of places that were out when it began.
-use Rattle.std.proofs.Common.{◌≡◌, ◌≢◌, ℕ, ◌+◌, ◌*◌, ◌/◌, ◌<◌, ◌≤◌, ◌↔◌, List, arith, nat_lt, Bool, true, false}
-use Rattle.std.proofs.lemmas.Bool.Decides.{nat_tests}
+use Rattle.std.proofs.Common.{◌≡◌, ◌≢◌, ℕ, ◌+◌, ◌*◌, ◌/◌, ◌<◌, ◌≤◌, ◌↔◌, List, arith}
 use Rattle.place_set.specs.Sets.{Ahead, HasAhead, IsFirstAhead}
 use Rattle.grant_board.specs.Views.{count_at}
 use Rattle.outstanding.specs.Calls.{Booked}

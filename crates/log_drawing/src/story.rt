@@ -72,7 +72,7 @@ fn push_story(text: &mut String, scene: &Scene, bar: &Bar) -> Result<(), AllocEr
 fn push_arrival(text: &mut String, names: &Names, came: Came) -> Result<(), AllocError> {
     let moment = came.moment;
     let arrival = came.arrival;
-    let pin = arrival.pin;
+    let pin = arrival.pin();
     push_came(text, moment, arrival)?;
     push_pin(text, names, pin)
 }

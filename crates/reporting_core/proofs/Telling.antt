@@ -24,7 +24,7 @@ use Rattle.dispatch_log.specs.Judgement.{Stage, AllMayCome, MayCome, next_stage,
 use Rattle.dispatch_log.specs.Legal.{AddsEvent, IsLegal}
 use Rattle.dispatch_log.specs.Logs.{Recorded}
 use Rattle.dispatch_log.specs.States.{State, opening_state, scene, after, key_of}
-use Rattle.dispatch_log.specs.Scenes.{Scene, may_take, is_free, is_up, limit_of}
+use Rattle.dispatch_log.specs.Scenes.{may_take, is_free, is_up, limit_of}
 use Rattle.dispatch_log.specs.Rows.{Rows, IsRow, served}
 use Rattle.dispatch_log.specs.declared.row.Row.{Row}
 use Rattle.readable_log.specs.Ordered.{HaveArrived}
@@ -33,7 +33,7 @@ use Rattle.readable_log.proofs.Based.{base_arrived}
 use Rattle.readable_log.proofs.RowsLeft.{rows_arrived}
 use Rattle.readable_log.proofs.Judged.{judged_keep_order}
 use Rattle.readable_log.specs.Grants.{Wait, arrival_in, grant_in, newer_key, key_known, grant_after, grants_after, grants}
-use Rattle.readable_log.specs.Windows.{Window, base_rows, newer_base_key, base_key, window_in, window_of}
+use Rattle.readable_log.specs.Windows.{base_rows, newer_base_key, base_key, window_in, window_of}
 use Rattle.readable_log.specs.declared.base.BaseRow.{BaseRow}
 use Rattle.readable_log.specs.declared.grant.SlotGrant.{SlotGrant}
 use Rattle.readable_log.proofs.Timely.{follows}

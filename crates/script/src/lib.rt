@@ -9,6 +9,7 @@ mod report;
 mod setting;
 mod step;
 mod trace;
+mod writing;
 
 pub use header::{Header, MOST_BYTES, ScriptError, is_faulty, read};
 pub use line::{Line, step_in};

@@ -1,7 +1,10 @@
-ghost use Rattle.std.specs.Prelude.{◌≡◌, ◌++◌, OnOk, string_bytes, codes};
+ghost use Rattle.std.specs.Prelude.{◌≡◌, ◌++◌, OnOk, string_bytes, codes, decimal};
 ghost use Rattle.script.specs.Traces.{arrival_text, health_word as health_word_is, pin_text, entry_text, entries_text, refusal_text, queue_name};
 
 use crate::names::Names;
+use crate::writing::{
+    end_by_name, end_by_number, push_moment, push_name, push_number, push_signed, push_ticket,
+};
 use dispatch_log::{Arrival, Entry, Queue, Refusal};
 use due_key::Moment;
 use std::alloc::AllocError;
@@ -29,41 +32,62 @@ fn push_entry(text: &mut String, names: &Names, entry: &Entry) -> Result<(), All
 {
     match *entry {
         Entry::Arrive(moment, arrival) => push_arrival(text, names, moment, arrival),
-        Entry::Done(moment, ticket) => writeln!(text, "{moment} done {ticket}"),
-        Entry::Fail(moment, ticket) => writeln!(text, "{moment} fail {ticket}"),
-        Entry::Abort(moment, ticket) => writeln!(text, "{moment} abort {ticket}"),
-        Entry::Tick(moment) => writeln!(text, "{moment} tick"),
+        Entry::Done(moment, ticket) => push_told(text, moment, " done ", ticket),
+        Entry::Fail(moment, ticket) => push_told(text, moment, " fail ", ticket),
+        Entry::Abort(moment, ticket) => push_told(text, moment, " abort ", ticket),
+        Entry::Tick(moment) => push_moment(text, moment, " tick\n"),
         Entry::Check(moment, server, answered) => {
-            writeln!(
-                text,
-                "{moment} check {} {}",
-                names.of(server),
-                health_word(answered)
-            )
+            push_moment(text, moment, " check")?;
+            push_name(text, names.of(server))?;
+            end_by_name(text, health_word(answered))
         }
         Entry::Limit(moment, server, limit) => {
-            writeln!(text, "{moment} limit {} {limit}", names.of(server))
+            push_moment(text, moment, " limit")?;
+            push_name(text, names.of(server))?;
+            end_by_number(text, limit)
         }
-        Entry::Direct(ticket, server) => writeln!(text, "  direct {ticket} {}", names.of(server)),
-        Entry::Joined(ticket, queue) => {
-            let name = name_of(names, queue);
-            writeln!(text, "  join {ticket} {name}")
-        }
+        Entry::Direct(ticket, server) => push_put(text, "  direct ", ticket, names.of(server)),
+        Entry::Joined(ticket, queue) => push_put(text, "  join ", ticket, name_of(names, queue)),
         Entry::Granted(ticket, queue, server) => {
-            let from = name_of(names, queue);
-            writeln!(text, "  grant {ticket} {from} {}", names.of(server))
+            push_ticket(text, "  grant ", ticket)?;
+            push_name(text, name_of(names, queue))?;
+            end_by_name(text, names.of(server))
         }
-        Entry::Moved(ticket, server) => writeln!(text, "  move {ticket} {}", names.of(server)),
-        Entry::Freed(ticket, server) => writeln!(text, "  free {ticket} {}", names.of(server)),
+        Entry::Moved(ticket, server) => push_put(text, "  move ", ticket, names.of(server)),
+        Entry::Freed(ticket, server) => push_put(text, "  free ", ticket, names.of(server)),
         Entry::Retried(ticket, server, failures) => {
-            writeln!(text, "  retry {ticket} {} {failures}", names.of(server))
+            push_ticket(text, "  retry ", ticket)?;
+            push_name(text, names.of(server))?;
+            end_by_number(text, failures)
         }
         Entry::Left(ticket, cause) => writeln!(text, "  left {ticket} {cause}"),
         Entry::Health(server, up) => {
-            writeln!(text, "  health {} {}", names.of(server), health_word(up))
+            text.push_str("  health")?;
+            push_name(text, names.of(server))?;
+            end_by_name(text, health_word(up))
         }
-        Entry::Ended(ticket) => writeln!(text, "  end {ticket}"),
+        Entry::Ended(ticket) => {
+            push_ticket(text, "  end ", ticket)?;
+            text.push_str("\n")
+        }
     }
+}
+
+// `M WORD T`, a line.
+fn push_told(text: &mut String, moment: Moment, word: &str, ticket: u64) -> Result<(), AllocError>
+    ensures { OnOk result (string_bytes text.new ≡ string_bytes text.old ++ (decimal moment ++ word.now ++ decimal ticket ++ codes "\n")) }
+{
+    push_moment(text, moment, word)?;
+    push_number(text, ticket)?;
+    text.push_str("\n")
+}
+
+// `WORD T NAME`, a line.
+fn push_put(text: &mut String, word: &str, ticket: u64, name: &str) -> Result<(), AllocError>
+    ensures { OnOk result (string_bytes text.new ≡ string_bytes text.old ++ (word.now ++ decimal ticket ++ codes " " ++ name.now ++ codes "\n")) }
+{
+    push_ticket(text, word, ticket)?;
+    end_by_name(text, name)
 }
 
 fn push_arrival(
@@ -74,7 +98,7 @@ fn push_arrival(
 ) -> Result<(), AllocError>
     ensures { OnOk result (string_bytes text.new ≡ string_bytes text.old ++ entry_text names.now (Entry.Arrive moment arrival)) }
 {
-    let pin = arrival.pin;
+    let pin = arrival.pin();
     push_arrived(text, moment, arrival)?;
     push_pin(text, names, pin)
 }
@@ -82,10 +106,12 @@ fn push_arrival(
 fn push_arrived(text: &mut String, moment: Moment, arrival: Arrival) -> Result<(), AllocError>
     ensures { OnOk result (string_bytes text.new ≡ string_bytes text.old ++ arrival_text moment arrival) }
 {
-    let ticket = arrival.ticket;
-    let class = arrival.class;
-    let due = arrival.due;
-    write!(text, "{moment} arrive {ticket} {class} {due}")
+    push_moment(text, moment, " arrive ")?;
+    push_number(text, arrival.ticket)?;
+    text.push_str(" ")?;
+    push_signed(text, arrival.class.get())?;
+    text.push_str(" ")?;
+    push_signed(text, arrival.due.get())
 }
 
 // And the end of the line.
@@ -93,11 +119,8 @@ fn push_pin(text: &mut String, names: &Names, pin: Option<usize>) -> Result<(), 
     ensures { OnOk result (string_bytes text.new ≡ string_bytes text.old ++ (pin_text names.now pin ++ codes "\n")) }
 {
     match pin {
-        None => writeln!(text),
-        Some(server) => {
-            let name = names.of(server);
-            writeln!(text, " {name}")
-        }
+        None => text.push_str("\n"),
+        Some(server) => end_by_name(text, names.of(server)),
     }
 }
 

@@ -53,7 +53,7 @@ pub fn push_story(
 fn add_arrival(story: &mut Story, telling: &Telling, came: &Came) -> Result<(), AllocError> {
     let arrival = came.arrival;
     let moment = came.moment;
-    let pin = arrival.pin;
+    let pin = arrival.pin();
     let mut line = story.line();
     write_arrival(&mut line, moment, arrival)?;
     if let Some(server) = pin {

@@ -67,10 +67,13 @@ fn arrival(servers: &mut Servers, moment: Moment, mut words: Words) -> Result<En
 }
 
 // `NAME`, or nothing.
-fn pin_of(servers: &mut Servers, mut words: Words) -> Result<Option<usize>, LineError> {
+fn pin_of(servers: &mut Servers, mut words: Words) -> Result<Option<u8>, LineError> {
     match (words.next(), words.next()) {
         (None, _) => Ok(None),
-        (Some(name), None) => Ok(Some(servers.number(name)?)),
+        (Some(name), None) => match u8::try_from(servers.number(name)?) {
+            Ok(server) => Ok(Some(server)),
+            Err(_) => Err(LineError::Faulty(Cause::Servers)),
+        },
         _ => Err(LineError::Faulty(Cause::Form)),
     }
 }

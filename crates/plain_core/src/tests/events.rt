@@ -100,8 +100,8 @@ impl Plain {
                     ticket: self.ticket.saturating_add(1),
                     class,
                     due: Due::of(moment, offset),
-                    pin,
-                    place,
+                    pin: pin.and_then(|server| u8::try_from(server).ok()),
+                    place: u16::try_from(place).unwrap_or(0),
                 };
                 Entry::Arrive(moment, arrival)
             }
@@ -117,7 +117,7 @@ impl Plain {
     /// Whether the place of an arrival is free.
     pub fn has_place_for(&self, event: &Entry) -> bool {
         match event {
-            Entry::Arrive(_, arrival) => matches!(self.rows.get(arrival.place), Some(None)),
+            Entry::Arrive(_, arrival) => matches!(self.rows.get(usize::from(arrival.place)), Some(None)),
             _ => true,
         }
     }

@@ -158,11 +158,11 @@ impl Plain {
                 due: arrival.due,
                 ticket: arrival.ticket,
             },
-            pin: arrival.pin,
+            pin: arrival.pin(),
             failures: 0,
             phase: Phase::Loose,
         };
-        self.fill(arrival.place, Some(row));
+        self.fill(usize::from(arrival.place), Some(row));
     }
 
     fn fill(&mut self, place: usize, row: Option<Row>) {

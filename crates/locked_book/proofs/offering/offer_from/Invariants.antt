@@ -1,4 +1,4 @@
-use Rattle.std.proofs.Common.{◌≡◌, ◌≤◌, drop, length}
+use Rattle.std.proofs.Common.{drop}
 use Rattle.locked_book.proofs.Paying.{IsPaying}
 use Rattle.locked_book.proofs.offering.offer_from.Given as goal
 

@@ -1,13 +1,16 @@
-use Rattle.std.proofs.Common.{◌≡◌, ◌+◌, Some, slice_set, refl, subst}
+use Rattle.std.proofs.Common.{◌≡◌, ◌+◌, [], ◌∷◌, ◌++◌, Some, slice_set, refl, sym, subst}
 use Rattle.dispatch_log.specs.declared.row.Phase.TheVariants.{Loose}
 use Rattle.slot_ledger.specs.Ledgers.{with_slots}
 use Rattle.due_key.specs.Range.{IsBetween}
 use Rattle.due_key.specs.declared.class.TheConstants.{LOWEST_CLASS, HIGHEST_CLASS}
 use Rattle.due_key.specs.declared.key.Key.{Key}
 use Rattle.dispatch_log.specs.declared.entry.Arrival.{Arrival}
+use Rattle.dispatch_log.specs.declared.entry.Entry.TheVariants.{Arrive}
 use Rattle.dispatch_log.specs.Histories.{refuses_arrival}
+use Rattle.readable_log.specs.Readable.{MayFollow}
+use Rattle.readable_log.specs.Windows.{base_rows}
 use Rattle.dispatch_trace.proofs.Stepping.{follows_on}
-use Rattle.dispatch_trace.proofs.Beginning.{arrival_fits, next_is_highest, arrive_kept, newcomer_at}
+use Rattle.dispatch_trace.proofs.Beginning.{arrival_fits, place_is_small, pin_is_small, next_is_highest, arrive_kept, newcomer_at}
 use Rattle.dispatch_trace.proofs.Stepping.{closed}
 use Rattle.dispatch_trace.proofs.Stepping.{here_begins}
 use Rattle.dispatch_trace.proofs.trace.Trace.arrive.Goals as goal
@@ -21,6 +24,16 @@ admit-requires-clause-room g c =
 
 pub admit-requires-clause-highest : goal.admit-requires-clause-highest
 admit-requires-clause-highest g c = rw c.key-key.ensures.key (next_is_highest _ _ c.self.invariant)
+
+pub arrival_of-requires-clause-place : goal.arrival_of-requires-clause-place
+arrival_of-requires-clause-place g c = place_is_small _ _ c.in_ok-place.place c.self.invariant c.in_ok-place.ensures.vacant
+
+pub arrival_of-requires-clause-pin : goal.arrival_of-requires-clause-pin
+arrival_of-requires-clause-pin g c =
+    let begins = here_begins _ _ _ c.args.moment c.later-now.result
+    (λ h. refuses_arrival h c.args.pin) c.self.invariant c.self.view_is c.requires.begins c.later-now.ensures.later
+    c.later-now.ensures.range in
+    pin_is_small _ _ c.args.pin c.self.invariant begins.accepted
 
 pub note-requires-clause-follows : goal.note-requires-clause-follows
 note-requires-clause-follows g c =
@@ -41,10 +54,12 @@ note-requires-clause-follows g c =
     (Some (record { row = record { key = k; pin = c.args.pin; failures = 0; phase = Loose }; node = Some node })))))
     c.key-key.ensures.key c.in_ok-place.ensures.admitted in
     let class = subst (λ (k : Key). IsBetween LOWEST_CLASS HIGHEST_CLASS k.class) c.key-key.ensures.key c.key-key.ensures.range in
-    follows_on _ _ _ _
+    subst (λ (a : Arrival). MayFollow (base_rows c.self.inside.log.base.rows) c.self.inside.log.entries (Arrive c.later-now.result a))
+    (sym c.arrival_of.ensures)
+    (follows_on _ _ _ _
     (arrive_kept _ _ c.args.moment c.later-now.result c.in_ok-place.place c.args.offset arrival admitted.0 c.self.invariant begins c.later-now.ensures.later
     refl
-    refl c.of-due.ensures.sum c.of-due.ensures.range class c.in_ok-place.ensures.vacant admitted.1).judged
+    refl c.of-due.ensures.sum c.of-due.ensures.range class c.in_ok-place.ensures.vacant admitted.1).judged)
 
 pub invariant_of-self-2 : goal.invariant_of-self-2
 invariant_of-self-2 g c =
@@ -65,7 +80,9 @@ invariant_of-self-2 g c =
     (Some (record { row = record { key = k; pin = c.args.pin; failures = 0; phase = Loose }; node = Some node })))))
     c.key-key.ensures.key c.in_ok-place.ensures.admitted in
     let class = subst (λ (k : Key). IsBetween LOWEST_CLASS HIGHEST_CLASS k.class) c.key-key.ensures.key c.key-key.ensures.range in
-    closed _ _ _ _ _ _ _ _ admitted.2 c.note.ensures refl
+    let noted = subst (λ (a : Arrival). c.note.new.self ≡ record c.self.inside.log { entries = c.self.inside.log.entries ++ Arrive c.later-now.result a ∷ [] })
+    c.arrival_of.ensures c.note.ensures in
+    closed _ _ _ _ _ _ _ _ admitted.2 noted refl
     (arrive_kept _ _ c.args.moment c.later-now.result c.in_ok-place.place c.args.offset arrival admitted.0 c.self.invariant begins c.later-now.ensures.later
     refl refl
     c.of-due.ensures.sum c.of-due.ensures.range class c.in_ok-place.ensures.vacant admitted.1)
@@ -89,8 +106,10 @@ returns-clause-pin g c =
     (Some (record { row = record { key = k; pin = c.args.pin; failures = 0; phase = Loose }; node = Some node })))))
     c.key-key.ensures.key c.in_ok-place.ensures.admitted in
     let class = subst (λ (k : Key). IsBetween LOWEST_CLASS HIGHEST_CLASS k.class) c.key-key.ensures.key c.key-key.ensures.range in
+    let noted = subst (λ (a : Arrival). c.note.new.self ≡ record c.self.inside.log { entries = c.self.inside.log.entries ++ Arrive c.later-now.result a ∷ [] })
+    c.arrival_of.ensures c.note.ensures in
     (newcomer_at _ _ _ c.in_ok-place.place _
-    (closed _ _ _ _ _ _ _ _ admitted.2 c.note.ensures refl
+    (closed _ _ _ _ _ _ _ _ admitted.2 noted refl
     (arrive_kept _ _ c.args.moment c.later-now.result c.in_ok-place.place c.args.offset arrival admitted.0 c.self.invariant begins c.later-now.ensures.later
     refl refl
     c.of-due.ensures.sum c.of-due.ensures.range class c.in_ok-place.ensures.vacant admitted.1))
@@ -115,8 +134,10 @@ returns-clause-at g c =
     (Some (record { row = record { key = k; pin = c.args.pin; failures = 0; phase = Loose }; node = Some node })))))
     c.key-key.ensures.key c.in_ok-place.ensures.admitted in
     let class = subst (λ (k : Key). IsBetween LOWEST_CLASS HIGHEST_CLASS k.class) c.key-key.ensures.key c.key-key.ensures.range in
+    let noted = subst (λ (a : Arrival). c.note.new.self ≡ record c.self.inside.log { entries = c.self.inside.log.entries ++ Arrive c.later-now.result a ∷ [] })
+    c.arrival_of.ensures c.note.ensures in
     (newcomer_at _ _ _ c.in_ok-place.place _
-    (closed _ _ _ _ _ _ _ _ admitted.2 c.note.ensures refl
+    (closed _ _ _ _ _ _ _ _ admitted.2 noted refl
     (arrive_kept _ _ c.args.moment c.later-now.result c.in_ok-place.place c.args.offset arrival admitted.0 c.self.invariant begins c.later-now.ensures.later
     refl refl
     c.of-due.ensures.sum c.of-due.ensures.range class c.in_ok-place.ensures.vacant admitted.1))

@@ -1,6 +1,5 @@
-use Rattle.std.proofs.Common.{◌≡◌, ◌≤◌, ℕ, drop, length, min, ap, sym, ◌∙◌, subst, arith}
-use Rattle.grant_board.specs.Views.{KeeperView}
-use Rattle.grant_board.specs.KeeperCalls.{Keeper, MayLimit, limit_after}
+use Rattle.std.proofs.Common.{◌≡◌, ℕ, drop, length, min, ap, sym, ◌∙◌, subst, arith}
+use Rattle.grant_board.specs.KeeperCalls.{Keeper}
 use Rattle.dispatch_log.specs.Dispatch.{bound_by}
 use Rattle.dispatch_log.specs.Histories.{History, state_of, effective}
 use Rattle.dispatch_log.specs.Legal.{IsLegal}
@@ -9,7 +8,6 @@ use Rattle.outstanding.specs.Books.{IsOwing}
 use Rattle.outstanding.specs.Calls.{Booked, SetsBound}
 use Rattle.locked_book.proofs.Events.{kept_again}
 use Rattle.locked_book.proofs.Ends.{may_limit, limit_owes, sets_bound, served_within}
-use Rattle.locked_book.proofs.book.Book.limit.Given as given
 use Rattle.locked_book.proofs.book.Book.limit.Goals as goal
 
 -- what the server served

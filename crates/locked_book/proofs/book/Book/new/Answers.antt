@@ -1,7 +1,7 @@
-use Rattle.std.proofs.Common.{[], ap, sym, ◌∙◌, subst}
-use Rattle.dispatch_log.specs.Histories.{History, first_window}
-use Rattle.grant_board.specs.Views.{Terms, KeeperView}
-use Rattle.grant_board.specs.KeeperCalls.{Keeper, new_keeper}
+use Rattle.std.proofs.Common.{ap, sym, ◌∙◌, subst}
+use Rattle.dispatch_log.specs.Histories.{History}
+use Rattle.grant_board.specs.Views.{KeeperView}
+use Rattle.grant_board.specs.KeeperCalls.{new_keeper}
 use Rattle.outstanding.specs.Books.{terms_of, IsBook}
 use Rattle.locked_book.proofs.Events.{first_book}
 use Rattle.locked_book.specs.Books.{IsKeptBook}

@@ -1,13 +1,11 @@
-use Rattle.std.proofs.Common.{◌≡◌, ℕ, drop, length, true, ap, sym, ◌∙◌, subst}
+use Rattle.std.proofs.Common.{drop, length, ap, sym, ◌∙◌, subst}
 use Rattle.grant_board.specs.Views.{KeeperView}
-use Rattle.grant_board.specs.KeeperCalls.{Keeper}
 use Rattle.dispatch_log.specs.Histories.{effective}
 use Rattle.dispatch_trace.specs.Histories.{HasEntryRoom}
 use Rattle.outstanding.specs.Books.{IsOwing}
 use Rattle.outstanding.specs.Calls.{Booked, TakesBack}
 use Rattle.locked_book.proofs.Events.{kept_again}
 use Rattle.locked_book.proofs.Ends.{acceptable, end_owes, takes_back}
-use Rattle.locked_book.proofs.book.Book.take_at.Given as given
 use Rattle.locked_book.proofs.book.Book.take_at.Goals as goal
 
 pub note_end-requires : goal.note_end-requires

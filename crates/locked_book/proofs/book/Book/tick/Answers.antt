@@ -1,12 +1,8 @@
-use Rattle.std.proofs.Common.{◌≡◌, ℕ, pos, ◌+ℤ◌, drop, length, refl, ap, sym, ◌∙◌, subst}
-use Rattle.dispatch_log.specs.declared.entry.Entry.{Entry}
+use Rattle.std.proofs.Common.{drop, length, refl, ap, sym, ◌∙◌, subst}
 use Rattle.dispatch_log.specs.declared.entry.Entry.TheVariants.{Tick}
 use Rattle.dispatch_log.specs.Histories.{effective}
-use Rattle.dispatch_log.specs.Legal.{AddsEvent}
 use Rattle.outstanding.specs.Books.{IsOwing}
-use Rattle.outstanding.specs.Calls.{added}
 use Rattle.locked_book.proofs.Events.{plain_owes, kept_again, carried}
-use Rattle.locked_book.proofs.book.Book.tick.Given as given
 use Rattle.locked_book.proofs.book.Book.tick.Goals as goal
 
 pub offer_from-requires-clause-owing : goal.offer_from-requires-clause-owing

@@ -1,8 +1,7 @@
-use Rattle.std.proofs.Common.{Result, Ok, Err, ℕ, ◌+◌, ◌*◌, ◌≡◌, subst, arith}
+use Rattle.std.proofs.Common.{Result, Ok, Err, ◌+◌, ◌*◌, ◌≡◌, subst, arith}
 use Rattle.std.specs.Result.{OnErr}
 use Rattle.outstanding.specs.Turns.{Walks}
 use Rattle.outstanding.proofs.Turns.{walks_after, stopped}
-use Rattle.locked_book.proofs.book.Book.turn.Given as given
 use Rattle.locked_book.proofs.book.Book.turn.Goals as goal
 
 -- whatever the answer is

@@ -1,13 +1,12 @@
-use Rattle.std.proofs.Common.{◌≡◌, ◌↔◌, ℕ, ◌+◌, ◌*◌, ◌/◌, ◌<◌, IsTrue, Option, None, Some, IfNone, is_some, false, ap, sym, ◌∙◌, subst}
+use Rattle.std.proofs.Common.{◌≡◌, ◌↔◌, ◌+◌, ◌*◌, ◌/◌, ◌<◌, IsTrue, Option, None, Some, IfNone, is_some, false, sym, ◌∙◌, subst}
 use mathlib.Core.Bool.{true≢false}
-use Rattle.grant_board.specs.Views.{KeeperView, Terms, count_at}
+use Rattle.grant_board.specs.Views.{Terms, count_at}
 use Rattle.grant_board.specs.KeeperCalls.{FindsUnposted}
 use Rattle.place_set.specs.Sets.{HasAhead}
 use Rattle.dispatch_trace.specs.Histories.{HasEntryRoom}
 use Rattle.outstanding.specs.Calls.{Booked}
 use Rattle.outstanding.proofs.Turns.{visit_of}
-use Rattle.locked_book.proofs.Walking.{IsWalking, walking_begins, walking_goes, walking_ends}
-use Rattle.locked_book.proofs.book.Book.turn_block.Given as given
+use Rattle.locked_book.proofs.Walking.{walking_begins, walking_goes, walking_ends}
 use Rattle.locked_book.proofs.book.Book.turn_block.Goals as goal
 
 pub loop-place-init : goal.loop-place-init

@@ -1,8 +1,8 @@
 #!/usr/bin/env bash
 # bench/refused.sh [NAME..]: runs each test of the crates NAME (all that are built but those of sockets, without names) again and again, and refuses one allocation in each
 # run, each in its turn. A run has to end well, or with the test's own word: want of memory where the test expected a value, or an assertion that saw another answer than with
-# memory. What is no such end: a signal, a wait without end. A test whose name begins with a_refused_growth makes a refused call again, and has to end well each time. Of a test with more than 400
-# allocations (MOST) so many are refused, evenly spread. One line for each crate; the status is 1 where a run had no such end. Needs gcc, and the tests that `rt ci` or `rt test`
+# memory. What is no such end: a signal, a wait without end. A test whose name begins with a_refused_growth makes a refused call again, and has to end well each time. Of
+# another test with more than 400 allocations (MOST) so many are refused, evenly spread. One line for each crate; the status is 1 where a run had no such end. Needs gcc, and the tests that `rt ci` or `rt test`
 # leaves in crates/NAME/out.
 set -u
 cd "$(dirname "$0")/.." || exit 2
@@ -24,7 +24,9 @@ stopped_at() { # WHAT A RUN WROTE: whether it stopped at its own word, and which
 refuse_each() { # NAME PROGRAM TEST
     run "$2" "$3" 0 || { echo "$1 $3: fails with all memory: status $?" >>"$work/$1.bad"; return; }
     count=$(cat "$work/count.$$")
-    for ((n = 1; n <= count; n += (count + most - 1) / most)); do
+    each=$(((count + most - 1) / most))
+    case $3 in *a_refused_growth*) each=1 ;; esac
+    for ((n = 1; n <= count; n += each)); do
         run "$2" "$3" "$n" 2>/dev/null
         status=$?
         case $status.$3 in

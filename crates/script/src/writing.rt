@@ -1,5 +1,4 @@
-//! Numbers and words at the end of a text. Most of a trace is written by these: they format nothing but digits, and so take a third of what
-//! `write!` takes.
+//! Numbers and words at the end of a text, of which the lines of a trace are made: nothing is formatted but digits, which is quicker than `write!`.
 
 ghost use Rattle.std.specs.Prelude.{◌≡◌, ◌++◌, OnOk, string_bytes, codes, decimal};
 ghost use Rattle.std.specs.Fmt.{signed_decimal};

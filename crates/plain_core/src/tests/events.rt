@@ -117,7 +117,10 @@ impl Plain {
     /// Whether the place of an arrival is free.
     pub fn has_place_for(&self, event: &Entry) -> bool {
         match event {
-            Entry::Arrive(_, arrival) => matches!(self.rows.get(usize::from(arrival.place)), Some(None)),
+            Entry::Arrive(_, arrival) => matches!(
+                self.rows.get(usize::from(arrival.place)),
+                Some(None)
+            ),
             _ => true,
         }
     }

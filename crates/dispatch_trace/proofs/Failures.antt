@@ -1,19 +1,16 @@
 -- Failed connections, as the ledger counts them.
-use Rattle.std.proofs.Common.{◌≡◌, ℕ, zero, suc, ◌+◌, ◌<◌, ◌≤◌, ◌==◌, max, not, Bool, true, false, cond, List, [], ◌∷◌}
-use Rattle.std.proofs.Common.{◌++◌, Option, None, Some, option_map, slice_get, length, refl, ap, sym, ◌∙◌, subst, arith, ◌⊎◌, inl, inr}
+use Rattle.std.proofs.Common.{◌≡◌, ℕ, ◌+◌, ◌≤◌, max, not, Bool, true, false, cond, List, [], ◌∷◌}
+use Rattle.std.proofs.Common.{◌++◌, Option, None, Some, slice_get, length, refl, ap, sym, ◌∙◌, subst, arith}
 use Rattle.std.proofs.Math.ListN.{set}
 use Rattle.std.proofs.lemmas.List.{set-set}
-use Rattle.std.proofs.lemmas.Option.{same_Some, slice_get-map}
-use Rattle.dispatch_log.specs.declared.entry.Entry.{Entry}
-use Rattle.dispatch_log.specs.declared.entry.Entry.TheVariants.{Arrive, Done, Fail, Abort, Tick, Check, Direct, Joined, Granted, Moved, Freed, Retried, Left}
-use Rattle.dispatch_log.specs.declared.entry.Entry.TheVariants.{Health, Ended}
+use Rattle.std.proofs.lemmas.Option.{same_Some}
+use Rattle.dispatch_log.specs.declared.entry.Entry.TheVariants.{Fail}
 use Rattle.dispatch_log.specs.declared.row.Phase.{Phase}
 use Rattle.dispatch_log.specs.declared.row.Phase.TheVariants.{Loose, Waiting, Serving, Told}
 use Rattle.dispatch_log.specs.declared.row.Row.{Row}
 use Rattle.dispatch_log.specs.declared.setup.Setup.{Setup}
-use Rattle.dispatch_log.specs.Retries.{are_redispatched, failed_row, failed}
-use Rattle.dispatch_log.specs.Rows.{Rows, StandsAt, IsRow, phase_is_told, row_of, failures_of, with_change, changed, in_phase, in_backend_since, gone}
-use Rattle.dispatch_log.specs.States.{State, after, after_all, arrived, opening_state}
+use Rattle.dispatch_log.specs.Retries.{are_redispatched, failed}
+use Rattle.dispatch_log.specs.Rows.{phase_is_told, row_of, failures_of}
 use Rattle.dispatch_log.specs.Judgement.{granting}
 use Rattle.dispatch_log.proofs.Dispatched.{base_consistent}
 use Rattle.dispatch_log.proofs.Tried.{tried_all, tried_over}

@@ -12,7 +12,7 @@ use Rattle.dispatch_log.specs.declared.row.Row.{Row}
 use Rattle.dispatch_log.specs.Histories.{History, state_of}
 use Rattle.dispatch_log.specs.Judgement.{Stage, falling, MayCome, IsFirstIn}
 use Rattle.dispatch_log.specs.Rows.{waits_in, queued, in_backend_since}
-use Rattle.dispatch_log.specs.States.{State, opening_state}
+use Rattle.dispatch_log.specs.States.{State}
 use Rattle.dispatch_log.proofs.Judged.{after_all-push}
 use Rattle.list_facts.proofs.Places.{tally, count-set}
 use Rattle.dispatch_log.proofs.RowLemmas.{changed_at}

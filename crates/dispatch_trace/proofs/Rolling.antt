@@ -6,7 +6,6 @@ use Rattle.dispatch_log.specs.declared.allowance.Allowance.{Allowance}
 use Rattle.dispatch_log.specs.declared.entry.Entry.{Entry}
 use Rattle.dispatch_log.specs.declared.row.Phase.{Phase}
 use Rattle.dispatch_log.specs.declared.row.Phase.TheVariants.{Loose, Waiting, Serving, Told}
-use Rattle.dispatch_log.specs.declared.row.Row.{Row}
 use Rattle.dispatch_log.specs.Health.{shortened_all}
 use Rattle.dispatch_log.specs.Histories.{state_of, rolled}
 use Rattle.dispatch_log.specs.Legal.{IsLegal}
@@ -19,7 +18,7 @@ use Rattle.slot_ledger.specs.declared.places.Slot.{Slot}
 use Rattle.slot_ledger.specs.Slots.{rows_in}
 use Rattle.wait_queues.specs.Waitlists.{Waitlist, since_before, in_next_window}
 use Rattle.dispatch_trace.specs.declared.position.Position.{Position}
-use Rattle.dispatch_trace.specs.Traces.{Traced, IsTrace, history_of, waiter_in, waiter_of, waiters_of}
+use Rattle.dispatch_trace.specs.Traces.{Traced, IsTrace, history_of, waiter_in, waiters_of}
 
 pub rows_long : {N : Type 0} (slots : List (Option (Slot N))) → length (rows_in slots) ≡ length slots
 rows_long {N} slots = length-map slots _

@@ -1,4 +1,4 @@
-use Rattle.std.proofs.Common.{◌≡◌, ◌+◌, [], ◌∷◌, ◌++◌, Some, slice_set, refl, sym, subst}
+use Rattle.std.proofs.Common.{◌≡◌, ◌+◌, Some, slice_set, refl, sym, subst}
 use Rattle.dispatch_log.specs.declared.row.Phase.TheVariants.{Loose}
 use Rattle.slot_ledger.specs.Ledgers.{with_slots}
 use Rattle.due_key.specs.Range.{IsBetween}
@@ -7,20 +7,70 @@ use Rattle.due_key.specs.declared.key.Key.{Key}
 use Rattle.dispatch_log.specs.declared.entry.Arrival.{Arrival}
 use Rattle.dispatch_log.specs.declared.entry.Entry.TheVariants.{Arrive}
 use Rattle.dispatch_log.specs.Histories.{refuses_arrival}
+use Rattle.dispatch_trace.specs.Histories.{MayBeginNext}
+use Rattle.dispatch_trace.specs.Traces.{Traced, IsTrace, history_of, noted}
+use Rattle.dispatch_log.specs.Logs.{Recorded}
+use Rattle.dispatch_log.specs.States.{arrived}
 use Rattle.readable_log.specs.Readable.{MayFollow}
 use Rattle.readable_log.specs.Windows.{base_rows}
 use Rattle.dispatch_trace.proofs.Stepping.{follows_on}
 use Rattle.dispatch_trace.proofs.Beginning.{arrival_fits, place_is_small, pin_is_small, next_is_highest, arrive_kept, newcomer_at}
 use Rattle.dispatch_trace.proofs.Stepping.{closed}
 use Rattle.dispatch_trace.proofs.Stepping.{here_begins}
+use Rattle.dispatch_trace.proofs.trace.Trace.arrive.Given as given
+use Rattle.dispatch_trace.proofs.trace.Trace.arrive.Goals.{After-later-now, After-arrival_of}
 use Rattle.dispatch_trace.proofs.trace.Trace.arrive.Goals as goal
+
+-- the trace before
+abbrev before : (g : given.Over) (c : After-later-now g) → Traced g.row.Q-Node.Denot
+before g c =
+    record { kept = c.self.inside.ledger; log = c.self.inside.log; waits = c.self.inside.waiting; position = c.self.inside.position }
+
+begins : (g : given.Over) (c : After-later-now g)
+    → MayBeginNext (history_of (before g c)) c.args.moment (refuses_arrival (history_of (before g c)) c.args.pin)
+begins g c =
+    here_begins _ _ _ c.args.moment c.later-now.result (λ h. refuses_arrival h c.args.pin) c.self.invariant c.self.view_is c.requires.begins
+    c.later-now.ensures.later c.later-now.ensures.range
+
+module _ (g : given.Over) (c : After-arrival_of g) where
+  -- the arrival, with its numbers as they are elsewhere
+  abbrev arrival : Arrival
+  arrival =
+      record { ticket = c.self.inside.position.ticket + 1; class = c.args.class; due = c.of-due.result; pin = c.args.pin; place = c.in_ok-place.place }
+
+  admitted : (node : g.row.Q-Node.Denot) × (g.Q.PendQueue.pair_of node ≡ ((arrived arrival).key, c.in_ok-place.place))
+      × (c.admit.new.ledger ≡ with_slots c.self.inside.ledger (slice_set c.self.inside.ledger.slots c.in_ok-place.place
+      (Some (record { row = arrived arrival; node = Some node }))))
+  admitted =
+      subst (λ (k : Key). (node : g.row.Q-Node.Denot) × (g.Q.PendQueue.pair_of node ≡ (k, c.in_ok-place.place))
+      × (c.admit.new.ledger ≡ with_slots c.self.inside.ledger (slice_set c.self.inside.ledger.slots c.in_ok-place.place
+      (Some (record { row = record { key = k; pin = c.args.pin; failures = 0; phase = Loose }; node = Some node })))))
+      c.key-key.ensures.key c.in_ok-place.ensures.admitted
+
+  -- the trace with the arrival
+  kept : IsTrace g.Q.PendQueue.pair_of (record {
+    kept = with_slots c.self.inside.ledger (slice_set c.self.inside.ledger.slots c.in_ok-place.place
+        (Some (record { row = arrived arrival; node = Some admitted.0 })));
+    log = noted c.self.inside.log (Arrive c.later-now.result arrival);
+    waits = c.self.inside.waiting;
+    position = record { cursor = c.self.inside.position.cursor; last = c.later-now.result; ticket = arrival.ticket };
+  })
+  kept =
+      let begins =
+      here_begins _ _ _ c.args.moment c.later-now.result (λ h. refuses_arrival h c.args.pin) c.self.invariant c.self.view_is c.requires.begins
+      c.later-now.ensures.later c.later-now.ensures.range in
+      arrive_kept _ _ c.args.moment c.later-now.result c.in_ok-place.place c.args.offset arrival admitted.0 c.self.invariant begins c.later-now.ensures.later
+      refl refl c.of-due.ensures.sum c.of-due.ensures.range
+      (subst (λ (k : Key). IsBetween LOWEST_CLASS HIGHEST_CLASS k.class) c.key-key.ensures.key c.key-key.ensures.range) c.in_ok-place.ensures.vacant
+      admitted.1
+
+  logged : (now : Recorded) → now ≡ noted c.self.inside.log (Arrive c.later-now.result c.arrival_of.result)
+      → now ≡ noted c.self.inside.log (Arrive c.later-now.result arrival)
+  logged now noted_is = subst (λ (a : Arrival). now ≡ noted c.self.inside.log (Arrive c.later-now.result a)) c.arrival_of.ensures noted_is
 
 pub admit-requires-clause-room : goal.admit-requires-clause-room
 admit-requires-clause-room g c =
-    let begins = here_begins _ _ _ c.args.moment c.later-now.result
-    (λ h. refuses_arrival h c.args.pin) c.self.invariant c.self.view_is c.requires.begins c.later-now.ensures.later
-    c.later-now.ensures.range in
-    arrival_fits _ _ c.args.pin c.self.invariant begins.accepted
+    arrival_fits _ _ c.args.pin c.self.invariant (begins g (goal.at.admit-requires-clause-room g c).After-later-now).accepted
 
 pub admit-requires-clause-highest : goal.admit-requires-clause-highest
 admit-requires-clause-highest g c = rw c.key-key.ensures.key (next_is_highest _ _ c.self.invariant)
@@ -30,115 +80,26 @@ arrival_of-requires-clause-place g c = place_is_small _ _ c.in_ok-place.place c.
 
 pub arrival_of-requires-clause-pin : goal.arrival_of-requires-clause-pin
 arrival_of-requires-clause-pin g c =
-    let begins = here_begins _ _ _ c.args.moment c.later-now.result
-    (λ h. refuses_arrival h c.args.pin) c.self.invariant c.self.view_is c.requires.begins c.later-now.ensures.later
-    c.later-now.ensures.range in
-    pin_is_small _ _ c.args.pin c.self.invariant begins.accepted
+    pin_is_small _ _ c.args.pin c.self.invariant (begins g (goal.at.arrival_of-requires-clause-pin g c).After-later-now).accepted
 
 pub note-requires-clause-follows : goal.note-requires-clause-follows
 note-requires-clause-follows g c =
-    let begins = here_begins _ _ _ c.args.moment c.later-now.result
-    (λ h. refuses_arrival h c.args.pin) c.self.invariant c.self.view_is c.requires.begins c.later-now.ensures.later
-    c.later-now.ensures.range in
-    let arrival : Arrival = record {
-      ticket = c.self.inside.position.ticket + 1;
-      class = c.args.class;
-      due = c.of-due.result;
-      pin = c.args.pin;
-      place =
-          c.in_ok-place.place;
-    } in
-    let admitted =
-    subst (λ (k : Key). (node : g.row.Q-Node.Denot) × (g.Q.PendQueue.pair_of node ≡ (k, c.in_ok-place.place))
-    × (c.admit.new.ledger ≡ with_slots c.self.inside.ledger (slice_set c.self.inside.ledger.slots c.in_ok-place.place
-    (Some (record { row = record { key = k; pin = c.args.pin; failures = 0; phase = Loose }; node = Some node })))))
-    c.key-key.ensures.key c.in_ok-place.ensures.admitted in
-    let class = subst (λ (k : Key). IsBetween LOWEST_CLASS HIGHEST_CLASS k.class) c.key-key.ensures.key c.key-key.ensures.range in
     subst (λ (a : Arrival). MayFollow (base_rows c.self.inside.log.base.rows) c.self.inside.log.entries (Arrive c.later-now.result a))
-    (sym c.arrival_of.ensures)
-    (follows_on _ _ _ _
-    (arrive_kept _ _ c.args.moment c.later-now.result c.in_ok-place.place c.args.offset arrival admitted.0 c.self.invariant begins c.later-now.ensures.later
-    refl
-    refl c.of-due.ensures.sum c.of-due.ensures.range class c.in_ok-place.ensures.vacant admitted.1).judged)
+    (sym c.arrival_of.ensures) (follows_on _ _ _ _ (kept g (goal.at.note-requires-clause-follows g c).After-arrival_of).judged)
 
 pub invariant_of-self-2 : goal.invariant_of-self-2
 invariant_of-self-2 g c =
-    let begins = here_begins _ _ _ c.args.moment c.later-now.result
-    (λ h. refuses_arrival h c.args.pin) c.self.invariant c.self.view_is c.requires.begins c.later-now.ensures.later
-    c.later-now.ensures.range in
-    let arrival : Arrival = record {
-      ticket = c.self.inside.position.ticket + 1;
-      class = c.args.class;
-      due = c.of-due.result;
-      pin = c.args.pin;
-      place =
-          c.in_ok-place.place;
-    } in
-    let admitted =
-    subst (λ (k : Key). (node : g.row.Q-Node.Denot) × (g.Q.PendQueue.pair_of node ≡ (k, c.in_ok-place.place))
-    × (c.admit.new.ledger ≡ with_slots c.self.inside.ledger (slice_set c.self.inside.ledger.slots c.in_ok-place.place
-    (Some (record { row = record { key = k; pin = c.args.pin; failures = 0; phase = Loose }; node = Some node })))))
-    c.key-key.ensures.key c.in_ok-place.ensures.admitted in
-    let class = subst (λ (k : Key). IsBetween LOWEST_CLASS HIGHEST_CLASS k.class) c.key-key.ensures.key c.key-key.ensures.range in
-    let noted = subst (λ (a : Arrival). c.note.new.self ≡ record c.self.inside.log { entries = c.self.inside.log.entries ++ Arrive c.later-now.result a ∷ [] })
-    c.arrival_of.ensures c.note.ensures in
-    closed _ _ _ _ _ _ _ _ admitted.2 noted refl
-    (arrive_kept _ _ c.args.moment c.later-now.result c.in_ok-place.place c.args.offset arrival admitted.0 c.self.invariant begins c.later-now.ensures.later
-    refl refl
-    c.of-due.ensures.sum c.of-due.ensures.range class c.in_ok-place.ensures.vacant admitted.1)
+    let a = (goal.at.invariant_of-self-2 g c).After-arrival_of in
+    closed _ _ _ _ _ _ _ _ (admitted g a).2 (logged g a _ c.note.ensures) refl (kept g a)
 
 pub returns-clause-pin : goal.returns-clause-pin
 returns-clause-pin g c =
-    let begins = here_begins _ _ _ c.args.moment c.later-now.result
-    (λ h. refuses_arrival h c.args.pin) c.self.invariant c.self.view_is c.requires.begins c.later-now.ensures.later
-    c.later-now.ensures.range in
-    let arrival : Arrival = record {
-      ticket = c.self.inside.position.ticket + 1;
-      class = c.args.class;
-      due = c.of-due.result;
-      pin = c.args.pin;
-      place =
-          c.in_ok-place.place;
-    } in
-    let admitted =
-    subst (λ (k : Key). (node : g.row.Q-Node.Denot) × (g.Q.PendQueue.pair_of node ≡ (k, c.in_ok-place.place))
-    × (c.admit.new.ledger ≡ with_slots c.self.inside.ledger (slice_set c.self.inside.ledger.slots c.in_ok-place.place
-    (Some (record { row = record { key = k; pin = c.args.pin; failures = 0; phase = Loose }; node = Some node })))))
-    c.key-key.ensures.key c.in_ok-place.ensures.admitted in
-    let class = subst (λ (k : Key). IsBetween LOWEST_CLASS HIGHEST_CLASS k.class) c.key-key.ensures.key c.key-key.ensures.range in
-    let noted = subst (λ (a : Arrival). c.note.new.self ≡ record c.self.inside.log { entries = c.self.inside.log.entries ++ Arrive c.later-now.result a ∷ [] })
-    c.arrival_of.ensures c.note.ensures in
-    (newcomer_at _ _ _ c.in_ok-place.place _
-    (closed _ _ _ _ _ _ _ _ admitted.2 noted refl
-    (arrive_kept _ _ c.args.moment c.later-now.result c.in_ok-place.place c.args.offset arrival admitted.0 c.self.invariant begins c.later-now.ensures.later
-    refl refl
-    c.of-due.ensures.sum c.of-due.ensures.range class c.in_ok-place.ensures.vacant admitted.1))
-    admitted.2 c.in_ok-place.ensures.vacant).1
+    let a = (goal.at.returns-clause-pin g c).After-arrival_of in
+    let left = closed _ _ _ _ _ _ _ _ (admitted g a).2 (logged g a _ c.note.ensures) refl (kept g a) in
+    (newcomer_at _ _ _ c.in_ok-place.place _ left (admitted g a).2 c.in_ok-place.ensures.vacant).1
 
 pub returns-clause-at : goal.returns-clause-at
 returns-clause-at g c =
-    let begins = here_begins _ _ _ c.args.moment c.later-now.result
-    (λ h. refuses_arrival h c.args.pin) c.self.invariant c.self.view_is c.requires.begins c.later-now.ensures.later
-    c.later-now.ensures.range in
-    let arrival : Arrival = record {
-      ticket = c.self.inside.position.ticket + 1;
-      class = c.args.class;
-      due = c.of-due.result;
-      pin = c.args.pin;
-      place =
-          c.in_ok-place.place;
-    } in
-    let admitted =
-    subst (λ (k : Key). (node : g.row.Q-Node.Denot) × (g.Q.PendQueue.pair_of node ≡ (k, c.in_ok-place.place))
-    × (c.admit.new.ledger ≡ with_slots c.self.inside.ledger (slice_set c.self.inside.ledger.slots c.in_ok-place.place
-    (Some (record { row = record { key = k; pin = c.args.pin; failures = 0; phase = Loose }; node = Some node })))))
-    c.key-key.ensures.key c.in_ok-place.ensures.admitted in
-    let class = subst (λ (k : Key). IsBetween LOWEST_CLASS HIGHEST_CLASS k.class) c.key-key.ensures.key c.key-key.ensures.range in
-    let noted = subst (λ (a : Arrival). c.note.new.self ≡ record c.self.inside.log { entries = c.self.inside.log.entries ++ Arrive c.later-now.result a ∷ [] })
-    c.arrival_of.ensures c.note.ensures in
-    (newcomer_at _ _ _ c.in_ok-place.place _
-    (closed _ _ _ _ _ _ _ _ admitted.2 noted refl
-    (arrive_kept _ _ c.args.moment c.later-now.result c.in_ok-place.place c.args.offset arrival admitted.0 c.self.invariant begins c.later-now.ensures.later
-    refl refl
-    c.of-due.ensures.sum c.of-due.ensures.range class c.in_ok-place.ensures.vacant admitted.1))
-    admitted.2 c.in_ok-place.ensures.vacant).0
+    let a = (goal.at.returns-clause-at g c).After-arrival_of in
+    let left = closed _ _ _ _ _ _ _ _ (admitted g a).2 (logged g a _ c.note.ensures) refl (kept g a) in
+    (newcomer_at _ _ _ c.in_ok-place.place _ left (admitted g a).2 c.in_ok-place.ensures.vacant).0

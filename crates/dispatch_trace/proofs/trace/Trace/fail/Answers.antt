@@ -1,5 +1,5 @@
-use Rattle.std.proofs.Common.{◌<◌, length, refl, sym, subst}
-use Rattle.dispatch_log.specs.Histories.{History, refuses_failure}
+use Rattle.std.proofs.Common.{refl}
+use Rattle.dispatch_log.specs.Histories.{refuses_failure}
 use Rattle.dispatch_trace.proofs.Stepping.{follows_on}
 use Rattle.dispatch_trace.proofs.Failures.{fail_countable, fail_kept, fail_counted}
 use Rattle.dispatch_trace.proofs.Stepping.{closed}

@@ -13,7 +13,9 @@ use Rattle.dispatch_trace.proofs.Grants.{kept_scene, heads_are, not_empty, grant
 use Rattle.dispatch_trace.proofs.Grants.{grant_joined, grant_waits, grant_begun}
 use Rattle.dispatch_trace.proofs.Stepping.{closed}
 use Rattle.dispatch_trace.proofs.Within.{take_within}
-use Rattle.dispatch_trace.proofs.Grants.{grant_calls}
+use Rattle.dispatch_trace.proofs.Grants.{GrantCalls, grant_calls}
+use Rattle.dispatch_trace.proofs.trace.Trace.grant.Given as given
+use Rattle.dispatch_trace.proofs.trace.Trace.grant.Goals.{In-Some-take}
 use Rattle.dispatch_trace.proofs.trace.Trace.grant.Goals as goal
 
 pub next_queue-queue-requires : goal.next_queue-queue-requires
@@ -35,88 +37,68 @@ unreachable-requires g c =
     not_empty _ _ c.heads-heads.result c.in-Some.server c.self.inside.position.cursor c.next_queue-queue.result c.heads-heads.ensures.heads
     (c.next_queue-queue.ensures c.self.inside.position.cursor c.in-Some.ensures.next) c.in_default-take.ensures.first
 
-pub loosen-requires : goal.loosen-requires
-loosen-requires g c =
-    let calls =
+-- what a grant rests on, once its request is taken from the queue
+calls : (g : given.Over) (c : In-Some-take g)
+    → GrantCalls g.Q.PendQueue.pair_of
+    (record { kept = c.self.inside.ledger; log = c.self.inside.log; waits = c.self.inside.waiting; position = c.self.inside.position })
+    c.heads-heads.result c.in-Some.server c.next_queue-queue.result c.in-Some-take.taken.place c.in-Some-take.taken.waiter
+calls g c =
     grant_calls _ _ _ _ c.heads-heads.result c.in-Some.server c.next_queue-queue.result c.in-Some-take.taken.place c.in-Some-take.taken.waiter
     c.self.invariant c.self.view_is c.requires.may_grant c.heads-heads.ensures.heads c.heads-heads.ensures.same
-    (c.next_queue-queue.ensures c.self.inside.position.cursor c.in-Some.ensures.next) c.in-Some-take.ensures.first in
-    grant_row _ _ _ _ _ _ _ calls
+    (c.next_queue-queue.ensures c.self.inside.position.cursor c.in-Some.ensures.next) c.in-Some-take.ensures.first
+
+pub loosen-requires : goal.loosen-requires
+loosen-requires g c =
+    let known = calls g (goal.at.loosen-requires g c).In-Some-take in
+    grant_row _ _ _ _ _ _ _ known
 
 pub serve-requires-clause-row : goal.serve-requires-clause-row
 serve-requires-clause-row g c =
-    let calls =
-    grant_calls _ _ _ _ c.heads-heads.result c.in-Some.server c.next_queue-queue.result c.in-Some-take.taken.place c.in-Some-take.taken.waiter
-    c.self.invariant c.self.view_is c.requires.may_grant c.heads-heads.ensures.heads c.heads-heads.ensures.same
-    (c.next_queue-queue.ensures c.self.inside.position.cursor c.in-Some.ensures.next) c.in-Some-take.ensures.first in
-    still_stands _ _ _ c.in-Some-take.taken.place (grant_row _ _ _ _ _ _ _ calls) (ap (λ (k : Kept _). k.slots) c.loosen.ensures)
+    let known = calls g (goal.at.serve-requires-clause-row g c).In-Some-take in
+    still_stands _ _ _ c.in-Some-take.taken.place (grant_row _ _ _ _ _ _ _ known) (ap (λ (k : Kept _). k.slots) c.loosen.ensures)
 
 pub serve-requires-clause-within : goal.serve-requires-clause-within
 serve-requires-clause-within g c =
-    let calls =
-    grant_calls _ _ _ _ c.heads-heads.result c.in-Some.server c.next_queue-queue.result c.in-Some-take.taken.place c.in-Some-take.taken.waiter
-    c.self.invariant c.self.view_is c.requires.may_grant c.heads-heads.ensures.heads c.heads-heads.ensures.same
-    (c.next_queue-queue.ensures c.self.inside.position.cursor c.in-Some.ensures.next) c.in-Some-take.ensures.first in
-    subst (λ (k : Kept _). c.in-Some.server < length k.setup.servers) (sym c.loosen.ensures) (grant_within _ _ _ _ _ _ _ calls)
+    let known = calls g (goal.at.serve-requires-clause-within g c).In-Some-take in
+    subst (λ (k : Kept _). c.in-Some.server < length k.setup.servers) (sym c.loosen.ensures) (grant_within _ _ _ _ _ _ _ known)
 
 pub note_grant-requires-clause-room : goal.note_grant-requires-clause-room
 note_grant-requires-clause-room g c =
-    let calls =
-    grant_calls _ _ _ _ c.heads-heads.result c.in-Some.server c.next_queue-queue.result c.in-Some-take.taken.place c.in-Some-take.taken.waiter
-    c.self.invariant c.self.view_is c.requires.may_grant c.heads-heads.ensures.heads c.heads-heads.ensures.same
-    (c.next_queue-queue.ensures c.self.inside.position.cursor c.in-Some.ensures.next) c.in-Some-take.ensures.first in
-    grant_room _ _ _ _ _ _ _ calls (subst (λ (h : History). length h.log + waiting_of h ≤ h.setup.log) (sym c.self.view_is) c.requires.room)
+    let known = calls g (goal.at.note_grant-requires-clause-room g c).In-Some-take in
+    grant_room _ _ _ _ _ _ _ known (subst (λ (h : History). length h.log + waiting_of h ≤ h.setup.log) (sym c.self.view_is) c.requires.room)
 
 pub note_grant-requires-clause-begun : goal.note_grant-requires-clause-begun
 note_grant-requires-clause-begun g c =
-    let calls =
-    grant_calls _ _ _ _ c.heads-heads.result c.in-Some.server c.next_queue-queue.result c.in-Some-take.taken.place c.in-Some-take.taken.waiter
-    c.self.invariant c.self.view_is c.requires.may_grant c.heads-heads.ensures.heads c.heads-heads.ensures.same
-    (c.next_queue-queue.ensures c.self.inside.position.cursor c.in-Some.ensures.next) c.in-Some-take.ensures.first in
-    grant_begun _ _ _ _ _ _ _ calls
+    let known = calls g (goal.at.note_grant-requires-clause-begun g c).In-Some-take in
+    grant_begun _ _ _ _ _ _ _ known
 
 pub note_grant-requires-clause-arrived : goal.note_grant-requires-clause-arrived
 note_grant-requires-clause-arrived g c =
-    let calls =
-    grant_calls _ _ _ _ c.heads-heads.result c.in-Some.server c.next_queue-queue.result c.in-Some-take.taken.place c.in-Some-take.taken.waiter
-    c.self.invariant c.self.view_is c.requires.may_grant c.heads-heads.ensures.heads c.heads-heads.ensures.same
-    (c.next_queue-queue.ensures c.self.inside.position.cursor c.in-Some.ensures.next) c.in-Some-take.ensures.first in
-    grant_arrived _ _ _ _ _ _ _ calls
+    let known = calls g (goal.at.note_grant-requires-clause-arrived g c).In-Some-take in
+    grant_arrived _ _ _ _ _ _ _ known
 
 pub note_grant-requires-clause-joined : goal.note_grant-requires-clause-joined
 note_grant-requires-clause-joined g c =
-    let calls =
-    grant_calls _ _ _ _ c.heads-heads.result c.in-Some.server c.next_queue-queue.result c.in-Some-take.taken.place c.in-Some-take.taken.waiter
-    c.self.invariant c.self.view_is c.requires.may_grant c.heads-heads.ensures.heads c.heads-heads.ensures.same
-    (c.next_queue-queue.ensures c.self.inside.position.cursor c.in-Some.ensures.next) c.in-Some-take.ensures.first in
-    grant_joined _ _ _ _ _ _ _ calls
+    let known = calls g (goal.at.note_grant-requires-clause-joined g c).In-Some-take in
+    grant_joined _ _ _ _ _ _ _ known
 
 pub note_grant-requires-clause-waits : goal.note_grant-requires-clause-waits
 note_grant-requires-clause-waits g c =
-    let calls =
-    grant_calls _ _ _ _ c.heads-heads.result c.in-Some.server c.next_queue-queue.result c.in-Some-take.taken.place c.in-Some-take.taken.waiter
-    c.self.invariant c.self.view_is c.requires.may_grant c.heads-heads.ensures.heads c.heads-heads.ensures.same
-    (c.next_queue-queue.ensures c.self.inside.position.cursor c.in-Some.ensures.next) c.in-Some-take.ensures.first in
-    grant_waits _ _ _ _ _ _ _ calls
+    let known = calls g (goal.at.note_grant-requires-clause-waits g c).In-Some-take in
+    grant_waits _ _ _ _ _ _ _ known
 
 pub invariant_of-self : goal.invariant_of-self
 invariant_of-self g c =
-    let calls =
-    grant_calls _ _ _ _ c.heads-heads.result c.in-Some.server c.next_queue-queue.result c.in-Some-take.taken.place c.in-Some-take.taken.waiter
-    c.self.invariant c.self.view_is c.requires.may_grant c.heads-heads.ensures.heads c.heads-heads.ensures.same
-    (c.next_queue-queue.ensures c.self.inside.position.cursor c.in-Some.ensures.next) c.in-Some-take.ensures.first in
+    let known = calls g (goal.at.invariant_of-self g c).In-Some-take in
     closed _ _ _ _ _ _ _ _
     (c.serve.ensures ∙ ap (λ (k : Kept _). with_slots k (with_phase (Serving c.in-Some.server) k.slots c.in-Some-take.taken.place)) c.loosen.ensures)
     c.note_grant.ensures
     (c.in-Some-take.ensures.left ∙ ap (λ (l : Waitlist). without_waiter l c.in-Some-take.taken.place) c.heads-heads.ensures.same)
-    (grant_kept _ _ _ _ _ _ _ calls c.in-Some-take.taken.node _ c.in-Some-take.ensures.pair c.in-Some.ensures.cursor)
+    (grant_kept _ _ _ _ _ _ _ known c.in-Some-take.taken.node _ c.in-Some-take.ensures.pair c.in-Some.ensures.cursor)
 
 pub returns-clause-granted : goal.returns-clause-granted
 returns-clause-granted g c =
-    let calls =
-    grant_calls _ _ _ _ c.heads-heads.result c.in-Some.server c.next_queue-queue.result c.in-Some-take.taken.place c.in-Some-take.taken.waiter
-    c.self.invariant c.self.view_is c.requires.may_grant c.heads-heads.ensures.heads c.heads-heads.ensures.same
-    (c.next_queue-queue.ensures c.self.inside.position.cursor c.in-Some.ensures.next) c.in-Some-take.ensures.first in
+    let known = calls g (goal.at.returns-clause-granted g c).In-Some-take in
     let setup =
     ap (λ (k : Kept _). k.setup)
     (c.serve.ensures ∙ ap (λ (k : Kept _). with_slots k (with_phase (Serving c.in-Some.server) k.slots c.in-Some-take.taken.place)) c.loosen.ensures) in
@@ -125,18 +107,15 @@ returns-clause-granted g c =
       base = c.note_grant.new.self.base;
       log = c.note_grant.new.self.entries;
     })) c.self.view_is
-    (is_grant _ _ _ _ _ _ _ calls (record { setup = c.serve.new.self.setup; base = c.note_grant.new.self.base; log = c.note_grant.new.self.entries })
+    (is_grant _ _ _ _ _ _ _ known (record { setup = c.serve.new.self.setup; base = c.note_grant.new.self.base; log = c.note_grant.new.self.entries })
     (ap (λ (s : Setup). record { setup = s; base = c.note_grant.new.self.base; log = c.note_grant.new.self.entries }) setup
     ∙ ap (λ (r : Recorded). record { setup = c.self.inside.ledger.setup; base = r.base; log = r.entries }) c.note_grant.ensures))
 
 pub returns-clause-judged : goal.returns-clause-judged
 returns-clause-judged g c =
-    let calls =
-    grant_calls _ _ _ _ c.heads-heads.result c.in-Some.server c.next_queue-queue.result c.in-Some-take.taken.place c.in-Some-take.taken.waiter
-    c.self.invariant c.self.view_is c.requires.may_grant c.heads-heads.ensures.heads c.heads-heads.ensures.same
-    (c.next_queue-queue.ensures c.self.inside.position.cursor c.in-Some.ensures.next) c.in-Some-take.ensures.first in
+    let known = calls g (goal.at.returns-clause-judged g c).In-Some-take in
     (closed _ _ _ _ _ _ _ _
     (c.serve.ensures ∙ ap (λ (k : Kept _). with_slots k (with_phase (Serving c.in-Some.server) k.slots c.in-Some-take.taken.place)) c.loosen.ensures)
     c.note_grant.ensures
     (c.in-Some-take.ensures.left ∙ ap (λ (l : Waitlist). without_waiter l c.in-Some-take.taken.place) c.heads-heads.ensures.same)
-    (grant_kept _ _ _ _ _ _ _ calls c.in-Some-take.taken.node _ c.in-Some-take.ensures.pair c.in-Some.ensures.cursor)).judged
+    (grant_kept _ _ _ _ _ _ _ known c.in-Some-take.taken.node _ c.in-Some-take.ensures.pair c.in-Some.ensures.cursor)).judged

@@ -7,17 +7,26 @@ use Rattle.dispatch_trace.specs.Histories.{cursor_after}
 use Rattle.dispatch_trace.proofs.Joining.{join_node, join_vacant, join_key, join_pair, join_kept}
 use Rattle.dispatch_trace.proofs.Stepping.{has_row, closed}
 use Rattle.dispatch_trace.proofs.Within.{joined_within}
-use Rattle.dispatch_trace.proofs.Joining.{join_calls}
+use Rattle.dispatch_trace.proofs.Joining.{JoinCalls, join_calls}
 use Rattle.dispatch_trace.proofs.Stepping.{here_at}
+use Rattle.dispatch_trace.proofs.trace.Trace.join.Given as given
+use Rattle.dispatch_trace.proofs.trace.Trace.join.Goals.{After-row}
 use Rattle.dispatch_trace.proofs.trace.Trace.join.Goals as goal
 
 pub row-requires : goal.row-requires
 row-requires g c = has_row _ _ c.args.it c.self.invariant (here_at _ _ c.args.it c.self.view_is c.requires.at)
 
+-- what a joining rests on
+calls : (g : given.Over) (c : After-row g)
+    → JoinCalls g.Q.PendQueue.pair_of
+    (record { kept = c.self.inside.ledger; log = c.self.inside.log; waits = c.self.inside.waiting; position = c.self.inside.position }) c.args.it
+    c.args.queue
+calls g c = join_calls _ _ _ c.args.it c.args.queue c.self.invariant c.self.view_is c.requires.lawful c.requires.at
+
 pub wait-node-requires-clause-row : goal.wait-node-requires-clause-row
 wait-node-requires-clause-row g c =
-    let calls = join_calls _ _ _ c.args.it c.args.queue c.self.invariant c.self.view_is c.requires.lawful c.requires.at in
-    join_node _ _ c.args.it c.args.queue calls
+    let known = calls g (goal.at.wait-node-requires-clause-row g c).After-row in
+    join_node _ _ c.args.it c.args.queue known
 
 pub wait-node-requires-clause-within : goal.wait-node-requires-clause-within
 wait-node-requires-clause-within g c =
@@ -26,8 +35,8 @@ wait-node-requires-clause-within g c =
 
 pub join-requires-clause-vacant : goal.join-requires-clause-vacant
 join-requires-clause-vacant g c =
-    let calls = join_calls _ _ _ c.args.it c.args.queue c.self.invariant c.self.view_is c.requires.lawful c.requires.at in
-    join_vacant _ _ c.args.it c.args.queue calls
+    let known = calls g (goal.at.join-requires-clause-vacant g c).After-row in
+    join_vacant _ _ c.args.it c.args.queue known
 
 pub join-requires-clause-within : goal.join-requires-clause-within
 join-requires-clause-within g c =
@@ -37,24 +46,24 @@ join-requires-clause-within g c =
 
 pub join-requires-clause-own_key : goal.join-requires-clause-own_key
 join-requires-clause-own_key g c =
-    let calls = join_calls _ _ _ c.args.it c.args.queue c.self.invariant c.self.view_is c.requires.lawful c.requires.at in
-    join_key _ _ c.args.it c.args.queue calls c.row.result c.row.ensures
+    let known = calls g (goal.at.join-requires-clause-own_key g c).After-row in
+    join_key _ _ c.args.it c.args.queue known c.row.result c.row.ensures
 
 pub join-requires-clause-pair : goal.join-requires-clause-pair
 join-requires-clause-pair g c =
-    let calls = join_calls _ _ _ c.args.it c.args.queue c.self.invariant c.self.view_is c.requires.lawful c.requires.at in
-    join_pair _ _ c.args.it c.args.queue calls c.row.result c.row.ensures c.wait-node.result c.wait-node.ensures.node
+    let known = calls g (goal.at.join-requires-clause-pair g c).After-row in
+    join_pair _ _ c.args.it c.args.queue known c.row.result c.row.ensures c.wait-node.result c.wait-node.ensures.node
 
 pub note-requires-clause-follows : goal.note-requires-clause-follows
 note-requires-clause-follows g c =
-    let calls = join_calls _ _ _ c.args.it c.args.queue c.self.invariant c.self.view_is c.requires.lawful c.requires.at in
+    let known = calls g (goal.at.note-requires-clause-follows g c).After-row in
     let moved = c.requires.cursor ∙ ap (λ (h : History). cursor_after h (Joined c.args.it.ticket c.args.queue)) (sym c.self.view_is) in
     follows_on _ _ _ _
-    (join_kept _ _ c.args.it c.args.queue calls c.row.result c.row.ensures (c.len.result + 1) c.args.cursor (ap (λ n. n + 1) c.len.ensures) moved).judged
+    (join_kept _ _ c.args.it c.args.queue known c.row.result c.row.ensures (c.len.result + 1) c.args.cursor (ap (λ n. n + 1) c.len.ensures) moved).judged
 
 pub invariant_of-self : goal.invariant_of-self
 invariant_of-self g c =
-    let calls = join_calls _ _ _ c.args.it c.args.queue c.self.invariant c.self.view_is c.requires.lawful c.requires.at in
+    let known = calls g (goal.at.invariant_of-self g c).After-row in
     let moved = c.requires.cursor ∙ ap (λ (h : History). cursor_after h (Joined c.args.it.ticket c.args.queue)) (sym c.self.view_is) in
     closed _ _ _ _ _ _ _ _ c.wait-node.ensures.waiting c.note.ensures c.join.ensures
-    (join_kept _ _ c.args.it c.args.queue calls c.row.result c.row.ensures (c.len.result + 1) c.args.cursor (ap (λ n. n + 1) c.len.ensures) moved)
+    (join_kept _ _ c.args.it c.args.queue known c.row.result c.row.ensures (c.len.result + 1) c.args.cursor (ap (λ n. n + 1) c.len.ensures) moved)

@@ -7,7 +7,6 @@ use Rattle.dispatch_log.specs.Logs.{Recorded}
 use Rattle.dispatch_log.specs.States.{State}
 use Rattle.dispatch_log.proofs.Windows.{shortened_length}
 use Rattle.readable_log.specs.Bases.{results_by}
-use Rattle.slot_ledger.specs.Slots.{rows_in}
 use Rattle.dispatch_trace.proofs.Rolling.{rows_long, kept_places, kept_limits, window_base, window_is}
 use Rattle.dispatch_trace.proofs.trace.Trace.roll.Goals as goal
 

@@ -4,14 +4,14 @@ ghost use Rattle.std.specs.Prelude.{◌≡◌, true};
 use std::fmt::Debug;
 use std::process::Abort;
 
-/// Stops the test where it isn't so.
-pub fn holds(rt: &impl Abort, so: bool)
+/// Stops the test where it isn't so, and prints of what it isn't.
+pub fn holds(rt: &impl Abort, so: bool, what: &str)
     ensures { so ≡ true }
 {
-    assert!(rt; so);
+    assert!(rt; so, "{what}");
 }
 
-/// Stops the test where the two differ, and prints both.
-pub fn same<T: PartialEq + Debug + Drop>(rt: &impl Abort, found: T, expected: T) {
-    assert_eq!(rt; found, expected);
+/// Stops the test where the two differ, and prints both, and what they are of.
+pub fn same<T: PartialEq + Debug + Drop>(rt: &impl Abort, found: T, expected: T, what: &str) {
+    assert_eq!(rt; found, expected, "{what}");
 }

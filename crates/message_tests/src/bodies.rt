@@ -1,332 +1,474 @@
 use crate::assertions::{holds, same};
-use crate::exchanges::streams::{Narrow, Slow};
+use crate::fakes::{Feed, Log};
+use crate::repeats::{Repeated, bytes_of};
 use counted_io::Counted;
 use relay_body::{Fault, Framing, INBOX_BYTES, Pipe, SIZE_LINE_BYTES, TRAILER_BYTES};
 use std::alloc::Global;
-use std::io::{Read, Write};
 use std::process::Abort;
 
+const TURNS: u64 = 1_000_000;
+
+/// A pipe, and what takes the body that it hands on.
 #[derive(Drop)]
-struct Seen {
-    result: Result<(), Fault>,
-    written: Vec<u8>,
-    held: Vec<u8>,
+struct Passage {
+    pipe: Pipe,
+    output: Log,
 }
 
-fn pass<R: Read, W: Write>(
-    pipe: &mut Pipe,
-    reader: &mut R,
-    writer: &mut W,
-    framing: Framing,
-    framed: bool,
-) -> Result<(), Fault> {
-    // Read here, so that the proof knows how many they can be.
-    let _turns = pipe.turns();
-    pipe.pass_body(
-        &mut Counted::new(reader),
-        &mut Counted::new(writer),
-        framing,
-        framed,
-    )
-}
-
-fn pass_and_flush<R: Read, W: Write>(
-    pipe: &mut Pipe,
-    reader: &mut R,
-    writer: &mut W,
-    framing: Framing,
-    framed: bool,
-) -> Result<(), Fault> {
-    match pass(pipe, reader, writer, framing, framed) {
-        Ok(()) => {
-            let _turns = pipe.turns();
-            pipe.flush(&mut Counted::new(writer))
+impl Passage {
+    fn new(rt: &impl Abort, alloc: Global, turns: u64) -> Passage {
+        Passage {
+            pipe: Pipe::new(alloc, turns).expect(rt, "memory"),
+            output: Log::new(alloc),
         }
-        Err(fault) => Err(fault),
+    }
+
+    fn pass(&mut self, input: &mut Feed<'_>, framing: Framing, framed: bool) -> Result<(), Fault> {
+        // Read here, so that the proof knows how many they can be.
+        let _turns = self.pipe.turns();
+        let mut source = Counted::new(input);
+        let mut sink = Counted::new(&mut self.output);
+        self.pipe.pass_body(&mut source, &mut sink, framing, framed)
+    }
+
+    fn flush(&mut self) -> Result<(), Fault> {
+        let _turns = self.pipe.turns();
+        self.pipe.flush(&mut Counted::new(&mut self.output))
+    }
+
+    fn hand_on(
+        &mut self,
+        input: &mut Feed<'_>,
+        framing: Framing,
+        framed: bool,
+    ) -> Result<(), Fault> {
+        self.pass(input, framing, framed)?;
+        self.flush()
     }
 }
 
-// hands a body on and flushes
-fn hand_on(rt: &impl Abort, alloc: Global, input: &[u8], framing: Framing, framed: bool) -> Seen {
-    let mut pipe = Pipe::new(alloc, 1_000_000).expect(rt, "memory");
-    let mut reader = input;
-    let mut writer = Vec::new(alloc);
-    let result = pass_and_flush(&mut pipe, &mut reader, &mut writer, framing, framed);
-    Seen {
-        result,
-        written: writer,
-        held: Vec::from_slice(alloc, pipe.held()).expect(rt, "memory"),
-    }
+/// A body, how it is framed and whether it is told to be, what is written, and what is left behind it or the fault.
+struct Body {
+    bytes: &'static [u8],
+    framing: Framing,
+    framed: bool,
+    text: &'static [u8],
+    left: Result<&'static [u8], Fault>,
 }
 
 const CHUNKED: &[u8] = b"3;x=1\r\nabc\r\n0\r\nT: 1\r\n\r\n";
 
 const CHUNKED_TEXT: &[u8] = b"3\r\nabc\r\n0\r\n\r\n";
 
-/// A body, how it is framed and whether it is told to be, what is written and what is left.
-type BodyRow = (&'static [u8], Framing, bool, &'static [u8], &'static [u8]);
-
-static HANDED_ON: [BodyRow; 6] = [
-    (b"abc", Framing::Empty, true, b"", b""),
-    (b"abcd", Framing::Length(3), true, b"abc", b"d"),
-    (b"", Framing::Length(0), true, b"", b""),
-    (b"abc", Framing::ToEnd, true, b"abc", b""),
-    (CHUNKED, Framing::Chunked, true, CHUNKED_TEXT, b""),
-    (
-        b"00B \r\nhello world\r\n0\r\n\nmore",
-        Framing::Chunked,
-        false,
-        b"hello world",
-        b"more",
-    ),
+static HANDED_ON: [Body; 6] = [
+    Body {
+        bytes: b"abc",
+        framing: Framing::Empty,
+        framed: true,
+        text: b"",
+        left: Ok(b""),
+    },
+    Body {
+        bytes: b"abcd",
+        framing: Framing::Length(3),
+        framed: true,
+        text: b"abc",
+        left: Ok(b"d"),
+    },
+    Body {
+        bytes: b"",
+        framing: Framing::Length(0),
+        framed: true,
+        text: b"",
+        left: Ok(b""),
+    },
+    Body {
+        bytes: b"abc",
+        framing: Framing::ToEnd,
+        framed: true,
+        text: b"abc",
+        left: Ok(b""),
+    },
+    Body {
+        bytes: CHUNKED,
+        framing: Framing::Chunked,
+        framed: true,
+        text: CHUNKED_TEXT,
+        left: Ok(b""),
+    },
+    Body {
+        bytes: b"00B \r\nhello world\r\n0\r\n\nmore",
+        framing: Framing::Chunked,
+        framed: false,
+        text: b"hello world",
+        left: Ok(b"more"),
+    },
 ];
 
-fn is_handed_on(rt: &impl Abort, alloc: Global, row: &BodyRow) {
-    let (input, framing, framed, text, left) = *row;
-    let seen = hand_on(rt, alloc, input, framing, framed);
-    same(rt, seen.result, Ok(()));
-    same(rt, seen.written.as_slice(), text);
-    same(rt, seen.held.as_slice(), left);
+static BROKEN: [Body; 14] = [
+    Body {
+        bytes: b"ab",
+        framing: Framing::Length(3),
+        framed: true,
+        text: b"ab",
+        left: Err(Fault::Read),
+    },
+    Body {
+        bytes: b"",
+        framing: Framing::Chunked,
+        framed: true,
+        text: b"",
+        left: Err(Fault::Read),
+    },
+    Body {
+        bytes: b"3\r\nab",
+        framing: Framing::Chunked,
+        framed: true,
+        text: b"3\r\nab",
+        left: Err(Fault::Read),
+    },
+    Body {
+        bytes: b"3\r\nabc\n0\r\n\r\n",
+        framing: Framing::Chunked,
+        framed: true,
+        text: b"",
+        left: Err(Fault::Framing),
+    },
+    Body {
+        bytes: b"3\r\nabcd\r\n0\r\n\r\n",
+        framing: Framing::Chunked,
+        framed: true,
+        text: b"",
+        left: Err(Fault::Framing),
+    },
+    Body {
+        bytes: b"0x3\r\nabc\r\n",
+        framing: Framing::Chunked,
+        framed: true,
+        text: b"",
+        left: Err(Fault::Framing),
+    },
+    Body {
+        bytes: b" 3\r\nabc\r\n",
+        framing: Framing::Chunked,
+        framed: true,
+        text: b"",
+        left: Err(Fault::Framing),
+    },
+    Body {
+        bytes: b"+3\r\nabc\r\n",
+        framing: Framing::Chunked,
+        framed: true,
+        text: b"",
+        left: Err(Fault::Framing),
+    },
+    Body {
+        bytes: b"-1\r\nabc\r\n",
+        framing: Framing::Chunked,
+        framed: true,
+        text: b"",
+        left: Err(Fault::Framing),
+    },
+    Body {
+        bytes: b"\r\nabc\r\n",
+        framing: Framing::Chunked,
+        framed: true,
+        text: b"",
+        left: Err(Fault::Framing),
+    },
+    Body {
+        bytes: b"3\nabc\r\n",
+        framing: Framing::Chunked,
+        framed: true,
+        text: b"",
+        left: Err(Fault::Framing),
+    },
+    Body {
+        bytes: b"10000000000000000\r\n",
+        framing: Framing::Chunked,
+        framed: true,
+        text: b"",
+        left: Err(Fault::Framing),
+    },
+    Body {
+        bytes: b"0\r\n",
+        framing: Framing::Chunked,
+        framed: true,
+        text: b"",
+        left: Err(Fault::Read),
+    },
+    Body {
+        bytes: b"0\r\nT: 1\r\n",
+        framing: Framing::Chunked,
+        framed: true,
+        text: b"",
+        left: Err(Fault::Read),
+    },
+];
+
+fn becomes(rt: &impl Abort, alloc: Global, number: usize, body: &Body) {
+    let mut passage = Passage::new(rt, alloc, TURNS);
+    let mut input = Feed::of(body.bytes);
+    let result = passage.hand_on(&mut input, body.framing, body.framed);
+    match body.left {
+        Ok(left) => {
+            same(rt, (number, result), (number, Ok(())), "a row");
+            same(rt, (number, passage.pipe.held()), (number, left), "a row");
+        }
+        Err(fault) => same(rt, (number, result), (number, Err(fault)), "a row"),
+    }
+    let written = passage.output.bytes.as_slice();
+    same(rt, (number, written), (number, body.text), "a row");
 }
 
 #[test]
 fn bodies_are_handed_on(rt: HostRuntime) {
-    for row in &HANDED_ON {
-        is_handed_on(&rt, rt.alloc(), row);
+    for (number, body) in HANDED_ON.iter().enumerate() {
+        becomes(&rt, rt.alloc(), number, body);
     }
-}
-
-/// A body, how it is framed, the fault, and what is written.
-type BrokenRow = (&'static [u8], Framing, Fault, &'static [u8]);
-
-static BROKEN: [BrokenRow; 14] = [
-    (b"ab", Framing::Length(3), Fault::Read, b"ab"),
-    (b"", Framing::Chunked, Fault::Read, b""),
-    (b"3\r\nab", Framing::Chunked, Fault::Read, b"3\r\nab"),
-    (
-        b"3\r\nabc\n0\r\n\r\n",
-        Framing::Chunked,
-        Fault::Framing,
-        b"",
-    ),
-    (
-        b"3\r\nabcd\r\n0\r\n\r\n",
-        Framing::Chunked,
-        Fault::Framing,
-        b"",
-    ),
-    (b"0x3\r\nabc\r\n", Framing::Chunked, Fault::Framing, b""),
-    (b" 3\r\nabc\r\n", Framing::Chunked, Fault::Framing, b""),
-    (b"+3\r\nabc\r\n", Framing::Chunked, Fault::Framing, b""),
-    (b"-1\r\nabc\r\n", Framing::Chunked, Fault::Framing, b""),
-    (b"\r\nabc\r\n", Framing::Chunked, Fault::Framing, b""),
-    (b"3\nabc\r\n", Framing::Chunked, Fault::Framing, b""),
-    (
-        b"10000000000000000\r\n",
-        Framing::Chunked,
-        Fault::Framing,
-        b"",
-    ),
-    (b"0\r\n", Framing::Chunked, Fault::Read, b""),
-    (b"0\r\nT: 1\r\n", Framing::Chunked, Fault::Read, b""),
-];
-
-fn is_refused(rt: &impl Abort, alloc: Global, row: &BrokenRow) {
-    let (input, framing, fault, text) = *row;
-    let seen = hand_on(rt, alloc, input, framing, true);
-    same(rt, seen.result, Err(fault));
-    same(rt, seen.written.as_slice(), text);
 }
 
 #[test]
 fn broken_bodies_are_refused(rt: HostRuntime) {
-    for row in &BROKEN {
-        is_refused(&rt, rt.alloc(), row);
+    for (number, body) in BROKEN.iter().enumerate() {
+        becomes(&rt, rt.alloc(), number, body);
     }
 }
 
-#[test]
-fn each_cut_is_a_read_fault(rt: HostRuntime) {
-    for len in 0..CHUNKED.len() {
-        let seen = hand_on(&rt, rt.alloc(), &CHUNKED[..len], Framing::Chunked, true);
-        same(&rt, seen.result, Err(Fault::Read));
-        holds(&rt, CHUNKED_TEXT.starts_with(seen.written.as_slice()));
-    }
+/// What stops a body in chunks at a step.
+enum Stop {
+    /// The input ends behind so many bytes.
+    Cut,
+    /// This read fails, each of one byte.
+    Read,
+    /// This write fails, each of one byte.
+    Write,
+    /// There are no more turns than so many, and a read takes one for each byte.
+    Turns,
 }
 
-// What a body in chunks comes to whose bytes come one by one.
-fn pass_slowly(
-    rt: &impl Abort,
-    alloc: Global,
-    turns: u64,
-    fails_at: usize,
-    written: &mut Vec<u8>,
-) -> Result<(), Fault> {
-    let mut pipe = Pipe::new(alloc, turns).expect(rt, "memory");
-    let mut reader = Slow {
-        bytes: CHUNKED,
-        reads: 0,
-        fails_at,
+/// How a body in chunks is stopped, and up to which step.
+struct Steps {
+    stop: Stop,
+    fault: Fault,
+    first: usize,
+    whole: usize,
+    last: usize,
+}
+
+static STEPS: [Steps; 4] = [
+    Steps {
+        stop: Stop::Cut,
+        fault: Fault::Read,
+        first: 0,
+        whole: CHUNKED.len(),
+        last: CHUNKED.len(),
+    },
+    Steps {
+        stop: Stop::Read,
+        fault: Fault::Read,
+        first: 1,
+        whole: CHUNKED.len() + 1,
+        last: CHUNKED.len() + 1,
+    },
+    Steps {
+        stop: Stop::Write,
+        fault: Fault::Write,
+        first: 1,
+        whole: CHUNKED_TEXT.len() + 1,
+        last: CHUNKED_TEXT.len() + 1,
+    },
+    Steps {
+        stop: Stop::Turns,
+        fault: Fault::Turns,
+        first: 0,
+        whole: CHUNKED.len(),
+        last: CHUNKED.len() - 1,
+    },
+];
+
+fn input_at(steps: &Steps, step: usize) -> Feed<'static> {
+    let len = match steps.stop {
+        Stop::Cut => step.min(CHUNKED.len()),
+        _ => CHUNKED.len(),
     };
-    pass(&mut pipe, &mut reader, written, Framing::Chunked, true)
+    let mut input = Feed::of(&CHUNKED[..len]);
+    match steps.stop {
+        Stop::Read => {
+            input.most = 1;
+            input.fails_at = step;
+        }
+        Stop::Turns => input.most = 1,
+        _ => {}
+    }
+    input
 }
 
-fn is_read_until(rt: &impl Abort, outcome: Result<(), Fault>, written: &[u8], fails_at: usize) {
-    same(rt, outcome.is_ok(), CHUNKED.len() < fails_at);
-    holds(rt, CHUNKED_TEXT.starts_with(written));
+fn passage_at(rt: &impl Abort, alloc: Global, steps: &Steps, step: usize) -> Passage {
+    let turns = match steps.stop {
+        Stop::Turns => step as u64,
+        _ => TURNS,
+    };
+    let mut passage = Passage::new(rt, alloc, turns);
+    if let Stop::Write = steps.stop {
+        passage.output.most = 1;
+        passage.output.fails_at = step;
+    }
+    passage
 }
 
-fn pass_narrowly(rt: &impl Abort, alloc: Global, writer: &mut Narrow) -> Result<(), Fault> {
-    let mut pipe = Pipe::new(alloc, 1_000_000).expect(rt, "memory");
-    let mut reader = CHUNKED;
-    pass_and_flush(&mut pipe, &mut reader, writer, Framing::Chunked, true)
-}
-
-fn is_written_until(rt: &impl Abort, outcome: Result<(), Fault>, written: &[u8], fails_at: usize) {
-    if CHUNKED_TEXT.len() < fails_at {
-        same(rt, outcome, Ok(()));
-        same(rt, written, CHUNKED_TEXT);
+fn is_handed_on_to(rt: &impl Abort, alloc: Global, steps: &Steps, step: usize) {
+    let mut passage = passage_at(rt, alloc, steps, step);
+    let mut input = input_at(steps, step);
+    let result = passage.hand_on(&mut input, Framing::Chunked, true);
+    let written = passage.output.bytes.as_slice();
+    holds(rt, CHUNKED_TEXT.starts_with(written), "a part of it");
+    if steps.whole <= step {
+        same(rt, (step, result), (step, Ok(())), "all steps");
+        same(rt, written, CHUNKED_TEXT, "all steps");
     } else {
-        same(rt, outcome, Err(Fault::Write));
-        same(rt, written.len().saturating_add(1), fails_at);
-        holds(rt, CHUNKED_TEXT.starts_with(written));
+        same(rt, (step, result), (step, Err(steps.fault)), "a step");
+        if matches!(steps.stop, Stop::Write) {
+            same(rt, written.len().saturating_add(1), step, "a write");
+        }
+    }
+}
+
+fn is_handed_on_step_by_step(rt: &impl Abort, alloc: Global, steps: &Steps) {
+    for step in steps.first..=steps.last {
+        is_handed_on_to(rt, alloc, steps, step);
     }
 }
 
 #[test]
-fn each_call_fails_in_turn(rt: HostRuntime) {
-    for fails_at in 1..CHUNKED.len() + 2 {
-        let mut written = Vec::new(rt.alloc());
-        let result = pass_slowly(&rt, rt.alloc(), 1_000_000, fails_at, &mut written);
-        is_read_until(&rt, result, written.as_slice(), fails_at);
+fn a_body_is_stopped_at_each_of_its_steps(rt: HostRuntime) {
+    for steps in &STEPS {
+        is_handed_on_step_by_step(&rt, rt.alloc(), steps);
     }
-    for fails_at in 1..CHUNKED_TEXT.len() + 2 {
-        let mut writer = Narrow {
-            bytes: Vec::new(rt.alloc()),
-            writes: 0,
-            fails_at,
-        };
-        let result = pass_narrowly(&rt, rt.alloc(), &mut writer);
-        is_written_until(&rt, result, writer.bytes.as_slice(), fails_at);
+}
+
+/// A body of many bytes, and how it ends.
+struct Long {
+    what: &'static str,
+    bytes: Repeated,
+    framing: Framing,
+    result: Result<(), Fault>,
+}
+
+static LONG: [Long; 5] = [
+    Long {
+        what: "the longest size line",
+        bytes: Repeated {
+            start: b"1;",
+            unit: b"x",
+            count: SIZE_LINE_BYTES - 4,
+            end: b"\r\na\r\n0\r\n\r\n",
+        },
+        framing: Framing::Chunked,
+        result: Ok(()),
+    },
+    Long {
+        what: "a size line too long",
+        bytes: Repeated {
+            start: b"1;",
+            unit: b"x",
+            count: SIZE_LINE_BYTES + 1 - 4,
+            end: b"\r\na\r\n0\r\n\r\n",
+        },
+        framing: Framing::Chunked,
+        result: Err(Fault::Framing),
+    },
+    Long {
+        what: "the longest trailers",
+        bytes: Repeated {
+            start: b"0\r\n",
+            unit: b"x",
+            count: TRAILER_BYTES - 3,
+            end: b"\n\r\n",
+        },
+        framing: Framing::Chunked,
+        result: Ok(()),
+    },
+    Long {
+        what: "trailers too long",
+        bytes: Repeated {
+            start: b"0\r\n",
+            unit: b"x",
+            count: TRAILER_BYTES + 1 - 3,
+            end: b"\n\r\n",
+        },
+        framing: Framing::Chunked,
+        result: Err(Fault::Framing),
+    },
+    Long {
+        what: "a body to the end",
+        bytes: Repeated {
+            start: b"",
+            unit: b"x",
+            count: 3 * INBOX_BYTES,
+            end: b"",
+        },
+        framing: Framing::ToEnd,
+        result: Ok(()),
+    },
+];
+
+fn is_long(rt: &impl Abort, alloc: Global, long: &Long) {
+    let bytes = bytes_of(rt, alloc, &long.bytes);
+    let mut passage = Passage::new(rt, alloc, TURNS);
+    let mut input = Feed::of(bytes.as_slice());
+    let result = passage.hand_on(&mut input, long.framing, true);
+    same(rt, result, long.result, long.what);
+    if let Framing::ToEnd = long.framing {
+        let written = passage.output.bytes.as_slice();
+        same(rt, written, bytes.as_slice(), long.what);
     }
 }
 
 #[test]
-fn turns_are_spent(rt: HostRuntime) {
-    let mut written = Vec::new(rt.alloc());
-    for turns in 0..CHUNKED.len() as u64 {
-        written.clear();
-        let result = pass_slowly(&rt, rt.alloc(), turns, 0, &mut written);
-        same(&rt, result, Err(Fault::Turns));
+fn long_bodies(rt: HostRuntime) {
+    for long in &LONG {
+        is_long(&rt, rt.alloc(), long);
     }
-}
-
-// a chunked body whose size line, or whose trailers, have so many bytes
-fn with_line(rt: &impl Abort, alloc: Global, count: usize) -> Vec<u8> {
-    let mut input = Vec::from_slice(alloc, b"1;").expect(rt, "memory");
-    for _ in 4..count {
-        input.push(b'x').expect(rt, "memory");
-    }
-    input
-        .extend_from_slice(b"\r\na\r\n0\r\n\r\n")
-        .expect(rt, "memory");
-    input
-}
-
-fn with_trailers(rt: &impl Abort, alloc: Global, count: usize) -> Vec<u8> {
-    let mut input = Vec::from_slice(alloc, b"0\r\n").expect(rt, "memory");
-    for _ in 3..count {
-        input.push(b'x').expect(rt, "memory");
-    }
-    input.extend_from_slice(b"\n\r\n").expect(rt, "memory");
-    input
-}
-
-fn chunks_passed(rt: &impl Abort, alloc: Global, input: &[u8]) -> Result<(), Fault> {
-    hand_on(rt, alloc, input, Framing::Chunked, true).result
-}
-
-#[test]
-fn the_longest_lines(rt: HostRuntime) {
-    for (count, expected) in [
-        (SIZE_LINE_BYTES, Ok(())),
-        (SIZE_LINE_BYTES + 1, Err(Fault::Framing)),
-    ] {
-        let input = with_line(&rt, rt.alloc(), count);
-        same(
-            &rt,
-            chunks_passed(&rt, rt.alloc(), input.as_slice()),
-            expected,
-        );
-    }
-    for (count, expected) in [
-        (TRAILER_BYTES, Ok(())),
-        (TRAILER_BYTES + 1, Err(Fault::Framing)),
-    ] {
-        let input = with_trailers(&rt, rt.alloc(), count);
-        same(
-            &rt,
-            chunks_passed(&rt, rt.alloc(), input.as_slice()),
-            expected,
-        );
-    }
-}
-
-fn passes_what_it_holds(rt: &impl Abort, pipe: &mut Pipe, writer: &mut Vec<u8>) {
-    pipe.hold(b"abcdef");
-    same(rt, pipe.held(), b"abcdef".as_slice());
-    let mut reader = b"".as_slice();
-    same(
-        rt,
-        pass(pipe, &mut reader, writer, Framing::Length(3), true),
-        Ok(()),
-    );
-    same(rt, pipe.held(), b"def".as_slice());
-    same(rt, writer.as_slice(), b"".as_slice());
-}
-
-fn has_nothing_to_write(rt: &impl Abort, pipe: &mut Pipe, writer: &mut Vec<u8>) {
-    pipe.forget_waiting();
-    pipe.renew(7);
-    same(rt, pipe.held(), b"".as_slice());
-    same(rt, pipe.flush(&mut Counted::new(writer)), Ok(()));
-    same(rt, writer.as_slice(), b"".as_slice());
 }
 
 #[test]
 fn a_pipe_is_used_again(rt: HostRuntime) {
-    let mut pipe = Pipe::new(rt.alloc(), 5).expect(&rt, "memory");
-    let mut writer = Vec::new(rt.alloc());
-    passes_what_it_holds(&rt, &mut pipe, &mut writer);
-    has_nothing_to_write(&rt, &mut pipe, &mut writer);
-}
-
-fn reads_before_it_writes(rt: &impl Abort, pipe: &mut Pipe, writer: &mut Vec<u8>) {
-    pipe.renew(2);
-    same(rt, pipe.emit(&mut Counted::new(writer), b"x"), Ok(()));
-    let mut reader = b"ab".as_slice();
-    same(rt, pipe.fill(&mut Counted::new(&mut reader)), Ok(2));
-    same(rt, pipe.held(), b"ab".as_slice());
-    same(rt, pipe.turns(), 1);
-    same(rt, writer.as_slice(), b"".as_slice());
+    let mut passage = Passage::new(&rt, rt.alloc(), 5);
+    passage.pipe.hold(b"abcdef");
+    same(&rt, passage.pipe.held(), b"abcdef".as_slice(), "held");
+    let result = passage.pass(&mut Feed::of(b""), Framing::Length(3), true);
+    same(&rt, result, Ok(()), "a body that is held");
+    same(
+        &rt,
+        passage.pipe.held(),
+        b"def".as_slice(),
+        "held behind it",
+    );
+    same(&rt, passage.output.writes, 0, "before it is flushed");
+    passage.pipe.forget_waiting();
+    passage.pipe.renew(7);
+    same(&rt, passage.pipe.held(), b"".as_slice(), "held anew");
+    let result = passage.flush();
+    same(&rt, result, Ok(()), "nothing to write");
+    same(
+        &rt,
+        passage.output.bytes.as_slice(),
+        b"".as_slice(),
+        "nothing",
+    );
 }
 
 #[test]
 fn a_read_leaves_what_waits(rt: HostRuntime) {
     let mut pipe = Pipe::new(rt.alloc(), 2).expect(&rt, "memory");
-    let mut writer = Vec::new(rt.alloc());
-    reads_before_it_writes(&rt, &mut pipe, &mut writer);
-}
-
-fn passes_to_its_end(rt: &impl Abort, alloc: Global, input: &[u8]) {
-    let seen = hand_on(rt, alloc, input, Framing::ToEnd, true);
-    same(rt, seen.result, Ok(()));
-    same(rt, seen.written.as_slice(), input);
-}
-
-#[test]
-fn a_large_body_passes(rt: HostRuntime) {
-    let mut input = Vec::new(rt.alloc());
-    input.resize(3 * INBOX_BYTES, b'x').expect(&rt, "memory");
-    passes_to_its_end(&rt, rt.alloc(), input.as_slice());
+    let mut output = Log::new(rt.alloc());
+    pipe.renew(2);
+    let emitted = pipe.emit(&mut Counted::new(&mut output), b"x");
+    same(&rt, emitted, Ok(()), "a byte that waits");
+    let filled = pipe.fill(&mut Counted::new(&mut Feed::of(b"ab")));
+    same(&rt, filled, Ok(2), "a read");
+    same(&rt, pipe.held(), b"ab".as_slice(), "what was read");
+    same(&rt, pipe.turns(), 1, "the turns left");
+    same(&rt, output.bytes.as_slice(), b"".as_slice(), "written");
 }

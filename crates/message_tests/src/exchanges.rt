@@ -1,8 +1,9 @@
 mod answers;
 mod calls;
-mod closed;
+mod faults;
 mod framings;
 mod limits;
 mod memory;
+mod relays;
 mod requests;
-pub(crate) mod streams;
+mod steps;

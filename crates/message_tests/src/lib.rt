@@ -10,6 +10,10 @@ mod counted;
 #[cfg(test)]
 mod exchanges;
 #[cfg(test)]
+mod fakes;
+#[cfg(test)]
 mod passes;
+#[cfg(test)]
+mod repeats;
 #[cfg(test)]
 mod wholes;

@@ -11,7 +11,7 @@ use verdict::{Ending, Verdict};
 pub(crate) struct Held {
     board: Board,
     seat: RelaySeat,
-    pass: Pass,
+    pub(crate) pass: Pass,
     ghost named: { seat.board ≡ board },
     ghost held: { seat.view.passes ≡ pass ∷ [] },
 }
@@ -42,12 +42,6 @@ impl Held {
                 Err(Fault::Closed)
             }
         }
-    }
-
-    pub(crate) fn pass(&self) -> &Pass
-        ensures { result.now ≡ self.now.pass }
-    {
-        &self.pass
     }
 
     pub(crate) fn post(self) {

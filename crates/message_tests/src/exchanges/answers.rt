@@ -1,7 +1,5 @@
-use crate::exchanges::streams::{GET, OLD_GET, Row, answered};
+use crate::exchanges::relays::{GET, OLD_GET, Row, Side, become_of_each};
 use relay_http::Fault;
-use std::alloc::Global;
-use std::process::Abort;
 
 const HEAD: &[u8] = b"HEAD / HTTP/1.1\r\nHost: h\r\n\r\n";
 
@@ -227,29 +225,22 @@ static TO_HEAD: [Row; 6] = [
     ),
 ];
 
-fn become_of_each(rt: &impl Abort, alloc: Global, request: &[u8], rows: &[Row]) {
-    for (what, input, expected) in rows {
-        let seen = answered(rt, alloc, request, input);
-        seen.becomes(rt, *expected, what);
-    }
-}
-
 #[test]
 fn answers_are_handed_on(rt: HostRuntime) {
-    become_of_each(&rt, rt.alloc(), GET, &WHOLE);
+    become_of_each(&rt, rt.alloc(), &Side::AnswerTo(GET), &WHOLE);
 }
 
 #[test]
 fn broken_answers(rt: HostRuntime) {
-    become_of_each(&rt, rt.alloc(), GET, &BROKEN);
+    become_of_each(&rt, rt.alloc(), &Side::AnswerTo(GET), &BROKEN);
 }
 
 #[test]
 fn answers_to_old_clients(rt: HostRuntime) {
-    become_of_each(&rt, rt.alloc(), OLD_GET, &TO_OLD_CLIENTS);
+    become_of_each(&rt, rt.alloc(), &Side::AnswerTo(OLD_GET), &TO_OLD_CLIENTS);
 }
 
 #[test]
 fn answers_to_head(rt: HostRuntime) {
-    become_of_each(&rt, rt.alloc(), HEAD, &TO_HEAD);
+    become_of_each(&rt, rt.alloc(), &Side::AnswerTo(HEAD), &TO_HEAD);
 }

@@ -1,8 +1,14 @@
+ghost use Rattle.relay_http.specs.States.{Serves};
+
 use crate::assertions::{holds, same};
-use crate::exchanges::streams::{GET, TURNS, answer_view};
+use crate::exchanges::relays::{GET, Relay, TURNS};
+use crate::fakes::{Feed, Log};
+use crate::passes::Held;
+use grant_board::Pass;
 use relay_http::{Exchange, Fault, Stage};
 use req_view::View;
 use std::alloc::Global;
+use std::io;
 use std::process::Abort;
 use std::test::Fail;
 
@@ -23,69 +29,73 @@ fn read_in_the_end(rt: &impl Abort, alloc: Global, exchange: &mut Exchange) -> R
     match read(alloc, exchange) {
         Ok(view) => Ok(view),
         Err(fault) => {
-            same(rt, fault, Fault::NoMemory);
-            same(rt, exchange.stage(), Stage::Failed);
+            same(rt, fault, Fault::NoMemory, "the first read");
+            same(rt, exchange.stage(), Stage::Failed, "the exchange");
             read(alloc, exchange)
         }
     }
 }
 
-fn answer_once(
-    alloc: Global,
-    exchange: &mut Exchange,
-    view: &View,
-    written: &mut Vec<u8>,
-) -> Result<(), Fault> {
-    exchange.renew();
-    exchange.take_up(b"");
-    let mut server = ANSWER;
-    answer_view(alloc, exchange, view, &mut server, written)
+fn answer(alloc: Global, relay: &mut Relay, pass: &Pass, view: &View) -> Result<(), Fault>
+    requires { Serves pass.now.verdict }
+{
+    relay.output.bytes.clear();
+    relay.exchange.renew();
+    relay.exchange.take_up(b"");
+    let mut client = io::empty();
+    relay
+        .exchange
+        .forward(pass, view, &mut client, &mut io::sink())?;
+    let mut server = Feed::of(ANSWER);
+    relay
+        .exchange
+        .answer(alloc, pass, view, &mut server, &mut relay.output)
 }
 
-// The same of the answer.
-fn answer_in_the_end(
-    rt: &impl Abort,
-    alloc: Global,
-    exchange: &mut Exchange,
-    view: &View,
-    written: &mut Vec<u8>,
-) -> Result<(), Fault> {
-    let result = answer_once(alloc, exchange, view, written);
-    holds(rt, ANSWER_TEXT.starts_with(written.as_slice()));
-    if result != Err(Fault::NoMemory) {
-        return result;
+// The same of the answer, to the same request.
+fn is_answered(rt: &impl Abort, alloc: Global, relay: &mut Relay, pass: &Pass, view: &View)
+    requires { Serves pass.now.verdict }
+{
+    let first = answer(alloc, relay, pass, view);
+    let written = relay.output.bytes.as_slice();
+    holds(rt, ANSWER_TEXT.starts_with(written), "a part of it");
+    if first == Err(Fault::NoMemory) {
+        same(rt, relay.exchange.stage(), Stage::Failed, "the exchange");
+        let second = answer(alloc, relay, pass, view);
+        same(rt, second, Ok(()), "the second time");
+    } else {
+        same(rt, first, Ok(()), "the first time");
     }
-    written.clear();
-    answer_once(alloc, exchange, view, written)
-}
-
-fn relay(
-    rt: &impl Abort,
-    alloc: Global,
-    exchange: &mut Exchange,
-    written: &mut Vec<u8>,
-) -> Result<(), Fault> {
-    let view = read_in_the_end(rt, alloc, exchange)?;
-    answer_in_the_end(rt, alloc, exchange, &view, written)
-}
-
-fn is_relayed(rt: &impl Abort, alloc: Global, exchange: &mut Exchange, written: &mut Vec<u8>) {
-    same(rt, relay(rt, alloc, exchange, written), Ok(()));
-    same(rt, written.as_slice(), ANSWER_TEXT);
 }
 
 // With the one growth refused that `rt try --test --fail-alloc N` names: want of memory is answered, and the next time not.
 #[test]
 fn a_refused_growth_is_want_of_memory(rt: HostRuntime) -> Result<(), Fail> {
     let alloc = rt.alloc();
-    let mut exchange = match Exchange::new(alloc, TURNS) {
+    let exchange = match Exchange::new(alloc, TURNS) {
         Ok(exchange) => exchange,
         Err(_) => Exchange::new(alloc, TURNS)?,
     };
-    let mut written = match Vec::with_capacity(alloc, 200) {
-        Ok(written) => written,
-        Err(_) => Vec::with_capacity(alloc, 200)?,
+    let mut output = Log::new(alloc);
+    if output.bytes.reserve(200).is_err() {
+        output.bytes.reserve(200)?;
+    }
+    let mut relay = Relay { exchange, output };
+    let held = match Held::take(alloc) {
+        Ok(held) => held,
+        Err(_) => Held::take(alloc).expect(&rt, "a pass"),
     };
-    is_relayed(&rt, alloc, &mut exchange, &mut written);
+    let view = read_in_the_end(&rt, alloc, &mut relay.exchange);
+    if let Ok(view) = &view {
+        is_answered(&rt, alloc, &mut relay, &held.pass, view);
+    }
+    held.post();
+    same(&rt, view.is_ok(), true, "the request");
+    same(
+        &rt,
+        relay.output.bytes.as_slice(),
+        ANSWER_TEXT,
+        "the answer",
+    );
     Ok(())
 }

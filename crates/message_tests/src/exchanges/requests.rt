@@ -1,7 +1,5 @@
-use crate::exchanges::streams::{Row, forwarded};
+use crate::exchanges::relays::{Row, Side, become_of_each};
 use relay_http::Fault;
-use std::alloc::Global;
-use std::process::Abort;
 
 // first lines (RFC 9112, sections 2.2 and 3)
 static LINES: [Row; 17] = [
@@ -372,29 +370,22 @@ static CHUNKS: [Row; 23] = [
     ),
 ];
 
-fn become_of_each(rt: &impl Abort, alloc: Global, rows: &[Row]) {
-    for (what, input, expected) in rows {
-        let seen = forwarded(rt, alloc, input);
-        seen.becomes(rt, *expected, what);
-    }
-}
-
 #[test]
 fn first_lines_of_requests(rt: HostRuntime) {
-    become_of_each(&rt, rt.alloc(), &LINES);
+    become_of_each(&rt, rt.alloc(), &Side::Request, &LINES);
 }
 
 #[test]
 fn fields_of_requests(rt: HostRuntime) {
-    become_of_each(&rt, rt.alloc(), &FIELDS);
+    become_of_each(&rt, rt.alloc(), &Side::Request, &FIELDS);
 }
 
 #[test]
 fn requests_of_a_length(rt: HostRuntime) {
-    become_of_each(&rt, rt.alloc(), &LENGTHS);
+    become_of_each(&rt, rt.alloc(), &Side::Request, &LENGTHS);
 }
 
 #[test]
 fn requests_in_chunks(rt: HostRuntime) {
-    become_of_each(&rt, rt.alloc(), &CHUNKS);
+    become_of_each(&rt, rt.alloc(), &Side::Request, &CHUNKS);
 }

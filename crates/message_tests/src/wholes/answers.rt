@@ -1,8 +1,9 @@
 use crate::assertions::same;
-use crate::wholes::relays::{GET, Row, TURNS, answered};
+use crate::repeats::{Repeated, bytes_of};
+use crate::wholes::relays::{
+    Fronts, GET, Row, Side, TURNS, Table, become_of_each, become_of_each_front, front_becomes,
+};
 use relay_http::{Code, Exchange, Fault};
-use std::alloc::Global;
-use std::process::Abort;
 use whole_messages::{Progress, refusal};
 
 const HEAD: &[u8] = b"HEAD / HTTP/1.1\r\nHost: h\r\n\r\n";
@@ -25,7 +26,7 @@ const INTERIM_TEXT: &[u8] =
     b"HTTP/1.1 103 X\r\nLink: a\r\n\r\nHTTP/1.1 200 OK\r\nContent-Length: 0\r\nConnection: close\r\n\r\n";
 
 // answers that their own bytes end
-static WHOLE: [Row; 6] = [
+const WHOLE: &[Row<'static>] = &[
     ("a length", BY_LENGTH, Progress::Whole(BY_LENGTH_TEXT)),
     ("chunks", CHUNKS, Progress::Whole(CHUNKS_TEXT)),
     ("heads before it", INTERIM, Progress::Whole(INTERIM_TEXT)),
@@ -47,7 +48,7 @@ static WHOLE: [Row; 6] = [
 ];
 
 // bytes that are no answer, whatever comes
-static FAULTS: [Row; 4] = [
+const FAULTS: &[Row<'static>] = &[
     (
         "no head at all",
         b"SSH-2.0-x\r\n",
@@ -70,106 +71,186 @@ static FAULTS: [Row; 4] = [
     ),
 ];
 
-fn become_of_each(rt: &impl Abort, alloc: Global, rows: &[Row], ended: bool) {
-    for (what, input, expected) in rows {
-        let seen = answered(rt, alloc, GET, input, ended);
-        seen.becomes(rt, *expected, what);
-    }
-}
+const TO_END: &[u8] = b"HTTP/1.1 200 OK\r\n\r\nabc";
+
+const TO_END_TEXT: &[u8] = b"HTTP/1.1 200 OK\r\nConnection: close\r\n\r\nabc";
+
+// an answer that goes to the end of its input
+const BEFORE_ITS_END: &[Row<'static>] = &[("before its end", TO_END, Progress::More)];
+
+const AT_ITS_END: &[Row<'static>] = &[("at its end", TO_END, Progress::Whole(TO_END_TEXT))];
+
+const ANSWERS_TO_HEAD: &[Row<'static>] = &[
+    (
+        "without a body to the end",
+        TO_END,
+        Progress::Whole(b"HTTP/1.1 200 OK\r\nConnection: close\r\n\r\n"),
+    ),
+    (
+        "without a body of a length",
+        b"HTTP/1.1 200 OK\r\nContent-Length: 7\r\n\r\n",
+        Progress::Whole(b"HTTP/1.1 200 OK\r\nContent-Length: 7\r\nConnection: close\r\n\r\n"),
+    ),
+];
+
+static TABLES: [Table; 7] = [
+    Table {
+        side: Side::AnswerTo {
+            request: GET,
+            ended: false,
+        },
+        rows: WHOLE,
+    },
+    Table {
+        side: Side::AnswerTo {
+            request: GET,
+            ended: false,
+        },
+        rows: FAULTS,
+    },
+    Table {
+        side: Side::AnswerTo {
+            request: GET,
+            ended: true,
+        },
+        rows: WHOLE,
+    },
+    Table {
+        side: Side::AnswerTo {
+            request: GET,
+            ended: true,
+        },
+        rows: FAULTS,
+    },
+    Table {
+        side: Side::AnswerTo {
+            request: GET,
+            ended: false,
+        },
+        rows: BEFORE_ITS_END,
+    },
+    Table {
+        side: Side::AnswerTo {
+            request: GET,
+            ended: true,
+        },
+        rows: AT_ITS_END,
+    },
+    Table {
+        side: Side::AnswerTo {
+            request: HEAD,
+            ended: false,
+        },
+        rows: ANSWERS_TO_HEAD,
+    },
+];
 
 #[test]
 fn answers_that_came(rt: HostRuntime) {
-    for ended in [false, true] {
-        become_of_each(&rt, rt.alloc(), &WHOLE, ended);
-        become_of_each(&rt, rt.alloc(), &FAULTS, ended);
-    }
-}
-
-fn is_cut(rt: &impl Abort, alloc: Global, front: &[u8], ended: bool, told: Progress<&[u8]>) {
-    let seen = answered(rt, alloc, GET, front, ended);
-    seen.becomes(rt, told, &front.len());
-}
-
-fn is_cut_after_each_byte(rt: &impl Abort, alloc: Global, input: &[u8]) {
-    for len in 0..input.len() {
-        is_cut(rt, alloc, &input[..len], false, Progress::More);
-        is_cut(
-            rt,
-            alloc,
-            &input[..len],
-            true,
-            Progress::Refused(Fault::Read),
-        );
+    for table in &TABLES {
+        become_of_each(&rt, rt.alloc(), table);
     }
 }
 
 // Until its last byte came, an answer waits, or it ended too early.
+static FRONTS: [Fronts; 6] = [
+    Fronts {
+        side: Side::AnswerTo {
+            request: GET,
+            ended: false,
+        },
+        row: ("a length", BY_LENGTH, Progress::More),
+    },
+    Fronts {
+        side: Side::AnswerTo {
+            request: GET,
+            ended: true,
+        },
+        row: ("a length", BY_LENGTH, Progress::Refused(Fault::Read)),
+    },
+    Fronts {
+        side: Side::AnswerTo {
+            request: GET,
+            ended: false,
+        },
+        row: ("chunks", CHUNKS, Progress::More),
+    },
+    Fronts {
+        side: Side::AnswerTo {
+            request: GET,
+            ended: true,
+        },
+        row: ("chunks", CHUNKS, Progress::Refused(Fault::Read)),
+    },
+    Fronts {
+        side: Side::AnswerTo {
+            request: GET,
+            ended: false,
+        },
+        row: ("heads before it", INTERIM, Progress::More),
+    },
+    Fronts {
+        side: Side::AnswerTo {
+            request: GET,
+            ended: true,
+        },
+        row: ("heads before it", INTERIM, Progress::Refused(Fault::Read)),
+    },
+];
+
 #[test]
 fn answers_in_two_pieces(rt: HostRuntime) {
-    for input in [BY_LENGTH, CHUNKS, INTERIM] {
-        is_cut_after_each_byte(&rt, rt.alloc(), input);
+    for fronts in &FRONTS {
+        become_of_each_front(&rt, rt.alloc(), fronts);
     }
 }
 
-#[test]
-fn answers_to_the_end(rt: HostRuntime) {
-    let input = b"HTTP/1.1 200 OK\r\n\r\nabc";
-    let seen = answered(&rt, rt.alloc(), GET, input, false);
-    same(&rt, seen.outcome(), Some(Progress::More));
-    let seen = answered(&rt, rt.alloc(), GET, input, true);
-    let text = b"HTTP/1.1 200 OK\r\nConnection: close\r\n\r\nabc".as_slice();
-    same(&rt, seen.outcome(), Some(Progress::Whole(text)));
-    let seen = answered(&rt, rt.alloc(), HEAD, input, false);
-    let text = b"HTTP/1.1 200 OK\r\nConnection: close\r\n\r\n".as_slice();
-    same(&rt, seen.outcome(), Some(Progress::Whole(text)));
-}
+static TO_GET: Side = Side::AnswerTo {
+    request: GET,
+    ended: false,
+};
 
-#[test]
-fn answers_to_head(rt: HostRuntime) {
-    let input = b"HTTP/1.1 200 OK\r\nContent-Length: 7\r\n\r\n";
-    let seen = answered(&rt, rt.alloc(), HEAD, input, false);
-    let text = b"HTTP/1.1 200 OK\r\nContent-Length: 7\r\nConnection: close\r\n\r\n".as_slice();
-    same(&rt, seen.outcome(), Some(Progress::Whole(text)));
-}
+static LONG: Repeated = Repeated {
+    start: b"HTTP/1.1 200 OK\r\nContent-Length: 200000\r\n\r\n",
+    unit: b"x",
+    count: 200_000,
+    end: b"",
+};
+
+static LONG_TEXT: Repeated = Repeated {
+    start: b"HTTP/1.1 200 OK\r\nContent-Length: 200000\r\nConnection: close\r\n\r\n",
+    unit: b"x",
+    count: 200_000,
+    end: b"",
+};
 
 // More than an exchange's buffers hold.
 #[test]
 fn a_long_answer(rt: HostRuntime) {
-    let mut input = Vec::from_slice(
+    let bytes = bytes_of(&rt, rt.alloc(), &LONG);
+    let text = bytes_of(&rt, rt.alloc(), &LONG_TEXT);
+    let whole = Progress::Whole(text.as_slice());
+    let row = ("a long answer", bytes.as_slice(), whole);
+    front_becomes(&rt, rt.alloc(), &TO_GET, &row, bytes.len());
+    let row = ("a byte less", bytes.as_slice(), Progress::More);
+    front_becomes(
+        &rt,
         rt.alloc(),
-        b"HTTP/1.1 200 OK\r\nContent-Length: 200000\r\n\r\n",
-    )
-    .expect(&rt, "memory");
-    let head = input.len();
-    input.resize(head + 200_000, b'x').expect(&rt, "memory");
-    let seen = answered(&rt, rt.alloc(), GET, input.as_slice(), false);
-    match seen.outcome() {
-        Some(Progress::Whole(text)) => {
-            same(
-                &rt,
-                text.len(),
-                head + b"Connection: close\r\n".len() + 200_000,
-            );
-        }
-        _ => panic!(rt; "no answer"),
-    }
-    input.pop();
-    let seen = answered(&rt, rt.alloc(), GET, input.as_slice(), false);
-    same(&rt, seen.outcome(), Some(Progress::More));
-}
-
-fn refused(rt: &impl Abort, alloc: Global, out: &mut Vec<u8>) {
-    let mut exchange = Exchange::new(alloc, TURNS).expect(rt, "memory");
-    refusal(&mut exchange, Code::BadGateway, out).expect(rt, "memory");
+        &TO_GET,
+        &row,
+        bytes.len().saturating_sub(1),
+    );
 }
 
 #[test]
 fn refusals(rt: HostRuntime) {
     let mut out = Vec::from_slice(rt.alloc(), b"before ").expect(&rt, "memory");
-    refused(&rt, rt.alloc(), &mut out);
+    let mut exchange = Exchange::new(rt.alloc(), TURNS).expect(&rt, "memory");
+    refusal(&mut exchange, Code::BadGateway, &mut out).expect(&rt, "memory");
     same(
         &rt,
         out.as_slice(),
         b"before HTTP/1.1 502 Bad Gateway\r\nContent-Length: 0\r\nConnection: close\r\n\r\n".as_slice(),
+        "a refusal",
     );
 }

@@ -1,20 +1,10 @@
-ghost use Rattle.std.specs.Prelude.{◌≡◌, ◌≤◌, length};
-ghost use Rattle.relay_body.specs.declared.inbox.TheConstants.{INBOX_BYTES};
-ghost use Rattle.relay_http.specs.Asides.{stage_of};
-ghost use Rattle.relay_http.specs.States.{Serves, forwarded_on};
-
-use crate::assertions::holds;
+use crate::assertions::{holds, same};
 use crate::passes::Held;
 use relay_body::INBOX_BYTES;
-use relay_http::{Aside, Exchange, Fault};
-use req_view::View;
+use relay_http::Exchange;
 use std::alloc::Global;
-use std::fmt::Display;
 use std::process::Abort;
 use whole_messages::{Arrived, HandedOn, Progress, answer_whole, forward_whole, read_head};
-
-/// What a message is, its bytes, and what becomes of it.
-pub(crate) type Row = (&'static str, &'static [u8], Progress<&'static [u8]>);
 
 pub(crate) const TURNS: u64 = 1_000_000;
 
@@ -23,156 +13,124 @@ pub(crate) const GET: &[u8] = b"GET / HTTP/1.1\r\nHost: h\r\n\r\n";
 /// What stands in the buffers before.
 const BEFORE: &[u8] = b"before";
 
-/// What was put behind what stood there, and what was told.
+/// Which message is looked at, and whether its input has ended behind what came.
+pub(crate) enum Side {
+    Request { ended: bool },
+    AnswerTo { request: &'static [u8], ended: bool },
+}
+
+/// What was put behind what stood there.
 #[derive(Drop)]
-pub(crate) struct Seen {
-    told: Progress<()>,
-    out: Vec<u8>,
+struct Texts {
+    request: Vec<u8>,
+    answer: Vec<u8>,
 }
 
-impl Seen {
-    /// The bytes of a message that was handed on, or what was told in place of it. Then nothing was put there.
-    pub(crate) fn outcome(&self) -> Option<Progress<&[u8]>> {
-        let Some(text) = self.out.as_slice().strip_prefix(BEFORE) else {
-            return None;
-        };
-        match self.told {
-            Progress::Whole(()) => Some(Progress::Whole(text)),
-            Progress::More if text.is_empty() => Some(Progress::More),
-            Progress::Refused(fault) if text.is_empty() => Some(Progress::Refused(fault)),
-            _ => None,
-        }
-    }
-
-    /// Stops the test where the outcome isn't so, and prints of what it is.
-    pub(crate) fn becomes(&self, rt: &impl Abort, expected: Progress<&[u8]>, what: &impl Display) {
-        assert_eq!(rt; self.outcome(), Some(expected), "{what}");
-    }
-}
-
-/// What has come of a client and a server.
-#[derive(Drop)]
-struct Input<'b> {
-    request: &'b [u8],
-    answer: &'b [u8],
-    ended: bool,
-}
-
-/// What becomes of a request of which these bytes have come.
-pub(crate) fn forwarded(rt: &impl Abort, alloc: Global, request: &[u8]) -> Seen {
-    let input = Input {
-        request,
-        answer: b"",
-        ended: false,
-    };
-    relayed(rt, alloc, &input).0
-}
-
-/// What becomes of the answer to a request.
-pub(crate) fn answered(
+fn hand_on(
     rt: &impl Abort,
     alloc: Global,
-    request: &[u8],
-    answer: &[u8],
-    ended: bool,
-) -> Seen {
-    let input = Input {
-        request,
-        answer,
-        ended,
+    side: &Side,
+    bytes: &[u8],
+    texts: &mut Texts,
+) -> Progress<()> {
+    let (request, at_its_end) = match side {
+        Side::Request { ended } => (bytes, *ended),
+        Side::AnswerTo { request, .. } => (*request, false),
     };
-    relayed(rt, alloc, &input).1
-}
-
-fn nothing_seen(rt: &impl Abort, alloc: Global) -> Seen {
-    Seen {
-        told: Progress::More,
-        out: Vec::from_slice(alloc, BEFORE).expect(rt, "memory"),
-    }
-}
-
-fn relayed(rt: &impl Abort, alloc: Global, input: &Input<'_>) -> (Seen, Seen) {
-    let mut seen = (nothing_seen(rt, alloc), nothing_seen(rt, alloc));
+    holds(rt, request.len() <= INBOX_BYTES, "a request too long");
     let mut exchange = Exchange::new(alloc, TURNS).expect(rt, "memory");
-    relay(rt, alloc, &mut exchange, input, &mut seen);
-    seen
-}
-
-fn relay(
-    rt: &impl Abort,
-    alloc: Global,
-    exchange: &mut Exchange,
-    input: &Input<'_>,
-    seen: &mut (Seen, Seen),
-) {
-    holds(rt, input.request.len() <= INBOX_BYTES);
-    match read_head(exchange, alloc, input.request, false) {
-        Progress::Whole(view) => {
-            let behind = Vec::from_slice(alloc, exchange.held()).expect(rt, "memory");
-            let request = Request {
-                view: &view,
-                behind: behind.as_slice(),
-                input,
-            };
-            let held = Held::take(alloc).expect(rt, "a pass");
-            relay_on(alloc, exchange, &held, &request, seen);
-            held.post();
-        }
-        Progress::More => {}
-        Progress::Refused(fault) => seen.0.told = Progress::Refused(fault),
-    }
-}
-
-// A request whose head was read, what came behind that, and what else is given.
-#[derive(Clone, Copy)]
-struct Request<'a> {
-    view: &'a View,
-    behind: &'a [u8],
-    input: &'a Input<'a>,
-    ghost few: { length behind.now ≤ INBOX_BYTES },
-}
-
-// A request is handed on, and then its answer, on one pass.
-fn relay_on(
-    alloc: Global,
-    exchange: &mut Exchange,
-    held: &Held,
-    request: &Request<'_>,
-    seen: &mut (Seen, Seen),
-)
-    requires { Serves held.now.pass.verdict }
-{
-    let out = &mut seen.0.out;
-    let told = forward_whole(exchange, held.pass(), request.view, request.behind, out);
-    seen.0.told = told_of(told);
-    if let Progress::Whole(aside) = told {
-        let handed_on = HandedOn {
-            pass: held.pass(),
-            view: request.view,
-            aside: &aside,
-        };
-        answer(alloc, exchange, &handed_on, request.input, &mut seen.1);
-    }
-}
-
-fn answer(
-    alloc: Global,
-    exchange: &mut Exchange,
-    request: &HandedOn<'_>,
-    input: &Input<'_>,
-    seen: &mut Seen,
-)
-    requires serves { Serves request.now.pass.now.verdict }
-    requires same_pass { stage_of request.now.aside.now ≡ forwarded_on request.now.pass.now }
-{
-    let mut arrived = Arrived::new(input.answer, input.ended);
-    seen.told = answer_whole(exchange, alloc, request, &mut arrived, &mut seen.out);
-}
-
-fn told_of(told: Progress<Aside>) -> Progress<()> {
-    match told {
-        Progress::Whole(_) => Progress::Whole(()),
+    let view = match read_head(&mut exchange, alloc, request, at_its_end) {
+        Progress::Whole(view) => view,
+        Progress::More => return Progress::More,
+        Progress::Refused(fault) => return Progress::Refused(fault),
+    };
+    let behind = Vec::from_slice(alloc, exchange.held()).expect(rt, "memory");
+    let held = Held::take(alloc).expect(rt, "a pass");
+    let behind = behind.as_slice();
+    let told = match forward_whole(&mut exchange, &held.pass, &view, behind, &mut texts.request) {
+        Progress::Whole(aside) => match side {
+            Side::Request { .. } => Progress::Whole(()),
+            Side::AnswerTo { ended, .. } => {
+                let handed_on = HandedOn {
+                    pass: &held.pass,
+                    view: &view,
+                    aside: &aside,
+                };
+                let mut arrived = Arrived::new(bytes, *ended);
+                answer_whole(
+                    &mut exchange,
+                    alloc,
+                    &handed_on,
+                    &mut arrived,
+                    &mut texts.answer,
+                )
+            }
+        },
         Progress::More => Progress::More,
         Progress::Refused(fault) => Progress::Refused(fault),
+    };
+    held.post();
+    told
+}
+
+/// What a message is, its bytes, and what becomes of it.
+pub(crate) type Row<'b> = (&'b str, &'b [u8], Progress<&'b [u8]>);
+
+/// Messages, and which they are.
+pub(crate) struct Table {
+    pub(crate) side: Side,
+    pub(crate) rows: &'static [Row<'static>],
+}
+
+/// Stops the test where the first bytes of the row's, so many, become something else.
+pub(crate) fn front_becomes(
+    rt: &impl Abort,
+    alloc: Global,
+    side: &Side,
+    row: &Row<'_>,
+    len: usize,
+) {
+    let (what, bytes, expected) = *row;
+    let mut texts = Texts {
+        request: Vec::from_slice(alloc, BEFORE).expect(rt, "memory"),
+        answer: Vec::from_slice(alloc, BEFORE).expect(rt, "memory"),
+    };
+    let found = hand_on(rt, alloc, side, &bytes[..len.min(bytes.len())], &mut texts);
+    let Texts { request, answer } = texts;
+    let out = match side {
+        Side::Request { .. } => request,
+        Side::AnswerTo { .. } => answer,
+    };
+    let text = out
+        .as_slice()
+        .strip_prefix(BEFORE)
+        .expect(rt, "what stood before");
+    let outcome = match found {
+        Progress::Whole(()) => Progress::Whole(text),
+        Progress::More => Progress::More,
+        Progress::Refused(fault) => Progress::Refused(fault),
+    };
+    same(rt, (len, outcome), (len, expected), what);
+    let is_whole = matches!(found, Progress::Whole(()));
+    holds(rt, is_whole || text.is_empty(), what);
+}
+
+/// Stops the test where a row becomes something else.
+pub(crate) fn become_of_each(rt: &impl Abort, alloc: Global, table: &Table) {
+    for row in table.rows {
+        front_becomes(rt, alloc, &table.side, row, row.1.len());
+    }
+}
+
+/// A message whose last byte is yet to come, and what becomes of it until then.
+pub(crate) struct Fronts {
+    pub(crate) side: Side,
+    pub(crate) row: Row<'static>,
+}
+
+/// Stops the test where a front of the message becomes something else.
+pub(crate) fn become_of_each_front(rt: &impl Abort, alloc: Global, fronts: &Fronts) {
+    for len in 0..fronts.row.1.len() {
+        front_becomes(rt, alloc, &fronts.side, &fronts.row, len);
     }
 }

@@ -1,11 +1,8 @@
-ghost use Rattle.std.specs.Prelude.{◌≤◌, length};
-
 use crate::assertions::same;
-use crate::wholes::relays::{GET, Row, TURNS, forwarded};
-use relay_body::INBOX_BYTES;
+use crate::wholes::relays::{
+    Fronts, GET, Row, Side, TURNS, Table, become_of_each, become_of_each_front,
+};
 use relay_http::{Exchange, Fault, Stage};
-use std::alloc::Global;
-use std::process::Abort;
 use whole_messages::{Progress, read_head};
 
 // a request by length, its head 73 bytes
@@ -22,12 +19,14 @@ const CHUNKS: &[u8] =
 const CHUNKS_TEXT: &[u8] =
     b"POST / HTTP/1.1\r\nHost: h\r\nTransfer-Encoding: chunked\r\nConnection: close\r\n\r\n3\r\nabc\r\n0\r\n\r\n";
 
-static ROWS: [Row; 8] = [
+const ROWS: &[Row<'static>] = &[
     (
         "no body",
         GET,
         Progress::Whole(b"GET / HTTP/1.1\r\nHost: h\r\nConnection: close\r\n\r\n"),
     ),
+    ("a length", POST, Progress::Whole(POST_TEXT)),
+    ("chunks", CHUNKS, Progress::Whole(CHUNKS_TEXT)),
     (
         "bytes behind the body",
         b"POST / HTTP/1.1\r\nHost: h\r\nContent-Length: 1\r\n\r\naGET /",
@@ -67,65 +66,46 @@ static ROWS: [Row; 8] = [
     ),
 ];
 
+static THAT_CAME: Table = Table {
+    side: Side::Request { ended: false },
+    rows: ROWS,
+};
+
 #[test]
 fn requests_that_came(rt: HostRuntime) {
-    for (what, input, expected) in &ROWS {
-        let seen = forwarded(&rt, rt.alloc(), input);
-        seen.becomes(&rt, *expected, what);
-    }
+    become_of_each(&rt, rt.alloc(), &THAT_CAME);
 }
 
-fn waits_for_each_byte(rt: &impl Abort, alloc: Global, input: &[u8]) {
-    for len in 0..input.len() {
-        let seen = forwarded(rt, alloc, &input[..len]);
-        seen.becomes(rt, Progress::More, &len);
-    }
-}
+// Until its last byte came, a request waits, in its head as in its body. Where its input ended in its head, it is refused.
+static FRONTS: [Fronts; 3] = [
+    Fronts {
+        side: Side::Request { ended: false },
+        row: ("a length", POST, Progress::More),
+    },
+    Fronts {
+        side: Side::Request { ended: false },
+        row: ("chunks", CHUNKS, Progress::More),
+    },
+    Fronts {
+        side: Side::Request { ended: true },
+        row: ("an input that ended", GET, Progress::Refused(Fault::Read)),
+    },
+];
 
-fn is_whole(rt: &impl Abort, alloc: Global, input: &[u8], text: &[u8]) {
-    let seen = forwarded(rt, alloc, input);
-    same(rt, seen.outcome(), Some(Progress::Whole(text)));
-}
-
-// Until its last byte came, a request waits, in its head as in its body.
 #[test]
 fn requests_in_two_pieces(rt: HostRuntime) {
-    for (input, text) in [(POST, POST_TEXT), (CHUNKS, CHUNKS_TEXT)] {
-        waits_for_each_byte(&rt, rt.alloc(), input);
-        is_whole(&rt, rt.alloc(), input, text);
-    }
-}
-
-fn has_a_head(rt: &impl Abort, alloc: Global, exchange: &mut Exchange) {
-    match read_head(exchange, alloc, POST, false) {
-        Progress::Whole(view) => same(rt, view.method(), b"POST".as_slice()),
-        _ => panic!(rt; "no request"),
+    for fronts in &FRONTS {
+        become_of_each_front(&rt, rt.alloc(), fronts);
     }
 }
 
 #[test]
 fn a_head_that_came(rt: HostRuntime) {
     let mut exchange = Exchange::new(rt.alloc(), TURNS).expect(&rt, "memory");
-    has_a_head(&rt, rt.alloc(), &mut exchange);
-    same(&rt, exchange.stage(), Stage::Asked);
-    same(&rt, exchange.held(), b"abc".as_slice());
-}
-
-fn ended_too_early(rt: &impl Abort, alloc: Global, exchange: &mut Exchange, front: &[u8])
-    requires { length front.now ≤ INBOX_BYTES }
-{
-    let told = read_head(exchange, alloc, front, true);
-    assert!(rt;
-        matches!(told, Progress::Refused(Fault::Read)),
-        "{}",
-        front.len()
-    );
-}
-
-#[test]
-fn an_input_that_ended_in_a_head(rt: HostRuntime) {
-    let mut exchange = Exchange::new(rt.alloc(), TURNS).expect(&rt, "memory");
-    for len in 0..GET.len() {
-        ended_too_early(&rt, rt.alloc(), &mut exchange, &GET[..len]);
+    match read_head(&mut exchange, rt.alloc(), POST, false) {
+        Progress::Whole(view) => same(&rt, view.method(), b"POST".as_slice(), "its method"),
+        _ => panic!(rt; "no request"),
     }
+    same(&rt, exchange.stage(), Stage::Asked, "the exchange");
+    same(&rt, exchange.held(), b"abc".as_slice(), "behind the head");
 }

@@ -1,0 +1,21 @@
+//! Bytes that are too many to be written out.
+use std::alloc::Global;
+use std::process::Abort;
+
+/// A start, so many times the unit, and an end.
+pub(crate) struct Repeated {
+    pub(crate) start: &'static [u8],
+    pub(crate) unit: &'static [u8],
+    pub(crate) count: usize,
+    pub(crate) end: &'static [u8],
+}
+
+/// The bytes themselves.
+pub(crate) fn bytes_of(rt: &impl Abort, alloc: Global, repeated: &Repeated) -> Vec<u8> {
+    let mut bytes = Vec::from_slice(alloc, repeated.start).expect(rt, "memory");
+    for _ in 0..repeated.count {
+        bytes.extend_from_slice(repeated.unit).expect(rt, "memory");
+    }
+    bytes.extend_from_slice(repeated.end).expect(rt, "memory");
+    bytes
+}

@@ -3,11 +3,13 @@
 #![tactic(auto)]
 
 #[cfg(test)]
+mod assertions;
+#[cfg(test)]
 mod drawn_scripts;
 #[cfg(test)]
-mod pictures;
+mod overtaking;
 #[cfg(test)]
-mod stories;
+mod samples;
 #[cfg(test)]
 mod stretches;
 #[cfg(test)]

@@ -1,56 +1,31 @@
+use crate::assertions::same;
+use crate::overtaking::ENTRIES;
 use dispatch_log::{Entry, Queue};
 use due_key::{Class, Due, Moment, Offset};
 use late_cert::{Report, Stays};
 use readable_log::Stay;
-use script::{Names, push_entries};
+use script::Names;
 use trace_lines::{Cause, TraceError, is_trace, read_trace, trace_of_window};
 
-const OVERTAKING: &str = "0 arrive 1 0 0
-  direct 1 s1
-1 arrive 2 0 1
-  join 2 *
-2 arrive 3 0 -3
-  join 3 *
-10 done 1
-  free 1 s1
-  end 1
-  grant 3 * s1
-20 done 3
-  free 3 s1
-  end 3
-  grant 2 * s1
-";
-
-#[test]
-fn entries_are_read_as_they_are_written(rt: HostRuntime) {
-    let trace = read_trace(rt.alloc(), Vec::new(rt.alloc()), OVERTAKING.as_bytes()).expect(
-        &rt, "a trace",
-    );
-    let mut text = String::new(rt.alloc());
-    push_entries(&mut text, &trace.names, trace.entries.as_slice()).expect(&rt, "memory");
-    assert_eq!(rt; text.as_str(), OVERTAKING);
-}
+static TEXTS: [(&str, bool); 4] = [
+    (ENTRIES, true),
+    ("0 arrive 0 0\n", false),
+    ("# 1\nlog 5\n", false),
+    ("0 arrive 1 0 5\n  direct 1 a", true),
+];
 
 #[test]
 fn a_script_is_no_trace(rt: HostRuntime) {
-    assert!(rt; is_trace(OVERTAKING.as_bytes()));
-    assert!(rt; !is_trace(b"0 arrive 0 0\n"));
-    assert!(rt; !is_trace(b"# 1\nlog 5\n"));
-    assert!(rt; is_trace(b"0 arrive 1 0 5\n  direct 1 a"));
-    let unread = read_trace(
-        rt.alloc(),
-        Vec::new(rt.alloc()),
-        b"0 tick\n\n0 arrive 0 0\n",
-    );
-    assert!(rt;
-        matches!(
-            &unread,
-            Err(TraceError::Fault {
-                line: 3,
-                cause: Cause::Form
-            })
-        )
-    );
+    for &(text, answer) in &TEXTS {
+        same(&rt, (text, is_trace(text.as_bytes())), (text, answer));
+    }
+    let script = b"0 tick\n\n0 arrive 0 0\n";
+    let fault = TraceError::Fault {
+        line: 3,
+        cause: Cause::Form,
+    };
+    let unread = read_trace(rt.alloc(), Vec::new(rt.alloc()), script);
+    same(&rt, unread.err(), Some(fault));
 }
 
 #[test]
@@ -74,9 +49,8 @@ fn a_window_is_told_as_it_is(rt: HostRuntime) {
         critical: Stays::copied(alloc, &[stay]).expect(&rt, "memory"),
     };
     let entries = [Entry::Tick(Moment::zero())];
-    let told = trace_of_window(alloc, Names::new(Vec::new(alloc)), &entries, &[report]).expect(
-        &rt, "memory",
-    );
-    assert_eq!(rt; told.entries.as_slice(), entries.as_slice());
-    assert_eq!(rt; told.reports[0].critical.as_slice(), [7].as_slice());
+    let names = Names::new(Vec::new(alloc));
+    let told = trace_of_window(alloc, names, &entries, &[report]).expect(&rt, "memory");
+    same(&rt, told.entries.as_slice(), entries.as_slice());
+    same(&rt, told.reports[0].critical.as_slice(), [7].as_slice());
 }

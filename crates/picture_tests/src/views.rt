@@ -1,6 +1,9 @@
+use crate::assertions::{holds, same};
+use crate::samples::trace_of;
 use command_words::Only;
 use due_key::Class;
 use std::alloc::Global;
+use std::process::Abort;
 use trace_lines::Cause;
 use trace_views::{DrawFault, InputFault, TellFault, draw, tell};
 
@@ -8,47 +11,52 @@ const SCRIPT: &str = "0 arrive 0 0\n1 arrive 0 0\n2 arrive 0 -5\n10 done 1\n20 d
 
 const ROLLED: &str = "0 arrive 0 0\n1 arrive 0 0\nroll\n10 done 1\n20 done 2\n";
 
-fn drawn(alloc: Global, input: &str, only: &Option<Only>) -> Result<Vec<u8>, DrawFault> {
-    let mut rest = input.as_bytes();
+fn drawn(rt: &impl Abort, alloc: Global, input: &[u8]) -> Vec<u8> {
+    let mut rest = input;
     let mut picture = Vec::new(alloc);
-    draw(alloc, &mut rest, &mut picture, only)?;
-    Ok(picture)
+    draw(alloc, &mut rest, &mut picture, &None).expect(rt, "a picture");
+    picture
 }
 
 #[test]
 fn a_script_and_its_trace_have_one_picture(rt: HostRuntime) {
     for script in [SCRIPT, ROLLED] {
-        let of_script = drawn(rt.alloc(), script, &None).expect(&rt, "a picture");
-        let mut rest = script.as_bytes();
-        let mut trace = Vec::new(rt.alloc());
-        replay::replay(rt.alloc(), &mut rest, &mut trace).expect(&rt, "a trace");
-        let trace = std::str::from_utf8(&trace).expect(&rt, "a text");
-        let of_trace = drawn(rt.alloc(), trace, &None).expect(&rt, "a picture");
-        assert_eq!(rt; of_script.as_slice(), of_trace.as_slice());
+        let of_script = drawn(&rt, rt.alloc(), script.as_bytes());
+        let trace = trace_of(&rt, rt.alloc(), script);
+        let of_trace = drawn(&rt, rt.alloc(), trace.as_slice());
+        same(&rt, of_script.as_slice(), of_trace.as_slice());
     }
+}
+
+static UNDRAWN: [(&str, InputFault); 2] = [
+    ("0 arrive 0 0\n0 arrive 0\n", InputFault::Script { line: 2 }),
+    (
+        "5 tick\n4 tick\n  end 1\n",
+        InputFault::Trace {
+            line: 2,
+            cause: Cause::Moment,
+        },
+    ),
+];
+
+fn fault_of(alloc: Global, input: &str, only: &Option<Only>) -> Option<DrawFault> {
+    let mut rest = input.as_bytes();
+    let mut picture = Vec::new(alloc);
+    draw(alloc, &mut rest, &mut picture, only).err()
 }
 
 #[test]
 fn what_cannot_be_drawn_is_named(rt: HostRuntime) {
-    let script = drawn(rt.alloc(), "0 arrive 0 0\n0 arrive 0\n", &None);
-    assert_eq!(rt;
-        script.err(),
-        Some(DrawFault::Input(InputFault::Script { line: 2 }))
-    );
-    let trace = drawn(rt.alloc(), "5 tick\n4 tick\n  end 1\n", &None);
-    let fault = InputFault::Trace {
-        line: 2,
-        cause: Cause::Moment,
-    };
-    assert_eq!(rt; trace.err(), Some(DrawFault::Input(fault)));
+    for &(input, fault) in &UNDRAWN {
+        let found = fault_of(rt.alloc(), input, &None);
+        same(&rt, (input, found), (input, Some(DrawFault::Input(fault))));
+    }
     let only = Some(Only {
         queue: String::from_str(rt.alloc(), "zz").expect(&rt, "memory"),
         class: Class::clamp(0),
     });
-    assert_eq!(rt;
-        drawn(rt.alloc(), SCRIPT, &only).err(),
-        Some(DrawFault::NoQueue)
-    );
+    let found = fault_of(rt.alloc(), SCRIPT, &only);
+    same(&rt, found, Some(DrawFault::NoQueue));
 }
 
 #[test]
@@ -57,18 +65,22 @@ fn a_write_that_fails_is_told(rt: HostRuntime) {
     let mut room = [0u8; 8];
     let mut full: &mut [u8] = &mut room;
     let unwritten = tell(rt.alloc(), &mut rest, &mut full, 2);
-    assert_eq!(rt; unwritten, Err(TellFault::Input(InputFault::Unwritten)));
+    same(&rt, unwritten, Err(TellFault::Input(InputFault::Unwritten)));
 }
+
+// Tickets, how telling ends, and how the story begins that is written.
+static TICKETS: [(u64, Result<(), TellFault>, &[u8]); 2] = [
+    (2, Ok(()), b"Ticket 2 of class 0"),
+    (9, Err(TellFault::NoTicket), b""),
+];
 
 #[test]
 fn a_story_is_of_a_ticket_that_came(rt: HostRuntime) {
-    let mut rest = SCRIPT.as_bytes();
-    let mut story = Vec::new(rt.alloc());
-    assert_eq!(rt; tell(rt.alloc(), &mut rest, &mut story, 2), Ok(()));
-    assert!(rt; story.as_slice().starts_with(b"Ticket 2 of class 0"));
-    let mut rest = SCRIPT.as_bytes();
-    assert_eq!(rt;
-        tell(rt.alloc(), &mut rest, &mut story, 9),
-        Err(TellFault::NoTicket)
-    );
+    for &(ticket, end, beginning) in &TICKETS {
+        let mut rest = SCRIPT.as_bytes();
+        let mut story = Vec::new(rt.alloc());
+        let found = tell(rt.alloc(), &mut rest, &mut story, ticket);
+        same(&rt, (ticket, found), (ticket, end));
+        holds(&rt, story.as_slice().starts_with(beginning));
+    }
 }

@@ -1,19 +1,47 @@
-use script::Names;
 use std::alloc::{AllocError, Global};
-use std::process::Abort;
-use trace_lines::{Trace, read_trace};
 
-/// A fixed sequence of scripts that look random.
+/// A fixed sequence of scripts that look random, from a number that it begins with.
 #[derive(Drop)]
 pub struct Chance {
-    state: u64,
+    pub state: u64,
 }
 
-impl Chance {
-    pub fn new(state: u64) -> Chance {
-        Chance { state }
-    }
+/// What a line asks for, but for its moment.
+enum Event {
+    Arrival,
+    /// It happens to the ticket that is drawn.
+    Ticketed(&'static str),
+    Other(&'static str),
+    Roll,
+}
 
+// Each as often as it is to be drawn.
+static EVENTS: [Event; 20] = [
+    Event::Arrival,
+    Event::Arrival,
+    Event::Arrival,
+    Event::Arrival,
+    Event::Arrival,
+    Event::Arrival,
+    Event::Arrival,
+    Event::Arrival,
+    Event::Ticketed("done"),
+    Event::Ticketed("done"),
+    Event::Ticketed("done"),
+    Event::Ticketed("done"),
+    Event::Ticketed("done"),
+    Event::Ticketed("done"),
+    Event::Ticketed("fail"),
+    Event::Ticketed("abort"),
+    Event::Other("tick"),
+    Event::Other("check a down"),
+    Event::Other("check a up"),
+    Event::Roll,
+];
+
+const HEADER: &str = "retries 1\nqueue-timeout 40\nserver a 1 2 1 2 1\nserver b.b 2 1 2\n";
+
+impl Chance {
     /// A number below the bound.
     fn below(&mut self, bound: u64) -> u64 {
         self.state = self
@@ -23,10 +51,9 @@ impl Chance {
         (self.state >> 33) % bound.max(1)
     }
 
-    /// A script of two or three servers and so many events, of which many are refused.
+    /// A script of two servers and so many events, of which many are refused.
     pub fn script(&mut self, alloc: Global, events: usize) -> Result<String, AllocError> {
-        let mut text = String::new(alloc);
-        text.push_str("retries 1\nqueue-timeout 40\nserver a 1 2 1 2 1\nserver b.b 2 1 2\n")?;
+        let mut text = String::from_str(alloc, HEADER)?;
         if self.below(2) == 0 {
             text.push_str("redispatch\n")?;
         }
@@ -40,16 +67,11 @@ impl Chance {
 
     fn push_event(&mut self, text: &mut String, moment: u64) -> Result<(), AllocError> {
         let ticket = self.below(24);
-        let kind = self.below(20);
-        match kind {
-            0..=7 => self.push_arrival(text, moment),
-            8..=13 => writeln!(text, "{moment} done {ticket}"),
-            14 => writeln!(text, "{moment} fail {ticket}"),
-            15 => writeln!(text, "{moment} abort {ticket}"),
-            16 => writeln!(text, "{moment} tick"),
-            17 => writeln!(text, "{moment} check a down"),
-            18 => writeln!(text, "{moment} check a up"),
-            _ => text.push_str("roll\n"),
+        match EVENTS.get(self.below(20) as usize) {
+            Some(Event::Arrival) => self.push_arrival(text, moment),
+            Some(Event::Ticketed(words)) => writeln!(text, "{moment} {words} {ticket}"),
+            Some(Event::Other(words)) => writeln!(text, "{moment} {words}"),
+            Some(Event::Roll) | None => text.push_str("roll\n"),
         }
     }
 
@@ -59,25 +81,4 @@ impl Chance {
         let pin = if self.below(5) == 0 { " a" } else { "" };
         writeln!(text, "{moment} arrive -{class} {offset}{pin}")
     }
-}
-
-/// The trace that replaying a script writes.
-pub fn trace_of(rt: &impl Abort, alloc: Global, script: &str) -> Vec<u8> {
-    let mut rest = script.as_bytes();
-    let mut trace = Vec::new(alloc);
-    replay::replay(alloc, &mut rest, &mut trace).expect(rt, "a trace");
-    trace
-}
-
-/// What a trace tells.
-pub fn told(rt: &impl Abort, alloc: Global, trace: &[u8]) -> Trace {
-    read_trace(alloc, Vec::new(alloc), trace).expect(rt, "a trace")
-}
-
-/// The lines of a trace that are no entry left out, and the entries written again.
-pub fn written_again(rt: &impl Abort, alloc: Global, told: &Trace) -> String {
-    let names: &Names = &told.names;
-    let mut text = String::new(alloc);
-    script::push_entries(&mut text, names, told.entries.as_slice()).expect(rt, "memory");
-    text
 }

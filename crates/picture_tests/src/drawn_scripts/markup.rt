@@ -1,7 +1,8 @@
-use std::alloc::{AllocError, Global};
+use std::alloc::Global;
+use std::process::Abort;
 
 /// A bar as a picture has it.
-#[derive(Clone, Copy, Debug, PartialEq, Eq)]
+#[derive(Drop)]
 pub struct Seen {
     pub ticket: u64,
     pub waits: bool,
@@ -10,14 +11,14 @@ pub struct Seen {
 }
 
 /// The bars of a picture, in order.
-pub fn bars_in(alloc: Global, picture: &str) -> Result<Vec<Seen>, AllocError> {
+pub fn bars_in(rt: &impl Abort, alloc: Global, picture: &str) -> Vec<Seen> {
     let mut bars = Vec::new(alloc);
     for line in picture.lines() {
         if let Some(bar) = bar_in(line) {
-            bars.push(bar)?;
+            bars.push(bar).expect(rt, "memory");
         }
     }
-    Ok(bars)
+    bars
 }
 
 // `<path class="kN KIND" d="MX YhWv..z"><title>ticket T, ..`.
@@ -41,29 +42,29 @@ fn number_between(text: &str, before: &str, behind: &str) -> Option<u64> {
 }
 
 /// Whether each tag that opens is closed in turn, and no sign stands bare.
-pub fn is_well_formed(alloc: Global, text: &str) -> Result<bool, AllocError> {
-    let mut open: Vec<&str> = Vec::new(alloc);
-    let mut rest = text;
-    for _ in 0..text.len() {
-        let Some((before, behind)) = rest.split_once("<") else {
-            return Ok(open.is_empty() && is_plain(rest));
-        };
-        let Some((tag, after)) = behind.split_once(">") else {
-            return Ok(false);
-        };
-        if !is_plain(before) || tag.contains("<") {
-            return Ok(false);
-        }
-        rest = after;
-        if let Some(name) = tag.strip_prefix("/") {
-            if open.pop() != Some(name) {
-                return Ok(false);
-            }
-        } else if !tag.ends_with("/") {
-            open.push(tag.split_once(" ").map_or(tag, |parts| parts.0))?;
-        }
+pub fn is_well_formed(rt: &impl Abort, alloc: Global, text: &str) -> bool {
+    let mut open = Vec::new(alloc);
+    let mut pieces = text.split("<");
+    let mut well = !text.is_empty() && pieces.next().is_some_and(is_plain);
+    for piece in pieces {
+        well = well && is_tag(rt, &mut open, piece);
     }
-    Ok(false)
+    well && open.is_empty()
+}
+
+// Whether what stands behind a `<` is a tag that may stand there, and plain text. The tags that are open are kept.
+fn is_tag<'a>(rt: &impl Abort, open: &mut Vec<&'a str>, piece: &'a str) -> bool {
+    let Some((tag, text)) = piece.split_once(">") else {
+        return false;
+    };
+    if let Some(name) = tag.strip_prefix("/") {
+        return open.pop() == Some(name) && is_plain(text);
+    }
+    if !tag.ends_with("/") {
+        let name = tag.split_once(" ").map_or(tag, |parts| parts.0);
+        open.push(name).expect(rt, "memory");
+    }
+    is_plain(text)
 }
 
 fn is_plain(text: &str) -> bool {

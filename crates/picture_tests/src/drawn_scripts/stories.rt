@@ -1,24 +1,32 @@
-use super::chance::{Chance, told, trace_of};
+use super::chance::Chance;
+use crate::assertions::{holds, same};
+use crate::samples::{told, trace_of};
+use std::alloc::Global;
+use std::process::Abort;
 use ticket_story::{MOST_LINES, Telling, push_story};
 
 #[test]
 fn each_arrival_has_a_short_story(rt: HostRuntime) {
-    let alloc = rt.alloc();
-    let mut chance = Chance::new(13);
+    let mut chance = Chance { state: 13 };
     for _ in 0..50 {
-        let script = chance.script(alloc, 40).expect(&rt, "memory");
-        let trace = trace_of(&rt, alloc, script.as_str());
-        let trace = told(&rt, alloc, trace.as_slice());
-        let telling = Telling {
-            names: &trace.names,
-            entries: trace.entries.as_slice(),
-            reports: trace.reports.as_slice(),
-        };
-        for ticket in 1..=4 {
-            let mut story = String::new(alloc);
-            let is_told = push_story(alloc, &mut story, &telling, ticket).expect(&rt, "memory");
-            assert_eq!(rt; is_told, !story.is_empty());
-            assert!(rt; story.as_str().lines().count() <= MOST_LINES);
-        }
+        let script = chance.script(rt.alloc(), 40).expect(&rt, "memory");
+        have_short_stories(&rt, rt.alloc(), script.as_str());
+    }
+}
+
+// The first tickets of a script.
+fn have_short_stories(rt: &impl Abort, alloc: Global, script: &str) {
+    let trace = trace_of(rt, alloc, script);
+    let trace = told(rt, alloc, trace.as_slice());
+    let telling = Telling {
+        names: &trace.names,
+        entries: trace.entries.as_slice(),
+        reports: trace.reports.as_slice(),
+    };
+    for ticket in 1..=4 {
+        let mut story = String::new(alloc);
+        let is_told = push_story(alloc, &mut story, &telling, ticket);
+        same(rt, is_told, Ok(!story.is_empty()));
+        holds(rt, story.as_str().lines().count() <= MOST_LINES);
     }
 }

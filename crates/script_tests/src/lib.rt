@@ -8,4 +8,6 @@ mod lines;
 #[cfg(test)]
 mod replays;
 #[cfg(test)]
+mod samples;
+#[cfg(test)]
 mod windows;

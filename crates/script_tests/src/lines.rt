@@ -1,4 +1,5 @@
 mod events;
+mod faults;
 mod headers;
 mod reports;
 mod traces;

@@ -1,7 +1,9 @@
 mod broken_streams;
 mod failures;
+mod faults;
 mod health;
 mod limits;
+mod long_queues;
 mod reports;
 mod servers;
 mod waiting;
@@ -11,23 +13,30 @@ mod worked;
 use crate::assertions::same;
 use due_key::Key;
 use pend_queue::ListQueue;
-use replay::{Fault, replay, trace_of as trace_over};
+use replay::{replay, trace_of};
 use std::alloc::Global;
 use std::process::Abort;
 
-// The trace of a script, or its fault.
-fn trace_of(alloc: Global, script: &[u8]) -> Result<Vec<u8>, Fault> {
-    let mut reader = script;
-    let mut trace = Vec::new(alloc);
-    replay(alloc, &mut reader, &mut trace)?;
-    Ok(trace)
+/// A script, what it shows, and its trace.
+struct Replay {
+    name: &'static str,
+    script: &'static str,
+    trace: &'static str,
+}
+
+// Each script has its trace.
+fn play(rt: &impl Abort, alloc: Global, rows: &[Replay]) {
+    for row in rows {
+        expect(rt, alloc, row.name, row.script, row.trace);
+    }
 }
 
 // The trace of a script, over both kinds of queues.
-fn expect(rt: &impl Abort, alloc: Global, script: &str, expected: &str) {
-    let trace = trace_of(alloc, script.as_bytes()).expect(rt, "a trace");
-    same(rt, trace.as_slice(), expected.as_bytes());
-    let listed = trace_over::<ListQueue<Key, usize>>(alloc, script.as_bytes());
-    let listed = listed.expect(rt, "a trace");
-    same(rt, listed.as_bytes(), expected.as_bytes());
+fn expect(rt: &impl Abort, alloc: Global, name: &str, script: &str, expected: &str) {
+    let mut reader = script.as_bytes();
+    let mut trace = Vec::new(alloc);
+    replay(alloc, &mut reader, &mut trace).expect(rt, name);
+    same(rt, (name, trace.as_slice()), (name, expected.as_bytes()));
+    let listed = trace_of::<ListQueue<Key, usize>>(alloc, script.as_bytes()).expect(rt, name);
+    same(rt, (name, listed.as_str()), (name, expected));
 }

@@ -1,38 +1,44 @@
 use crate::assertions::same;
+use crate::samples::named;
 use reporting_core::ServerLine;
-use script::Names;
-use std::alloc::Global;
-use std::process::Abort;
 use window_lines::{Sums, push_servers, push_window};
 
-fn line(up: bool, direct: usize, granted: usize) -> ServerLine {
-    ServerLine {
-        up,
-        direct,
-        granted,
-    }
-}
-
-fn a_and_b(rt: &impl Abort, alloc: Global) -> Names {
-    let a = String::from_str(alloc, "a").expect(rt, "memory");
-    let b = String::from_str(alloc, "b").expect(rt, "memory");
-    Names::new(vec![in alloc; a, b].expect(rt, "memory"))
-}
-
-// Of two servers, what two windows gave them.
-fn sums_of_two(rt: &impl Abort, alloc: Global) -> Sums {
-    let mut sums = Sums::new(alloc, 2).expect(rt, "memory");
-    sums.add(&[line(true, 3, 4), line(false, 0, 1)]);
-    sums.add(&[line(false, 1, 0), line(true, 2, usize::MAX)]);
-    sums
-}
+// What two windows gave each of two servers.
+static WINDOWS: [[ServerLine; 2]; 2] = [
+    [
+        ServerLine {
+            up: true,
+            direct: 3,
+            granted: 4,
+        },
+        ServerLine {
+            up: false,
+            direct: 0,
+            granted: 1,
+        },
+    ],
+    [
+        ServerLine {
+            up: false,
+            direct: 1,
+            granted: 0,
+        },
+        ServerLine {
+            up: true,
+            direct: 2,
+            granted: usize::MAX,
+        },
+    ],
+];
 
 #[test]
 fn two_windows_are_told_and_summed(rt: HostRuntime) {
-    let alloc = rt.alloc();
-    let names = a_and_b(&rt, alloc);
-    let sums = sums_of_two(&rt, alloc);
-    let mut text = String::new(alloc);
+    let names = named(&rt, rt.alloc(), &["a", "b"]);
+    let mut sums = Sums::new(rt.alloc(), 2).expect(&rt, "memory");
+    for window in &WINDOWS {
+        sums.add(window);
+    }
+    let mut text = String::new(rt.alloc());
     push_window(&mut text, &names, 2, &[]).expect(&rt, "memory");
     push_servers(&mut text, &names, sums.lines()).expect(&rt, "memory");
     let expected = "window 2

@@ -1,27 +1,16 @@
 use crate::assertions::same;
+use crate::samples::{moment, named};
 use dispatch_log::{Arrival, Entry, Queue, Refusal};
-use due_key::{Class, Due, Moment, Offset};
-use script::{Names, push_entries, push_refusal};
+use due_key::{Class, Due, Offset};
+use script::{push_entries, push_refusal};
 use std::alloc::Global;
 use std::process::Abort;
 use verdict::Cause;
 
-// A moment. A number out of range, which no test has, would be 0: so what is made of it can't fail.
-fn moment(number: u64) -> Moment {
-    Moment::new(number).unwrap_or(Moment::zero())
-}
-
-// Two servers.
-fn a_and_b(rt: &impl Abort, alloc: Global) -> Names {
-    let a = String::from_str(alloc, "a").expect(rt, "memory");
-    let b = String::from_str(alloc, "b").expect(rt, "memory");
-    Names::new(vec![in alloc; a, b].expect(rt, "memory"))
-}
-
 // The lines of these entries.
 fn text_of(rt: &impl Abort, alloc: Global, entries: &[Entry]) -> String {
     let mut text = String::new(alloc);
-    push_entries(&mut text, &a_and_b(rt, alloc), entries).expect(rt, "memory");
+    push_entries(&mut text, &named(rt, alloc, &["a", "b"]), entries).expect(rt, "memory");
     text
 }
 

@@ -1,10 +1,9 @@
-use super::trace_of;
-use crate::assertions::{holds, same};
+use crate::assertions::same;
 use replay::{Fault, replay};
-use script::MOST_BYTES;
 use std::alloc::Global;
 use std::io;
 use std::io::{Read, Write};
+use std::process::Abort;
 
 const SCRIPT: &[u8] = b"0 arrive 0 0\n9 done 1";
 
@@ -61,89 +60,77 @@ impl Write for Sink {
     }
 }
 
-fn script_in(piece: usize, turns: usize) -> Source<'static> {
-    Source {
-        rest: SCRIPT,
-        piece,
-        turns,
-    }
+/// In which pieces the script is read and its trace written, how often each, and whether the
+/// write behind these fails.
+#[derive(Clone, Copy)]
+struct Streams {
+    read: usize,
+    reads: usize,
+    written: usize,
+    writes: usize,
+    fails: bool,
 }
 
-fn taking(alloc: Global, piece: usize, turns: usize, fails: bool) -> Sink {
-    Sink {
+const UNBROKEN: Streams = Streams {
+    read: 1000,
+    reads: 1000,
+    written: 1,
+    writes: 1000,
+    fails: true,
+};
+
+// So the replay over these streams ends, and so many bytes of the trace are written.
+fn ends(rt: &impl Abort, alloc: Global, streams: Streams, end: Result<(), Fault>, count: usize) {
+    let mut source = Source {
+        rest: SCRIPT,
+        piece: streams.read,
+        turns: streams.reads,
+    };
+    let mut sink = Sink {
         taken: Vec::new(alloc),
-        piece,
-        turns,
-        fails,
-    }
+        piece: streams.written,
+        turns: streams.writes,
+        fails: streams.fails,
+    };
+    same(rt, replay(alloc, &mut source, &mut sink), end);
+    same(rt, Some(sink.taken.as_slice()), TRACE.get(..count));
 }
 
 #[test]
 fn pieces_are_joined(rt: HostRuntime) {
     for piece in 1..25usize {
-        let mut writer = taking(rt.alloc(), piece, 1000, true);
-        let end = replay(rt.alloc(), &mut script_in(piece, 1000), &mut writer);
-        same(&rt, end, Ok(()));
-        same(&rt, writer.taken.as_slice(), TRACE);
+        let streams = Streams {
+            read: piece,
+            written: piece,
+            ..UNBROKEN
+        };
+        ends(&rt, rt.alloc(), streams, Ok(()), TRACE.len());
     }
 }
 
 #[test]
 fn a_failed_read_leaves_nothing_written(rt: HostRuntime) {
-    for turns in 0..5usize {
-        let mut writer = taking(rt.alloc(), 1, 1000, true);
-        let end = replay(rt.alloc(), &mut script_in(5, turns), &mut writer);
-        same(&rt, end, Err(Fault::Read));
-        holds(&rt, writer.taken.is_empty());
+    for reads in 0..5usize {
+        let streams = Streams {
+            read: 5,
+            reads,
+            ..UNBROKEN
+        };
+        ends(&rt, rt.alloc(), streams, Err(Fault::Read), 0);
     }
 }
 
 #[test]
 fn a_failed_write_leaves_a_front(rt: HostRuntime) {
-    for turns in 0..11usize {
+    for writes in 0..11usize {
         for fails in [true, false] {
-            let mut writer = taking(rt.alloc(), 5, turns, fails);
-            let end = replay(rt.alloc(), &mut script_in(1000, 1000), &mut writer);
-            same(&rt, end, Err(Fault::Write));
-            same(&rt, writer.taken.len(), 5 * turns);
-            holds(&rt, TRACE.starts_with(&writer.taken));
+            let streams = Streams {
+                written: 5,
+                writes,
+                fails,
+                ..UNBROKEN
+            };
+            ends(&rt, rt.alloc(), streams, Err(Fault::Write), 5 * writes);
         }
-    }
-}
-
-#[test]
-fn a_faulty_script_leaves_nothing_written(rt: HostRuntime) {
-    let mut script = b"0 arrive 0 0\nno event\n".as_slice();
-    let mut trace = Vec::new(rt.alloc());
-    let end = replay(rt.alloc(), &mut script, &mut trace);
-    same(&rt, end, Err(Fault::Script { line: 2 }));
-    holds(&rt, trace.is_empty());
-}
-
-#[test]
-fn a_script_has_four_mebibytes_at_most(rt: HostRuntime) {
-    let mut script = vec![in rt.alloc(); b'#'; MOST_BYTES].expect(&rt, "memory");
-    let trace = trace_of(rt.alloc(), &script).expect(&rt, "a trace");
-    holds(&rt, trace.is_empty());
-    script.push(b'#').expect(&rt, "memory");
-    same(
-        &rt,
-        trace_of(rt.alloc(), &script),
-        Err(Fault::Script { line: 0 }),
-    );
-}
-
-#[test]
-fn each_fault_has_its_text(rt: HostRuntime) {
-    let rows = [
-        (Fault::NoMemory, "no memory"),
-        (Fault::Script { line: 0 }, "script line 0"),
-        (Fault::Script { line: 12 }, "script line 12"),
-        (Fault::Read, "read fault"),
-        (Fault::Write, "write fault"),
-    ];
-    for (fault, line) in rows {
-        let text = format!(in rt.alloc(); "{fault}").expect(&rt, "memory");
-        same(&rt, text.as_str(), line);
     }
 }

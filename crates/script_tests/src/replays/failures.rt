@@ -1,11 +1,9 @@
-use super::expect;
+use super::{Replay, play};
 
-#[test]
-fn the_last_retry_goes_to_another_server(rt: HostRuntime) {
-    expect(
-        &rt,
-        rt.alloc(),
-        "\
+static ROWS: [Replay; 4] = [
+    Replay {
+        name: "the last retry goes to another server",
+        script: "\
 redispatch
 server a 1 0 1
 server b 1 0 1
@@ -16,7 +14,7 @@ server b 1 0 1
 4 fail 1
 5 done 1
 ",
-        "\
+        trace: "\
 0 arrive 1 0 0
   direct 1 a
 1 fail 1
@@ -32,15 +30,10 @@ server b 1 0 1
 5 done 1
   end 1
 ",
-    );
-}
-
-#[test]
-fn without_a_retry_the_first_failure_is_told(rt: HostRuntime) {
-    expect(
-        &rt,
-        rt.alloc(),
-        "\
+    },
+    Replay {
+        name: "without a retry the first failure is told",
+        script: "\
 redispatch
 retries 0
 server a 1 0 1
@@ -48,22 +41,17 @@ server b 1 0 1
 0 arrive 0 0
 1 fail 1
 ",
-        "\
+        trace: "\
 0 arrive 1 0 0
   direct 1 a
 1 fail 1
   free 1 a
   left 1 retries
 ",
-    );
-}
-
-#[test]
-fn a_redispatched_request_waits_and_keeps_its_due_date(rt: HostRuntime) {
-    expect(
-        &rt,
-        rt.alloc(),
-        "\
+    },
+    Replay {
+        name: "a redispatched request waits and keeps its due date",
+        script: "\
 retries 1
 redispatch
 0 arrive 0 0
@@ -72,7 +60,7 @@ redispatch
 2 done 2
 3 fail 1
 ",
-        "\
+        trace: "\
 0 arrive 1 0 0
   direct 1 s1
 0 arrive 2 0 0
@@ -90,26 +78,26 @@ redispatch
   left 1 retries
 queue * class 0 granted 2 worst 2 due 0 after 0 to 12 critical 2 1
 ",
-    );
-}
-
-#[test]
-fn the_server_that_failed_is_taken_where_no_other_is_left(rt: HostRuntime) {
-    expect(
-        &rt,
-        rt.alloc(),
-        "\
+    },
+    Replay {
+        name: "the server that failed is taken where no other is left",
+        script: "\
 retries 1
 redispatch
 0 arrive 0 0
 1 fail 1
 ",
-        "\
+        trace: "\
 0 arrive 1 0 0
   direct 1 s1
 1 fail 1
   free 1 s1
   direct 1 s1
 ",
-    );
+    },
+];
+
+#[test]
+fn failed_connections_are_retried_or_told(rt: HostRuntime) {
+    play(&rt, rt.alloc(), &ROWS);
 }

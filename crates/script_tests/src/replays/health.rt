@@ -1,13 +1,9 @@
-use super::expect;
-use std::alloc::Global;
-use std::process::Abort;
+use super::{Replay, play};
 
-#[test]
-fn a_pin_to_a_fallen_server_is_ignored(rt: HostRuntime) {
-    expect(
-        &rt,
-        rt.alloc(),
-        "\
+static ROWS: [Replay; 3] = [
+    Replay {
+        name: "a pin to a fallen server is ignored",
+        script: "\
 server a 1 1 1
 server b 1 0 1 2 1
 0 arrive 0 0 a
@@ -16,7 +12,7 @@ server b 1 0 1 2 1
 3 check b down
 4 arrive 0 0 b
 ",
-        "\
+        trace: "\
 0 arrive 1 0 0 a
   direct 1 a
 1 arrive 2 0 1 a
@@ -28,15 +24,10 @@ server b 1 0 1 2 1
 4 arrive 4 0 4 b
   join 4 *
 ",
-    );
-}
-
-#[test]
-fn the_queue_of_a_fallen_server_moves(rt: HostRuntime) {
-    expect(
-        &rt,
-        rt.alloc(),
-        "\
+    },
+    Replay {
+        name: "the queue of a fallen server moves",
+        script: "\
 redispatch
 server a 1 0 1 2 3
 server b 1 0 1
@@ -49,7 +40,7 @@ server c 1 0 1
 5 check a down
 6 check a down
 ",
-        "\
+        trace: "\
 0 arrive 1 0 0 a
   direct 1 a
 1 arrive 2 0 1 a
@@ -69,15 +60,10 @@ server c 1 0 1
   grant 2 * c
 queue * class 0 granted 2 worst 6 due 0 after 0 to 16 critical 4
 ",
-    );
-}
-
-#[test]
-fn without_redispatch_the_queue_of_a_fallen_server_stays(rt: HostRuntime) {
-    expect(
-        &rt,
-        rt.alloc(),
-        "\
+    },
+    Replay {
+        name: "without redispatch the queue of a fallen server stays",
+        script: "\
 server a 1 0 1 2 3
 server b 1 0 1
 server c 1 0 1
@@ -89,7 +75,7 @@ server c 1 0 1
 5 check a down
 6 check a down
 ",
-        "\
+        trace: "\
 0 arrive 1 0 0 a
   direct 1 a
 1 arrive 2 0 1 a
@@ -103,47 +89,10 @@ server c 1 0 1
 6 check a down
   health a down
 ",
-    );
-}
-
-// An arrival that is bound to a server, which serves the first, and what is written of it.
-fn push_pinned(rt: &impl Abort, script: &mut String, trace: &mut String, at: u32) {
-    let place = if at == 1 { "direct" } else { "join" };
-    writeln!(script, "{at} arrive 0 0 a").expect(rt, "memory");
-    writeln!(trace, "{at} arrive {at} 0 {at} a\n  {place} {at} a").expect(rt, "memory");
-}
-
-// Forty of them, one a millisecond, and the check that finds the server down.
-fn push_script(rt: &impl Abort, script: &mut String, trace: &mut String) {
-    script
-        .push_str("redispatch\nserver a 1 0 1 1 1\nserver b 1 0 1\nserver c 1 0 1\n")
-        .expect(rt, "memory");
-    for at in 1..41u32 {
-        push_pinned(rt, script, trace, at);
-    }
-    script.push_str("41 check a down\n").expect(rt, "memory");
-}
-
-// What is written of the fall of that server.
-fn push_fall(rt: &impl Abort, trace: &mut String) {
-    trace
-        .push_str("41 check a down\n  health a down\n")
-        .expect(rt, "memory");
-    for ticket in 2..41u32 {
-        writeln!(trace, "  move {ticket} a").expect(rt, "memory");
-    }
-    trace
-        .push_str(
-            "  grant 2 * b\n  grant 3 * c\nqueue * class 0 granted 2 worst 39 due 2 after 0 to 122 critical 2\n",
-        )
-        .expect(rt, "memory");
-}
+    },
+];
 
 #[test]
-fn a_long_queue_of_a_fallen_server_moves_by_ticket(rt: HostRuntime) {
-    let mut script = String::new(rt.alloc());
-    let mut trace = String::new(rt.alloc());
-    push_script(&rt, &mut script, &mut trace);
-    push_fall(&rt, &mut trace);
-    expect(&rt, rt.alloc(), script.as_str(), trace.as_str());
+fn a_fallen_server_is_passed_over_and_its_queue_moves_with_redispatch(rt: HostRuntime) {
+    play(&rt, rt.alloc(), &ROWS);
 }

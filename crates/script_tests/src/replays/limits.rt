@@ -1,11 +1,9 @@
-use super::expect;
+use super::{Replay, play};
 
-#[test]
-fn a_lowered_limit_stops_nobody_and_a_raised_one_grants(rt: HostRuntime) {
-    expect(
-        &rt,
-        rt.alloc(),
-        "\
+static ROWS: [Replay; 2] = [
+    Replay {
+        name: "a lowered limit stops nobody and a raised one grants",
+        script: "\
 server a 2 0 1
 0 arrive 0 0
 0 arrive 0 0
@@ -16,7 +14,7 @@ server a 2 0 1
 5 done 2
 6 limit a 0
 ",
-        "\
+        trace: "\
 0 arrive 1 0 0
   direct 1 a
 0 arrive 2 0 0
@@ -37,15 +35,10 @@ server a 2 0 1
   grant 4 * a
 queue * class 0 granted 2 worst 4 due 1 after 0 to 16 critical 3
 ",
-    );
-}
-
-#[test]
-fn the_server_that_is_named_gets_the_limit(rt: HostRuntime) {
-    expect(
-        &rt,
-        rt.alloc(),
-        "\
+    },
+    Replay {
+        name: "the server that is named gets the limit",
+        script: "\
 server a 1 0 1
 server b 1 0 1
 0 limit b 2
@@ -53,7 +46,7 @@ server b 1 0 1
 2 arrive 0 0 b
 1 limit c 2
 ",
-        "\
+        trace: "\
 0 limit b 2
 1 arrive 1 0 1 b
   direct 1 b
@@ -61,5 +54,10 @@ server b 1 0 1
   direct 2 b
 refused 6
 ",
-    );
+    },
+];
+
+#[test]
+fn a_limit_is_of_the_server_that_is_named_and_stops_nobody(rt: HostRuntime) {
+    play(&rt, rt.alloc(), &ROWS);
 }

@@ -1,11 +1,9 @@
-use super::expect;
+use super::{Replay, play};
 
-#[test]
-fn ties_go_round_and_weights_count(rt: HostRuntime) {
-    expect(
-        &rt,
-        rt.alloc(),
-        "\
+static ROWS: [Replay; 9] = [
+    Replay {
+        name: "ties go round and weights count",
+        script: "\
 server a 0 0 2
 server b 0 0 1
 0 arrive 0 0
@@ -16,7 +14,7 @@ server b 0 0 1
 0 arrive 0 0
 0 arrive 0 0
 ",
-        "\
+        trace: "\
 0 arrive 1 0 0
   direct 1 a
 0 arrive 2 0 0
@@ -32,15 +30,10 @@ server b 0 0 1
 0 arrive 7 0 0
   direct 7 b
 ",
-    );
-}
-
-#[test]
-fn queued_requests_are_load(rt: HostRuntime) {
-    expect(
-        &rt,
-        rt.alloc(),
-        "\
+    },
+    Replay {
+        name: "queued requests are load",
+        script: "\
 server a 1 5 2
 server b 5 0 1
 0 arrive 0 0
@@ -48,7 +41,7 @@ server b 5 0 1
 0 arrive 0 0
 0 arrive 0 0
 ",
-        "\
+        trace: "\
 0 arrive 1 0 0
   direct 1 a
 0 arrive 2 0 0
@@ -58,22 +51,17 @@ server b 5 0 1
 0 arrive 4 0 0
   direct 4 b
 ",
-    );
-}
-
-#[test]
-fn a_pin_is_ignored_where_the_queue_is_full(rt: HostRuntime) {
-    expect(
-        &rt,
-        rt.alloc(),
-        "\
+    },
+    Replay {
+        name: "a pin is ignored where the queue is full",
+        script: "\
 server a 1 1 1
 server b 1 0 1
 0 arrive 0 0 a
 1 arrive 0 0 a
 2 arrive 0 0 a
 ",
-        "\
+        trace: "\
 0 arrive 1 0 0 a
   direct 1 a
 1 arrive 2 0 1 a
@@ -81,15 +69,10 @@ server b 1 0 1
 2 arrive 3 0 2 a
   direct 3 b
 ",
-    );
-}
-
-#[test]
-fn a_slot_goes_to_the_smaller_head(rt: HostRuntime) {
-    expect(
-        &rt,
-        rt.alloc(),
-        "\
+    },
+    Replay {
+        name: "a slot goes to the smaller head",
+        script: "\
 server a 1 1 1
 0 arrive 0 0
 5 arrive 0 0
@@ -97,7 +80,7 @@ server a 1 1 1
 6 done 1
 7 done 2
 ",
-        "\
+        trace: "\
 0 arrive 1 0 0
   direct 1 a
 5 arrive 2 0 5
@@ -115,15 +98,10 @@ server a 1 1 1
 queue * class 0 granted 1 worst 2 due 5 after 0 to 14 critical 3
 queue a class 0 granted 1 worst 1 due 5 after 0 to 10 critical 2
 ",
-    );
-}
-
-#[test]
-fn weight_0_takes_pinned_requests_alone(rt: HostRuntime) {
-    expect(
-        &rt,
-        rt.alloc(),
-        "\
+    },
+    Replay {
+        name: "weight 0 takes pinned requests alone",
+        script: "\
 server a 1 0 0
 server b 1 0 1
 0 arrive 0 0 a
@@ -133,7 +111,7 @@ server b 1 0 1
 2 done 1
 3 done 4
 ",
-        "\
+        trace: "\
 0 arrive 1 0 0 a
   direct 1 a
 0 arrive 2 0 0
@@ -151,15 +129,10 @@ server b 1 0 1
   end 4
 queue a class 0 granted 1 worst -4 due 6 after 0 to 12 critical 4
 ",
-    );
-}
-
-#[test]
-fn places_and_the_log_have_their_ends(rt: HostRuntime) {
-    expect(
-        &rt,
-        rt.alloc(),
-        "\
+    },
+    Replay {
+        name: "places and the log have their ends",
+        script: "\
 places 1
 log 16
 0 arrive 0 0
@@ -168,7 +141,7 @@ log 16
 3 arrive 0 0
 4 done 2
 ",
-        "\
+        trace: "\
 0 arrive 1 0 0
   direct 1 s1
 refused 2
@@ -179,15 +152,10 @@ refused 2
   direct 2 s1
 refused 3
 ",
-    );
-}
-
-#[test]
-fn a_pin_to_no_server_is_refused(rt: HostRuntime) {
-    expect(
-        &rt,
-        rt.alloc(),
-        "\
+    },
+    Replay {
+        name: "a pin to no server is refused",
+        script: "\
 places 1
 server a 1 0 1
 0 arrive 0 0 b
@@ -195,46 +163,36 @@ server a 1 0 1
 0 arrive 0 0 b
 0 arrive 0 0 a
 ",
-        "\
+        trace: "\
 refused 6
 0 arrive 1 0 0 a
   direct 1 a
 refused 6
 refused 2
 ",
-    );
-}
-
-// Without a usable server a request is told so at once, and keeps its place until that is done.
-#[test]
-fn a_request_without_a_server_is_told_so(rt: HostRuntime) {
-    expect(
-        &rt,
-        rt.alloc(),
-        "\
+    },
+    // Without a usable server a request is told so at once, and keeps its place until that is done.
+    Replay {
+        name: "a request without a server is told so",
+        script: "\
 places 1
 server a 1 0 0
 0 arrive 0 0
 1 arrive 0 0
 2 done 1
 ",
-        "\
+        trace: "\
 0 arrive 1 0 0
   left 1 noserver
 refused 2
 2 done 1
   end 1
 ",
-    );
-}
-
-// The servers stand in the order of their lines, the classes of a queue rise.
-#[test]
-fn each_queue_and_class_is_reported(rt: HostRuntime) {
-    expect(
-        &rt,
-        rt.alloc(),
-        "\
+    },
+    // The servers stand in the order of their lines, the classes of a queue rise.
+    Replay {
+        name: "each queue and class is reported",
+        script: "\
 server b 1 5 1
 server a 1 5 1
 0 arrive 0 0 b
@@ -246,7 +204,7 @@ server a 1 5 1
 8 done 2
 9 done 4
 ",
-        "\
+        trace: "\
 0 arrive 1 0 0 b
   direct 1 b
 0 arrive 2 0 0 a
@@ -273,5 +231,10 @@ queue b class 3 granted 1 worst 5 due 1 after 0 to 14 critical 5
 queue a class -2 granted 1 worst 7 due 1 after 0 to 18 critical 4
 queue a class 3 granted 1 worst 8 due 1 after 0 to 22 critical 3
 ",
-    );
+    },
+];
+
+#[test]
+fn each_request_goes_where_the_rules_send_it(rt: HostRuntime) {
+    play(&rt, rt.alloc(), &ROWS);
 }

@@ -1,11 +1,9 @@
-use super::expect;
+use super::{Replay, play};
 
-#[test]
-fn only_what_waits_is_aborted(rt: HostRuntime) {
-    expect(
-        &rt,
-        rt.alloc(),
-        "\
+static ROWS: [Replay; 2] = [
+    Replay {
+        name: "only what waits is aborted",
+        script: "\
 0 arrive 0 0
 0 arrive 0 0
 1 abort 2
@@ -16,7 +14,7 @@ fn only_what_waits_is_aborted(rt: HostRuntime) {
 5 check s1 up
 5 check zz up
 ",
-        "\
+        trace: "\
 0 arrive 1 0 0
   direct 1 s1
 0 arrive 2 0 0
@@ -31,15 +29,10 @@ refused 4
 refused 5
 refused 6
 ",
-    );
-}
-
-#[test]
-fn a_stay_ends_with_the_first_tick_at_its_limit(rt: HostRuntime) {
-    expect(
-        &rt,
-        rt.alloc(),
-        "\
+    },
+    Replay {
+        name: "a stay ends with the first tick at its limit",
+        script: "\
 queue-timeout 10
 0 arrive 0 0
 5 arrive 0 0
@@ -48,7 +41,7 @@ queue-timeout 10
 16 done 2
 17 done 2
 ",
-        "\
+        trace: "\
 0 arrive 1 0 0
   direct 1 s1
 5 arrive 2 0 5
@@ -60,5 +53,10 @@ queue-timeout 10
   end 2
 refused 4
 ",
-    );
+    },
+];
+
+#[test]
+fn stays_end_by_abort_or_timeout(rt: HostRuntime) {
+    play(&rt, rt.alloc(), &ROWS);
 }

@@ -1,14 +1,10 @@
-use super::expect;
-use std::alloc::Global;
-use std::process::Abort;
+use super::{Replay, play};
 
-#[test]
-fn stays_of_the_base_are_reported_in_the_next_window(rt: HostRuntime) {
-    expect(
-        &rt,
-        rt.alloc(),
-        "0 arrive 0 0\n1 arrive 0 0\n2 arrive 0 -5\nroll\n10 done 1\n20 done 3\n",
-        "\
+static ROWS: [Replay; 6] = [
+    Replay {
+        name: "stays of the base are reported in the next window",
+        script: "0 arrive 0 0\n1 arrive 0 0\n2 arrive 0 -5\nroll\n10 done 1\n20 done 3\n",
+        trace: "\
 0 arrive 1 0 0
   direct 1 s1
 1 arrive 2 0 1
@@ -26,16 +22,11 @@ roll
   grant 2 * s1
 queue * class 0 granted 2 worst 19 due 1 after 0 to 8 critical 3 2
 ",
-    );
-}
-
-#[test]
-fn each_window_has_its_reports(rt: HostRuntime) {
-    expect(
-        &rt,
-        rt.alloc(),
-        "0 arrive 0 0\n1 arrive 0 99\n10 done 1\nroll\n15 arrive 0 -10\n20 done 2\n",
-        "\
+    },
+    Replay {
+        name: "each window has its reports",
+        script: "0 arrive 0 0\n1 arrive 0 99\n10 done 1\nroll\n15 arrive 0 -10\n20 done 2\n",
+        trace: "\
 0 arrive 1 0 0
   direct 1 s1
 1 arrive 2 0 100
@@ -54,15 +45,10 @@ queue * class 0 granted 1 worst -90 due 100 after 0 to 8 critical 2
   grant 3 * s1
 queue * class 0 granted 1 worst 15 due 5 after 0 to 6 critical 3
 ",
-    );
-}
-
-#[test]
-fn a_full_log_has_room_in_the_next_window(rt: HostRuntime) {
-    expect(
-        &rt,
-        rt.alloc(),
-        "\
+    },
+    Replay {
+        name: "a full log has room in the next window",
+        script: "\
 places 1
 log 16
 0 arrive 0 0
@@ -73,7 +59,7 @@ log 16
 roll
 4 done 2
 ",
-        "\
+        trace: "\
 0 arrive 1 0 0
   direct 1 s1
 refused 2
@@ -88,16 +74,11 @@ roll
   free 2 s1
   end 2
 ",
-    );
-}
-
-#[test]
-fn a_full_log_comes_before_an_unknown_name(rt: HostRuntime) {
-    expect(
-        &rt,
-        rt.alloc(),
-        "places 1\nlog 10\n0 arrive 0 0\n1 limit s2 2\nroll\nroll\n1 limit s2 2\n1 limit s1 2\n",
-        "\
+    },
+    Replay {
+        name: "a full log comes before an unknown name",
+        script: "places 1\nlog 10\n0 arrive 0 0\n1 limit s2 2\nroll\nroll\n1 limit s2 2\n1 limit s1 2\n",
+        trace: "\
 0 arrive 1 0 0
   direct 1 s1
 refused 3
@@ -106,10 +87,14 @@ roll
 refused 6
 1 limit s1 2
 ",
-    );
-}
-
-const EVENTS: &str = "\
+    },
+    // Before all else an event asks for twice the places and 8 free entries, here 10.
+    Replay {
+        name: "a full log refuses each event",
+        script: "\
+places 1
+log 10
+0 arrive 0 0
 1 done 1
 1 fail 1
 1 abort 1
@@ -119,31 +104,53 @@ const EVENTS: &str = "\
 1 limit s1 2
 1 done 9
 1 arrive 0 0
-";
+",
+        trace: "\
+0 arrive 1 0 0
+  direct 1 s1
+refused 3
+refused 3
+refused 3
+refused 3
+refused 3
+refused 3
+refused 3
+refused 3
+refused 3
+",
+    },
+    Replay {
+        name: "and an arrival",
+        script: "\
+places 1
+log 9
+0 arrive 0 0
+1 done 1
+1 fail 1
+1 abort 1
+1 tick
+1 check s1 up
+1 check zz up
+1 limit s1 2
+1 done 9
+1 arrive 0 0
+",
+        trace: "\
+refused 3
+refused 3
+refused 3
+refused 3
+refused 3
+refused 3
+refused 3
+refused 3
+refused 3
+refused 3
+",
+    },
+];
 
-const REFUSED: &str = "\
-refused 3
-refused 3
-refused 3
-refused 3
-refused 3
-refused 3
-refused 3
-refused 3
-refused 3
-";
-
-// Under this header, behind an arrival of which this is written.
-fn each_is_refused(rt: &impl Abort, alloc: Global, header: &str, arrived: &str) {
-    let script = format!(in alloc; "{header}\n0 arrive 0 0\n{EVENTS}").expect(rt, "memory");
-    let expected = format!(in alloc; "{arrived}\n{REFUSED}").expect(rt, "memory");
-    expect(rt, alloc, script.as_str(), expected.as_str());
-}
-
-// Before all else an event asks for twice the places and 8 free entries, here 10.
 #[test]
-fn a_full_log_refuses_each_event(rt: HostRuntime) {
-    let arrived = "0 arrive 1 0 0\n  direct 1 s1";
-    each_is_refused(&rt, rt.alloc(), "places 1\nlog 10", arrived);
-    each_is_refused(&rt, rt.alloc(), "places 1\nlog 9", "refused 3");
+fn each_window_has_its_own_log_and_reports(rt: HostRuntime) {
+    play(&rt, rt.alloc(), &ROWS);
 }

@@ -1,84 +1,89 @@
-use crate::assertions::same;
-use command_words::{Asked, Numbers, Only, ask};
+//! What the words of the command line ask for.
+
+use crate::assertions::holds;
+use command_words::{Asked, Numbers, ask};
 use due_key::Class;
-use std::alloc::{AllocGlobal, Global};
-use std::io::{Eprint, Print};
+use std::alloc::Global;
 use std::process::Abort;
 
-fn owned(rt: &impl Abort, alloc: Global, word: &str) -> String {
-    String::from_str(alloc, word).expect(rt, "memory")
+/// What is asked for, with texts that stand still.
+enum Expected {
+    Run(&'static str, Numbers),
+    Replay,
+    Check(&'static str),
+    Explain(&'static str),
+    DrawAll,
+    DrawOnly(&'static str, i64),
+    Tell(u64),
+    Nothing(u8),
 }
 
-fn all_owned(rt: &impl Abort, alloc: Global, words: &[&str]) -> Vec<String> {
-    let mut texts = Vec::new(alloc);
-    for word in words {
-        texts.push(owned(rt, alloc, word)).expect(rt, "memory");
+/// The words, with a blank between each two, and what they ask for.
+type CommandRow = (&'static str, Expected);
+
+const SIZES: Numbers = Numbers {
+    workers: Some(7),
+    loops: None,
+    places: 1024,
+    requests: 0,
+};
+
+static COMMANDS: [CommandRow; 16] = [
+    // What runs has its sizes.
+    (
+        "dueproxy run file --workers 7",
+        Expected::Run("file", SIZES),
+    ),
+    ("dueproxy run file --workers +5", Expected::Nothing(2)),
+    ("dueproxy run file --workers 7x", Expected::Nothing(2)),
+    // A picture is of all or of a queue and class.
+    ("dueproxy draw", Expected::DrawAll),
+    ("dueproxy draw --of * -1", Expected::DrawOnly("*", -1)),
+    ("dueproxy draw --of *", Expected::Nothing(2)),
+    ("dueproxy draw --of * x", Expected::Nothing(2)),
+    // Subcommands are told apart.
+    ("dueproxy replay", Expected::Replay),
+    ("dueproxy check file", Expected::Check("file")),
+    ("dueproxy check --explain file", Expected::Explain("file")),
+    ("dueproxy check", Expected::Nothing(2)),
+    ("dueproxy explain 7", Expected::Tell(7)),
+    ("dueproxy explain x", Expected::Nothing(2)),
+    ("dueproxy --help", Expected::Nothing(0)),
+    ("dueproxy", Expected::Nothing(2)),
+    ("dueproxy replay more", Expected::Nothing(2)),
+];
+
+fn words_of(rt: &impl Abort, alloc: Global, line: &str) -> Vec<String> {
+    let mut words = Vec::new(alloc);
+    for word in line.split(' ') {
+        let word = String::from_str(alloc, word).expect(rt, "memory");
+        words.push(word).expect(rt, "memory");
     }
-    texts
+    words
 }
 
-fn ask_for(rt: &(impl Abort + Print + Eprint + AllocGlobal), words: &[&str], expected: Asked) {
-    same(rt, ask(rt, &all_owned(rt, rt.alloc(), words)), expected);
-}
-
-#[test]
-fn what_runs_has_its_sizes(rt: HostRuntime) {
-    let numbers = Numbers {
-        workers: Some(7),
-        loops: None,
-        places: 1024,
-        requests: 0,
-    };
-    let file = owned(&rt, rt.alloc(), "file");
-    ask_for(
-        &rt,
-        &["dueproxy", "run", "file", "--workers", "7"],
-        Asked::Run(file, numbers),
-    );
-    for number in ["+5", "7x"] {
-        ask_for(
-            &rt,
-            &["dueproxy", "run", "file", "--workers", number],
-            Asked::Nothing(2),
-        );
+fn is_asked(asked: &Asked, expected: &Expected) -> bool {
+    match (asked, expected) {
+        (Asked::Run(file, sizes), Expected::Run(name, numbers)) => {
+            file.as_str() == *name && sizes == numbers
+        }
+        (Asked::Replay, Expected::Replay) => true,
+        (Asked::Check(file), Expected::Check(name)) => file.as_str() == *name,
+        (Asked::Explain(file), Expected::Explain(name)) => file.as_str() == *name,
+        (Asked::Draw(None), Expected::DrawAll) => true,
+        (Asked::Draw(Some(only)), Expected::DrawOnly(queue, class)) => {
+            only.queue.as_str() == *queue && only.class == Class::clamp(*class)
+        }
+        (Asked::Tell(ticket), Expected::Tell(number)) => ticket == number,
+        (Asked::Nothing(status), Expected::Nothing(number)) => status == number,
+        _ => false,
     }
 }
 
 #[test]
-fn a_picture_is_of_all_or_of_a_queue_and_class(rt: HostRuntime) {
-    ask_for(&rt, &["dueproxy", "draw"], Asked::Draw(None));
-    let only = Only {
-        queue: owned(&rt, rt.alloc(), "*"),
-        class: Class::clamp(-1),
-    };
-    ask_for(
-        &rt,
-        &["dueproxy", "draw", "--of", "*", "-1"],
-        Asked::Draw(Some(only)),
-    );
-    ask_for(&rt, &["dueproxy", "draw", "--of", "*"], Asked::Nothing(2));
-    ask_for(
-        &rt,
-        &["dueproxy", "draw", "--of", "*", "x"],
-        Asked::Nothing(2),
-    );
-}
-
-#[test]
-fn subcommands_are_told_apart(rt: HostRuntime) {
-    ask_for(&rt, &["dueproxy", "replay"], Asked::Replay);
-    let file = owned(&rt, rt.alloc(), "file");
-    ask_for(&rt, &["dueproxy", "check", "file"], Asked::Check(file));
-    let file = owned(&rt, rt.alloc(), "file");
-    ask_for(
-        &rt,
-        &["dueproxy", "check", "--explain", "file"],
-        Asked::Explain(file),
-    );
-    ask_for(&rt, &["dueproxy", "check"], Asked::Nothing(2));
-    ask_for(&rt, &["dueproxy", "explain", "7"], Asked::Tell(7));
-    ask_for(&rt, &["dueproxy", "explain", "x"], Asked::Nothing(2));
-    ask_for(&rt, &["dueproxy", "--help"], Asked::Nothing(0));
-    ask_for(&rt, &["dueproxy"], Asked::Nothing(2));
-    ask_for(&rt, &["dueproxy", "replay", "more"], Asked::Nothing(2));
+fn words_ask_for_what_they_say(rt: HostRuntime) {
+    for (line, expected) in &COMMANDS {
+        let asked = ask(&rt, &words_of(&rt, rt.alloc(), line));
+        holds(&rt, is_asked(&asked, expected), "words", line);
+    }
 }

@@ -15,4 +15,6 @@ mod heads;
 #[cfg(test)]
 mod rules;
 #[cfg(test)]
+mod texts;
+#[cfg(test)]
 mod words;

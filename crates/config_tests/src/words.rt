@@ -1,118 +1,174 @@
-use crate::assertions::{holds, same};
+use crate::assertions::holds;
 use proxy_words::{
     Lines, Parts, Words, is_name, long_number, milliseconds, number, signed_long_number,
     without_comment,
 };
+use std::process::Abort;
 
-#[test]
-fn lines_end_at_line_feeds(rt: HostRuntime) {
-    let mut lines = Lines::new(b"a\r\n\n b\r");
-    same(&rt, lines.next(), Some(b"a".as_slice()));
-    same(&rt, lines.next(), Some(b"".as_slice()));
-    same(&rt, lines.next(), Some(b" b\r".as_slice()));
-    same(&rt, lines.next(), None);
-    same(&rt, lines.next(), None);
+/// What cuts a text.
+enum By {
+    Lines,
+    Words,
+    Parts,
+}
+
+struct CutRow {
+    by: By,
+    text: &'static str,
+    pieces: &'static [&'static str],
+}
+
+static CUTS: [CutRow; 4] = [
+    // Lines end at line feeds.
+    CutRow {
+        by: By::Lines,
+        text: "a\r\n\n b\r",
+        pieces: &["a", "", " b\r"],
+    },
+    // Words stand between blanks.
+    CutRow {
+        by: By::Words,
+        text: " \tserver  a\t",
+        pieces: &["server", "a"],
+    },
+    // Parts stand between commas.
+    CutRow {
+        by: By::Parts,
+        text: "fast , slow\t,, a b",
+        pieces: &["fast", "slow", "", "a b"],
+    },
+    // An empty text has one part.
+    CutRow {
+        by: By::Parts,
+        text: " \t",
+        pieces: &[""],
+    },
+];
+
+/// A text that is being cut.
+#[derive(Drop)]
+enum Cut {
+    Lines(Lines<'static>),
+    Words(Words<'static>),
+    Parts(Parts<'static>),
+}
+
+fn begin(row: &CutRow) -> Cut {
+    let text = row.text.as_bytes();
+    match row.by {
+        By::Lines => Cut::Lines(Lines::new(text)),
+        By::Words => Cut::Words(Words::new(text)),
+        By::Parts => Cut::Parts(Parts::new(text)),
+    }
+}
+
+fn next(cut: &mut Cut) -> Option<&'static [u8]> {
+    match cut {
+        Cut::Lines(lines) => lines.next(),
+        Cut::Words(words) => words.next(),
+        Cut::Parts(parts) => parts.next(),
+    }
+}
+
+fn is_cut(rt: &impl Abort, row: &CutRow) {
+    let mut cut = begin(row);
+    for piece in row.pieces {
+        holds(
+            rt,
+            next(&mut cut) == Some(piece.as_bytes()),
+            row.text,
+            piece,
+        );
+    }
+    holds(rt, next(&mut cut).is_none(), row.text, "its end");
+    holds(rt, next(&mut cut).is_none(), row.text, "behind its end");
 }
 
 #[test]
-fn words_stand_between_blanks(rt: HostRuntime) {
-    let mut words = Words::new(b" \tserver  a\t");
-    same(&rt, words.next(), Some(b"server".as_slice()));
-    same(&rt, words.next(), Some(b"a".as_slice()));
-    same(&rt, words.next(), None);
-    same(&rt, words.next(), None);
+fn lines_words_and_parts_are_cut_at_their_ends(rt: HostRuntime) {
+    for row in &CUTS {
+        is_cut(&rt, row);
+    }
+}
+
+/// What a word is as a number, a name or a line.
+enum Is {
+    Number(Option<u32>),
+    LongNumber(Option<u64>),
+    Signed(Option<i64>),
+    Milliseconds(Option<u64>),
+    Name(bool),
+    WithoutComment(&'static str),
+}
+
+type WordRow = (&'static str, Is);
+
+static WORDS: [WordRow; 36] = [
+    // A number has nine digits at most.
+    ("999999999", Is::Number(Some(999_999_999))),
+    ("000000080", Is::Number(Some(80))),
+    ("1000000000", Is::Number(None)),
+    ("", Is::Number(None)),
+    ("1x", Is::Number(None)),
+    // A long number has eighteen.
+    (
+        "999999999999999999",
+        Is::LongNumber(Some(999_999_999_999_999_999)),
+    ),
+    ("0000000000000000000", Is::LongNumber(None)),
+    // A signed number has one sign.
+    ("-524287", Is::Signed(Some(-524_287))),
+    ("-0", Is::Signed(Some(0))),
+    ("12", Is::Signed(Some(12))),
+    (
+        "-999999999999999999",
+        Is::Signed(Some(-999_999_999_999_999_999)),
+    ),
+    ("--1", Is::Signed(None)),
+    ("+1", Is::Signed(None)),
+    ("-", Is::Signed(None)),
+    // A time has a unit, and microseconds are rounded up.
+    ("1500us", Is::Milliseconds(Some(2))),
+    ("2000us", Is::Milliseconds(Some(2))),
+    ("0us", Is::Milliseconds(Some(0))),
+    ("7", Is::Milliseconds(Some(7))),
+    ("7ms", Is::Milliseconds(Some(7))),
+    ("7s", Is::Milliseconds(Some(7_000))),
+    ("7m", Is::Milliseconds(Some(420_000))),
+    ("7h", Is::Milliseconds(Some(25_200_000))),
+    ("999999999d", Is::Milliseconds(Some(86_399_999_913_600_000))),
+    // What is no time.
+    ("1x", Is::Milliseconds(None)),
+    ("ms", Is::Milliseconds(None)),
+    ("1 s", Is::Milliseconds(None)),
+    ("1000000000us", Is::Milliseconds(None)),
+    ("-1", Is::Milliseconds(None)),
+    // A name has 32 bytes at most.
+    ("a-B_9.:", Is::Name(true)),
+    ("12345678901234567890123456789012", Is::Name(true)),
+    ("123456789012345678901234567890123", Is::Name(false)),
+    ("", Is::Name(false)),
+    ("*", Is::Name(false)),
+    ("\u{e9}", Is::Name(false)),
+    // A comment begins anywhere.
+    ("a#b # c", Is::WithoutComment("a")),
+    ("a b", Is::WithoutComment("a b")),
+];
+
+fn is_so(word: &[u8], is: &Is) -> bool {
+    match is {
+        Is::Number(found) => number(word) == *found,
+        Is::LongNumber(found) => long_number(word) == *found,
+        Is::Signed(found) => signed_long_number(word) == *found,
+        Is::Milliseconds(found) => milliseconds(word) == *found,
+        Is::Name(found) => is_name(word) == *found,
+        Is::WithoutComment(line) => without_comment(word) == line.as_bytes(),
+    }
 }
 
 #[test]
-fn a_comment_begins_anywhere(rt: HostRuntime) {
-    same(&rt, without_comment(b"a#b # c"), b"a".as_slice());
-    same(&rt, without_comment(b"a b"), b"a b".as_slice());
-}
-
-#[test]
-fn parts_stand_between_commas(rt: HostRuntime) {
-    let mut parts = Parts::new(b"fast , slow\t,, a b");
-    same(&rt, parts.next(), Some(b"fast".as_slice()));
-    same(&rt, parts.next(), Some(b"slow".as_slice()));
-    same(&rt, parts.next(), Some(b"".as_slice()));
-    same(&rt, parts.next(), Some(b"a b".as_slice()));
-    same(&rt, parts.next(), None);
-    same(&rt, parts.next(), None);
-}
-
-#[test]
-fn an_empty_text_has_one_part(rt: HostRuntime) {
-    let mut parts = Parts::new(b" \t");
-    same(&rt, parts.next(), Some(b"".as_slice()));
-    same(&rt, parts.next(), None);
-}
-
-#[test]
-fn a_number_has_nine_digits_at_most(rt: HostRuntime) {
-    same(&rt, number(b"999999999"), Some(999_999_999));
-    same(&rt, number(b"000000080"), Some(80));
-    same(&rt, number(b"1000000000"), None);
-    same(&rt, number(b""), None);
-    same(&rt, number(b"1x"), None);
-}
-
-#[test]
-fn a_long_number_has_eighteen(rt: HostRuntime) {
-    same(
-        &rt,
-        long_number(b"999999999999999999"),
-        Some(999_999_999_999_999_999),
-    );
-    same(&rt, long_number(b"0000000000000000000"), None);
-}
-
-#[test]
-fn a_signed_number_has_one_sign(rt: HostRuntime) {
-    same(&rt, signed_long_number(b"-524287"), Some(-524_287));
-    same(&rt, signed_long_number(b"-0"), Some(0));
-    same(&rt, signed_long_number(b"12"), Some(12));
-    same(
-        &rt,
-        signed_long_number(b"-999999999999999999"),
-        Some(-999_999_999_999_999_999),
-    );
-    same(&rt, signed_long_number(b"--1"), None);
-    same(&rt, signed_long_number(b"+1"), None);
-    same(&rt, signed_long_number(b"-"), None);
-}
-
-#[test]
-fn units(rt: HostRuntime) {
-    same(&rt, milliseconds(b"1500us"), Some(2));
-    same(&rt, milliseconds(b"2000us"), Some(2));
-    same(&rt, milliseconds(b"0us"), Some(0));
-    same(&rt, milliseconds(b"7"), Some(7));
-    same(&rt, milliseconds(b"7ms"), Some(7));
-    same(&rt, milliseconds(b"7s"), Some(7_000));
-    same(&rt, milliseconds(b"7m"), Some(420_000));
-    same(&rt, milliseconds(b"7h"), Some(25_200_000));
-    same(
-        &rt,
-        milliseconds(b"999999999d"),
-        Some(86_399_999_913_600_000),
-    );
-}
-
-#[test]
-fn what_is_no_time(rt: HostRuntime) {
-    same(&rt, milliseconds(b"1x"), None);
-    same(&rt, milliseconds(b"ms"), None);
-    same(&rt, milliseconds(b"1 s"), None);
-    same(&rt, milliseconds(b"1000000000us"), None);
-    same(&rt, milliseconds(b"-1"), None);
-}
-
-#[test]
-fn a_name_has_32_bytes_at_most(rt: HostRuntime) {
-    holds(&rt, is_name(b"a-B_9.:"));
-    holds(&rt, is_name(b"12345678901234567890123456789012"));
-    holds(&rt, !is_name(b"123456789012345678901234567890123"));
-    holds(&rt, !is_name(b""));
-    holds(&rt, !is_name(b"*"));
-    holds(&rt, !is_name(b"\xc3\xa9"));
+fn words_are_numbers_times_names_and_comments_as_they_are_written(rt: HostRuntime) {
+    for (word, is) in &WORDS {
+        holds(&rt, is_so(word.as_bytes(), is), "words", word);
+    }
 }

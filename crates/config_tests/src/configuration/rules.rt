@@ -1,0 +1,95 @@
+use super::*;
+
+const FILE: &[u8] = b"listen w\n\
+bind :80\n\
+acl slow hdr(x-t) -i slow later\n\
+use-server b if slow or !{ method POST } !slow\n\
+acl slow path_beg /s\n\
+server a h:80\n\
+server b h:81\n\
+http-request set-priority-class int(-9999)\n\
+http-request set-priority-offset req.hdr_val(x-due) unless { path_end a } || slow\n";
+
+fn has_acls(rt: &impl Abort, acls: &[Acl]) {
+    let [slow] = acls else {
+        panic!(rt; "not one ACL");
+    };
+    let [field, path] = slow.tests.as_slice() else {
+        panic!(rt; "not two tests");
+    };
+    holds(
+        rt,
+        slow.name.as_slice() == b"slow".as_slice(),
+        "the ACL",
+        "name",
+    );
+    let cases = field.ignore_case && !path.ignore_case;
+    holds(rt, cases, "the ACL", "cases of letters");
+    holds(rt, field.values.len() == 2, "the ACL", "values");
+    let begins = matches!(path.subject, Subject::PathBegin);
+    holds(rt, begins, "the ACL", "subject");
+}
+
+fn has_pins(rt: &impl Abort, pins: &[Pin]) {
+    let [
+        Pin {
+            server,
+            guard: Guard::If(condition),
+        },
+    ] = pins
+    else {
+        panic!(rt; "not one pin with an if");
+    };
+    holds(rt, *server == 1, "the pin", "server");
+    let [first, second] = condition.alternatives.as_slice() else {
+        panic!(rt; "not two alternatives");
+    };
+    let [test, acl] = second.as_slice() else {
+        panic!(rt; "not two terms");
+    };
+    holds(rt, first.len() == 1, "the pin", "first alternative");
+    let negated = test.negated && acl.negated;
+    holds(rt, negated, "the pin", "terms that are turned round");
+    let operands = matches!(
+        (&test.operand, &acl.operand),
+        (Operand::Test(_), Operand::Acl(0))
+    );
+    holds(rt, operands, "the pin", "operands");
+}
+
+fn has_rules(rt: &impl Abort, rules: &[Rule]) {
+    let [class, offset] = rules else {
+        panic!(rt; "not two rules");
+    };
+    let sets = class.action == Action::SetPriorityClass;
+    holds(
+        rt,
+        sets && class.guard.is_none(),
+        "the first rule",
+        "action",
+    );
+    let number = matches!(class.value, Expression::Int(-9999));
+    holds(rt, number, "the first rule", "number");
+    let Expression::HeaderValue(field) = &offset.value else {
+        panic!(rt; "no field");
+    };
+    holds(
+        rt,
+        field.as_slice() == b"x-due".as_slice(),
+        "the second rule",
+        "field",
+    );
+    let Some(Guard::Unless(condition)) = &offset.guard else {
+        panic!(rt; "not unless");
+    };
+    let two = condition.alternatives.len() == 2;
+    holds(rt, two, "the second rule", "alternatives");
+}
+
+#[test]
+fn rules_name_acls_and_servers(rt: HostRuntime) {
+    let config = read(rt.alloc(), FILE).expect(&rt, "a configuration");
+    has_acls(&rt, config.acls.as_slice());
+    has_pins(&rt, config.pins.as_slice());
+    has_rules(&rt, config.rules.as_slice());
+}

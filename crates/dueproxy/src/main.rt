@@ -5,14 +5,13 @@
 #![tactic(auto)]
 
 ghost use Rattle.std.specs.Prelude.{◌≡◌};
-ghost use Rattle.exit_status.specs.Statuses.{status_of};
+ghost use Rattle.replay.specs.Statuses.{status_of};
 
 mod serve;
 
 use command_words::{Asked, Only, ask};
 use config_check::{check, check_in_full};
-use exit_status::{of_input, of_replay};
-use replay::{Fault, replay};
+use replay::{Fault, replay, status_of};
 use serve::serve_file;
 use std::env;
 use std::io::{Read, Write};
@@ -63,7 +62,7 @@ fn draw_streams<R: Read, W: Write>(
         Err(fault) => {
             let _ = rt.eprintln(fault);
             match fault {
-                DrawFault::Input(fault) => of_input(fault),
+                DrawFault::Input(fault) => fault.status(),
                 DrawFault::NoQueue => USAGE,
             }
         }
@@ -82,7 +81,7 @@ fn tell_streams<R: Read, W: Write>(
         Err(fault) => {
             let _ = rt.eprintln(fault);
             match fault {
-                TellFault::Input(fault) => of_input(fault),
+                TellFault::Input(fault) => fault.status(),
                 TellFault::NoTicket => USAGE,
             }
         }
@@ -96,5 +95,5 @@ fn end(rt: &impl Eprint, ended: Result<(), Fault>) -> u8
     if let Err(fault) = ended {
         let _ = rt.eprintln(fault);
     }
-    of_replay(ended)
+    status_of(ended)
 }

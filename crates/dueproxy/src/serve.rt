@@ -2,8 +2,7 @@
 
 use command_words::{Numbers, RANGES};
 use config_check::read_file;
-use exit_status::of_run;
-use proxy_run::{RunFault, ServeFault, Sizes, run};
+use proxy_run::{RunFault, ServeFault, Sizes, run, status_of};
 use std::io::ErrorKind;
 use std::net::{Net, TcpListener, TcpStream};
 use std::rt::Files;
@@ -47,5 +46,5 @@ pub(crate) fn serve_file<
             _ => rt.eprintln(fault),
         };
     }
-    of_run(ended)
+    status_of(ended)
 }

@@ -1,3 +1,6 @@
+ghost use Rattle.std.specs.Prelude.{◌≡◌};
+ghost use Rattle.proxy_run.specs.Statuses.{status_of};
+
 use proxy_config::ConfigFault;
 use relay_workers::Stopped;
 use socket_gate::TellFault;
@@ -29,6 +32,17 @@ pub enum ServeFault {
     /// All pauses of a wait were made. No event loop makes such pauses.
     #[error("turns spent")]
     Turns,
+}
+
+/// The status of a program whose proxy ended so: 0; 3 where the configuration is faulty; 1 where anything else went wrong.
+pub fn status_of(ended: Result<(), RunFault>) -> u8
+    ensures { result ≡ status_of ended }
+{
+    match ended {
+        Ok(()) => 0,
+        Err(RunFault::Config(_)) => 3,
+        Err(RunFault::Serve(_)) => 1,
+    }
 }
 
 impl From<AllocError> for ServeFault {

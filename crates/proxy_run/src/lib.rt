@@ -10,6 +10,6 @@ mod sharing;
 mod sizes;
 mod telling;
 
-pub use fault::{RunFault, ServeFault};
+pub use fault::{RunFault, ServeFault, status_of};
 pub use running::{run, serve_at};
 pub use sizes::Sizes;

@@ -2,3 +2,4 @@ pub mod Defaults
 pub mod TraceTexts
 pub mod Transfers
 pub mod Replays
+pub mod Statuses

@@ -1,3 +1,6 @@
+ghost use Rattle.std.specs.Prelude.{◌≡◌};
+ghost use Rattle.replay.specs.Statuses.{status_of};
+
 use thiserror::Error;
 
 /// Why a replay ended early.
@@ -15,4 +18,15 @@ pub enum Fault {
     /// A write failed or took no byte. What was written is a front of the text.
     #[error("write fault")]
     Write,
+}
+
+/// The status of a program whose replay ended so: 0; 1 where memory, a read or a write failed; 5 where the script is faulty.
+pub fn status_of(ended: Result<(), Fault>) -> u8
+    ensures { result ≡ status_of ended }
+{
+    match ended {
+        Ok(()) => 0,
+        Err(Fault::Script { .. }) => 5,
+        Err(Fault::NoMemory | Fault::Read | Fault::Write) => 1,
+    }
 }

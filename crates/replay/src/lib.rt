@@ -11,7 +11,7 @@ mod streams;
 mod transfers;
 
 pub use events::{Replayed, replay_events};
-pub use fault::Fault;
+pub use fault::{Fault, status_of};
 pub use laws::a_script_has_one_trace;
 pub use reports::reports_of;
 pub use streams::{replay, replay_between, trace_of};

@@ -1,5 +1,8 @@
 //! What `draw` and `explain` look at: a script, which is replayed first, or a trace.
 
+ghost use Rattle.std.specs.Prelude.{◌≡◌};
+ghost use Rattle.trace_views.specs.Statuses.{status_of};
+
 use binom_queue::BinomQueue;
 use dispatch_core::Core;
 use dispatch_log::Queue;
@@ -29,6 +32,18 @@ pub enum InputFault {
     Script { line: usize },
     #[error("trace line {line}: {cause}")]
     Trace { line: usize, cause: Cause },
+}
+
+impl InputFault {
+    /// The status of a program that had nothing to look at: 1 where memory, a read or a write failed; 5 where the script or the trace is faulty.
+    pub fn status(self) -> u8
+        ensures { result ≡ status_of self }
+    {
+        match self {
+            InputFault::NoMemory | InputFault::Unread | InputFault::Unwritten => 1,
+            InputFault::Script { .. } | InputFault::Trace { .. } => 5,
+        }
+    }
 }
 
 /// Reads a script or a trace to its end, and answers what happened.

@@ -1,0 +1,12 @@
+-- The status that a program ends with.
+use Rattle.std.specs.Prelude.{ℕ}
+use Rattle.trace_views.specs.declared.input.InputFault.{InputFault}
+use Rattle.trace_views.specs.declared.input.InputFault.TheVariants.{NoMemory, Unread, Unwritten, Script, Trace}
+
+-- 1 where memory, a read or a write failed; 5 where the script or the trace is faulty
+abbrev pub status_of : InputFault → ℕ
+status_of NoMemory = 1
+status_of Unread = 1
+status_of Unwritten = 1
+status_of (Script line) = 5
+status_of (Trace line cause) = 5

@@ -7,6 +7,7 @@ pub mod Dispatched
 pub mod Choices
 pub mod SameRows
 pub mod Staying
+pub mod Standing
 pub mod Windows
 pub mod Runs
 pub mod WrongLogs

@@ -34,27 +34,32 @@ pub record KeepsTo (servers : ℕ) (state : State) : Type 0 where
   pub rows : AreAtServers servers state.rows
   pub cursor : 0 < servers → state.cursor < servers
 
--- rows of which one is changed, where what is made of it is at a server that is there wherever it was
+-- rows of which one is changed, where what is made of a row keeps what holds of each
+pub changed_keeps : (P : Row → Type 0) (rows : Rows) (u : ℕ) (f : Row → Option Row) → ((r w : Row) → P r → f r ≡ Some w → P w)
+    → ((r : Row) → IsRow rows r → P r) → (r : Row) → IsRow (changed u f rows) r → P r
+changed_keeps P rows u f stays all row live =
+    let it = changed_row rows u f row live in
+    by_test (it.0.key.ticket == u) it.0 (all it.0 it.1) it.2
+  where
+    by_test : (b : Bool) (r : Row) → P r → cond b (f r) (Some r) ≡ Some row → P row
+    by_test true r holds made = stays r row holds made
+    by_test false r holds made = subst P (same_Some r row made) holds
+
+-- rows of which one is new
+pub admitted_keeps : (P : Row → Type 0) (rows : Rows) (p : ℕ) (r : Row) → IsVacant rows p → P r → ((w : Row) → IsRow rows w → P w)
+    → (w : Row) → IsRow (set rows p (Some r)) w → P w
+admitted_keeps P rows p r vacant here all row live =
+    elim (get-set_cases rows p live.0 None (Some r) (Some row) vacant live.1) [
+      | inl e ↦ subst P (same_Some r row e.1) here
+      | inr e ↦ all row (live.0, e.1)
+    ]
+
 changed_at_servers : (n : ℕ) (rows : Rows) (u : ℕ) (f : Row → Option Row) → ((r w : Row) → IsAtOneOf n r.phase → f r ≡ Some w → IsAtOneOf n w.phase)
     → AreAtServers n rows → AreAtServers n (changed u f rows)
-changed_at_servers n rows u f stays at row live =
-    let it = changed_row rows u f row live in
-    by_test (it.0.key.ticket == u) it.0 (at it.0 it.1) it.2
-  where
-    by_test : (b : Bool) (r : Row) → IsAtOneOf n r.phase → cond b (f r) (Some r) ≡ Some row → IsAtOneOf n row.phase
-    by_test true r at made = stays r row at made
-    by_test false r at made = subst (λ (x : Row). IsAtOneOf n x.phase) (same_Some r row made) at
+changed_at_servers n = changed_keeps (λ row. IsAtOneOf n row.phase)
 
 to_phase : (n : ℕ) (phase : Phase) → IsAtOneOf n phase → (r w : Row) → IsAtOneOf n r.phase → in_phase phase r ≡ Some w → IsAtOneOf n w.phase
 to_phase n phase at r w was made = subst (λ (x : Row). IsAtOneOf n x.phase) (same_Some _ w made) at
-
-admitted_at_servers : (n : ℕ) (rows : Rows) (p : ℕ) (r : Row) → IsVacant rows p → IsAtOneOf n r.phase → AreAtServers n rows
-    → AreAtServers n (set rows p (Some r))
-admitted_at_servers n rows p r vacant here at row live =
-    elim (get-set_cases rows p live.0 None (Some r) (Some row) vacant live.1) [
-      | inl e ↦ subst (λ (x : Row). IsAtOneOf n x.phase) (same_Some r row e.1) here
-      | inr e ↦ at row (live.0, e.1)
-    ]
 
 put_on_within : (n v cursor : ℕ) (pin : Option ℕ) → v < n → (0 < n → cursor < n) → 0 < n → cursor_after_placing v pin cursor < n
 put_on_within n v cursor None low was some = low
@@ -112,7 +117,7 @@ module _ (setup : Setup) (s : State) where
   pub keeps_after : (n : ℕ) (t : Stage) (e : Entry) → KeepsTo (length setup.servers) s → MayCome setup s n t e
       → KeepsTo (length setup.servers) (after setup s e)
   keeps_after n t (Arrive m a) keeps may = record {
-    rows = admitted_at_servers (length setup.servers) s.rows a.place (arrived a) may.1.vacant tt keeps.rows;
+    rows = admitted_keeps (λ row. IsAtOneOf (length setup.servers) row.phase) s.rows a.place (arrived a) may.1.vacant tt keeps.rows;
     cursor = keeps.cursor;
   }
   keeps_after n t (Done m u) keeps may = record { rows = keeps.rows; cursor = keeps.cursor }

@@ -28,6 +28,7 @@ use Rattle.dispatch_log.specs.States.{State, after, after_all, opening_state}
 use Rattle.dispatch_log.proofs.Accepted.{none_refuses}
 use Rattle.dispatch_log.proofs.Dispatched.{dispatched, base_consistent}
 use Rattle.dispatch_log.proofs.Judged.{places_all, limits_all}
+use Rattle.dispatch_log.proofs.Standing.{AreRowsBy, standing_all}
 use Rattle.dispatch_log.proofs.Staying.{KeepsTo, keeps_all}
 use Rattle.dispatch_log.proofs.Tried.{tried_all, tried_over}
 
@@ -55,6 +56,7 @@ opening_base setup = record {
   limited = length-map setup.servers (λ (it : ServerSet). record { limit = it.limit; served = 0 });
   numbered = omega arith;
   timed = omega arith;
+  timed_rows = λ row live. absurd (none_stands setup.places live.0 row live.1);
   at_servers = λ row live. absurd (none_stands setup.places live.0 row live.1);
   cursor = λ some. omega (arith, some);
   tried = λ row live untold. absurd (none_stands setup.places live.0 row live.1);
@@ -124,6 +126,10 @@ legal_range h legal = range_all h.setup h.base 0 granting h.log legal.lawful.jud
 pub legal_keeps : (h : History) → IsLegal h → KeepsTo (length h.setup.servers) (state_of h)
 legal_keeps h legal = keeps_all h.setup h.base 0 granting h.log (record { rows = legal.begins.at_servers; cursor = legal.begins.cursor }) legal.lawful.judged
 
+-- requests stand as they may by the moment
+pub legal_standing : (h : History) → IsLegal h → AreRowsBy (state_of h).moment (state_of h).rows
+legal_standing h legal = standing_all h.setup h.base 0 granting h.log legal.begins.timed_rows legal.lawful.judged
+
 -- the shortest results leave the same servers up
 shortened_up : (server : ServerSet) → IsTrue (is_within server) → (results : List Bool)
     → is_up_by server.rise_fall (shortened_by server.rise_fall results) ≡ is_up_by server.rise_fall results
@@ -165,6 +171,7 @@ next_base h sound legal =
       limited = limits_all h.setup h.base h.log ∙ legal.begins.limited;
       numbered = range.numbered;
       timed = range.timed;
+      timed_rows = legal_standing h legal;
       at_servers = keeps.rows;
       cursor = keeps.cursor;
       tried = tried_over h.setup (state_of h) (stage_after granting h.log)

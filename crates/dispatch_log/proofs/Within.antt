@@ -15,7 +15,7 @@ use Rattle.dispatch_log.specs.States.{State, after, after_all}
 use Rattle.dispatch_log.proofs.Dispatched.{dispatched, legal_consistent}
 use Rattle.dispatch_log.proofs.Judged.{places_all}
 use Rattle.dispatch_log.proofs.Runs.{judged_on, judged_off}
-use Rattle.dispatch_log.proofs.Windows.{legal_range, legal_keeps}
+use Rattle.dispatch_log.proofs.Windows.{legal_range, legal_keeps, legal_standing}
 
 none_given : (first last ticket arrivals : ℕ) → last < 2 ^ 40 → 2 ^ 40 ≤ ticket → arrivals ≡ given_between first last ticket → arrivals ≡ 0
 none_given first last ticket arrivals low high came = grind (arith, nat_tests)
@@ -31,6 +31,7 @@ within h legal =
       arrivals = λ ticket high. none_given h.base.ticket (state_of h).ticket ticket (arrivals_of ticket h.log) range.numbered high
           ((dispatched h legal).one_place ticket).arrives_once;
       moment = range.timed;
+      timed_rows = legal_standing h legal;
       servers = keeps.rows;
       cursor = keeps.cursor;
     }

@@ -1,5 +1,5 @@
 -- Why the worked logs are not legal.
-use Rattle.std.proofs.Common.{◌≡◌, ◌≢◌, ◌+◌, ◌*◌, ◌≤◌, pos, None, Some, refl, arith, Greater}
+use Rattle.std.proofs.Common.{◌≡◌, ◌≢◌, ◌+◌, ◌*◌, ◌<◌, ◌≤◌, ◌^◌, ◌≤ℤ◌, pos, None, Some, refl, arith, Greater}
 use Rattle.std.proofs.lemmas.Int.{ints}
 use Rattle.due_key.specs.Order.{key_cmp}
 use Rattle.dispatch_log.specs.declared.row.Phase.TheVariants.{Waiting}
@@ -8,7 +8,8 @@ use Rattle.dispatch_log.specs.declared.row.Row.{Row}
 use Rattle.dispatch_log.specs.Legal.{IsLegal}
 use Rattle.dispatch_log.proofs.FourPlaces.{for_inner_rows, second_row, third_row}
 use Rattle.dispatch_log.specs.Worked.{worked, worked_by_two, worked_by_weights, worked_by_queues, worked_by_room, first_come_first_served}
-use Rattle.dispatch_log.specs.Worked.{idle_slot, grant_above_the_limit, due_date_of_no_offset, end_is_missing, ticket_left_out, backend_head_first}
+use Rattle.dispatch_log.specs.Worked.{idle_slot, grant_above_the_limit, due_date_of_no_offset, class_out_of_range, moment_out_of_range}
+use Rattle.dispatch_log.specs.Worked.{end_is_missing, ticket_left_out, backend_head_first}
 use Rattle.dispatch_log.specs.Worked.{more_loaded_server, tie_against_the_cursor, loads_without_weights, loads_without_queues, waits_beside_room}
 
 pub not_first_come : IsLegal (worked first_come_first_served) → ⊥
@@ -32,6 +33,12 @@ not_without_offset legal =
     let high = due.1.upper in
     let sum = due.2 in
     absurd (omega (arith, ints))
+
+pub not_of_no_class : IsLegal (worked class_out_of_range) → ⊥
+not_of_no_class legal = let above : pos 2048 ≤ℤ pos 2047 = legal.lawful.judged.0.1.class.upper in absurd (omega (arith, ints))
+
+pub not_at_no_moment : IsLegal (worked moment_out_of_range) → ⊥
+not_at_no_moment legal = let low : 2 ^ 62 < 2 ^ 62 = legal.lawful.judged.0.0.within in absurd (omega arith)
 
 pub not_without_end : IsLegal (worked end_is_missing) → ⊥
 not_without_end legal = legal.lawful.judged.1.1.1.1.1.1.1.1.0.0

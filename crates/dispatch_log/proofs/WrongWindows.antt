@@ -1,7 +1,9 @@
 -- Why the worked logs of limits and windows are not legal.
-use Rattle.std.proofs.Common.{◌≡◌, ◌+◌, ◌≤◌, None, Some, refl, arith}
+use Rattle.std.proofs.Common.{◌≡◌, ◌+◌, ◌≤◌, pos, ◌+ℤ◌, ◌≤ℤ◌, None, Some, refl, arith}
+use Rattle.std.proofs.lemmas.Int.{ints}
 use Rattle.dispatch_log.specs.Legal.{IsLegal}
 use Rattle.dispatch_log.specs.WorkedWindows.{worked_by_pairs, grant_at_the_lowered_limit, raised_limit_grants_nothing, limit_of_no_server}
+use Rattle.dispatch_log.specs.WorkedWindows.{class_of_the_base_is_out_of_range, due_date_of_the_base_is_to_come, wait_of_the_base_is_to_come}
 use Rattle.dispatch_log.specs.WorkedWindows.{waits_of_the_base_are_forgotten, cursor_is_reset, tickets_begin_anew}
 
 pub not_at_the_lowered_limit : IsLegal (worked_by_pairs grant_at_the_lowered_limit) → ⊥
@@ -12,6 +14,20 @@ not_idle_after_a_raise legal = legal.lawful.settled 0 (refl, (_, (2, refl), refl
 
 pub not_of_no_server : IsLegal (worked_by_pairs limit_of_no_server) → ⊥
 not_of_no_server legal = let accepted = legal.lawful.judged.1.1.1.1.1.1.0.accepted in cc
+
+pub not_of_no_class_before : IsLegal class_of_the_base_is_out_of_range → ⊥
+not_of_no_class_before legal = let above : pos 2048 ≤ℤ pos 2047 = (legal.begins.timed_rows _ (2, refl)).class.upper in absurd (omega (arith, ints))
+
+pub not_due_to_come : IsLegal due_date_of_the_base_is_to_come → ⊥
+not_due_to_come legal =
+    let due = (legal.begins.timed_rows _ (2, refl)).due in
+    let low : due.0 ≤ 2 = due.1 in
+    let most : due.2.0 ≤ℤ pos 524287 = due.2.1.upper in
+    let made : pos 524290 ≡ (pos due.0 +ℤ due.2.0) = due.2.2 in
+    absurd (omega (arith, ints))
+
+pub not_waiting_to_come : IsLegal wait_of_the_base_is_to_come → ⊥
+not_waiting_to_come legal = let later : 3 ≤ 2 = (legal.begins.timed_rows _ (2, refl)).since in absurd (omega arith)
 
 pub not_forgotten : IsLegal waits_of_the_base_are_forgotten → ⊥
 not_forgotten legal = legal.lawful.settled 0 (refl, (_, (1, refl), refl))

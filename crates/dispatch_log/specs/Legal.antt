@@ -3,22 +3,23 @@ use Rattle.std.specs.Prelude.{◌≡◌, ◌<◌, ◌≤◌, ◌^◌, false, Lis
 use Rattle.dispatch_log.specs.declared.entry.Entry.{Entry}
 use Rattle.dispatch_log.specs.declared.row.Row.{Row}
 use Rattle.dispatch_log.specs.declared.setup.Setup.{Setup}
-use Rattle.dispatch_log.specs.Bounds.{IsAtOneOf}
+use Rattle.dispatch_log.specs.Bounds.{IsAtOneOf, IsRowBy}
 use Rattle.dispatch_log.specs.Dispatch.{IsDispatched}
 use Rattle.dispatch_log.specs.Histories.{History, state_of, begins_event}
 use Rattle.dispatch_log.specs.Judgement.{AreLawful}
 use Rattle.dispatch_log.specs.Rows.{IsRow, phase_is_told}
 use Rattle.dispatch_log.specs.States.{State}
 
--- proper base: a state of this many places and servers, with a ticket and a moment in their ranges and no word of another
--- server, where what holds after every event of a dispatcher holds, and no request has failed more often than it is tried
--- again but one that is told so
+-- proper base: a state of this many places and servers, with a ticket and a moment in their ranges, requests that may stand so
+-- by that moment and no word of another server, where what holds after every event of a dispatcher holds, and no request has
+-- failed more often than it is tried again but one that is told so
 pub record IsBase (setup : Setup) (base : State) : Type 0 where
   pub places : length base.rows ≡ setup.places
   pub checked : length base.results ≡ length setup.servers
   pub limited : length base.limits ≡ length setup.servers
   pub numbered : base.ticket < 2 ^ 40
   pub timed : base.moment < 2 ^ 62
+  pub timed_rows : (row : Row) → IsRow base.rows row → IsRowBy base.moment row
   pub at_servers : (row : Row) → IsRow base.rows row → IsAtOneOf (length setup.servers) row.phase
   pub cursor : 0 < length setup.servers → base.cursor < length setup.servers
   pub tried : (row : Row) → IsRow base.rows row → phase_is_told row.phase ≡ false → row.failures ≤ setup.retries

@@ -1,5 +1,5 @@
 -- Worked logs that are not legal, each for one reason.
-use Rattle.std.specs.Prelude.{ℕ, ℤ, pos, negsuc, List, [], ◌∷◌, ◌++◌, None, Some, false}
+use Rattle.std.specs.Prelude.{ℕ, ◌^◌, ℤ, pos, negsuc, List, [], ◌∷◌, ◌++◌, None, Some, false}
 use Rattle.dispatch_log.specs.declared.entry.Arrival.{Arrival}
 use Rattle.dispatch_log.specs.declared.entry.Entry.{Entry}
 use Rattle.dispatch_log.specs.declared.entry.Entry.TheVariants.{Arrive, Done, Direct, Joined, Granted, Freed, Ended}
@@ -51,6 +51,14 @@ grant_above_the_limit = two_wait ++ Granted 3 Backend 0 ∷ []
 -- a due date that no offset makes of the moment
 abbrev pub due_date_of_no_offset : List Entry
 due_date_of_no_offset = Arrive 5 (arrival 1 (pos 524293) 0) ∷ Direct 1 0 ∷ []
+
+-- an arrival of a class above the highest
+abbrev pub class_out_of_range : List Entry
+class_out_of_range = Arrive 0 (record (arrival 1 (pos 0) 0) { class = pos 2048 }) ∷ Direct 1 0 ∷ []
+
+-- an arrival at the first moment that is too late
+abbrev pub moment_out_of_range : List Entry
+moment_out_of_range = Arrive (2 ^ 62) (arrival 1 (pos (2 ^ 62)) 0) ∷ Direct 1 0 ∷ []
 
 -- a slot is freed, and its request doesn't end
 abbrev pub end_is_missing : List Entry

@@ -1,12 +1,15 @@
 -- Worked logs of limits that change and of windows that follow one another: three that are legal, and others of which none
 -- is, each for one reason.
-use Rattle.std.specs.Prelude.{pos, List, [], ◌∷◌, ◌++◌, None, false}
+use Rattle.std.specs.Prelude.{pos, List, [], ◌∷◌, ◌++◌, None, Some, false}
 use Rattle.dispatch_log.specs.declared.entry.Entry.{Entry}
 use Rattle.dispatch_log.specs.declared.entry.Entry.TheVariants.{Arrive, Done, Limit, Direct, Joined, Granted, Freed, Ended}
 use Rattle.dispatch_log.specs.declared.queue.Queue.TheVariants.{Backend}
+use Rattle.dispatch_log.specs.declared.row.Phase.TheVariants.{Waiting}
+use Rattle.dispatch_log.specs.declared.row.Row.{Row}
 use Rattle.dispatch_log.specs.declared.setup.ServerSet.{ServerSet}
 use Rattle.dispatch_log.specs.Histories.{History, first_window, next_window}
-use Rattle.dispatch_log.specs.Worked.{arrival, two_wait, worked, worked_by_two}
+use Rattle.dispatch_log.specs.Rows.{changed}
+use Rattle.dispatch_log.specs.Worked.{arrival, two_wait, worked, worked_by_two, worked_setup}
 
 -- one server, which may serve two at once
 abbrev pub pair_server : ServerSet
@@ -50,6 +53,26 @@ windows first log = record (next_window first) { log = log }
 -- 2 and 3 wait since the window before, and the slot that comes back goes to 3, which is due first
 abbrev pub waits_of_the_base_are_served : History
 waits_of_the_base_are_served = windows (worked two_wait) (Done 10 1 ∷ Freed 1 0 ∷ Ended 1 ∷ Granted 3 Backend 0 ∷ [])
+
+-- a window at whose beginning 2 and 3 wait, where something of 3 is other than it was
+abbrev pub begins_with_another : (Row → Row) → History
+begins_with_another change = record {
+  setup = worked_setup;
+  base = record (next_window (worked two_wait)).base { rows = changed 3 (λ row. Some (change row)) (next_window (worked two_wait)).base.rows };
+  log = [];
+}
+
+-- 3 has a class above the highest
+abbrev pub class_of_the_base_is_out_of_range : History
+class_of_the_base_is_out_of_range = begins_with_another (λ row. record row { key = record row.key { class = pos 2048 } })
+
+-- 3 is due later than any offset makes it by now
+abbrev pub due_date_of_the_base_is_to_come : History
+due_date_of_the_base_is_to_come = begins_with_another (λ row. record row { key = record row.key { due = pos 524290 } })
+
+-- 3 waits since a moment that is to come
+abbrev pub wait_of_the_base_is_to_come : History
+wait_of_the_base_is_to_come = begins_with_another (λ row. record row { phase = Waiting Backend 3 })
 
 -- 3 waits since the window before, and the slot that comes back stays idle
 abbrev pub waits_of_the_base_are_forgotten : History

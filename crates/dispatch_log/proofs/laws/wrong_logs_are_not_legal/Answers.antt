@@ -1,5 +1,6 @@
+use Rattle.dispatch_log.proofs.WrongWindows.{not_of_no_class_before, not_due_to_come, not_waiting_to_come}
 use Rattle.dispatch_log.proofs.WrongWindows.{not_at_the_lowered_limit, not_idle_after_a_raise, not_of_no_server, not_forgotten, not_reset, not_anew}
-use Rattle.dispatch_log.proofs.WrongLogs.{not_first_come, not_idle, not_above_limit, not_without_offset, not_without_end, not_left_out}
+use Rattle.dispatch_log.proofs.WrongLogs.{not_first_come, not_idle, not_above_limit, not_without_offset, not_of_no_class, not_at_no_moment, not_without_end, not_left_out}
 use Rattle.dispatch_log.proofs.WrongLogs.{not_backend_first, not_more_loaded, not_against_cursor, not_by_loads_alone, not_without_queues, not_beside_room}
 use Rattle.dispatch_log.proofs.WrongChanges.{not_past_the_retries, not_counted_twice, not_with_the_pin, not_to_the_failed, not_before_the_grant}
 use Rattle.dispatch_log.proofs.WrongChanges.{not_beside_a_usable_one, not_early, not_by_falling_ticket, not_untold, not_while_served}
@@ -97,6 +98,21 @@ returns-clause-raised_limit_grants_nothing c = not_idle_after_a_raise
 
 pub returns-clause-limit_of_no_server : goal.returns-clause-limit_of_no_server
 returns-clause-limit_of_no_server c = not_of_no_server
+
+pub returns-clause-class_out_of_range : goal.returns-clause-class_out_of_range
+returns-clause-class_out_of_range c = not_of_no_class
+
+pub returns-clause-moment_out_of_range : goal.returns-clause-moment_out_of_range
+returns-clause-moment_out_of_range c = not_at_no_moment
+
+pub returns-clause-class_of_the_base_is_out_of_range : goal.returns-clause-class_of_the_base_is_out_of_range
+returns-clause-class_of_the_base_is_out_of_range c = not_of_no_class_before
+
+pub returns-clause-due_date_of_the_base_is_to_come : goal.returns-clause-due_date_of_the_base_is_to_come
+returns-clause-due_date_of_the_base_is_to_come c = not_due_to_come
+
+pub returns-clause-wait_of_the_base_is_to_come : goal.returns-clause-wait_of_the_base_is_to_come
+returns-clause-wait_of_the_base_is_to_come c = not_waiting_to_come
 
 pub returns-clause-waits_of_the_base_are_forgotten : goal.returns-clause-waits_of_the_base_are_forgotten
 returns-clause-waits_of_the_base_are_forgotten c = not_forgotten

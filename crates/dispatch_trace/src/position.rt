@@ -1,7 +1,7 @@
 use due_key::Moment;
 use server_pick::Cursor;
 
-/// Where an accepted arrival stands, and its ticket.
+/// Where a live request stands, and its ticket.
 #[derive(Clone, Copy, Debug, PartialEq, Eq)]
 pub struct Ticketed {
     pub place: usize,

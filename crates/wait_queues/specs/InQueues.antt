@@ -40,7 +40,7 @@ pub record AreLinedUp (lined : Lined) (waiters : Waiters) : Type 0 where
   pub own_keys : (place other : ℕ) (waiter its : Waiter) → WaitsAt waiters place waiter → WaitsAt waiters other its → waiter.key ≡ its.key
       → place ≡ other
 
--- and so is the order in which they joined
+-- the requests that wait are in the queues, and in the order in which they joined
 pub record AreWaiting (lined : Lined) (waiters : Waiters) (order : Order) : Type 0 where
   pub lined_up : AreLinedUp lined waiters
   pub order_room : order.room ≡ length waiters

@@ -306,14 +306,15 @@ fn push_mark(
         Some(place) => span_of(line, place),
         None => (line.len(), line.len().saturating_add(1)),
     };
-    for _ in 0..head {
-        text.push(' ')?;
-    }
-    for _ in 0..start {
-        text.push(' ')?;
-    }
-    for _ in start..end {
-        text.push('^')?;
-    }
+    push_times(text, ' ', head)?;
+    push_times(text, ' ', start)?;
+    push_times(text, '^', end.saturating_sub(start))?;
     text.push('\n')
+}
+
+fn push_times(text: &mut String, sign: char, times: usize) -> Result<(), AllocError> {
+    for _ in 0..times {
+        text.push(sign)?;
+    }
+    Ok(())
 }

@@ -21,6 +21,10 @@ pub(crate) fn push_axis(text: &mut String, scene: &Scene) -> Result<(), AllocErr
     let x = LEFT - 10;
     let y = NUMBERS - 5;
     writeln!(text, "<text class=\"r m\" x=\"{x}\" y=\"{y}\">ms</text>")?;
+    push_rolls(text, scene)
+}
+
+fn push_rolls(text: &mut String, scene: &Scene) -> Result<(), AllocError> {
     for roll in scene.subject.rolls {
         let x = scene
             .sheet

@@ -12,10 +12,8 @@ const MOST_TICKETS: usize = 16;
 /// How many lines of text stand below each lane.
 pub(crate) fn lines_below(alloc: Global, subject: &Subject) -> Result<Vec<usize>, AllocError> {
     let lanes = lanes_of(subject.names.len());
-    let mut lines = Vec::with_capacity(alloc, lanes)?;
-    for _ in 0..lanes {
-        lines.push(0usize)?;
-    }
+    let mut lines: Vec<usize> = Vec::new(alloc);
+    lines.resize(lanes, 0)?;
     for report in subject.reports {
         if is_captioned(subject, report) {
             if let Some(count) = lines.get_mut(lane_number(Lane::Queue(report.queue))) {

@@ -25,19 +25,14 @@ pub(crate) struct Palette {
 
 impl Palette {
     pub(crate) fn new(alloc: Global, entries: &[Entry]) -> Result<Palette, AllocError> {
-        let mut all = Vec::new(alloc);
+        let mut classes: Vec<Class> = Vec::new(alloc);
         for entry in entries {
             if let Entry::Arrive(_, arrival) = *entry {
-                all.push(arrival.class)?;
+                classes.push(arrival.class)?;
             }
         }
-        all.sort()?;
-        let mut classes: Vec<Class> = Vec::new(alloc);
-        for class in all {
-            if classes.last().copied() != Some(class) {
-                classes.push(class)?;
-            }
-        }
+        classes.sort()?;
+        classes.dedup();
         Ok(Palette { classes })
     }
 

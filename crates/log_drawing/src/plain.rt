@@ -10,16 +10,25 @@ pub(crate) fn push_plain_bars(
     text: &mut String,
     scene: &Scene,
 ) -> Result<(), AllocError> {
-    let mut groups: Vec<String> = Vec::new(alloc);
-    for _ in 0..=2 * COLOURS + 1 {
-        groups.push(String::new(alloc))?;
-    }
+    let mut groups = empty_groups(alloc)?;
     for bar in scene.bars {
         if let Some(group) = groups.get_mut(group_of(bar)) {
             push_line(group, scene, bar)?;
         }
     }
-    let thick = scene.sheet.thick;
+    push_groups(text, scene.sheet.thick, groups.as_slice())
+}
+
+// Stays and services of each colour, and of none.
+fn empty_groups(alloc: Global) -> Result<Vec<String>, AllocError> {
+    let mut groups: Vec<String> = Vec::new(alloc);
+    for _ in 0..=2 * COLOURS + 1 {
+        groups.push(String::new(alloc))?;
+    }
+    Ok(groups)
+}
+
+fn push_groups(text: &mut String, thick: usize, groups: &[String]) -> Result<(), AllocError> {
     for (number, group) in groups.iter().enumerate() {
         if !group.is_empty() {
             let kind = if number % 2 == 0 { "p" } else { "q" };
@@ -35,7 +44,7 @@ pub(crate) fn push_plain_bars(
     Ok(())
 }
 
-// Stays and services of each colour are groups of their own.
+// The number of a bar's group.
 fn group_of(bar: &Bar) -> usize {
     let service = match bar.stretch.lane {
         Lane::Queue(_) => 0,

@@ -31,8 +31,13 @@ pub(crate) fn lay_rows(
             bar.row = rows.take(bar.stretch.from, end)?;
         }
     }
-    let mut counts = Vec::with_capacity(alloc, lanes)?;
-    for rows in all.as_slice() {
+    counts_of(alloc, all.as_slice())
+}
+
+// How many rows each lane has.
+fn counts_of(alloc: Global, all: &[LaneRows]) -> Result<Vec<usize>, AllocError> {
+    let mut counts = Vec::with_capacity(alloc, all.len())?;
+    for rows in all {
         counts.push(rows.used)?;
     }
     Ok(counts)

@@ -42,10 +42,7 @@ pub(crate) fn rooms_of<R: Net<Listener = TcpListener, Stream = TcpStream>, N: Bo
     ensures { IfOk result (λ made. vec_len made.0.spots ≡ sizes.places) }
 {
     let alloc = proxy.alloc;
-    let mut spots = Vec::with_capacity(alloc, sizes.places)?;
-    for _ in 0..sizes.places {
-        spots.push(Mutex::new(None))?;
-    }
+    let spots = empty_spots(alloc, sizes.places)?;
     let mut addresses = Vec::with_capacity(alloc, proxy.config.servers.len())?;
     for server in proxy.config.servers.as_slice() {
         addresses.push(first_address(rt, &server.address))?;
@@ -59,6 +56,16 @@ pub(crate) fn rooms_of<R: Net<Listener = TcpListener, Stream = TcpStream>, N: Bo
         most: most_clients(sizes.loops, sizes.slots),
     };
     Ok((rooms, roles))
+}
+
+fn empty_spots(alloc: Global, places: usize) -> Result<Vec<Mutex<Option<Waiting>>>, AllocError>
+    ensures { IfOk result (λ made. vec_len made ≡ places) }
+{
+    let mut spots = Vec::with_capacity(alloc, places)?;
+    for _ in 0..places {
+        spots.push(Mutex::new(None))?;
+    }
+    Ok(spots)
 }
 
 // A poll for each loop, with the listener in it, and its mailbox.

@@ -43,10 +43,15 @@ pub(crate) fn roles_of(
     for (home, poll) in polls.into_iter().enumerate() {
         roles.push(Role::Loop { poll, home })?;
     }
+    add_runners(&mut roles, runners)?;
+    Ok(roles)
+}
+
+fn add_runners(roles: &mut Vec<Role>, runners: usize) -> Result<(), AllocError> {
     for _ in 0..runners {
         roles.push(Role::Runner)?;
     }
-    Ok(roles)
+    Ok(())
 }
 
 /// A scope with all threads in it. It returns once all is over and each thread has ended.

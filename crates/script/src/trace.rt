@@ -66,10 +66,7 @@ fn push_entry(text: &mut String, names: &Names, entry: &Entry) -> Result<(), All
             push_name(text, names.of(server))?;
             end_by_name(text, health_word(up))
         }
-        Entry::Ended(ticket) => {
-            push_ticket(text, "  end ", ticket)?;
-            text.push_str("\n")
-        }
+        Entry::Ended(ticket) => push_end(text, ticket),
     }
 }
 
@@ -88,6 +85,14 @@ fn push_put(text: &mut String, word: &str, ticket: u64, name: &str) -> Result<()
 {
     push_ticket(text, word, ticket)?;
     end_by_name(text, name)
+}
+
+// `  end T`, a line.
+fn push_end(text: &mut String, ticket: u64) -> Result<(), AllocError>
+    ensures { OnOk result (string_bytes text.new ≡ string_bytes text.old ++ (codes "  end " ++ decimal ticket ++ codes "\n")) }
+{
+    push_ticket(text, "  end ", ticket)?;
+    text.push_str("\n")
 }
 
 fn push_arrival(

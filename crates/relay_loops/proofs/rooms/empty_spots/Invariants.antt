@@ -1,6 +1,6 @@
 use Rattle.std.proofs.Common.{◌≡◌, vec_len}
-use Rattle.relay_loops.proofs.rooms.rooms_of.Given as goal
+use Rattle.relay_loops.proofs.rooms.empty_spots.Given as goal
 
 -- a spot for each place so far
 abbrev pub invariant-loop : goal.invariant-loop
-invariant-loop g l = vec_len l.spots ≡ l.counter
+invariant-loop l = vec_len l.spots ≡ l.counter

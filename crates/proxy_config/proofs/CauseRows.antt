@@ -355,6 +355,19 @@ quoting_only false true too_long r read within is = (refl, refl)
 quoting_only false false true r read within is = absurd (let none = is in cc)
 quoting_only false false false r read within is = absurd (never causes.Quoting within refl is)
 
+-- in a file that is too long a quote comes first, and only a quote
+limit_unless : (ignored quoted : Bool) (r : Resolved) (read : Result Resolved FaultCause) → ((ignored ≡ false) × (quoted ≡ true) → ⊥)
+    → stepped ignored quoted true r read ≡ Err causes.Limit
+limit_unless true quoted r read unquoted = refl
+limit_unless false true r read unquoted = absurd (unquoted (refl, refl))
+limit_unless false false r read unquoted = refl
+
+limit_only : (ignored quoted : Bool) (r : Resolved) (read : Result Resolved FaultCause) → stepped ignored quoted true r read ≡ Err causes.Limit
+    → (ignored ≡ false) × (quoted ≡ true) → ⊥
+limit_only true quoted r read is both = let none = both.0 in cc
+limit_only false true r read is both = let none = is in cc
+limit_only false false r read is both = let none = both.1 in cc
+
 -- each of these causes stands in its row, and nowhere else
 pub each_in_its_row : (servers : List Server) (too_long : Bool) (r : Resolved) (n : ℕ) (line : List ℕ) → EachInItsRow servers too_long r n line
 each_in_its_row servers too_long r n line =
@@ -377,5 +390,8 @@ each_in_its_row servers too_long r n line =
             (record { heeded = parts.0; unquoted = parts.1; short = parts.2 }, words_section servers r n (words_of line) parts.3),
         λ is. to_read is.0 ∙ words_refused servers r n (words_of line) is.1,
       );
+      limit = λ long. let in_long : resolved_line servers too_long r n line ≡ stepped ignored quoted true r read =
+          step ∙ ap (λ b. stepped ignored quoted b r read) long in
+          (λ is. limit_only ignored quoted r read (sym in_long ∙ is), λ unquoted. in_long ∙ limit_unless ignored quoted r read unquoted);
       missing = λ is. never causes.Missing causes_of refl (read_only ignored quoted too_long r read causes.Missing (sym step ∙ is) refl).3;
     }

@@ -56,4 +56,6 @@ pub record EachInItsRow (servers : List Server) (too_long : Bool) (r : Resolved)
   pub quoting : (resolved_line servers too_long r n line ≡ Err causes.Quoting) ↔ IsQuoted r.draft line
   pub place : (resolved_line servers too_long r n line ≡ Err causes.Place) ↔ (IsRead r.draft too_long line × IsMisplaced r.draft (words_of line))
   pub section : (resolved_line servers too_long r n line ≡ Err causes.Section) ↔ (IsRead r.draft too_long line × BeginsRefused r.draft (words_of line))
+  -- in the line in which the file is too long: unless a quote comes first, and so always where `global` ignores the line
+  pub limit : too_long ≡ true → ((resolved_line servers too_long r n line ≡ Err causes.Limit) ↔ (¬ IsQuoted r.draft line))
   pub missing : ¬ (resolved_line servers too_long r n line ≡ Err causes.Missing)

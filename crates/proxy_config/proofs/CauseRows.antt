@@ -211,7 +211,8 @@ line_in servers r n keywords.Global words other inside = absurd (let none = othe
 line_in servers r n keywords.Defaults words other inside = absurd (let none = other in cc)
 line_in servers r n keywords.Listen words other inside = absurd (let none = other in cc)
 line_in servers r n keywords.Refused words other inside = absurd (let none = other in cc)
-line_in servers r n (keywords.Shared kind) words other inside = within_placed r _ (weaker (is_count _) (value_in r.draft kind words r.draft.section refl inside))
+line_in servers r n (keywords.Shared kind) words other inside =
+    within_placed r _ (weaker (is_count _) (value_in r.draft kind words r.draft.section refl inside))
 line_in servers r n keywords.Bind words other inside = within_placed r _ (bind_in r.draft words inside)
 line_in servers r n keywords.Server words other inside = within_placed r _ (server_in r.draft words inside)
 line_in servers r n keywords.Acl words other inside = within_placed r _ (test_in r.draft words inside)
@@ -274,7 +275,8 @@ line_causes : (servers : List Server) (r : Resolved) (n : ℕ) (keyword : Keywor
     → takes r.draft.section keyword ≡ t
     → Within is_of_lines (line_of servers r n keyword words)
 line_causes servers r n keyword words true t one taken = all_lines (section_row servers r n keyword words one)
-line_causes servers r n keyword words false true other taken = weaker is_section (weaker is_place (or_full _ (line_in servers r n keyword words other taken)))
+line_causes servers r n keyword words false true other taken =
+    weaker is_section (weaker is_place (or_full _ (line_in servers r n keyword words other taken)))
 line_causes servers r n keyword words false false other taken =
     subst (λ (r : Result Resolved FaultCause). Within is_of_lines r) (sym (line_out servers r n keyword words taken)) (within_err causes.Place refl)
 

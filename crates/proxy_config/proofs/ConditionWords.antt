@@ -182,7 +182,8 @@ alternatives-found (suc n) acls begins (word ∷ words) rows is = elim (chosen (
 ]
 
 -- a term without a sign is its operand
-pub term_at-plain : (acls : List Acl) (word : List ℕ) (words : List (List ℕ)) → has_sign word ≡ false → term_at acls word words ≡ operand_at acls false word words
+pub term_at-plain : (acls : List Acl) (word : List ℕ) (words : List (List ℕ)) → has_sign word ≡ false
+    → term_at acls word words ≡ operand_at acls false word words
 unfolding term_at
 term_at-plain acls [] words plain = refl
 term_at-plain acls (byte ∷ []) words plain = rw plain refl

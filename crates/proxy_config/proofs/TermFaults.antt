@@ -1,11 +1,11 @@
 -- A word that is no term of a condition, behind whatever terms.
-use Rattle.std.proofs.Common.{◌≡◌, ◌∙◌, ◌≤◌, ◌||◌, ℕ, zero, suc, Bool, true, false, List, [], ◌∷◌, ◌++◌, length, Err, refl, ap, arith, append_assoc, length-append, codes}
+use Rattle.std.proofs.Common.{◌≡◌, ◌∙◌, ◌≤◌, ◌||◌, ℕ, zero, suc, Bool, true, false, List}
+use Rattle.std.proofs.Common.{[], ◌∷◌, ◌++◌, length, Err, refl, ap, arith, append_assoc, length-append, codes}
 use Rattle.std.specs.List.{list_all}
 use Rattle.std.specs.Str.{bytes_eq}
 use Rattle.proxy_words.specs.Names.{is_name_byte}
 use Rattle.proxy_config.specs.declared.faults.FaultCause.{FaultCause}
 use Rattle.proxy_config.specs.declared.parts.Acl.{Acl}
-use Rattle.proxy_config.specs.declared.parts.Guard.{Guard}
 use Rattle.proxy_config.specs.declared.parts.Term.{Term}
 use Rattle.proxy_config.specs.Conditions.{alternatives, condition, guard_at, is_or, operand_at, term_at}
 use Rattle.proxy_config.specs.ConditionGrammar.{AreSeparated}
@@ -20,8 +20,7 @@ no_term : (acls : List Acl) (word : List ℕ) (words : List (List ℕ)) (cause :
 unfolding operand_at
 no_term acls word words cause (fault.undeclared name none) =
     let parts = name_parts word name in
-    let no_brace : bytes_eq word (codes "{") ≡ false = is_no (list_all is_name_byte) word (codes "{") parts.0 refl in
-    (
+    let no_brace : bytes_eq word (codes "{") ≡ false = is_no (list_all is_name_byte) word (codes "{") parts.0 refl in (
       neither parts.1 (is_no (list_all is_name_byte) word (codes "||") parts.0 refl),
       term_at-plain acls word words (name_no_sign word name) ∙ rw (no_brace, name, none) refl,
     )
@@ -57,14 +56,14 @@ behind_rows (suc n) acls begins front ((term ∷ terms) ∷ rows) word more caus
     let again = signed_again acls first.0 term.negated term.operand first.3 in
     let rest : List (List ℕ) = first.1 ++ word ∷ more in
     let spelled : (front ++ word ∷ more) ≡ again.0 ∷ (again.1 ++ rest) =
-        ap (λ (ws : List (List ℕ)). ws ++ word ∷ more) (first.2 ∙ ap (λ (ws : List (List ℕ)). ws ++ first.1) again.2)
-        ∙ ap (λ (ws : List (List ℕ)). again.0 ∷ ws) (append_assoc again.1 first.1 (word ∷ more)) in
+    ap (λ (ws : List (List ℕ)). ws ++ word ∷ more) (first.2 ∙ ap (λ (ws : List (List ℕ)). ws ++ first.1) again.2)
+    ∙ ap (λ (ws : List (List ℕ)). again.0 ∷ ws) (append_assoc again.1 first.1 (word ∷ more)) in
     let shorter : length rest ≤ n = omega (arith, enough, ap length spelled, length-append again.1 rest) in
     let others = behind_rows n acls false first.1 (terms ∷ rows) word more cause shorter first.4 (others_begun begins (term ∷ terms) rows begun) none in
     ap (alternatives (suc n) acls begins) spelled ∙ rw (again.3, again.4 rest, others) refl
 
-in_condition : (acls : List Acl) (front : List (List ℕ)) (word : List ℕ) (more : List (List ℕ)) (cause : FaultCause) → IsFront acls front → NoTerm acls word cause
-    → condition acls (front ++ word ∷ more) ≡ Err cause
+in_condition : (acls : List Acl) (front : List (List ℕ)) (word : List ℕ) (more : List (List ℕ)) (cause : FaultCause) → IsFront acls front
+    → NoTerm acls word cause → condition acls (front ++ word ∷ more) ≡ Err cause
 in_condition acls front word more cause is none =
     rw (behind_rows (length (front ++ word ∷ more)) acls true front is.rows word more cause (omega arith) is.spelled is.begun none) refl
 

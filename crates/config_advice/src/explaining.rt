@@ -88,12 +88,7 @@ fn lines_of(alloc: Global, bytes: &[u8]) -> Result<Vec<Vec<u8>>, AllocError> {
 }
 
 fn first_fault(alloc: Global, lines: &[Vec<u8>]) -> Result<Option<ConfigFault>, AllocError> {
-    let mut bytes = Vec::new(alloc);
-    for line in lines {
-        bytes.extend_from_slice(line)?;
-        bytes.push(b'\n')?;
-    }
-    fault_of(alloc, &bytes)
+    fault_of_front(alloc, lines, lines.len(), b"".as_slice())
 }
 
 fn fault_of(alloc: Global, bytes: &[u8]) -> Result<Option<ConfigFault>, AllocError>
@@ -115,10 +110,22 @@ fn fault_of_front(
 ) -> Result<Option<ConfigFault>, AllocError> {
     let mut bytes = Vec::new(alloc);
     for (i, line) in lines.iter().enumerate() {
+        if i > 0 {
+            let end = line_end(&bytes);
+            bytes.extend_from_slice(end)?;
+        }
         bytes.extend_from_slice(if i == at { front } else { line })?;
-        bytes.push(b'\n')?;
     }
     fault_of(alloc, &bytes)
+}
+
+/// What ends a line so that it is read as it was: a carriage return right before a line feed is none of the line's.
+fn line_end(line: &[u8]) -> &'static [u8] {
+    if line.ends_with(b"\r".as_slice()) {
+        b"\r\n".as_slice()
+    } else {
+        b"\n".as_slice()
+    }
 }
 
 /// Where a fault stands among the lines.

@@ -40,7 +40,7 @@ struct AdviceRow {
     text: &'static str,
 }
 
-static ADVICE: [AdviceRow; 7] = [
+static ADVICE: [AdviceRow; 8] = [
     AdviceRow {
         name: "each faulty line has its mark and its advice",
         file: "defaults\n\
@@ -230,6 +230,26 @@ line 8: listen w
         ^^^^^^
   section: Of sections there are global, defaults and one listen.
   instead: Put both into one listen, or run one proxy for each.
+
+",
+    },
+    AdviceRow {
+        name: "a carriage return that is a word's stays one",
+        file: "listen w\r\n bind :80\r\r\nserver a h:80\r",
+        faulty: 2,
+        whole: false,
+        text: "\
+line 2:  bind :80?
+              ^^^^
+  address: This isn't an address: *:PORT, :PORT, HOST:PORT or four numbers and a PORT.
+  instead: Of a bind only the address is there: TLS ends before the proxy, and ssl, crt and other words go.
+
+line 3: server a h:80?
+                 ^^^^^
+  address: This isn't an address: *:PORT, :PORT, HOST:PORT or four numbers and a PORT.
+  instead: A server's address has its port behind it.
+
+Then the listen lacks a bind or a server.
 
 ",
     },

@@ -25,7 +25,7 @@ pub(crate) fn sentence(cause: FaultCause) -> &'static str {
 }
 
 /// Keywords of HAProxy that the profile leaves out, and what takes their place.
-const KEYWORDS: [(&str, &str); 29] = [
+const KEYWORDS: [(&str, &str); 34] = [
     (
         "errorfile",
         "Leave it out: what the proxy says itself has no body.",
@@ -43,8 +43,24 @@ const KEYWORDS: [(&str, &str); 29] = [
         "Put what stands in frontend and backend into one listen, bind and server lines together.",
     ),
     (
-        "listen",
-        "Put both into one listen, or run one proxy for each.",
+        "cache",
+        "Leave it out with all its lines: no answer is kept.",
+    ),
+    (
+        "peers",
+        "Leave it out with all its lines: proxies share nothing.",
+    ),
+    (
+        "resolvers",
+        "Leave it out with all its lines: names are looked up as the system does.",
+    ),
+    (
+        "userlist",
+        "Leave it out with all its lines: nobody is asked for a password.",
+    ),
+    (
+        "program",
+        "Leave it out with all its lines: no other program is started.",
     ),
     (
         "default_backend",
@@ -89,6 +105,10 @@ const KEYWORDS: [(&str, &str); 29] = [
     ("rspadd", "Leave it out: heads are handed on as they came."),
     (
         "http-response",
+        "Leave it out: heads are handed on as they came.",
+    ),
+    (
+        "http-after-response",
         "Leave it out: heads are handed on as they came.",
     ),
     (
@@ -159,8 +179,65 @@ const OPTIONS: [(&str, &str); 11] = [
     ),
 ];
 
+/// The same of the words behind `http-request`.
+const ACTIONS: [(&str, &str); 6] = [
+    (
+        "deny",
+        "No rule refuses requests: that has to be done before the proxy or by the servers.",
+    ),
+    (
+        "auth",
+        "No rule refuses requests: that has to be done before the proxy or by the servers.",
+    ),
+    ("redirect", "Leave it out, or let the server answer so."),
+    (
+        "set-header",
+        "Leave it out: heads are handed on as they came.",
+    ),
+    (
+        "add-header",
+        "Leave it out: heads are handed on as they came.",
+    ),
+    (
+        "del-header",
+        "Leave it out: heads are handed on as they came.",
+    ),
+];
+
+/// What is there once, or has a name of its own.
+const REPEATED: [(&str, &str); 3] = [
+    (
+        "listen",
+        "Put both into one listen, or run one proxy for each.",
+    ),
+    (
+        "bind",
+        "Leave it out, or run one proxy for each address: there is one bind.",
+    ),
+    (
+        "server",
+        "Give it another name: each server has one of its own.",
+    ),
+];
+
+/// What tests, conditions and expressions there are.
+const TESTS: [(&str, &str); 3] = [
+    (
+        "acl",
+        "Of tests there are path, path_beg, path_end, method and hdr(FIELD).",
+    ),
+    (
+        "http-request",
+        "Of expressions there are int(N) and req.hdr_val(FIELD); behind if or unless stand ACLs and tests in braces.",
+    ),
+    (
+        "use-server",
+        "Behind if or unless stand ACLs and tests in braces.",
+    ),
+];
+
 /// Words that have others beside them in HAProxy, and which ones are there.
-const CHOICES: [(&str, &str); 6] = [
+const CHOICES: [(&str, &str); 7] = [
     (
         "option",
         "Of options there are redispatch, abortonclose, httplog and dontlognull.",
@@ -174,6 +251,10 @@ const CHOICES: [(&str, &str); 6] = [
         "leastconn is the only one: the least load by weight.",
     ),
     ("mode", "http is the only one."),
+    (
+        "listen",
+        "Behind its name nothing stands: the address goes into a bind line.",
+    ),
     (
         "server",
         "Of settings there are weight, maxconn, maxqueue, check, inter, rise and fall.",
@@ -191,10 +272,15 @@ pub(crate) fn advice(
     second: &[u8],
     at_fault: &[u8],
 ) -> Option<&'static str> {
-    if is(first, "option") {
-        if let Some(advice) = found(&OPTIONS, second) {
-            return Some(advice);
-        }
+    let special = if is(first, "option") {
+        found(&OPTIONS, second)
+    } else if is(first, "http-request") {
+        found(&ACTIONS, second)
+    } else {
+        None
+    };
+    if special.is_some() {
+        return special;
     }
     if is(first, "bind") && !is(at_fault, "bind") {
         return Some(
@@ -206,6 +292,11 @@ pub(crate) fn advice(
     }
     match cause {
         FaultCause::Keyword | FaultCause::Words => found(&CHOICES, first),
+        FaultCause::Section | FaultCause::Twice => found(&REPEATED, first),
+        FaultCause::Condition => found(&TESTS, first),
+        FaultCause::Address if is(first, "server") => Some(
+            "A server's address has its port behind it.",
+        ),
         _ => None,
     }
 }

@@ -64,6 +64,9 @@ fn push_faults(alloc: Global, text: &mut String, bytes: &[u8]) -> Result<usize, 
         describe(alloc, text, &lines, fault, word)?;
         set_right(alloc, &mut lines, fault, word)?;
     }
+    if first_fault(alloc, &lines)?.is_some() {
+        text.push_str("Then there is more.\n\n")?;
+    }
     Ok(MOST_FAULTS)
 }
 
@@ -85,12 +88,7 @@ fn lines_of(alloc: Global, bytes: &[u8]) -> Result<Vec<Vec<u8>>, AllocError> {
 }
 
 fn first_fault(alloc: Global, lines: &[Vec<u8>]) -> Result<Option<ConfigFault>, AllocError> {
-    let mut bytes = Vec::new(alloc);
-    for line in lines {
-        bytes.extend_from_slice(line)?;
-        bytes.push(b'\n')?;
-    }
-    fault_of(alloc, &bytes)
+    fault_of_front(alloc, lines, lines.len(), b"".as_slice())
 }
 
 fn fault_of(alloc: Global, bytes: &[u8]) -> Result<Option<ConfigFault>, AllocError>
@@ -112,10 +110,22 @@ fn fault_of_front(
 ) -> Result<Option<ConfigFault>, AllocError> {
     let mut bytes = Vec::new(alloc);
     for (i, line) in lines.iter().enumerate() {
+        if i > 0 {
+            let end = line_end(&bytes);
+            bytes.extend_from_slice(end)?;
+        }
         bytes.extend_from_slice(if i == at { front } else { line })?;
-        bytes.push(b'\n')?;
     }
     fault_of(alloc, &bytes)
+}
+
+/// What ends a line so that it is read as it was: a carriage return right before a line feed is none of the line's.
+fn line_end(line: &[u8]) -> &'static [u8] {
+    if line.ends_with(b"\r".as_slice()) {
+        b"\r\n".as_slice()
+    } else {
+        b"\n".as_slice()
+    }
 }
 
 /// Where a fault stands among the lines.
@@ -123,8 +133,7 @@ fn place_of(fault: ConfigFault) -> usize {
     (fault.line as usize).saturating_sub(1)
 }
 
-/// Leaves the line out, but for the front of a `bind` or a `server` that says enough; where it begins a section that the
-/// `listen` takes the place of, makes it that.
+/// Leaves the line out, but for a front of it that says enough; or puts a section into the one `listen`.
 fn set_right(
     alloc: Global,
     lines: &mut Vec<Vec<u8>>,
@@ -133,7 +142,7 @@ fn set_right(
 ) -> Result<(), AllocError> {
     let at = place_of(fault);
     let kept = if fault.cause == FaultCause::Section {
-        Vec::from_slice(alloc, section_instead(lines, at))?
+        merge(alloc, lines, at)?
     } else {
         front_instead(alloc, lines, at, word.unwrap_or(0))?
     };
@@ -143,27 +152,82 @@ fn set_right(
     Ok(())
 }
 
-/// What stands for a refused section's first line.
-fn section_instead(lines: &[Vec<u8>], at: usize) -> &'static [u8] {
-    let word = lines
+/// Sections that `listen` takes the place of.
+const MERGED: [&str; 3] = ["frontend", "backend", "listen"];
+
+/// All others that the configuration's reader knows.
+const SECTIONS: [&str; 7] = [
+    "global",
+    "defaults",
+    "peers",
+    "resolvers",
+    "userlist",
+    "cache",
+    "program",
+];
+
+fn is_one_of(words: &[&'static str], word: &[u8]) -> bool {
+    words.iter().any(|name| word == name.as_bytes())
+}
+
+/// What stands for a refused section's first line. So that its lines are read as the `listen`'s, what has ended that goes; and where
+/// they can't be, they go themselves.
+fn merge(alloc: Global, lines: &mut Vec<Vec<u8>>, at: usize) -> Result<Vec<u8>, AllocError> {
+    let merged = lines
         .get(at)
-        .map_or(b"".as_slice(), |line| first_word(line));
-    let has_listen = lines
+        .is_some_and(|line| is_one_of(&MERGED, first_word(line)));
+    let begun = lines
         .iter()
+        .take(at)
         .any(|line| first_word(line) == b"listen".as_slice());
-    if word == b"listen".as_slice() {
-        b"".as_slice()
-    } else if word != b"frontend".as_slice() && word != b"backend".as_slice() {
-        // what follows isn't looked at
-        b"global".as_slice()
-    } else if has_listen {
-        b"".as_slice()
+    if !merged {
+        let end = next_section(lines, at);
+        leave_out(alloc, lines, at, end);
+    } else if begun {
+        let start = left_at(lines, at);
+        leave_out(alloc, lines, start, at);
     } else {
-        b"listen merged".as_slice()
+        return Vec::from_slice(alloc, b"listen merged");
+    }
+    Ok(Vec::new(alloc))
+}
+
+/// Where the section after this one begins.
+fn next_section(lines: &[Vec<u8>], at: usize) -> usize {
+    for (i, line) in lines.iter().enumerate() {
+        let word = first_word(line);
+        if at < i && (is_one_of(&MERGED, word) || is_one_of(&SECTIONS, word)) {
+            return i;
+        }
+    }
+    lines.len()
+}
+
+/// Where another section has ended the `listen` before this line; this line where none has.
+fn left_at(lines: &[Vec<u8>], at: usize) -> usize {
+    let mut inside = false;
+    for (i, line) in lines.iter().enumerate() {
+        let word = first_word(line);
+        if i >= at || inside && is_one_of(&SECTIONS, word) {
+            return i;
+        }
+        inside = inside || word == b"listen".as_slice();
+    }
+    at
+}
+
+fn leave_out(alloc: Global, lines: &mut [Vec<u8>], start: usize, end: usize) {
+    for (i, line) in lines.iter_mut().enumerate() {
+        if start <= i && i < end {
+            *line = Vec::new(alloc);
+        }
     }
 }
 
-/// What stands for a faulty line: the words before the one at fault, where they are a `bind` or a `server`, or nothing.
+/// Lines of which a front says enough where words behind it are at fault.
+const FRONTS: [&str; 5] = ["bind", "server", "listen", "defaults", "global"];
+
+/// What stands for a faulty line: the words before the one at fault, where those are enough, or nothing. A `listen` stays one.
 fn front_instead(
     alloc: Global,
     lines: &[Vec<u8>],
@@ -174,7 +238,7 @@ fn front_instead(
         return Ok(Vec::new(alloc));
     };
     let word = first_word(line);
-    if place > 1 && (word == b"bind".as_slice() || word == b"server".as_slice()) {
+    if place > 0 && is_one_of(&FRONTS, word) {
         let (_, end) = span_of(line, place - 1);
         let front = line.get(..end).unwrap_or(b"".as_slice());
         let left = fault_of_front(alloc, lines, at, front)?;
@@ -182,7 +246,11 @@ fn front_instead(
             return Vec::from_slice(alloc, front);
         }
     }
-    Ok(Vec::new(alloc))
+    if word == b"listen".as_slice() {
+        Vec::from_slice(alloc, b"listen merged")
+    } else {
+        Ok(Vec::new(alloc))
+    }
 }
 
 fn first_word(line: &[u8]) -> &[u8] {

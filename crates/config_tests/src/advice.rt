@@ -40,7 +40,7 @@ struct AdviceRow {
     text: &'static str,
 }
 
-static ADVICE: [AdviceRow; 4] = [
+static ADVICE: [AdviceRow; 8] = [
     AdviceRow {
         name: "each faulty line has its mark and its advice",
         file: "defaults\n\
@@ -87,6 +87,169 @@ line 8:   mode
               ^
   words: The line has too few words, or one too many.
   instead: http is the only one.
+
+",
+    },
+    AdviceRow {
+        name: "what HAProxy has and the profile leaves out",
+        file: "listen w\n\
+\x20 bind :80\n\
+\x20 option forwardfor\n\
+\x20 option httpclose\n\
+\x20 default-server inter 3s\n\
+\x20 stats enable\n\
+\x20 maxconn 2000\n\
+\x20 cookie SRV insert\n\
+\x20 http-request set-header a \"b\"\n\
+\x20 server a h:80\n",
+        faulty: 7,
+        whole: false,
+        text: "\
+line 3:   option forwardfor
+                 ^^^^^^^^^^
+  keyword: This word isn't one that can stand here.
+  instead: Leave it out: no field is added that names the client.
+
+line 4:   option httpclose
+                 ^^^^^^^^^
+  keyword: This word isn't one that can stand here.
+  instead: Leave it out: each connection carries one request.
+
+line 5:   default-server inter 3s
+          ^^^^^^^^^^^^^^
+  keyword: This word isn't one that can stand here.
+  instead: Write these settings on each server line.
+
+line 6:   stats enable
+          ^^^^^
+  keyword: This word isn't one that can stand here.
+  instead: Leave it out: there are no pages of statistics.
+
+line 7:   maxconn 2000
+          ^^^^^^^
+  keyword: This word isn't one that can stand here.
+  instead: Leave it out: maxconn stands on server lines, and --places bounds the live requests.
+
+line 8:   cookie SRV insert
+          ^^^^^^
+  keyword: This word isn't one that can stand here.
+  instead: Leave it out, or bind requests to a server by use-server and an acl.
+
+line 9:   http-request set-header a \"b\"
+                                    ^^^
+  quoting: Quotes and backslashes have no meaning here, and can't stand before a comment.
+  instead: Leave it out: heads are handed on as they came.
+
+",
+    },
+    AdviceRow {
+        name: "lines of other sections are read as the listen's, or passed over",
+        file: "listen w :80\n\
+\x20 bind :80\n\
+cache c\n\
+\x20 max-age 60\n\
+defaults d\n\
+\x20 retries 2\n\
+backend b\n\
+\x20 balance source\n\
+\x20 bind :81\n\
+\x20 server a h\n",
+        faulty: 6,
+        whole: false,
+        text: "\
+line 1: listen w :80
+                 ^^^
+  words: The line has too few words, or one too many.
+  instead: Behind its name nothing stands: the address goes into a bind line.
+
+line 3: cache c
+        ^^^^^
+  section: Of sections there are global, defaults and one listen.
+  instead: Leave it out with all its lines: no answer is kept.
+
+line 7: backend b
+        ^^^^^^^
+  section: Of sections there are global, defaults and one listen.
+  instead: Put what stands in frontend and backend into one listen, bind and server lines together.
+
+line 8:   balance source
+                  ^^^^^^
+  keyword: This word isn't one that can stand here.
+  instead: leastconn is the only one: the least load by weight.
+
+line 9:   bind :81
+          ^^^^
+  twice: This stands there already.
+  instead: Leave it out, or run one proxy for each address: there is one bind.
+
+line 10:   server a h
+                    ^
+  address: This isn't an address: *:PORT, :PORT, HOST:PORT or four numbers and a PORT.
+  instead: A server's address has its port behind it.
+
+Then the listen lacks a bind or a server.
+
+",
+    },
+    AdviceRow {
+        name: "other causes have their sentences",
+        file: "retries 1\n\
+frontend f\n\
+\x20 bind :80\n\
+\x20 server a/b h:80\n\
+\x20 acl x src 1.2.3.4\n\
+\x20 http-request set-priority-class int(1) if y\n\
+\x20 server a h:80\n\
+listen w\n",
+        faulty: 6,
+        whole: false,
+        text: "\
+line 1: retries 1
+        ^^^^^^^
+  place: This line can't stand in this section.
+
+line 2: frontend f
+        ^^^^^^^^
+  section: Of sections there are global, defaults and one listen.
+  instead: Put what stands in frontend and backend into one listen, bind and server lines together.
+
+line 4:   server a/b h:80
+                 ^^^
+  name: This isn't a name: 1 to 32 letters, digits, -, _, . and :.
+
+line 5:   acl x src 1.2.3.4
+                ^^^
+  condition: This isn't a condition, a test or an expression of the profile.
+  instead: Of tests there are path, path_beg, path_end, method and hdr(FIELD).
+
+line 6:   http-request set-priority-class int(1) if y
+                                                    ^
+  unknown: No ACL or no server of this name is declared.
+
+line 8: listen w
+        ^^^^^^
+  section: Of sections there are global, defaults and one listen.
+  instead: Put both into one listen, or run one proxy for each.
+
+",
+    },
+    AdviceRow {
+        name: "a carriage return that is a word's stays one",
+        file: "listen w\r\n bind :80\r\r\nserver a h:80\r",
+        faulty: 2,
+        whole: false,
+        text: "\
+line 2:  bind :80?
+              ^^^^
+  address: This isn't an address: *:PORT, :PORT, HOST:PORT or four numbers and a PORT.
+  instead: Of a bind only the address is there: TLS ends before the proxy, and ssl, crt and other words go.
+
+line 3: server a h:80?
+                 ^^^^^
+  address: This isn't an address: *:PORT, :PORT, HOST:PORT or four numbers and a PORT.
+  instead: A server's address has its port behind it.
+
+Then the listen lacks a bind or a server.
 
 ",
     },

@@ -13,8 +13,10 @@ mod configuration;
 #[cfg(test)]
 mod heads;
 #[cfg(test)]
+mod lines_and_words;
+#[cfg(test)]
 mod rules;
 #[cfg(test)]
-mod texts;
+mod shown;
 #[cfg(test)]
-mod words;
+mod texts;

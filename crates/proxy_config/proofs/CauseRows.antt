@@ -1,5 +1,5 @@
 -- Where the causes that the lines before a line decide can stand.
-use Rattle.std.proofs.Common.{◌≡◌, ◌∙◌, ◌⊎◌, inl, inr, ◌||◌, ℕ, Bool, true, false, not, List}
+use Rattle.std.proofs.Common.{◌≡◌, ◌∙◌, ◌⊎◌, inl, inr, ◌||◌, ◌+◌, nat_le, ℕ, Bool, true, false, not, List}
 use Rattle.std.proofs.Common.{[], ◌∷◌, length, Option, Some, None, Result, Err, refl, sym, ap, subst}
 use Rattle.std.specs.Option.{is_some}
 use Rattle.std.specs.List.{list_any}
@@ -19,16 +19,20 @@ use Rattle.proxy_config.specs.Rules.{server_index}
 use Rattle.proxy_config.specs.Keywords.{keyword_of}
 use Rattle.proxy_config.specs.Settings as server
 use Rattle.proxy_config.specs.Draft as draft
-use Rattle.proxy_config.specs.Resolved.{Resolved, resolved_line}
-use Rattle.proxy_config.proofs.Resolving.{pinned_line, placed, line_of, line_by, stepped, line_stepped}
-use Rattle.proxy_config.specs.CauseTable.{words_of, in_values, takes, IsMisplaced, BeginsRefused, IsRead, EachInItsRow}
+use Rattle.proxy_config.specs.Faulty.HasFault.{servers_full, acl_lines_full, rules_full, pins_full}
+use Rattle.proxy_config.specs.Outcomes.{unless}
+use Rattle.proxy_config.specs.Resolved.{Resolved, resolved_words, resolved_line}
+use Rattle.proxy_config.proofs.Faulty.{has_fault}
+use Rattle.proxy_config.proofs.Resolving.{pinned_line, placed, line_of, line_by, words_resolved, stepped, line_stepped}
+use Rattle.proxy_config.specs.CauseTable.{words_of, in_values, takes, is_full, IsMisplaced, IsOneTooMany, BeginsRefused, IsRead, EachInItsRow}
 use Rattle.proxy_config.proofs.Causes.{is_of_words, Within, within_ok, within_err, within_bind, within_or, within_unless}
 use Rattle.proxy_config.proofs.Causes.{within_word, within_end, within_shared, within_settings, within_acl, within_rule, within_pin}
 
-abbrev is_count : FaultCause → Bool
-is_count causes.Limit = true
-is_count causes.Twice = true
-is_count other = false
+-- what the lines before a line decide: one too many only where it is full
+abbrev is_count : Bool → FaultCause → Bool
+is_count full causes.Limit = full
+is_count full causes.Twice = true
+is_count full other = false
 
 abbrev is_place : FaultCause → Bool
 is_place causes.Place = true
@@ -39,12 +43,12 @@ is_section causes.Section = true
 is_section other = false
 
 -- what can stand once the section takes the line
-abbrev is_placed : FaultCause → Bool
-is_placed cause = is_of_words cause || is_count cause
+abbrev is_placed : Bool → FaultCause → Bool
+is_placed full cause = is_of_words cause || is_count full cause
 
 -- what can stand in a line that begins no section
 abbrev is_of_keywords : FaultCause → Bool
-is_of_keywords cause = is_placed cause || is_place cause
+is_of_keywords cause = is_placed true cause || is_place cause
 
 -- what can stand in a line that is read by its words
 abbrev is_of_lines : FaultCause → Bool
@@ -61,6 +65,17 @@ weaker {A} {may} also within = record { fault = λ cause is. more (may cause) (a
 -- where a cause can't stand, it doesn't
 pub never : {A : Type 0} {may : FaultCause → Bool} {r : Result A FaultCause} (cause : FaultCause) → Within may r → may cause ≡ false → r ≡ Err cause → ⊥
 never cause within holds is = let both : true ≡ false = sym (within.fault cause is) ∙ holds in absurd (let none = both in cc)
+
+within_full : (full : Bool) → Within (is_placed full) (unless full causes.Limit)
+within_full true = within_err causes.Limit refl
+within_full false = within_ok tt
+
+or_full : {A : Type 0} {r : Result A FaultCause} (full : Bool) → Within (is_placed full) r → Within (is_placed true) r
+or_full full within = record { fault = λ cause is. wider cause (within.fault cause is) }
+  where
+    wider : (cause : FaultCause) → is_placed full cause ≡ true → is_placed true cause ≡ true
+    wider causes.Limit holds = refl
+    wider other holds = holds
 
 -- lines of words alone
 global_line : (d : Draft) (words : List (List ℕ)) → Within is_of_words (draft.global_line d words)
@@ -87,36 +102,39 @@ unfolding draft.listen_line
 second_listen d n words second = rw second refl
 
 -- the lines that `listen` takes, within it
-bind_in : (d : Draft) (words : List (List ℕ)) → draft.in_listen d.section ≡ true → Within is_placed (draft.bind_line d words)
+bind_in : (d : Draft) (words : List (List ℕ)) → draft.in_listen d.section ≡ true → Within (is_placed false) (draft.bind_line d words)
 unfolding draft.bind_line
 bind_in d words inside = rw inside (within_bind _ _ (within_unless _ causes.Twice refl) (λ again.
-    weaker is_count (within_bind _ _ (within_word words)
+    weaker (is_count _) (within_bind _ _ (within_word words)
     (λ word. within_bind _ _ (within_or _ causes.Address refl) (λ b. within_bind _ _ (within_end word.1) (λ e. within_ok _))))))
 
-server_in : (d : Draft) (words : List (List ℕ)) → draft.in_listen d.section ≡ true → Within is_placed (draft.server_line d words)
+server_in : (d : Draft) (words : List (List ℕ)) → draft.in_listen d.section ≡ true
+    → Within (is_placed (nat_le draft.most_servers (length d.servers))) (draft.server_line d words)
 unfolding draft.server_line
-server_in d words inside = rw inside (within_bind _ _ (within_unless _ causes.Limit refl)
-    (λ limit. within_bind _ _ (weaker is_count (within_word words)) (λ name.
+server_in d words inside = rw inside (within_bind _ _ (within_full _)
+    (λ limit. within_bind _ _ (weaker (is_count _) (within_word words)) (λ name.
     within_bind _ _ (within_unless (not (is_name name.0)) causes.Name refl)
     (λ named. within_bind _ _ (within_unless (is_some (server_index name.0 d.servers)) causes.Twice refl) (λ again.
-    weaker is_count (within_bind _ _ (within_word name.1) (λ second. within_bind _ _ (within_or (address_of second.0) causes.Address refl) (λ address.
+    weaker (is_count _) (within_bind _ _ (within_word name.1) (λ second. within_bind _ _ (within_or (address_of second.0) causes.Address refl) (λ address.
     within_bind _ _ (within_settings server.built_in second.1) (λ s. within_ok _)))))))))
 
-test_in : (d : Draft) (words : List (List ℕ)) → draft.in_listen d.section ≡ true → Within is_placed (draft.test_line d words)
+test_in : (d : Draft) (words : List (List ℕ)) → draft.in_listen d.section ≡ true
+    → Within (is_placed (nat_le draft.most_acl_lines d.acl_lines)) (draft.test_line d words)
 unfolding draft.test_line
-test_in d words inside = rw inside (within_bind _ _ (within_unless _ causes.Limit refl)
-    (λ limit. within_bind _ _ (weaker is_count (within_acl d.acls words)) (λ acls. within_ok _)))
+test_in d words inside = rw inside (within_bind _ _ (within_full _)
+    (λ limit. within_bind _ _ (weaker (is_count _) (within_acl d.acls words)) (λ acls. within_ok _)))
 
-request_in : (pins : ℕ) (d : Draft) (words : List (List ℕ)) → draft.in_listen d.section ≡ true → Within is_placed (draft.request_line pins d words)
+request_in : (pins : ℕ) (d : Draft) (words : List (List ℕ)) → draft.in_listen d.section ≡ true
+    → Within (is_placed (nat_le draft.most_rules (length d.rules + pins))) (draft.request_line pins d words)
 unfolding draft.request_line
-request_in pins d words inside = rw inside (within_bind _ _ (within_unless _ causes.Limit refl)
-    (λ limit. within_bind _ _ (weaker is_count (within_rule d.acls words)) (λ rule. within_ok _)))
+request_in pins d words inside = rw inside (within_bind _ _ (within_full _)
+    (λ limit. within_bind _ _ (weaker (is_count _) (within_rule d.acls words)) (λ rule. within_ok _)))
 
 use_in : (servers : List Server) (r : Resolved) (words : List (List ℕ)) → draft.in_listen r.draft.section ≡ true
-    → Within is_placed (pinned_line servers r words)
+    → Within (is_placed (nat_le draft.most_rules (length r.draft.rules + length r.pins))) (pinned_line servers r words)
 unfolding pinned_line
-use_in servers r words inside = rw inside (within_bind _ _ (within_unless _ causes.Limit refl)
-    (λ limit. within_bind _ _ (weaker is_count (within_pin servers r.draft.acls words)) (λ pin. within_ok _)))
+use_in servers r words inside = rw inside (within_bind _ _ (within_full _)
+    (λ limit. within_bind _ _ (weaker (is_count _) (within_pin servers r.draft.acls words)) (λ pin. within_ok _)))
 
 -- and outside it
 bind_out : (d : Draft) (words : List (List ℕ)) → draft.in_listen d.section ≡ false → draft.bind_line d words ≡ Err causes.Place
@@ -188,12 +206,13 @@ begins other = false
 -- a line that its section takes and that begins none
 line_in : (servers : List Server) (r : Resolved) (n : ℕ) (keyword : Keyword) (words : List (List ℕ)) → begins keyword ≡ false
     → takes r.draft.section keyword ≡ true
-    → Within is_placed (line_of servers r n keyword words)
+    → Within (is_placed (is_full r keyword)) (line_of servers r n keyword words)
 line_in servers r n keywords.Global words other inside = absurd (let none = other in cc)
 line_in servers r n keywords.Defaults words other inside = absurd (let none = other in cc)
 line_in servers r n keywords.Listen words other inside = absurd (let none = other in cc)
 line_in servers r n keywords.Refused words other inside = absurd (let none = other in cc)
-line_in servers r n (keywords.Shared kind) words other inside = within_placed r _ (weaker is_count (value_in r.draft kind words r.draft.section refl inside))
+line_in servers r n (keywords.Shared kind) words other inside =
+    within_placed r _ (weaker (is_count _) (value_in r.draft kind words r.draft.section refl inside))
 line_in servers r n keywords.Bind words other inside = within_placed r _ (bind_in r.draft words inside)
 line_in servers r n keywords.Server words other inside = within_placed r _ (server_in r.draft words inside)
 line_in servers r n keywords.Acl words other inside = within_placed r _ (test_in r.draft words inside)
@@ -223,6 +242,16 @@ place_only servers r n keyword words true t one taken is = absurd (never causes.
 place_only servers r n keyword words false true other taken is = absurd (never causes.Place (line_in servers r n keyword words other taken) refl is)
 place_only servers r n keyword words false false other taken is = taken
 
+-- a fault of a limit is that of one thing too many
+limit_only : (servers : List Server) (r : Resolved) (n : ℕ) (keyword : Keyword) (words : List (List ℕ)) (b t : Bool) → begins keyword ≡ b
+    → takes r.draft.section keyword ≡ t
+    → line_of servers r n keyword words ≡ Err causes.Limit → (takes r.draft.section keyword ≡ true) × (is_full r keyword ≡ true)
+limit_only servers r n keyword words true t one taken is = absurd (never causes.Limit (section_row servers r n keyword words one) refl is)
+limit_only servers r n keyword words false true other taken is = (taken, (line_in servers r n keyword words other taken).fault causes.Limit is)
+limit_only servers r n keyword words false false other taken is =
+    let both : (let one : Result Resolved FaultCause = Err causes.Limit in one ≡ Err causes.Place) = sym is ∙ line_out servers r n keyword words taken in
+    absurd (let none = both in cc)
+
 all_lines : {r : Result Resolved FaultCause} → Within (λ cause. is_of_words cause || is_section cause) r → Within is_of_lines r
 all_lines within = record { fault = λ cause is. wider cause (within.fault cause is) }
   where
@@ -246,7 +275,8 @@ line_causes : (servers : List Server) (r : Resolved) (n : ℕ) (keyword : Keywor
     → takes r.draft.section keyword ≡ t
     → Within is_of_lines (line_of servers r n keyword words)
 line_causes servers r n keyword words true t one taken = all_lines (section_row servers r n keyword words one)
-line_causes servers r n keyword words false true other taken = weaker is_section (weaker is_place (line_in servers r n keyword words other taken))
+line_causes servers r n keyword words false true other taken =
+    weaker is_section (weaker is_place (or_full _ (line_in servers r n keyword words other taken)))
 line_causes servers r n keyword words false false other taken =
     subst (λ (r : Result Resolved FaultCause). Within is_of_lines r) (sym (line_out servers r n keyword words taken)) (within_err causes.Place refl)
 
@@ -323,6 +353,31 @@ words_refused servers r n [] is = absurd is
 words_refused servers r n (word ∷ words) (inl refused) = rw refused refl
 words_refused servers r n (word ∷ words) (inr again) = rw again.0 (out_placed r _ (second_listen r.draft n words again.1))
 
+words_limit : (servers : List Server) (r : Resolved) (n : ℕ) (words : List (List ℕ)) → line_by servers r n words ≡ Err causes.Limit → IsOneTooMany r words
+words_limit servers r n [] is = absurd (let none = is in cc)
+words_limit servers r n (word ∷ words) is = of (keyword_of word) refl
+  where
+    of : (o : Option Keyword) → keyword_of word ≡ o
+        → (keyword : Keyword) × (keyword_of word ≡ Some keyword) × (takes r.draft.section keyword ≡ true) × (is_full r keyword ≡ true)
+    of None known = absurd (let fault : (let one : Result Resolved FaultCause = Err causes.Keyword in one ≡ Err causes.Limit) = (rw known at is) in
+        let none = fault in
+        cc)
+    of (Some keyword) known =
+        let one = limit_only servers r n keyword words (begins keyword) (takes r.draft.section keyword) refl refl (rw known at is) in
+        (keyword, known, one.0, one.1)
+
+words_full : (servers : List Server) (r : Resolved) (n : ℕ) (words : List (List ℕ)) → IsOneTooMany r words → line_by servers r n words ≡ Err causes.Limit
+words_full servers r n [] is = absurd is
+words_full servers r n (word ∷ words) is = sym (words_resolved servers r n (word ∷ words)) ∙ of is.0 is.1 is.2 is.3
+  where
+    of : (keyword : Keyword) → keyword_of word ≡ Some keyword → takes r.draft.section keyword ≡ true → is_full r keyword ≡ true
+        → resolved_words servers r n (word ∷ words) ≡ Err causes.Limit
+    of keywords.Server known inside full = has_fault servers r n _ _ (servers_full word words known inside full)
+    of keywords.Acl known inside full = has_fault servers r n _ _ (acl_lines_full word words known inside full)
+    of keywords.HttpRequest known inside full = has_fault servers r n _ _ (rules_full word words known inside full)
+    of keywords.UseServer known inside full = has_fault servers r n _ _ (pins_full word words known inside full)
+    of other known inside full = absurd (let none = full in cc)
+
 abbrev is_of_step : FaultCause → Bool
 is_of_step causes.Quoting = true
 is_of_step causes.Limit = true
@@ -355,6 +410,21 @@ quoting_only false true too_long r read within is = (refl, refl)
 quoting_only false false true r read within is = absurd (let none = is in cc)
 quoting_only false false false r read within is = absurd (never causes.Quoting within refl is)
 
+-- where `limit` is given, the file is too long and no quote comes first, or the words were read
+limit_where : (ignored quoted too_long : Bool) (r : Resolved) (read : Result Resolved FaultCause) → stepped ignored quoted too_long r read ≡ Err causes.Limit
+    → ((too_long ≡ true) × ((ignored ≡ false) × (quoted ≡ true) → ⊥)) ⊎ ((ignored ≡ false) × (quoted ≡ false) × (too_long ≡ false) × (read ≡ Err causes.Limit))
+limit_where true quoted true r read is = inl (refl, λ both. let none = both.0 in cc)
+limit_where true quoted false r read is = absurd (let none = is in cc)
+limit_where false true too_long r read is = absurd (let none = is in cc)
+limit_where false false true r read is = inl (refl, λ both. let none = both.1 in cc)
+limit_where false false false r read is = inr (refl, refl, refl, is)
+
+limit_unless : (ignored quoted : Bool) (r : Resolved) (read : Result Resolved FaultCause) → ((ignored ≡ false) × (quoted ≡ true) → ⊥)
+    → stepped ignored quoted true r read ≡ Err causes.Limit
+limit_unless true quoted r read unquoted = refl
+limit_unless false true r read unquoted = absurd (unquoted (refl, refl))
+limit_unless false false r read unquoted = refl
+
 -- each of these causes stands in its row, and nowhere else
 pub each_in_its_row : (servers : List Server) (too_long : Bool) (r : Resolved) (n : ℕ) (line : List ℕ) → EachInItsRow servers too_long r n line
 each_in_its_row servers too_long r n line =
@@ -376,6 +446,16 @@ each_in_its_row servers too_long r n line =
         λ is. let parts = read_only ignored quoted too_long r read causes.Section (sym step ∙ is) refl in
             (record { heeded = parts.0; unquoted = parts.1; short = parts.2 }, words_section servers r n (words_of line) parts.3),
         λ is. to_read is.0 ∙ words_refused servers r n (words_of line) is.1,
+      );
+      limit = (
+        λ is. elim (limit_where ignored quoted too_long r read (sym step ∙ is)) [
+          | inl long ↦ inl long
+          | inr parts ↦ inr (record { heeded = parts.0; unquoted = parts.1; short = parts.2 }, words_limit servers r n (words_of line) parts.3)
+        ],
+        λ is. elim is [
+          | inl long ↦ step ∙ ap (λ b. stepped ignored quoted b r read) long.0 ∙ limit_unless ignored quoted r read long.1
+          | inr full ↦ to_read full.0 ∙ words_full servers r n (words_of line) full.1
+        ],
       );
       missing = λ is. never causes.Missing causes_of refl (read_only ignored quoted too_long r read causes.Missing (sym step ∙ is) refl).3;
     }

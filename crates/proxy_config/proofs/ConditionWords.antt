@@ -19,6 +19,7 @@ use Rattle.proxy_config.specs.Pieces.{word_at}
 use Rattle.proxy_config.specs.Samples.{test_in_braces}
 use Rattle.proxy_config.specs.Conditions.{acl_index, alternatives, condition, is_or, operand_at, term_at}
 use Rattle.proxy_config.specs.ConditionGrammar.{IsOperand, IsSigned, IsTerm, AreSeparated, NoneEmpty, IsCondition, with_sign}
+use Rattle.proxy_config.specs.Faulty.{has_sign}
 use Rattle.proxy_config.proofs.Outcomes.{bind_ok, chosen, from_ok, ok_or_ok, unless_ok}
 use Rattle.proxy_config.proofs.TestWords.{same_text, not_text, neither, word_at-found, test_in_braces-found, test_in_braces-again}
 
@@ -115,7 +116,7 @@ term_at-found acls (byte ∷ second ∷ rest) words x is = elim (chosen (byte ==
 ]
 
 -- all rows but one that was begun before
-abbrev rows_after : Bool → List (List Term) → List (List Term)
+abbrev pub rows_after : Bool → List (List Term) → List (List Term)
 rows_after true rows = rows
 rows_after false [] = []
 rows_after false (row ∷ rows) = rows
@@ -180,18 +181,15 @@ alternatives-found (suc n) acls begins (word ∷ words) rows is = elim (chosen (
       (separated-first acls (word ∷ words) spelled.0 read.0.1 read.0.0 others.0 spelled.1 spelled.2 found.0, none_empty-first begins read.0.0 others.0 found.1)
 ]
 
-starts_not : List ℕ → Bool
-starts_not [] = false
-starts_not (byte ∷ word) = byte == 33
-
 -- a term without a sign is its operand
-term_at-plain : (acls : List Acl) (word : List ℕ) (words : List (List ℕ)) → starts_not word ≡ false → term_at acls word words ≡ operand_at acls false word words
-unfolding term_at starts_not
+pub term_at-plain : (acls : List Acl) (word : List ℕ) (words : List (List ℕ)) → has_sign word ≡ false
+    → term_at acls word words ≡ operand_at acls false word words
+unfolding term_at
 term_at-plain acls [] words plain = refl
 term_at-plain acls (byte ∷ []) words plain = rw plain refl
 term_at-plain acls (byte ∷ second ∷ rest) words plain = rw plain refl
 
-name_parts : (word : List ℕ) → is_acl_name word ≡ true → (list_all is_name_byte word ≡ true) × (bytes_eq word (codes "or") ≡ false)
+pub name_parts : (word : List ℕ) → is_acl_name word ≡ true → (list_all is_name_byte word ≡ true) × (bytes_eq word (codes "or") ≡ false)
 name_parts word name =
     let parts = and_parts _ (not (bytes_eq word (codes "or"))) name in
     let whole = and_parts _ (list_all is_name_byte word) parts.0 in
@@ -202,8 +200,7 @@ name_parts word name =
     not_true false is = refl
 
 -- the name of an ACL has no sign and is no separator and no brace
-name_no_sign : (word : List ℕ) → is_acl_name word ≡ true → starts_not word ≡ false
-unfolding starts_not
+pub name_no_sign : (word : List ℕ) → is_acl_name word ≡ true → has_sign word ≡ false
 name_no_sign [] name = refl
 name_no_sign (byte ∷ word) name =
     let bytes = and_parts (is_name_byte byte) (list_all is_name_byte word) (name_parts (byte ∷ word) name).0 in
@@ -213,7 +210,7 @@ name_no_sign (byte ∷ word) name =
     tells true is holds = let sign : byte ≡ 33 = eqb-true byte 33 is in absurd (let both : true ≡ false = sym holds ∙ ap is_name_byte sign in cc)
     tells false is holds = is
 
-is_no : (p : List ℕ → Bool) (word text : List ℕ) → p word ≡ true → p text ≡ false → bytes_eq word text ≡ false
+pub is_no : (p : List ℕ → Bool) (word text : List ℕ) → p word ≡ true → p text ≡ false → bytes_eq word text ≡ false
 is_no p word text holds fails = not_text (λ w. not (p w)) word text (ap not holds) (ap not fails)
 
 name_some : (word : List ℕ) → is_acl_name word ≡ true → (byte : ℕ) × (more : List ℕ) × (word ≡ byte ∷ more)
@@ -222,10 +219,10 @@ name_some (byte ∷ more) name = (byte, more, refl)
 
 -- an operand that was spelled is read again
 operand_again : (acls : List Acl) (front : List (List ℕ)) (operand : Operand) → IsOperand acls front operand
-    → (word : List ℕ) × (words : List (List ℕ)) × (front ≡ word ∷ words) × (is_or word ≡ false) × (starts_not word ≡ false)
+    → (word : List ℕ) × (words : List (List ℕ)) × (front ≡ word ∷ words) × (is_or word ≡ false) × (has_sign word ≡ false)
     × ((negated : Bool) (rest : List (List ℕ)) → operand_at acls negated word (words ++ rest) ≡ Ok (record { negated = negated; operand = operand }, rest))
     × ((byte : ℕ) × (more : List ℕ) × (word ≡ byte ∷ more))
-unfolding operand_at starts_not
+unfolding operand_at
 operand_again acls front (operands.Acl index) is =
     let name = is.0 in
     let parts = name_parts name is.2 in
@@ -242,7 +239,7 @@ operand_again acls front (operands.Test test) is = (
   (123, [], refl),
 )
 
-signed_again : (acls : List Acl) (front : List (List ℕ)) (negated : Bool) (operand : Operand) → IsSigned negated acls front operand
+pub signed_again : (acls : List Acl) (front : List (List ℕ)) (negated : Bool) (operand : Operand) → IsSigned negated acls front operand
     → (word : List ℕ) × (words : List (List ℕ)) × (front ≡ word ∷ words) × (is_or word ≡ false)
     × ((rest : List (List ℕ)) → term_at acls word (words ++ rest) ≡ Ok (record { negated = negated; operand = operand }, rest))
 unfolding term_at
@@ -270,7 +267,7 @@ signed_again acls front true operand is =
     ]
 
 -- the first term of a row, and the rows after it
-separated-split : (acls : List Acl) (words : List (List ℕ)) (term : Term) (terms : List Term) (more : List (List Term))
+pub separated-split : (acls : List Acl) (words : List (List ℕ)) (term : Term) (terms : List Term) (more : List (List Term))
     → AreSeparated acls words ((term ∷ terms) ∷ more)
     → (front : List (List ℕ)) × (rest : List (List ℕ)) × (words ≡ front ++ rest) × IsTerm acls front term × AreSeparated acls rest (terms ∷ more)
 separated-split acls words term terms [] is = is

@@ -1,5 +1,5 @@
 -- Each cause stands where it is said to.
-use Rattle.std.proofs.Common.{◌≡◌, ℕ, true, List, [], ◌∷◌, Option, Some, None, Err, refl, ap, ◌∙◌}
+use Rattle.std.proofs.Common.{◌≡◌, ℕ, true, List, [], ◌∷◌, ◌++◌, Option, Some, None, Err, refl, ap, ◌∙◌}
 use Rattle.std.specs.Option.{ok_or}
 use Rattle.list_facts.proofs.Never.{false_true}
 use Rattle.proxy_config.specs.declared.draft.Section.{Section}
@@ -20,6 +20,7 @@ use Rattle.proxy_config.specs.Faulty as fault
 use Rattle.proxy_config.specs.Faulty.{HasFault, TakesRule, TakesServer}
 use Rattle.proxy_config.specs.Resolved.{Resolved, resolved_words}
 use Rattle.proxy_config.specs.Keywords.{keyword_of}
+use Rattle.proxy_config.proofs.TermFaults.{in_guard}
 use Rattle.proxy_config.proofs.Resolving.{pin_line, pinned_line, placed, line_of, words_resolved}
 use Rattle.proxy_config.specs.Conditions as conditions
 use Rattle.proxy_config.specs.Outcomes.{◌>>=◌}
@@ -57,7 +58,7 @@ set_fails Fall value s none = rw none refl
 module _ (servers : List Server) (r : Resolved) (n : ℕ) where
   pub has_fault : (words : List (List ℕ)) (cause : FaultCause) → HasFault servers r words cause → resolved_words servers r n words ≡ Err cause
   unfolding draft.global_line draft.defaults_line draft.optional_name draft.listen_line draft.bind_line draft.server_line draft.test_line
-      draft.request_line pinned_line rules.acl_line rules.rule_line pin_line conditions.guard_at values.fixed_line values.retries_line
+      draft.request_line pinned_line rules.acl_line rules.rule_line pin_line conditions.guard_at conditions.optional_guard values.fixed_line values.retries_line
       values.option_line values.timeout_line
   has_fault words cause (fault.no_keyword word more none) =
       words_resolved servers r n (word ∷ more) ∙ ap (λ (o : Option Keyword). ok_or o causes.Keyword >>= λ k. line_of servers r n k more) none
@@ -120,6 +121,12 @@ module _ (servers : List Server) (r : Resolved) (n : ℕ) where
       of_line servers r n word (action ∷ value ∷ more) keywords.HttpRequest causes.Condition is (rw (takes.place, takes.room, some, none) refl)
   has_fault words cause (fault.no_guard word name other index more is takes named some no_if no_unless) =
       of_line servers r n word (name ∷ other ∷ more) keywords.UseServer causes.Condition is (rw (takes.place, takes.room, named, some, no_if, no_unless) refl)
+  has_fault words cause (fault.no_term_of_rule word action value guard which expression front term more c is takes some one guards begun none) =
+      of_line servers r n word (action ∷ value ∷ guard ∷ (front ++ term ∷ more)) keywords.HttpRequest c is
+      (rw (takes.place, takes.room, some, one, in_guard r.draft.acls guard front term more c guards begun none) refl)
+  has_fault words cause (fault.no_term_of_pin word name guard index front term more c is takes named some guards begun none) =
+      of_line servers r n word (name ∷ guard ∷ (front ++ term ∷ more)) keywords.UseServer c is
+      (rw (takes.place, takes.room, named, some, in_guard r.draft.acls guard front term more c guards begun none) refl)
   has_fault words cause (fault.servers_full word more is place full) = of_line servers r n word more keywords.Server causes.Limit is (rw (place, full) refl)
   has_fault words cause (fault.acl_lines_full word more is place full) = of_line servers r n word more keywords.Acl causes.Limit is (rw (place, full) refl)
   has_fault words cause (fault.rules_full word more is place full) = of_line servers r n word more keywords.HttpRequest causes.Limit is (rw (place, full) refl)

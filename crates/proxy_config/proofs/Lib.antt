@@ -7,6 +7,7 @@ pub mod AclLists
 pub mod FirstFaults
 pub mod TestWords
 pub mod ConditionWords
+pub mod TermFaults
 pub mod Causes
 pub mod CauseRows
 pub mod GuardRanges

@@ -1,5 +1,5 @@
 -- Where the causes that the lines before a line decide can stand.
-use Rattle.std.specs.Prelude.{◌≡◌, ◌⊎◌, ◌↔◌, ℕ, Bool, true, false, is_some, List, [], ◌∷◌, Some, Err}
+use Rattle.std.specs.Prelude.{◌≡◌, ◌⊎◌, ◌↔◌, ℕ, ◌+◌, nat_le, Bool, true, false, is_some, List, [], ◌∷◌, length, Some, Err}
 use Rattle.std.specs.List.{list_any}
 use Rattle.proxy_words.specs.Text.{words, uncommented}
 use Rattle.proxy_config.specs.declared.faults.FaultCause.TheVariants as causes
@@ -10,7 +10,7 @@ use Rattle.proxy_config.specs.declared.draft.Section.TheVariants as sections
 use Rattle.proxy_config.specs.declared.keywords.Keyword.{Keyword}
 use Rattle.proxy_config.specs.declared.keywords.Keyword.TheVariants as keywords
 use Rattle.proxy_config.specs.Keywords.{keyword_of}
-use Rattle.proxy_config.specs.Draft.{in_listen, is_ignored, is_quoting}
+use Rattle.proxy_config.specs.Draft.{in_listen, is_ignored, is_quoting, most_servers, most_acl_lines, most_rules}
 use Rattle.proxy_config.specs.Resolved.{Resolved, resolved_line}
 
 -- the words of a line, and whether it is one that `global` ignores
@@ -45,6 +45,19 @@ abbrev pub BeginsRefused : Draft → List (List ℕ) → Type 0
 BeginsRefused d [] = ⊥
 BeginsRefused d (word ∷ words) = (keyword_of word ≡ Some keywords.Refused) ⊎ ((keyword_of word ≡ Some keywords.Listen) × (is_some d.listen ≡ true))
 
+-- there are as many servers, lines of ACLs or rules as there may be, and the keyword's line is one more
+abbrev pub is_full : Resolved → Keyword → Bool
+is_full r keywords.Server = nat_le most_servers (length r.draft.servers)
+is_full r keywords.Acl = nat_le most_acl_lines r.draft.acl_lines
+is_full r keywords.HttpRequest = nat_le most_rules (length r.draft.rules + length r.pins)
+is_full r keywords.UseServer = nat_le most_rules (length r.draft.rules + length r.pins)
+is_full r other = false
+
+-- one server, line of an ACL or rule too many, in the section that takes it
+abbrev pub IsOneTooMany : Resolved → List (List ℕ) → Type 0
+IsOneTooMany r [] = ⊥
+IsOneTooMany r (word ∷ words) = (keyword : Keyword) × (keyword_of word ≡ Some keyword) × (takes r.draft.section keyword ≡ true) × (is_full r keyword ≡ true)
+
 -- The line is looked at word by word: it is not ignored, has no quote, and the file is not too long in it.
 pub record IsRead (d : Draft) (too_long : Bool) (line : List ℕ) : Type 0 where
   pub heeded : is_ignored d.section (words_of line) ≡ false
@@ -56,4 +69,7 @@ pub record EachInItsRow (servers : List Server) (too_long : Bool) (r : Resolved)
   pub quoting : (resolved_line servers too_long r n line ≡ Err causes.Quoting) ↔ IsQuoted r.draft line
   pub place : (resolved_line servers too_long r n line ≡ Err causes.Place) ↔ (IsRead r.draft too_long line × IsMisplaced r.draft (words_of line))
   pub section : (resolved_line servers too_long r n line ≡ Err causes.Section) ↔ (IsRead r.draft too_long line × BeginsRefused r.draft (words_of line))
+  -- the line in which the file is too long, unless a quote comes first there (in what `global` ignores none does), or one thing too many
+  pub limit : (resolved_line servers too_long r n line ≡ Err causes.Limit)
+      ↔ (((too_long ≡ true) × (¬ IsQuoted r.draft line)) ⊎ (IsRead r.draft too_long line × IsOneTooMany r (words_of line)))
   pub missing : ¬ (resolved_line servers too_long r n line ≡ Err causes.Missing)

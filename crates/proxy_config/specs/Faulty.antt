@@ -1,5 +1,5 @@
 -- Where each cause stands that the words of a line decide: the words that have it, whatever words follow them.
-use Rattle.std.specs.Prelude.{◌≡◌, ℕ, ◌+◌, nat_le, true, false, is_some, List, [], ◌∷◌, length, Option, Some, None, codes}
+use Rattle.std.specs.Prelude.{◌≡◌, ℕ, ◌+◌, ◌<◌, ◌==◌, ◌||◌, Bool, nat_le, true, false, is_some, List, [], ◌∷◌, ◌++◌, length, Option, Some, None, codes}
 use Rattle.std.specs.Str.{bytes_eq}
 use Rattle.proxy_words.specs.Names.{is_name}
 use Rattle.proxy_words.specs.Numerals.{numeral}
@@ -9,6 +9,9 @@ use Rattle.proxy_config.specs.declared.faults.FaultCause.{FaultCause}
 use Rattle.proxy_config.specs.declared.faults.FaultCause.TheVariants as causes
 use Rattle.proxy_config.specs.declared.keywords.Keyword.TheVariants as keywords
 use Rattle.proxy_config.specs.declared.parts.Server.{Server}
+use Rattle.proxy_config.specs.declared.parts.Acl.{Acl}
+use Rattle.proxy_config.specs.declared.parts.Expression.{Expression}
+use Rattle.proxy_config.specs.declared.parts.Term.{Term}
 use Rattle.proxy_config.specs.declared.parts.Address.{Address}
 use Rattle.proxy_config.specs.declared.parts.Action.{Action}
 use Rattle.proxy_config.specs.declared.settings.Setting.{Setting}
@@ -16,6 +19,8 @@ use Rattle.proxy_config.specs.declared.settings.Setting.TheVariants.{Weight, Max
 use Rattle.proxy_config.specs.declared.values.Shared.TheVariants as shared
 use Rattle.proxy_config.specs.declared.values.Timeout.{Timeout}
 use Rattle.proxy_config.specs.Addresses.{bind_of, address_of}
+use Rattle.proxy_config.specs.ConditionGrammar.{AreSeparated}
+use Rattle.proxy_config.specs.Conditions.{acl_index, is_or}
 use Rattle.proxy_config.specs.Draft.{in_listen, most_servers, most_acl_lines, most_rules}
 use Rattle.proxy_config.specs.Resolved.{Resolved}
 use Rattle.proxy_config.specs.Keywords.{keyword_of}
@@ -47,6 +52,31 @@ value_in Maxqueue word = numeral 9 word
 value_in Inter word = time_from 1 word
 value_in Rise word = number_from 1 word
 value_in Fall word = number_from 1 word
+
+-- a `!` begins it
+abbrev pub has_sign : List ℕ → Bool
+has_sign [] = false
+has_sign (byte ∷ word) = byte == 33
+
+abbrev pub is_guard : List ℕ → Bool
+is_guard word = bytes_eq word (codes "if") || bytes_eq word (codes "unless")
+
+-- no row is empty, but for the last one
+abbrev pub LastMayBeEmpty : List (List Term) → Type 0
+LastMayBeEmpty [] = Unit {0}
+LastMayBeEmpty (terms ∷ []) = Unit {0}
+LastMayBeEmpty (terms ∷ next ∷ more) = (0 < length terms) × LastMayBeEmpty (next ∷ more)
+
+-- words behind which a term of a condition may stand: rows of terms with separators between them
+pub record IsFront (acls : List Acl) (words : List (List ℕ)) : Type 0 where
+  pub rows : List (List Term)
+  pub spelled : AreSeparated acls words rows
+  pub begun : LastMayBeEmpty rows
+
+-- A word can't stand where a term may: the name of an ACL without a line before, or what is no name, no brace, has no `!` and separates nothing.
+pub data NoTerm (acls : List Acl) (word : List ℕ) : FaultCause → Type 0 where
+  undeclared : is_acl_name word ≡ true → acl_index word acls ≡ None → NoTerm acls word causes.Unknown
+  no_name : is_acl_name word ≡ false → has_sign word ≡ false → bytes_eq word (codes "{") ≡ false → is_or word ≡ false → NoTerm acls word causes.Condition
 
 pub data HasFault (servers : List Server) (r : Resolved) : List (List ℕ) → FaultCause → Type 0 where
   -- `keyword`: a first word that is none; another mode or balance; an option, a timeout, an action or a setting that isn't one
@@ -128,6 +158,15 @@ pub data HasFault (servers : List Server) (r : Resolved) : List (List ℕ) → F
   no_guard : (word name other : List ℕ) (index : ℕ) (more : List (List ℕ)) → keyword_of word ≡ Some keywords.UseServer → TakesRule r → is_name name ≡ true
       → server_index name servers ≡ Some index
       → bytes_eq other (codes "if") ≡ false → bytes_eq other (codes "unless") ≡ false → HasFault servers r (word ∷ name ∷ other ∷ more) causes.Condition
+  -- `unknown` and `condition`: in a condition, behind whatever terms, an ACL without a line before, or a word that no term has
+  no_term_of_rule : (word action value guard : List ℕ) (which : Action) (expression : Expression) (front : List (List ℕ)) (term : List ℕ)
+      (more : List (List ℕ)) (cause : FaultCause) → keyword_of word ≡ Some keywords.HttpRequest → TakesRule r → action_of action ≡ Some which
+      → expression_of value ≡ Some expression → is_guard guard ≡ true → IsFront r.draft.acls front → NoTerm r.draft.acls term cause
+      → HasFault servers r (word ∷ action ∷ value ∷ guard ∷ (front ++ term ∷ more)) cause
+  no_term_of_pin : (word name guard : List ℕ) (index : ℕ) (front : List (List ℕ)) (term : List ℕ) (more : List (List ℕ)) (cause : FaultCause)
+      → keyword_of word ≡ Some keywords.UseServer → TakesRule r → is_name name ≡ true → server_index name servers ≡ Some index → is_guard guard ≡ true
+      → IsFront r.draft.acls front → NoTerm r.draft.acls term cause
+      → HasFault servers r (word ∷ name ∷ guard ∷ (front ++ term ∷ more)) cause
   -- `limit`: one server, ACL line or rule too many
   servers_full : (word : List ℕ) (more : List (List ℕ)) → keyword_of word ≡ Some keywords.Server → in_listen r.draft.section ≡ true
       → nat_le most_servers (length r.draft.servers) ≡ true → HasFault servers r (word ∷ more) causes.Limit

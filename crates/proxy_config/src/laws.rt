@@ -30,7 +30,7 @@ pub fn a_faulty_line_names_itself()
         FirstFault servers long lines fault → run servers long start 1 lines ≡ Err fault }
 {}
 
-/// `quoting`, `place` and `section` stand exactly where their rows of `docs/FORMATS.md` say, and no line is
+/// `quoting`, `place`, `section` and `limit` stand exactly where their rows of `docs/FORMATS.md` say, and no line is
 /// `missing`.
 pub fn each_cause_stands_in_its_row()
     ensures { (servers : List Server) (too_long : Bool) (so_far : Resolved) (n : ℕ) (line : List ℕ) →

@@ -7,10 +7,10 @@ mod caption;
 mod drawing;
 mod hatches;
 mod key;
+mod lane_rows;
 mod marks;
 mod palette;
 mod plain;
-mod rows;
 mod sheet;
 mod story;
 

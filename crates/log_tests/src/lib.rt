@@ -5,8 +5,6 @@
 #[cfg(test)]
 mod assertions;
 #[cfg(test)]
-mod causes;
-#[cfg(test)]
 mod certificates;
 #[cfg(test)]
 mod health;
@@ -18,3 +16,5 @@ mod lists;
 mod logs;
 #[cfg(test)]
 mod readable;
+#[cfg(test)]
+mod texts;

@@ -156,36 +156,97 @@ fn has_last_arrival(rt: &impl Abort, grant: Option<SlotGrant>, new: &Arrival) {
     same(rt, grant.moment, moment(4));
 }
 
-fn arrive(at: u64, ticket: u64) -> Entry {
-    let at = moment(at);
-    Entry::Arrive(at, arrival(ticket, 0, at, 0))
+// An entry of a window, in plain numbers.
+enum Told {
+    Arrive(u64, u64),
+    Done(u64, u64),
+    Joined(u64, Queue),
+    Granted(u64, Queue),
 }
 
-fn is_refused(rt: &impl Abort, alloc: Global, entries: &[Entry]) -> bool {
-    let log = Log::read(alloc, opening(rt, alloc), entries);
-    matches!(log, Err(Unreadable::NotReadable))
+// What is read behind a base, in which ticket 7 waits or nobody, and why it isn't taken.
+struct Window {
+    name: &'static str,
+    waits: bool,
+    told: &'static [Told],
+    refused: Option<Unreadable>,
+}
+
+static WINDOWS: [Window; 6] = [
+    Window {
+        name: "nothing",
+        waits: false,
+        told: &[],
+        refused: None,
+    },
+    Window {
+        name: "a joining before any event",
+        waits: false,
+        told: &[Told::Joined(1, Queue::Backend)],
+        refused: Some(Unreadable::NotReadable),
+    },
+    Window {
+        name: "a moment before the last one",
+        waits: false,
+        told: &[Told::Arrive(3, 1), Told::Done(2, 1)],
+        refused: Some(Unreadable::NotReadable),
+    },
+    Window {
+        name: "a grant from a queue that wasn't joined",
+        waits: false,
+        told: &[
+            Told::Arrive(3, 1),
+            Told::Joined(1, Queue::Server(0)),
+            Told::Granted(1, Queue::Backend),
+        ],
+        refused: Some(Unreadable::NotReadable),
+    },
+    Window {
+        name: "a grant to a ticket that didn't arrive",
+        waits: false,
+        told: &[
+            Told::Arrive(3, 1),
+            Told::Joined(2, Queue::Backend),
+            Told::Granted(2, Queue::Backend),
+        ],
+        refused: Some(Unreadable::NotReadable),
+    },
+    Window {
+        name: "a grant from another queue than the one of the base",
+        waits: true,
+        told: &[Told::Done(9, 3), Told::Granted(7, Queue::Server(0))],
+        refused: Some(Unreadable::NotReadable),
+    },
+];
+
+fn entry_of(told: &Told) -> Entry {
+    match *told {
+        Told::Arrive(at, ticket) => Entry::Arrive(moment(at), arrival(ticket, 0, moment(at), 0)),
+        Told::Done(at, ticket) => Entry::Done(moment(at), ticket),
+        Told::Joined(ticket, queue) => Entry::Joined(ticket, queue),
+        Told::Granted(ticket, queue) => Entry::Granted(ticket, queue, 0),
+    }
+}
+
+fn refusal_of(rt: &impl Abort, alloc: Global, window: &Window) -> Option<Unreadable> {
+    let base = if window.waits {
+        with_seven(rt, alloc)
+    } else {
+        opening(rt, alloc)
+    };
+    let mut entries = Vec::new(alloc);
+    for told in window.told {
+        entries.push(entry_of(told)).expect(rt, "memory");
+    }
+    Log::read(alloc, base, entries.as_slice()).err()
 }
 
 #[test]
 fn what_is_not_readable_is_refused(rt: HostRuntime) {
-    let alloc = rt.alloc();
-    let no_event = [Entry::Joined(1, Queue::Backend)];
-    let moment_falls = [arrive(3, 1), Entry::Done(moment(2), 1)];
-    let no_joining = [
-        arrive(3, 1),
-        Entry::Joined(1, Queue::Server(0)),
-        Entry::Granted(1, Queue::Backend, 0),
-    ];
-    let no_arrival = [
-        arrive(3, 1),
-        Entry::Joined(2, Queue::Backend),
-        Entry::Granted(2, Queue::Backend, 0),
-    ];
-    holds(&rt, is_refused(&rt, alloc, no_event.as_slice()));
-    holds(&rt, is_refused(&rt, alloc, moment_falls.as_slice()));
-    holds(&rt, is_refused(&rt, alloc, no_joining.as_slice()));
-    holds(&rt, is_refused(&rt, alloc, no_arrival.as_slice()));
-    holds(&rt, !is_refused(&rt, alloc, &no_event[..0]));
+    for window in &WINDOWS {
+        let refused = refusal_of(&rt, rt.alloc(), window);
+        same(&rt, (window.name, refused), (window.name, window.refused));
+    }
 }
 
 #[test]
@@ -222,15 +283,4 @@ fn grants_to_seven(rt: &impl Abort, log: &Log) {
         due: key.due,
     };
     same(rt, log.grants().first().map(|it| it.stay), Some(stay));
-}
-
-#[test]
-fn who_waits_elsewhere_in_the_base_is_refused(rt: HostRuntime) {
-    let entries = [
-        Entry::Done(moment(9), 3),
-        Entry::Granted(7, Queue::Server(0), 0),
-    ];
-    let base = with_seven(&rt, rt.alloc());
-    let log = Log::read(rt.alloc(), base, entries.as_slice());
-    holds(&rt, matches!(log, Err(Unreadable::NotReadable)));
 }

@@ -16,4 +16,6 @@ mod passes;
 #[cfg(test)]
 mod repeats;
 #[cfg(test)]
+mod texts;
+#[cfg(test)]
 mod wholes;

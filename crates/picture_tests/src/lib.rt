@@ -13,6 +13,8 @@ mod samples;
 #[cfg(test)]
 mod stretches;
 #[cfg(test)]
+mod texts;
+#[cfg(test)]
 mod traces;
 #[cfg(test)]
 mod views;

@@ -3,8 +3,10 @@ use crate::samples::trace_of;
 use command_words::Only;
 use due_key::Class;
 use std::alloc::Global;
+use std::io;
+use std::io::{Read, Write};
 use std::process::Abort;
-use trace_lines::Cause;
+use trace_lines::TraceCause;
 use trace_views::{DrawFault, InputFault, TellFault, draw, tell};
 
 const SCRIPT: &str = "0 arrive 0 0\n1 arrive 0 0\n2 arrive 0 -5\n10 done 1\n20 done 3\n";
@@ -28,59 +30,239 @@ fn a_script_and_its_trace_have_one_picture(rt: HostRuntime) {
     }
 }
 
-static UNDRAWN: [(&str, InputFault); 2] = [
-    ("0 arrive 0 0\n0 arrive 0\n", InputFault::Script { line: 2 }),
-    (
-        "5 tick\n4 tick\n  end 1\n",
-        InputFault::Trace {
+// Gives a text, and behind it its end or a failure.
+#[derive(Drop)]
+struct Source<'a> {
+    rest: &'a [u8],
+    fails: bool,
+}
+
+impl<'a> Read for Source<'a> {
+    fn read(&mut self, buf: &mut [u8]) -> io::Result<usize> {
+        if self.fails && self.rest.is_empty() {
+            return Err(io::Error::from(io::ErrorKind::BrokenPipe));
+        }
+        self.rest.read(buf)
+    }
+}
+
+// Takes so many bytes, and then none.
+#[derive(Drop)]
+struct Sink {
+    taken: Vec<u8>,
+    room: usize,
+}
+
+impl Write for Sink {
+    fn write(&mut self, buf: &[u8]) -> io::Result<usize> {
+        let count = self.room.min(buf.len());
+        self.taken.extend_from_slice(&buf[..count])?;
+        self.room -= count;
+        Ok(count)
+    }
+
+    fn flush(&mut self) -> io::Result<()> {
+        Ok(())
+    }
+}
+
+const ROOM: usize = 65_536;
+
+/// What is asked for, of a text behind which reading may fail, for a writer with so much room; and why it isn't drawn.
+struct Undrawn {
+    name: &'static str,
+    input: &'static str,
+    fails: bool,
+    room: usize,
+    queue: Option<&'static str>,
+    fault: DrawFault,
+}
+
+static UNDRAWN: [Undrawn; 9] = [
+    Undrawn {
+        name: "a faulty script",
+        input: "0 arrive 0 0\n0 arrive 0\n",
+        fails: false,
+        room: ROOM,
+        queue: None,
+        fault: DrawFault::Input(InputFault::Script { line: 2 }),
+    },
+    Undrawn {
+        name: "a faulty script with a roll",
+        input: "0 arrive 0 0\nroll\nlog 5\n",
+        fails: false,
+        room: ROOM,
+        queue: None,
+        fault: DrawFault::Input(InputFault::Script { line: 3 }),
+    },
+    Undrawn {
+        name: "a trace whose moments fall",
+        input: "5 tick\n4 tick\n  end 1\n",
+        fails: false,
+        room: ROOM,
+        queue: None,
+        fault: DrawFault::Input(InputFault::Trace {
             line: 2,
-            cause: Cause::Moment,
-        },
-    ),
+            cause: TraceCause::Moment,
+        }),
+    },
+    Undrawn {
+        name: "a trace with a script's line",
+        input: "refused 2\n0 arrive 0 0\n",
+        fails: false,
+        room: ROOM,
+        queue: None,
+        fault: DrawFault::Input(InputFault::Trace {
+            line: 2,
+            cause: TraceCause::Form,
+        }),
+    },
+    Undrawn {
+        name: "a trace without an event",
+        input: "  end 1\n",
+        fails: false,
+        room: ROOM,
+        queue: None,
+        fault: DrawFault::Input(InputFault::Trace {
+            line: 1,
+            cause: TraceCause::Place,
+        }),
+    },
+    Undrawn {
+        name: "a queue that isn't there",
+        input: SCRIPT,
+        fails: false,
+        room: ROOM,
+        queue: Some("zz"),
+        fault: DrawFault::NoQueue,
+    },
+    Undrawn {
+        name: "a read that fails at once",
+        input: "",
+        fails: true,
+        room: ROOM,
+        queue: None,
+        fault: DrawFault::Input(InputFault::Unread),
+    },
+    Undrawn {
+        name: "a read that fails behind a script",
+        input: SCRIPT,
+        fails: true,
+        room: ROOM,
+        queue: None,
+        fault: DrawFault::Input(InputFault::Unread),
+    },
+    Undrawn {
+        name: "a write that takes nothing",
+        input: SCRIPT,
+        fails: false,
+        room: 0,
+        queue: None,
+        fault: DrawFault::Input(InputFault::Unwritten),
+    },
 ];
 
-fn fault_of(alloc: Global, input: &str, only: &Option<Only>) -> Option<DrawFault> {
-    let mut rest = input.as_bytes();
-    let mut picture = Vec::new(alloc);
-    draw(alloc, &mut rest, &mut picture, only).err()
+fn asked(rt: &impl Abort, alloc: Global, queue: Option<&str>) -> Option<Only> {
+    match queue {
+        None => None,
+        Some(name) => Some(Only {
+            queue: String::from_str(alloc, name).expect(rt, "memory"),
+            class: Class::clamp(0),
+        }),
+    }
+}
+
+// Why it isn't drawn. Nothing is written.
+fn fault_of(rt: &impl Abort, alloc: Global, row: &Undrawn) -> Option<DrawFault> {
+    let mut source = Source {
+        rest: row.input.as_bytes(),
+        fails: row.fails,
+    };
+    let mut sink = Sink {
+        taken: Vec::new(alloc),
+        room: row.room,
+    };
+    let only = asked(rt, alloc, row.queue);
+    let drawn = draw(alloc, &mut source, &mut sink, &only);
+    holds(rt, sink.taken.is_empty());
+    drawn.err()
 }
 
 #[test]
 fn what_cannot_be_drawn_is_named(rt: HostRuntime) {
-    for &(input, fault) in &UNDRAWN {
-        let found = fault_of(rt.alloc(), input, &None);
-        same(&rt, (input, found), (input, Some(DrawFault::Input(fault))));
+    for row in &UNDRAWN {
+        let found = fault_of(&rt, rt.alloc(), row);
+        same(&rt, (row.name, found), (row.name, Some(row.fault)));
     }
-    let only = Some(Only {
-        queue: String::from_str(rt.alloc(), "zz").expect(&rt, "memory"),
-        class: Class::clamp(0),
-    });
-    let found = fault_of(rt.alloc(), SCRIPT, &only);
-    same(&rt, found, Some(DrawFault::NoQueue));
 }
 
-#[test]
-fn a_write_that_fails_is_told(rt: HostRuntime) {
-    let mut rest = SCRIPT.as_bytes();
-    let mut room = [0u8; 8];
-    let mut full: &mut [u8] = &mut room;
-    let unwritten = tell(rt.alloc(), &mut rest, &mut full, 2);
-    same(&rt, unwritten, Err(TellFault::Input(InputFault::Unwritten)));
+/// A ticket, whether reading fails behind the script, and how much room the writer has; how telling ends, and how what is written begins, which is all of
+/// it where telling fails.
+struct Tale {
+    name: &'static str,
+    ticket: u64,
+    fails: bool,
+    room: usize,
+    end: Result<(), TellFault>,
+    beginning: &'static [u8],
 }
 
-// Tickets, how telling ends, and how the story begins that is written.
-static TICKETS: [(u64, Result<(), TellFault>, &[u8]); 2] = [
-    (2, Ok(()), b"Ticket 2 of class 0"),
-    (9, Err(TellFault::NoTicket), b""),
+static TALES: [Tale; 4] = [
+    Tale {
+        name: "a ticket that came",
+        ticket: 2,
+        fails: false,
+        room: ROOM,
+        end: Ok(()),
+        beginning: b"Ticket 2 of class 0",
+    },
+    Tale {
+        name: "a ticket that didn't come",
+        ticket: 9,
+        fails: false,
+        room: ROOM,
+        end: Err(TellFault::NoTicket),
+        beginning: b"",
+    },
+    Tale {
+        name: "a write that takes nothing behind 8 bytes",
+        ticket: 2,
+        fails: false,
+        room: 8,
+        end: Err(TellFault::Input(InputFault::Unwritten)),
+        beginning: b"Ticket 2",
+    },
+    Tale {
+        name: "a read that fails",
+        ticket: 2,
+        fails: true,
+        room: ROOM,
+        end: Err(TellFault::Input(InputFault::Unread)),
+        beginning: b"",
+    },
 ];
+
+fn plays(rt: &impl Abort, alloc: Global, row: &Tale) {
+    let mut source = Source {
+        rest: SCRIPT.as_bytes(),
+        fails: row.fails,
+    };
+    let mut sink = Sink {
+        taken: Vec::new(alloc),
+        room: row.room,
+    };
+    let found = tell(alloc, &mut source, &mut sink, row.ticket);
+    same(rt, (row.name, found), (row.name, row.end));
+    holds(rt, sink.taken.as_slice().starts_with(row.beginning));
+    holds(
+        rt,
+        row.end.is_ok() || sink.taken.len() == row.beginning.len(),
+    );
+}
 
 #[test]
 fn a_story_is_of_a_ticket_that_came(rt: HostRuntime) {
-    for &(ticket, end, beginning) in &TICKETS {
-        let mut rest = SCRIPT.as_bytes();
-        let mut story = Vec::new(rt.alloc());
-        let found = tell(rt.alloc(), &mut rest, &mut story, ticket);
-        same(&rt, (ticket, found), (ticket, end));
-        holds(&rt, story.as_slice().starts_with(beginning));
+    for row in &TALES {
+        plays(&rt, rt.alloc(), row);
     }
 }

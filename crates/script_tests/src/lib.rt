@@ -10,4 +10,6 @@ mod replays;
 #[cfg(test)]
 mod samples;
 #[cfg(test)]
+mod texts;
+#[cfg(test)]
 mod windows;

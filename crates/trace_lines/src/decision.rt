@@ -2,12 +2,12 @@ ghost use Rattle.std.specs.Prelude.{◌≡◌, None, IfOk};
 ghost use Rattle.readable_log.specs.Grants.{moment_in};
 
 use crate::event::{health, small_number, ticket};
-use crate::fault::{Cause, LineError};
+use crate::fault::{LineError, TraceCause};
 use crate::fields::{one, three, two};
 use crate::servers::Servers;
 use dispatch_log::Entry;
 use proxy_words::Words;
-use verdict::Cause as Told;
+use verdict::Cause;
 
 /// The decision that a line tells of, by its first word and the words behind it.
 pub(crate) fn decision_of(
@@ -55,7 +55,7 @@ fn slot_decision(servers: &mut Servers, name: &[u8], words: Words) -> Result<Ent
     } else if name == b"free".as_slice() {
         Ok(Entry::Freed(ticket, server))
     } else {
-        Err(LineError::Faulty(Cause::Form))
+        Err(LineError::Faulty(TraceCause::Form))
     }
 }
 
@@ -97,17 +97,17 @@ fn told(words: Words) -> Result<Entry, LineError>
     Ok(Entry::Left(ticket, cause))
 }
 
-fn cause_of(word: &[u8]) -> Result<Told, LineError> {
+fn cause_of(word: &[u8]) -> Result<Cause, LineError> {
     if word == b"aborted".as_slice() {
-        Ok(Told::Aborted)
+        Ok(Cause::Aborted)
     } else if word == b"timeout".as_slice() {
-        Ok(Told::Timeout)
+        Ok(Cause::Timeout)
     } else if word == b"retries".as_slice() {
-        Ok(Told::Retries)
+        Ok(Cause::Retries)
     } else if word == b"noserver".as_slice() {
-        Ok(Told::NoServer)
+        Ok(Cause::NoServer)
     } else {
-        Err(LineError::Faulty(Cause::Form))
+        Err(LineError::Faulty(TraceCause::Form))
     }
 }
 

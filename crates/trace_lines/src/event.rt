@@ -1,7 +1,7 @@
 ghost use Rattle.std.specs.Prelude.{◌≡◌, Some, IfOk};
 ghost use Rattle.readable_log.specs.Grants.{moment_in};
 
-use crate::fault::{Cause, LineError};
+use crate::fault::{LineError, TraceCause};
 use crate::fields::{end, next, one, two};
 use crate::servers::Servers;
 use dispatch_log::{Arrival, Entry};
@@ -42,7 +42,7 @@ fn event_of_ticket(moment: Moment, name: &[u8], words: Words) -> Result<Entry, L
     } else if name == b"abort".as_slice() {
         Ok(Entry::Abort(moment, ticket))
     } else {
-        Err(LineError::Faulty(Cause::Form))
+        Err(LineError::Faulty(TraceCause::Form))
     }
 }
 
@@ -52,7 +52,7 @@ fn arrival(servers: &mut Servers, moment: Moment, mut words: Words) -> Result<En
 {
     let (Some(ticket_word), Some(class), Some(due)) = (words.next(), words.next(), words.next())
     else {
-        return Err(LineError::Faulty(Cause::Form));
+        return Err(LineError::Faulty(TraceCause::Form));
     };
     let (ticket, class, due) = (ticket(ticket_word)?, class_of(class)?, due_of(due)?);
     let pin = pin_of(servers, words)?;
@@ -72,9 +72,9 @@ fn pin_of(servers: &mut Servers, mut words: Words) -> Result<Option<u8>, LineErr
         (None, _) => Ok(None),
         (Some(name), None) => match u8::try_from(servers.number(name)?) {
             Ok(server) => Ok(Some(server)),
-            Err(_) => Err(LineError::Faulty(Cause::Servers)),
+            Err(_) => Err(LineError::Faulty(TraceCause::Servers)),
         },
-        _ => Err(LineError::Faulty(Cause::Form)),
+        _ => Err(LineError::Faulty(TraceCause::Form)),
     }
 }
 
@@ -105,16 +105,16 @@ fn limit(servers: &mut Servers, moment: Moment, words: Words) -> Result<Entry, L
 }
 
 pub(crate) fn ticket(word: &[u8]) -> Result<u64, LineError> {
-    long_number(word).ok_or(LineError::Faulty(Cause::Form))
+    long_number(word).ok_or(LineError::Faulty(TraceCause::Form))
 }
 
 /// A number of at most nine digits.
 pub(crate) fn small_number(word: &[u8]) -> Result<u32, LineError> {
-    number(word).ok_or(LineError::Faulty(Cause::Form))
+    number(word).ok_or(LineError::Faulty(TraceCause::Form))
 }
 
 pub(crate) fn moment_of(word: &[u8]) -> Result<Moment, LineError> {
-    Moment::new(ticket(word)?).ok_or(LineError::Faulty(Cause::Form))
+    Moment::new(ticket(word)?).ok_or(LineError::Faulty(TraceCause::Form))
 }
 
 /// A class within the range of classes.
@@ -124,7 +124,7 @@ pub(crate) fn class_of(word: &[u8]) -> Result<Class, LineError> {
     if class.get() == number {
         Ok(class)
     } else {
-        Err(LineError::Faulty(Cause::Form))
+        Err(LineError::Faulty(TraceCause::Form))
     }
 }
 
@@ -133,18 +133,18 @@ pub(crate) fn due_of(word: &[u8]) -> Result<Due, LineError> {
     let number = signed_number(word)?;
     let offset = Offset::clamp(number.min(0));
     let Some(moment) = Moment::new(number.max(0) as u64) else {
-        return Err(LineError::Faulty(Cause::Form));
+        return Err(LineError::Faulty(TraceCause::Form));
     };
     let due = Due::of(moment, offset);
     if due.get() == number {
         Ok(due)
     } else {
-        Err(LineError::Faulty(Cause::Form))
+        Err(LineError::Faulty(TraceCause::Form))
     }
 }
 
 pub(crate) fn signed_number(word: &[u8]) -> Result<i64, LineError> {
-    signed_long_number(word).ok_or(LineError::Faulty(Cause::Form))
+    signed_long_number(word).ok_or(LineError::Faulty(TraceCause::Form))
 }
 
 /// `up` or `down`.
@@ -152,6 +152,6 @@ pub(crate) fn health(word: &[u8]) -> Result<bool, LineError> {
     match word {
         b"up" => Ok(true),
         b"down" => Ok(false),
-        _ => Err(LineError::Faulty(Cause::Form)),
+        _ => Err(LineError::Faulty(TraceCause::Form)),
     }
 }

@@ -2,7 +2,7 @@ use thiserror::Error;
 
 /// What is wrong with a line of a trace.
 #[derive(Clone, Copy, Debug, PartialEq, Eq, Error)]
-pub enum Cause {
+pub enum TraceCause {
     /// No line of a trace reads so.
     #[error("no line of a trace")]
     Form,
@@ -28,11 +28,11 @@ pub enum TraceError {
     NoMemory,
     /// The first faulty line, from 1, and what is wrong with it; line 0 where the trace is too long.
     #[error("trace line {line}: {cause}")]
-    Fault { line: usize, cause: Cause },
+    Fault { line: usize, cause: TraceCause },
 }
 
 impl TraceError {
-    pub(crate) fn at(line: usize, cause: Cause) -> TraceError {
+    pub(crate) fn at(line: usize, cause: TraceCause) -> TraceError {
         TraceError::Fault { line, cause }
     }
 }
@@ -41,7 +41,7 @@ impl TraceError {
 #[derive(Clone, Copy, Debug, PartialEq, Eq)]
 pub(crate) enum LineError {
     NoMemory,
-    Faulty(Cause),
+    Faulty(TraceCause),
 }
 
 impl LineError {

@@ -1,18 +1,18 @@
 //! The words of a line, just so many.
 
-use crate::fault::{Cause, LineError};
+use crate::fault::{LineError, TraceCause};
 use proxy_words::Words;
 
 /// The next word of a line, which has one more.
 pub(crate) fn next<'a>(words: &mut Words<'a>) -> Result<&'a [u8], LineError> {
-    words.next().ok_or(LineError::Faulty(Cause::Form))
+    words.next().ok_or(LineError::Faulty(TraceCause::Form))
 }
 
 /// No word is left.
 pub(crate) fn end(mut words: Words) -> Result<(), LineError> {
     match words.next() {
         None => Ok(()),
-        Some(_) => Err(LineError::Faulty(Cause::Form)),
+        Some(_) => Err(LineError::Faulty(TraceCause::Form)),
     }
 }
 
@@ -20,7 +20,7 @@ pub(crate) fn end(mut words: Words) -> Result<(), LineError> {
 pub(crate) fn one<'a>(mut words: Words<'a>) -> Result<&'a [u8], LineError> {
     match (words.next(), words.next()) {
         (Some(first), None) => Ok(first),
-        _ => Err(LineError::Faulty(Cause::Form)),
+        _ => Err(LineError::Faulty(TraceCause::Form)),
     }
 }
 
@@ -28,14 +28,14 @@ pub(crate) fn one<'a>(mut words: Words<'a>) -> Result<&'a [u8], LineError> {
 pub(crate) fn two<'a>(mut words: Words<'a>) -> Result<(&'a [u8], &'a [u8]), LineError> {
     match (words.next(), words.next(), words.next()) {
         (Some(first), Some(second), None) => Ok((first, second)),
-        _ => Err(LineError::Faulty(Cause::Form)),
+        _ => Err(LineError::Faulty(TraceCause::Form)),
     }
 }
 
 /// The three words left.
 pub(crate) fn three<'a>(mut words: Words<'a>) -> Result<(&'a [u8], &'a [u8], &'a [u8]), LineError> {
     let Some(first) = words.next() else {
-        return Err(LineError::Faulty(Cause::Form));
+        return Err(LineError::Faulty(TraceCause::Form));
     };
     let (second, third) = two(words)?;
     Ok((first, second, third))

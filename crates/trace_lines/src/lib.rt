@@ -13,7 +13,7 @@ mod timed;
 mod trace;
 mod window;
 
-pub use fault::{Cause, TraceError};
+pub use fault::{TraceCause, TraceError};
 pub use kind::{has_roll, is_trace};
 pub use reader::{MOST_BYTES, read_trace};
 pub use report::ReportLine;

@@ -3,7 +3,7 @@ ghost use Rattle.trace_lines.specs.Timed.{IsTimed};
 
 use crate::decision::decision_of;
 use crate::event::{event_of, moment_of, ticket};
-use crate::fault::{Cause, LineError, TraceError};
+use crate::fault::{LineError, TraceCause, TraceError};
 use crate::fields::{end, one};
 use crate::report::{ReportLine, report_of};
 use crate::servers::Servers;
@@ -35,7 +35,7 @@ pub fn read_trace(alloc: Global, names: Vec<String>, text: &[u8]) -> Result<Trac
     ensures { IfOk result (λ trace. IsTimed trace.entries.items) }
 {
     if MOST_BYTES < text.len() {
-        return Err(TraceError::at(0, Cause::Length));
+        return Err(TraceError::at(0, TraceCause::Length));
     }
     let mut reader = Reader::new(alloc, names);
     let mut number = 0;
@@ -120,7 +120,7 @@ impl Reader {
     // The reports of a window stand behind the roll that ends it, or at the end.
     fn take_report(&mut self, words: Words) -> Result<(), LineError> {
         if self.entries.len() == 0 {
-            return Err(LineError::Faulty(Cause::Place));
+            return Err(LineError::Faulty(TraceCause::Place));
         }
         let before = if self.entries.len() == self.start {
             self.ended

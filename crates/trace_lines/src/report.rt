@@ -1,5 +1,5 @@
 use crate::event::{class_of, due_of, signed_number, small_number, ticket};
-use crate::fault::{Cause, LineError};
+use crate::fault::{LineError, TraceCause};
 use crate::fields::next;
 use crate::servers::Servers;
 use dispatch_log::Queue;
@@ -59,7 +59,7 @@ pub(crate) fn report_of(
 // `critical T1 T2 ..`, to the end of the line.
 fn critical_of(alloc: Global, mut words: Words) -> Result<Vec<u64>, LineError> {
     if next(&mut words)? != b"critical".as_slice() {
-        return Err(LineError::Faulty(Cause::Form));
+        return Err(LineError::Faulty(TraceCause::Form));
     }
     let mut tickets = Vec::new(alloc);
     for word in words {
@@ -75,7 +75,7 @@ fn behind<'a>(words: &mut Words<'a>, name: &[u8]) -> Result<&'a [u8], LineError>
     if next(words)? == name {
         next(words)
     } else {
-        Err(LineError::Faulty(Cause::Form))
+        Err(LineError::Faulty(TraceCause::Form))
     }
 }
 

@@ -1,4 +1,4 @@
-use crate::fault::{Cause, LineError};
+use crate::fault::{LineError, TraceCause};
 use dispatch_log::Queue;
 use proxy_words::is_name;
 use script::Names;
@@ -31,10 +31,10 @@ impl Servers {
             return Ok(server);
         }
         if !is_name(word) {
-            return Err(LineError::Faulty(Cause::Form));
+            return Err(LineError::Faulty(TraceCause::Form));
         }
         if MOST_SERVERS <= self.list.len() {
-            return Err(LineError::Faulty(Cause::Servers));
+            return Err(LineError::Faulty(TraceCause::Servers));
         }
         self.add(word)
     }
@@ -49,7 +49,7 @@ impl Servers {
 
     fn add(&mut self, word: &[u8]) -> Result<usize, LineError> {
         let Ok(text) = str::from_utf8(word) else {
-            return Err(LineError::Faulty(Cause::Form));
+            return Err(LineError::Faulty(TraceCause::Form));
         };
         let server = self.list.len();
         let Ok(name) = String::from_str(self.alloc, text) else {

@@ -1,10 +1,10 @@
 ghost use Rattle.std.specs.Prelude.{◌≡◌, ◌≤◌, ◌<◌, [], ◌∷◌, ◌++◌, Some, None, IfOk, IfErr, OnOk, length};
 ghost use Rattle.readable_log.specs.Grants.{moment_in, moment_of};
 ghost use Rattle.trace_lines.specs.Timed.{IsTimed};
-ghost use Rattle.trace_lines.specs.declared.fault.Cause.TheVariants as causes;
+ghost use Rattle.trace_lines.specs.declared.fault.TraceCause.TheVariants as causes;
 ghost use Rattle.trace_lines.specs.declared.fault.LineError.TheVariants.{Faulty};
 
-use crate::fault::{Cause, LineError};
+use crate::fault::{LineError, TraceCause};
 use dispatch_log::Entry;
 use due_key::Moment;
 use std::alloc::Global;
@@ -63,7 +63,7 @@ impl Timed {
         ensures err { IfErr result (λ error. error ≡ Faulty causes.Moment → moment < moment_of self.old) }
     {
         if moment < self.moment {
-            return Err(LineError::Faulty(Cause::Moment));
+            return Err(LineError::Faulty(TraceCause::Moment));
         }
         let Ok(()) = self.list.push(entry) else {
             return Err(LineError::NoMemory);
@@ -78,7 +78,7 @@ impl Timed {
         ensures ok { OnOk result (self.new ≡ self.old ++ entry ∷ []) }
     {
         if self.list.is_empty() {
-            return Err(LineError::Faulty(Cause::Place));
+            return Err(LineError::Faulty(TraceCause::Place));
         }
         let Ok(()) = self.list.push(entry) else {
             return Err(LineError::NoMemory);

@@ -13,7 +13,7 @@ use std::alloc::Global;
 use std::io::Read;
 use thiserror::Error;
 use trace_lines::{
-    Cause, MOST_BYTES, Trace, TraceError, has_roll, is_trace, read_trace, trace_of_window,
+    MOST_BYTES, Trace, TraceCause, TraceError, has_roll, is_trace, read_trace, trace_of_window,
 };
 
 /// How many bytes are read at once.
@@ -31,7 +31,7 @@ pub enum InputFault {
     #[error("script line {line}")]
     Script { line: usize },
     #[error("trace line {line}: {cause}")]
-    Trace { line: usize, cause: Cause },
+    Trace { line: usize, cause: TraceCause },
 }
 
 impl InputFault {

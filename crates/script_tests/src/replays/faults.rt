@@ -42,18 +42,3 @@ fn a_script_has_four_mebibytes_at_most(rt: HostRuntime) {
     let end = end_of(&rt, rt.alloc(), &script);
     same(&rt, end, Err(Fault::Script { line: 0 }));
 }
-
-#[test]
-fn each_fault_has_its_text(rt: HostRuntime) {
-    let rows = [
-        (Fault::NoMemory, "no memory"),
-        (Fault::Script { line: 0 }, "script line 0"),
-        (Fault::Script { line: 12 }, "script line 12"),
-        (Fault::Read, "read fault"),
-        (Fault::Write, "write fault"),
-    ];
-    for (fault, line) in rows {
-        let text = format!(in rt.alloc(); "{fault}").expect(&rt, "memory");
-        same(&rt, text.as_str(), line);
-    }
-}

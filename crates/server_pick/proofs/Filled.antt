@@ -1,12 +1,7 @@
 -- Sets of servers that a loop fills.
-use Rattle.std.proofs.Common.{◌≡◌, ℕ, zero, suc, ◌+◌, ◌<◌, ◌≤◌, ◌==◌, nat_lt, ◌||◌, Bool, true, false, List, Option}
-use Rattle.std.proofs.Common.{None, Some, IsTrue, replicate, slice_index_or, slice_get, ◌↔◌, length, refl, ap, sym, subst, arith, inl, inr}
-use Rattle.std.specs.Option.{option_map_or}
-use Rattle.std.proofs.lemmas.Option.{slice_get_within}
-use Rattle.dispatch_log.specs.declared.setup.ServerSet.{ServerSet}
+use Rattle.std.proofs.Common.{◌≡◌, ℕ, ◌+◌, ◌<◌, ◌≤◌, Bool}
+use Rattle.std.proofs.Common.{IsTrue, ◌↔◌, length, ap, sym, subst, arith, inl, inr}
 use Rattle.dispatch_log.specs.declared.setup.Setup.{Setup}
-use Rattle.dispatch_log.specs.Scenes.{Scene, of_server, is_free, limit_of}
-use Rattle.dispatch_log.specs.Rows.{served}
 use Rattle.server_pick.specs.Sets.{IsIn, IsMore}
 use Rattle.server_pick.proofs.Preferred.{below_cases}
 

@@ -1,5 +1,5 @@
 -- Servers that take from queues.
-use Rattle.std.proofs.Common.{◌≡◌, ◌≢◌, ℕ, ◌<◌, ◌≤◌, nat_lt, ◌||◌, ◌&&◌, ◌==◌, Bool, true, false, IsTrue, Option, None, Some, MatchOption}
+use Rattle.std.proofs.Common.{◌≡◌, ◌≢◌, ℕ, ◌<◌, ◌≤◌, nat_lt, ◌&&◌, ◌==◌, Bool, true, false, IsTrue, Option, None, Some, MatchOption}
 use Rattle.std.proofs.Common.{slice_get, if◌then◌else◌, ◌↔◌, refl, ap, sym, ◌∙◌, subst, arith, ◌⊎◌, inl, inr, Ordering, Less, Equal, Greater}
 use Rattle.std.specs.Ordering.{is_lt}
 use Rattle.std.proofs.lemmas.Bool.{and_from, or_cases, or_left, or_right}
@@ -15,7 +15,7 @@ use Rattle.dispatch_log.specs.declared.row.Phase.TheVariants.{Loose, Waiting, Se
 use Rattle.dispatch_log.specs.declared.row.Row.{Row}
 use Rattle.dispatch_log.specs.Grants.{CanTake, IsSettled, IsNextTaker}
 use Rattle.dispatch_log.specs.Picks.{weight_of, IsPick}
-use Rattle.dispatch_log.specs.Rows.{Rows, IsRow, same_queue, phase_waits_in, waits_in, queued}
+use Rattle.dispatch_log.specs.Rows.{Rows, IsRow, phase_waits_in, waits_in, queued}
 use Rattle.dispatch_log.specs.Scenes.{Scene, is_up, is_usable, may_take, may_go_to}
 use Rattle.dispatch_log.proofs.Choices.{goes, queue_own}
 use Rattle.server_pick.specs.declared.heads.Heads.{Heads}

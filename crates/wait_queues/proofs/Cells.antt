@@ -1,16 +1,14 @@
 -- The cells of an order, and what each change leaves in them.
-use Rattle.std.proofs.Common.{◌≡◌, ◌≢◌, ℕ, ◌+◌, ◌<◌, ◌≤◌, ◌⊎◌, ◌↔◌, true, false, not, List, [], ◌∷◌, ◌++◌}
+use Rattle.std.proofs.Common.{◌≡◌, ◌≢◌, ℕ, ◌+◌, ◌<◌, ◌≤◌, ◌⊎◌, ◌↔◌, true, not, List, [], ◌∷◌, ◌++◌}
 use Rattle.std.proofs.Common.{Contains, Some, None, cond, eqb, ltb, length, set, get_or, slice_get, refl, sym, ap, subst, ◌∙◌, inl, inr, IsTrue, arith}
 use Rattle.std.proofs.Common.{get_or-set_same, get_or-set_other, length-set}
-use Rattle.std.specs.List.{IsDistinct, AllByRecursion, list_any}
 use Rattle.std.specs.Prelude.{slice_index}
-use Rattle.std.proofs.lemmas.Bool.{eq-eqb, ne_eqb, eqb-true, ltb-true, or_cases, cases_eq, true≢false}
+use Rattle.std.proofs.lemmas.Bool.{eq-eqb, ne_eqb, ltb-true, cases_eq, true≢false}
 use Rattle.std.proofs.lemmas.List.{get_or_default}
 use Rattle.std.proofs.lemmas.List.Elements.{Contains-append_left, Contains-append_right, Contains-push, Contains-push_cases}
 use Rattle.wait_queues.specs.Order.{Order, IsOrder, without, next_after}
-use Rattle.list_facts.specs.Once.{ComeOnce}
 use Rattle.wait_queues.specs.Links.{AreLinked, places_of, IsLinked}
-use Rattle.list_facts.proofs.Members.{Contains-nil, Contains-head, Contains-tail, Contains-cases, Contains-middle, Contains-around, Contains-around_cases}
+use Rattle.list_facts.proofs.Members.{Contains-nil, Contains-tail, Contains-cases, Contains-middle, Contains-around, Contains-around_cases}
 use Rattle.list_facts.proofs.Once.{contains_or_not, once_within, split_at, not_before, not_after, once_around, once_push}
 use Rattle.wait_queues.proofs.Members.{without_parts}
 use Rattle.wait_queues.proofs.Rings.{before_in, last_in, head_next, linked_after, walk_is, first_is, next_after_parts, unlinked, linked_at_end}

@@ -45,6 +45,10 @@ queue_same (Server a) (Server b) e = ap Server ((Decides-eqb a b).0 e)
 queue_same Backend (Server b) e = false_true e
 queue_same (Server a) Backend e = false_true e
 
+pub queue_own : (q : Queue) → same_queue q q ≡ true
+queue_own Backend = refl
+queue_own (Server s) = (Decides-eqb s s).1 refl
+
 pub waits_same : (phase : Phase) (a b : Queue) → phase_waits_in a phase ≡ true → phase_waits_in b phase ≡ true → a ≡ b
 waits_same (Waiting q m) a b first second = queue_same a q first ∙ sym (queue_same b q second)
 waits_same Loose a b first second = false_true first

@@ -283,7 +283,7 @@ balance_all setup s n t (e ∷ es) ticket is all =
     omega arith
 
 -- tickets rise
-last_after : (setup : Setup) (s : State) (n : ℕ) (t : Stage) (e : Entry) → MayCome setup s n t e → s.ticket ≤ (after setup s e).ticket
+pub last_after : (setup : Setup) (s : State) (n : ℕ) (t : Stage) (e : Entry) → MayCome setup s n t e → s.ticket ≤ (after setup s e).ticket
 last_after setup s n t (Arrive m a) may = let next : a.ticket ≡ s.ticket + 1 = may.1.numbered in omega arith
 last_after setup s n t (Done m u) may = omega arith
 last_after setup s n t (Fail m u) may = omega arith

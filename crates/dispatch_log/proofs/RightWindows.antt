@@ -1,22 +1,18 @@
 -- Why the worked logs of limits and windows are legal.
-use Rattle.std.proofs.Common.{◌≡◌, ◌≢◌, ℕ, suc, ◌+◌, ◌≤◌, pos, negsuc, true, List, [], ◌∷◌, ◌++◌, All, None, Some, IsTrue, refl, arith, Greater}
-use Rattle.std.proofs.lemmas.Int.{ints}
+use Rattle.std.proofs.Common.{◌≡◌, ◌≢◌, pos, negsuc, true, List, [], ◌∷◌, ◌++◌, None, Some, IsTrue, refl, arith, Greater}
 use Rattle.std.proofs.lemmas.List.Elements.{All-cons, All-nil}
 use Rattle.list_facts.proofs.Never.{false_true}
 use Rattle.due_key.specs.Order.{key_cmp}
-use Rattle.dispatch_log.specs.declared.allowance.Allowance.{Allowance}
 use Rattle.dispatch_log.specs.declared.entry.Entry.{Entry}
 use Rattle.dispatch_log.specs.declared.entry.Entry.TheVariants.{Limit, Done, Freed, Ended, Granted}
 use Rattle.dispatch_log.specs.declared.row.Phase.{Phase}
 use Rattle.dispatch_log.specs.declared.row.Phase.TheVariants.{Loose, Waiting, Serving}
 use Rattle.dispatch_log.specs.declared.queue.Queue.TheVariants.{Backend}
 use Rattle.dispatch_log.specs.declared.row.Row.{Row}
-use Rattle.dispatch_log.specs.declared.setup.ServerSet.{ServerSet}
 use Rattle.dispatch_log.specs.declared.setup.Setup.{Setup}
-use Rattle.dispatch_log.specs.Histories.{History, state_of, next_window}
-use Rattle.dispatch_log.specs.Judgement.{AreLawful, AllMayCome, granting, stage_after}
+use Rattle.dispatch_log.specs.Histories.{next_window}
+use Rattle.dispatch_log.specs.Judgement.{AreLawful, AllMayCome, granting}
 use Rattle.dispatch_log.specs.Legal.{IsLegal}
-use Rattle.dispatch_log.specs.Rows.{Rows, phase_waits_in}
 use Rattle.dispatch_log.specs.Setups.{IsSound, is_within}
 use Rattle.dispatch_log.specs.States.{State, after_all, opening_limits}
 use Rattle.dispatch_log.specs.Scenes.{Scene, may_go_to}

@@ -42,21 +42,22 @@ changed_at rows t p r f own stands named = same_places _ _ (λ k. slice_get-map 
         let differs : k ≢ p = λ same. let t : (k == p) ≡ true = (Decides-eqb k p).1 same in cc in
         elsewhere k (slice_get rows k) refl differs ∙ sym (get-set_other rows p k (f r) differs)
 
-same_suc : (k l : ℕ) → suc k ≡ suc l → k ≡ l
-same_suc k l e = omega arith
+-- and those of later places have their own
+pub own_later : (cell : Option Row) (rows : Rows) → HaveOwnTickets (cell ∷ rows) → HaveOwnTickets rows
+own_later cell rows own = record { own = λ k l u v a b e. omega (arith, own.own (suc k) (suc l) u v a b e) }
 
 -- the row of a ticket that stands somewhere
 pub row_of_at : (rows : Rows) (t p : ℕ) (r : Row) → HaveOwnTickets rows → StandsAt rows p r → r.key.ticket ≡ t → row_of t rows ≡ Some r
 row_of_at [] t p r own stands named = cc
 row_of_at (None ∷ rows) t zero r own stands named = cc
 row_of_at (None ∷ rows) t (suc p) r own stands named =
-    row_of_at rows t p r (record { own = λ k l u v a b e. same_suc k l (own.own (suc k) (suc l) u v a b e) }) stands named
+    row_of_at rows t p r (own_later None rows own) stands named
 row_of_at (Some u ∷ rows) t zero r own stands named =
     let it : u ≡ r = same_Some u r (same_Some (Some u) (Some r) stands) in
     let test : (u.key.ticket == t) ≡ true = (Decides-eqb (u.key.ticket) t).1 (ap (λ (x : Row). x.key.ticket) it ∙ named) in
     rw test (ap Some it)
 row_of_at (Some u ∷ rows) t (suc p) r own stands named =
-    by_test (u.key.ticket == t) refl (row_of_at rows t p r (record { own = λ k l v w a b e. same_suc k l (own.own (suc k) (suc l) v w a b e) }) stands named)
+    by_test (u.key.ticket == t) refl (row_of_at rows t p r (own_later (Some u) rows own) stands named)
   where
     by_test : (b : Bool) → (u.key.ticket == t) ≡ b → row_of t rows ≡ Some r → row_of t (Some u ∷ rows) ≡ Some r
     by_test true e rest = let at : 0 ≡ suc p = own.own 0 (suc p) u r refl stands ((Decides-eqb (u.key.ticket) t).0 e ∙ sym named) in absurd (omega arith)

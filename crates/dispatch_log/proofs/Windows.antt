@@ -1,17 +1,15 @@
 -- The first window begins at a proper base, and so does each window after a legal log.
-use Rattle.std.proofs.Common.{◌≡◌, ℕ, zero, suc, ◌+◌, ◌<◌, ◌^◌, nat_le, nat_lt, Bool, true, false, List, [], ◌∷◌}
-use Rattle.std.proofs.Common.{Option, None, Some, length, replicate, count_by, All, IsTrue, refl, ap, sym, ◌∙◌, subst, arith}
+use Rattle.std.proofs.Common.{◌≡◌, ℕ, suc, ◌+◌, ◌<◌, ◌^◌, nat_le, nat_lt, Bool, true, List, [], ◌∷◌}
+use Rattle.std.proofs.Common.{Option, None, Some, length, replicate, All, IsTrue, refl, ap, sym, ◌∙◌, subst, arith}
 use Rattle.std.proofs.lemmas.Bool.Decides.{nat_tests}
 use Rattle.std.proofs.Math.ListN.{length-replicate}
 use Rattle.std.proofs.lemmas.List.{length-map}
-use Rattle.std.proofs.lemmas.List.Sums.{sum_by-cons}
 use Rattle.std.proofs.lemmas.Bool.{and_parts}
-use Rattle.list_facts.proofs.Places.{tally}
+use Rattle.list_facts.proofs.Replicated.{count-replicate, none_in_empty}
 use Rattle.check_state.proofs.Shortened.{same_up}
 use Rattle.dispatch_log.specs.declared.entry.Entry.{Entry}
 use Rattle.dispatch_log.specs.declared.entry.Entry.TheVariants.{Arrive, Done, Fail, Abort, Tick, Check, Limit, Direct}
 use Rattle.dispatch_log.specs.declared.entry.Entry.TheVariants.{Joined, Granted, Moved, Freed, Retried, Left, Health, Ended}
-use Rattle.dispatch_log.specs.declared.row.Row.{Row}
 use Rattle.dispatch_log.specs.declared.setup.ServerSet.{ServerSet}
 use Rattle.dispatch_log.specs.declared.setup.Setup.{Setup}
 use Rattle.dispatch_log.specs.declared.refusal.Refusal.TheVariants.{LogFull, NoSuchServer, TicketsSpent, PlacesFull}
@@ -23,7 +21,7 @@ use Rattle.dispatch_log.specs.Health.{is_up_by, ups_of, shortened_by, shortened_
 use Rattle.dispatch_log.specs.Histories.{History, state_of, rolled, next_window}
 use Rattle.dispatch_log.specs.Judgement.{AreLawful, Stage, MayCome, AllMayCome, granting, next_stage, stage_after}
 use Rattle.dispatch_log.specs.Legal.{IsBase, IsLegal}
-use Rattle.dispatch_log.specs.Rows.{StandsAt, has_ticket, rows_of, is_served_by, served}
+use Rattle.dispatch_log.specs.Rows.{has_ticket, rows_of, is_served_by, served}
 use Rattle.dispatch_log.specs.States.{State, after, after_all, opening_state}
 use Rattle.dispatch_log.proofs.Accepted.{none_refuses}
 use Rattle.dispatch_log.proofs.Dispatched.{dispatched, base_consistent}
@@ -31,19 +29,6 @@ use Rattle.dispatch_log.proofs.Judged.{places_all, limits_all}
 use Rattle.dispatch_log.proofs.Standing.{AreRowsBy, standing_all}
 use Rattle.dispatch_log.proofs.Staying.{KeepsTo, keeps_all}
 use Rattle.dispatch_log.proofs.Tried.{tried_all, tried_over}
-
--- no row stands in an empty list of places
-pub none_stands : (n p : ℕ) (r : Row) → StandsAt (replicate n None) p r → ⊥
-none_stands zero p r e = cc
-none_stands (suc n) zero r e = cc
-none_stands (suc n) (suc p) r e = none_stands n p r e
-
-none_counted : (test : Option Row → Bool) (n : ℕ) → test None ≡ false → count_by test (replicate n None) ≡ 0
-none_counted test zero e = refl
-none_counted test (suc n) e =
-    let rest = none_counted test n e in
-    let first : tally (test None) ≡ 0 = ap tally e in
-    sum_by-cons (λ x. tally (test x)) None (replicate n None) ∙ omega arith
 
 none_between : (last ticket : ℕ) → 0 ≡ given_between last last ticket
 none_between last ticket = grind (arith, nat_tests)
@@ -56,19 +41,19 @@ opening_base setup = record {
   limited = length-map setup.servers (λ (it : ServerSet). record { limit = it.limit; served = 0 });
   numbered = omega arith;
   timed = omega arith;
-  timed_rows = λ row live. absurd (none_stands setup.places live.0 row live.1);
-  at_servers = λ row live. absurd (none_stands setup.places live.0 row live.1);
+  timed_rows = λ row live. absurd (none_in_empty setup.places live.0 row live.1);
+  at_servers = λ row live. absurd (none_in_empty setup.places live.0 row live.1);
   cursor = λ some. omega (arith, some);
-  tried = λ row live untold. absurd (none_stands setup.places live.0 row live.1);
+  tried = λ row live untold. absurd (none_in_empty setup.places live.0 row live.1);
   dispatched = record {
-    limits = λ server some. let none : served server (replicate setup.places None) ≡ 0 = none_counted (is_served_by server) setup.places refl in omega arith;
+    limits = λ server some. let none : served server (replicate setup.places None) ≡ 0 = count-replicate (is_served_by server) setup.places None refl in omega arith;
     one_place = λ ticket. record {
       arrives_once = none_between 0 ticket;
       until_its_end = refl;
-      one_row = let none : rows_of ticket (replicate setup.places None) ≡ 0 = none_counted (has_ticket ticket) setup.places refl in omega arith;
+      one_row = let none : rows_of ticket (replicate setup.places None) ≡ 0 = count-replicate (has_ticket ticket) setup.places None refl in omega arith;
     };
-    placed = λ row live. absurd (none_stands setup.places live.0 row live.1);
-    settled = λ server can. none_stands setup.places can.1.1.0 can.1.0 can.1.1.1;
+    placed = λ row live. absurd (none_in_empty setup.places live.0 row live.1);
+    settled = λ server can. none_in_empty setup.places can.1.1.0 can.1.0 can.1.1.1;
   };
 }
 

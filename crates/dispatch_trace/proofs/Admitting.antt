@@ -5,12 +5,11 @@ use Rattle.std.proofs.lemmas.List.{set-set}
 use Rattle.dispatch_log.specs.declared.row.Phase.{Phase}
 use Rattle.dispatch_log.specs.declared.row.Phase.TheVariants.{Loose}
 use Rattle.dispatch_log.specs.declared.row.Row.{Row}
-use Rattle.list_facts.proofs.Places.{get-set_same}
+use Rattle.list_facts.proofs.Places.{get-set_same, set_read}
 use Rattle.slot_ledger.specs.declared.places.Slot.{Slot}
 use Rattle.slot_ledger.specs.Ledgers.{Kept, with_slots}
 use Rattle.slot_ledger.specs.Slots.{StandsIn, HasRow, loosened}
 use Rattle.slot_ledger.proofs.Standing.{with_slot_at}
-use Rattle.dispatch_trace.proofs.Waits.{set_same}
 
 module _ {N : Type 0} where
   pub admitted_stands : (old mid : Kept N) (place : ℕ) (row : Row) → slice_get old.slots place ≡ Some None
@@ -43,4 +42,4 @@ module _ {N : Type 0} where
       then
       ∙ ap (λ (k : Kept N). with_slots k (set k.slots place None)) admitted
       ∙ ap (λ (l : List (Option (Slot N))). with_slots old l) (set-set old.slots place (Some (record { row = row; node = None })) None
-      ∙ set_same old.slots place None vacant)
+      ∙ set_read old.slots place None vacant)

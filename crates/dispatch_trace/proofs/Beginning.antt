@@ -27,8 +27,9 @@ use Rattle.dispatch_log.specs.Rows.{Rows, row_of, pin_of}
 use Rattle.dispatch_log.specs.Setups.{IsSound}
 use Rattle.dispatch_log.specs.States.{State, after, arrived, opening_state, opening_limits}
 use Rattle.dispatch_log.specs.Scenes.{Scene}
-use Rattle.dispatch_log.proofs.Windows.{none_stands, opening_base}
-use Rattle.list_facts.proofs.Places.{tally, get-set_same}
+use Rattle.dispatch_log.proofs.Windows.{opening_base}
+use Rattle.list_facts.proofs.Replicated.{none_in_empty}
+use Rattle.list_facts.proofs.Places.{tally, get-set_same, set_read}
 use Rattle.dispatch_log.proofs.RowLemmas.{row_of_at, row_of_none}
 use Rattle.list_facts.proofs.Members.{Contains-nil}
 use Rattle.readable_log.specs.Grants.{joining_in}
@@ -49,7 +50,8 @@ use Rattle.dispatch_trace.proofs.Healthy.{opening_ups}
 use Rattle.dispatch_trace.proofs.Resting.{none_rests, rests}
 use Rattle.dispatch_trace.proofs.Stepping.{stands_row, stands_slot, nodes_set, trace_consistent, trace_places, stepped, row_less}
 use Rattle.dispatch_trace.proofs.Turns.{rows_rest}
-use Rattle.dispatch_trace.proofs.Waits.{set_same, waiter_at, waiters_same, none_join}
+use Rattle.dispatch_trace.proofs.Placing.{no_refusal}
+use Rattle.dispatch_trace.proofs.Waits.{waiter_at, waiters_same, none_join}
 
 module _ {N : Type 0} (pair_of : N → Key × ℕ) where
   -- an event that changes no row begins
@@ -155,19 +157,6 @@ count_rows {N} (Some s ∷ slots) =
     let b = sum_by-cons (λ (x : Option (Slot N)). tally (is_some x)) (Some s) slots in
     omega arith
 
--- none of an arrival's refusals applies
-not_full : (a b c d : Bool) → first_of ((a, LogFull) ∷ (b, NoSuchServer) ∷ (c, TicketsSpent) ∷ (d, PlacesFull) ∷ []) ≡ None → d ≡ false
-not_full true b c d e = cc
-not_full false true c d e = cc
-not_full false false true d e = cc
-not_full false false false true e = cc
-not_full false false false false e = refl
-
-not_unknown : (a b c d : Bool) → first_of ((a, LogFull) ∷ (b, NoSuchServer) ∷ (c, TicketsSpent) ∷ (d, PlacesFull) ∷ []) ≡ None → b ≡ false
-not_unknown true b c d e = cc
-not_unknown false true c d e = cc
-not_unknown false false c d e = refl
-
 -- a server that there is has a small number
 pin_below : (setup : Setup) (pin : Option ℕ) → IsSound setup → pins_to_none setup pin ≡ false → IfSome pin (λ server. server < 2 ^ 8)
 pin_below setup None sound known = tt
@@ -194,7 +183,7 @@ module _ {N : Type 0} (pair_of : N → Key × ℕ) where
       → count_by is_some t.kept.slots < length t.kept.slots
   arrival_fits t pin is accepted =
       let h = history_of t in
-      let full : is_full h.setup (state_of h).rows ≡ false = not_full _ _ _ _ accepted in
+      let full : is_full h.setup (state_of h).rows ≡ false = (no_refusal _ _ _ _ accepted).3 in
       let fewer : count_by is_some (state_of h).rows < h.setup.places = grind (arith, nat_tests) in
       let counted = count_rows t.kept.slots in
       let rows : count_by is_some (rows_in t.kept.slots) ≡ count_by is_some (state_of h).rows = ap (count_by is_some) is.holds.rows in
@@ -215,7 +204,7 @@ module _ {N : Type 0} (pair_of : N → Key × ℕ) where
 
   pub pin_is_small : (t : Traced N) (pin : Option ℕ) → IsTrace pair_of t → refuses_arrival (history_of t) pin ≡ None
       → IfSome pin (λ server. server < 2 ^ 8)
-  pin_is_small t pin is accepted = pin_below t.kept.setup pin is.sound (not_unknown _ _ _ _ accepted)
+  pin_is_small t pin is accepted = pin_below t.kept.setup pin is.sound (no_refusal _ _ _ _ accepted).1
 
   -- the next ticket is above all others
   pub next_is_highest : (t : Traced N) → IsTrace pair_of t → (p : ℕ) (s : Slot N) → StandsIn t.kept.slots p s
@@ -267,7 +256,7 @@ module _ {N : Type 0} (pair_of : N → Key × ℕ) where
         ups = is.holds.ups;
         limits = is.holds.limits;
         waiters = is.holds.waiters
-            ∙ sym (set_same (waiters_of t.log.entries s.rows) place None (waiter_at t.log.entries s.rows place None free))
+            ∙ sym (set_read (waiters_of t.log.entries s.rows) place None (waiter_at t.log.entries s.rows place None free))
             ∙ sym (map-set (waiter_of t.log.entries) s.rows place (Some (arrived a)))
             ∙ sym (waiters_same t.log.entries (Arrive now a) (set s.rows place (Some (arrived a))) (none_join (Arrive now a) refl))
             ∙ ap (λ n. waiters_of (t.log.entries ++ Arrive now a ∷ []) (set s.rows n (Some (arrived a)))) (sym at);
@@ -330,15 +319,15 @@ module _ {N : Type 0} (pair_of : N → Key × ℕ) where
           rows = none_rows N setup.places;
           nodes =
               λ p s there. absurd
-              (none_stands setup.places p s.row (stands_row (replicate setup.places None) (replicate setup.places None) p s (none_rows N setup.places) there));
+              (none_in_empty setup.places p s.row (stands_row (replicate setup.places None) (replicate setup.places None) p s (none_rows N setup.places) there));
           ups = opening_ups setup;
           limits = refl;
           waiters = sym (none_waits setup.places);
           in_turn = record {
             waiting = λ place among. absurd (Contains-nil place among);
-            all = λ place since its. absurd (none_stands setup.places place its.0 its.2);
+            all = λ place since its. absurd (none_in_empty setup.places place its.0 its.2);
             never_fall = tt;
-            past = λ place since its. absurd (none_stands setup.places place its.0 its.2);
+            past = λ place since its. absurd (none_in_empty setup.places place its.0 its.2);
           };
           position = ap (λ n. record { cursor = n - 1; last = 0; ticket = 0 }) many;
         };

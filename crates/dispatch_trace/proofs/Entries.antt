@@ -22,7 +22,7 @@ use Rattle.slot_ledger.specs.declared.places.Slot.{Slot}
 use Rattle.slot_ledger.specs.Ledgers.{with_slots}
 use Rattle.slot_ledger.specs.Slots.{with_phase}
 use Rattle.slot_ledger.proofs.Standing.{with_slot_at}
-use Rattle.server_pick.proofs.Filled.{free_within}
+use Rattle.dispatch_log.proofs.Choices.{free_there}
 use Rattle.verdict.specs.declared.cause.Cause.{Cause}
 use Rattle.verdict.specs.declared.cause.Cause.TheVariants.{Aborted, Timeout}
 use Rattle.dispatch_trace.specs.declared.position.Position.{Position}
@@ -38,8 +38,8 @@ pub direct_within : (h : History) (u v : ℕ) → MayComeNext h (Direct u v) →
 direct_within h u v may = by_stage (stage_of h) may
   where
     by_stage : (t : Stage) → MayCome h.setup (state_of h) (length h.log) t (Direct u v) → v < length h.setup.servers
-    by_stage (placing n) m = free_within (scene h.setup (state_of h)) v m.1.1
-    by_stage (freed_by_failure n w) m = free_within (scene h.setup (state_of h)) v m.put.1.1
+    by_stage (placing n) m = free_there (scene h.setup (state_of h)) v m.1.1
+    by_stage (freed_by_failure n w) m = free_there (scene h.setup (state_of h)) v m.put.1.1
     by_stage t m = absurd m
 
 -- the position of a trace after an entry

@@ -1,5 +1,5 @@
 -- Which requests have waited as long as they may, by the order in which they joined.
-use Rattle.std.proofs.Common.{◌≡◌, ℕ, ◌+◌, ◌<◌, ◌≤◌, true, false, List, [], ◌∷◌, ◌++◌, Option, None, Some, MatchOption, is_some}
+use Rattle.std.proofs.Common.{◌≡◌, ℕ, ◌+◌, ◌<◌, ◌≤◌, List, [], ◌∷◌, ◌++◌, Option, None, Some, MatchOption, is_some}
 use Rattle.std.proofs.Common.{IsTrue, slice_get, Contains, length, length-append, append_assoc, refl, ap, sym, ◌∙◌, subst, arith, inl, inr, nat_cmp}
 use Rattle.std.specs.Option.{IfSome}
 use Rattle.std.proofs.lemmas.Bool.Decides.{nat_tests}
@@ -19,6 +19,7 @@ use Rattle.pend_queue.specs.Pairs.{IsAscending, IsAbsent, inserted}
 use Rattle.pend_queue.proofs.Ascending.{absent_from_members}
 use Rattle.pend_queue.proofs.Inserted.{Contains-inserted, Contains-inserted_new, Contains-inserted_old, length-inserted}
 use Rattle.list_facts.proofs.Members.{Contains-nil, Contains-head, Contains-cases, each_at_member}
+use Rattle.list_facts.proofs.Never.{false_true}
 use Rattle.slot_ledger.specs.declared.places.Slot.{Slot}
 use Rattle.slot_ledger.specs.Slots.{StandsIn, HasRow}
 use Rattle.list_facts.specs.Once.{ComeOnce}
@@ -46,9 +47,6 @@ expired_since setup now (Waiting queue since) expired = record { queue = queue; 
 expired_since setup now Loose expired = absurd expired
 expired_since setup now (Serving server) expired = absurd expired
 expired_since setup now (Told cause) expired = absurd expired
-
-pub false_true : false ≡ true → ⊥
-false_true e = cc
 
 -- the first element of a list
 first_member : (xs : List ℕ) (x : ℕ) → slice_get xs 0 ≡ Some x → Contains xs x
@@ -105,7 +103,7 @@ module _ (h : History) (places : List ℕ) (are : AreInTurn (WaitsSince (state_o
       → MatchOption oldest (IfSome first (λ at. ¬ (ExpiresAt h now at))) (λ at. (first ≡ Some at) × ExpiresAt h now at)
       → (IsTrue (is_some oldest) → SomeExpires h moment) × (SomeExpires h moment → IsTrue (is_some oldest))
   some_expires now moment first None is when none = (
-    λ some. absurd (false_true some),
+    λ some. false_true some,
     λ some. absurd (none_expires now some.1.0 [] places some.0 refl (subst (λ (o : Option ℕ). IfSome o (λ at. ¬ (ExpiresAt h now at))) is none)
         (expired_stays now some.1.0 some.0 some.1.1 (subst (λ n. HasExpired h.setup n some.0.phase) (sym when) some.2))
         some.1.1

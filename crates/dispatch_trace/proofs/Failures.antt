@@ -3,6 +3,7 @@ use Rattle.std.proofs.Common.{◌≡◌, ℕ, ◌+◌, ◌≤◌, max, not, Bool
 use Rattle.std.proofs.Common.{◌++◌, Option, None, Some, slice_get, length, refl, ap, sym, ◌∙◌, subst, arith}
 use Rattle.std.proofs.Math.ListN.{set}
 use Rattle.std.proofs.lemmas.List.{set-set}
+use Rattle.std.proofs.lemmas.Bool.{not-false}
 use Rattle.std.proofs.lemmas.Option.{same_Some}
 use Rattle.dispatch_log.specs.declared.entry.Entry.TheVariants.{Fail}
 use Rattle.dispatch_log.specs.declared.row.Phase.{Phase}
@@ -86,10 +87,6 @@ slot_untold Loose slot = false_true slot
 slot_untold (Waiting q m) slot = false_true slot
 slot_untold (Told c) slot = false_true slot
 
-has_slot : (b : Bool) → not b ≡ false → b ≡ true
-has_slot true e = refl
-has_slot false e = cc
-
 module _ {N : Type 0} (pair_of : N → Key × ℕ) where
   -- the failures of a request that has a slot are far from all that can be counted
   pub fail_countable : (t : Traced N) (it : Ticketed) (moment : ℕ) → IsTrace pair_of t
@@ -106,7 +103,7 @@ module _ {N : Type 0} (pair_of : N → Key × ℕ) where
       let tried = tried_all h.setup h.base 0 granting h.log opened is.judged.judged (λ row live untold other. is.judged.begins.tried row live untold) in
       let few : its.row.failures ≤ h.setup.retries =
       tried_over h.setup (state_of h) (stage_of h) tried begins.over its.row (its.place, its.stands)
-      (slot_untold its.row.phase (has_slot (has_a_slot its.row.phase) its.right)) in
+      (slot_untold its.row.phase (not-false (has_a_slot its.row.phase) its.right)) in
       let its_own : s.0.row.failures ≡ its.row.failures = ap (λ (r : Row). r.failures) (s.2 ∙ same) in
       let most = is.sound.retries in
       (s.0, s.1, omega arith)
@@ -133,7 +130,7 @@ module _ {N : Type 0} (pair_of : N → Key × ℕ) where
       let same : at.0 ≡ its.row = same_Some at.0 its.row (same_Some (Some at.0) (Some its.row) (sym at.1 ∙ there)) in
       let slot = stands_slot t.kept.slots s.rows it.place at.0 is.holds.rows at.1 in
       let idle : is_waiting slot.0.row.phase ≡ false = ap (λ (r : Row). is_waiting r.phase) (slot.2 ∙ same)
-      ∙ slot_rests its.row.phase (has_slot (has_a_slot its.row.phase) its.right) in
+      ∙ slot_rests its.row.phase (not-false (has_a_slot its.row.phase) its.right) in
       let next : Slot N = failed_slot t.kept.setup slot.0 in
       let node = node_of pair_of it.place slot.0 idle (is.holds.nodes it.place slot.0 slot.1) in
       subst (λ (l : List (Option (Slot N))). IsTrace pair_of

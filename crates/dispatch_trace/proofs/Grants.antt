@@ -22,7 +22,7 @@ use Rattle.readable_log.specs.Grants.{joining_of, has_joined}
 use Rattle.readable_log.specs.Windows.{base_rows}
 use Rattle.readable_log.specs.Readable.{HasArrived}
 use Rattle.list_facts.proofs.Both.{and_second}
-use Rattle.slot_ledger.specs.Ledgers.{Kept, with_slots}
+use Rattle.slot_ledger.specs.Ledgers.{with_slots, scene_of as kept_scene}
 use Rattle.slot_ledger.specs.Slots.{rows_in, HasRow, with_phase, loosened}
 use Rattle.server_pick.specs.declared.heads.Heads.{Heads}
 use Rattle.server_pick.specs.Heads.{AreHeads, IsHead, IsLawfulTake, IsEmptyQueue, IsLeastIn}
@@ -36,10 +36,6 @@ use Rattle.dispatch_trace.proofs.Resting.{waits_phase, phase_waits}
 use Rattle.dispatch_trace.proofs.Stepping.{stands_slot, trace_consistent}
 use Rattle.dispatch_trace.proofs.Waiters.{ItsRow, waits_listed, listed, unqueued, one_fewer, row_arrived, row_joined}
 use Rattle.dispatch_trace.proofs.Within.{take_within}
-
--- what a decision on a ledger looks at
-abbrev pub kept_scene : {N : Type 0} → Kept N → Scene
-kept_scene kept = record { servers = kept.setup.servers; limits = kept.limits; ups = kept.ups; rows = rows_in kept.slots }
 
 -- two first requests of a queue have one key
 pub first_once : (queue : Queue) (waiters : Waiters) (p q : ℕ) (v w : Waiter) → IsFirstIn queue waiters p v → IsFirstIn queue waiters q w

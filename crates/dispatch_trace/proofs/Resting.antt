@@ -8,7 +8,7 @@ use Rattle.dispatch_log.specs.declared.row.Row.{Row}
 use Rattle.dispatch_log.specs.Refusals.{is_waiting, has_a_slot}
 use Rattle.dispatch_log.specs.Rows.{phase_waits_in, phase_is_served_by, phase_is_told}
 use Rattle.std.proofs.lemmas.Bool.Decides.{Decides-eqb}
-use Rattle.server_pick.proofs.Taking.{same_queues, own_queue}
+use Rattle.dispatch_log.proofs.Choices.{queue_same, queue_own}
 
 -- a place has no row that waits in a queue
 abbrev pub NoneWaits : Queue → Option Row → Type 0
@@ -29,10 +29,10 @@ pub waits_phase : (queue : Queue) (phase : Phase) → phase_waits_in queue phase
 waits_phase queue Loose e = cc
 waits_phase queue (Serving s) e = cc
 waits_phase queue (Told c) e = cc
-waits_phase queue (Waiting other since) e = (since, ap (λ (q : Queue). Waiting q since) (sym (same_queues queue other e)))
+waits_phase queue (Waiting other since) e = (since, ap (λ (q : Queue). Waiting q since) (sym (queue_same queue other e)))
 
 pub phase_waits : (queue : Queue) (since : ℕ) (phase : Phase) → phase ≡ Waiting queue since → phase_waits_in queue phase ≡ true
-phase_waits queue since phase is = ap (phase_waits_in queue) is ∙ own_queue queue
+phase_waits queue since phase is = ap (phase_waits_in queue) is ∙ queue_own queue
 
 -- a row that a server serves, and one that was told, don't wait
 pub served_phase : (server : ℕ) (phase : Phase) → phase_is_served_by server phase ≡ true → phase ≡ Serving server

@@ -23,7 +23,7 @@ use Rattle.dispatch_log.specs.States.{State, after}
 use Rattle.dispatch_log.proofs.Consistency.{IsConsistent}
 use Rattle.dispatch_log.proofs.Dispatched.{base_consistent}
 use Rattle.dispatch_log.proofs.Judged.{after_all-push, judged_push, consistent_all, places_all}
-use Rattle.list_facts.proofs.Places.{get-set_cases}
+use Rattle.list_facts.proofs.Places.{get-set_cases, set_read}
 use Rattle.dispatch_log.proofs.RowLemmas.{HaveOwnTickets}
 use Rattle.readable_log.specs.Grants.{joining_in}
 use Rattle.readable_log.specs.Readable.{MayFollow}
@@ -41,7 +41,7 @@ use Rattle.dispatch_trace.specs.Traces.{Traced, history_of, noted, HasItsNode, H
 use Rattle.dispatch_trace.specs.Turns.{WaitsSince, AreInTurn}
 use Rattle.dispatch_trace.proofs.Resting.{rests}
 use Rattle.dispatch_trace.proofs.Turns.{Rests, rows_rest}
-use Rattle.dispatch_trace.proofs.Waits.{set_same, waiters_same, waiters_set, idle_waiter, waiter_at, none_join}
+use Rattle.dispatch_trace.proofs.Waits.{waiters_same, waiters_set, idle_waiter, waiter_at, none_join}
 
 -- what is required of a trace's history is required of what its fields hold
 pub here_at : (h now : History) (it : Ticketed) → h ≡ now → IsAt (state_of now).rows it → IsAt (state_of h).rows it
@@ -247,7 +247,7 @@ module _ {N : Type 0} (pair_of : N → Key × ℕ) where
       let own = (trace_consistent t is).tickets in
       row_changed t e p s cell t.waits position is may change refl
       (is.holds.waiters
-      ∙ sym (set_same (waiters_of t.log.entries state.rows) p None
+      ∙ sym (set_read (waiters_of t.log.entries state.rows) p None
       (waiter_at t.log.entries state.rows p (Some s.row) there ∙ ap Some (idle_waiter t.log.entries s.row idle)))
       ∙ ap (set (waiters_of t.log.entries state.rows) p) (sym nobody)
       ∙ sym (waiters_set t.log.entries e state.rows p s.row (row_in cell) own there (λ n q differs. none_join e none n q)))

@@ -31,7 +31,7 @@ use Rattle.slot_ledger.specs.declared.places.Slot.{Slot}
 use Rattle.slot_ledger.specs.Ledgers.{with_slots}
 use Rattle.slot_ledger.specs.Slots.{StandsIn, with_phase, loosened, waiting, unpinned}
 use Rattle.slot_ledger.proofs.Standing.{with_slot_at}
-use Rattle.server_pick.proofs.Taking.{own_queue}
+use Rattle.dispatch_log.proofs.Choices.{queue_own}
 use Rattle.wait_queues.specs.declared.waiters.Waiter.{Waiter}
 use Rattle.wait_queues.specs.Order.{without}
 use Rattle.wait_queues.specs.Waitlists.{Waiters, WaitsAt, HasNoKey, with_waiter, without_waiter, with_waiter_anew, moved_waiter}
@@ -212,7 +212,7 @@ module _ {N : Type 0} (pair_of : N → Key × ℕ) where
       ∙ ap (λ n. set t.kept.slots it.place (Some (record { row = record slot.0.row { phase = Waiting queue n }; node = None }))) moment in
       let idle_slot : is_waiting slot.0.row.phase ≡ false = ap (λ (r : Row). is_waiting r.phase) slot.2 ∙ idle in
       let joins_it : joins slot.0.row.key.ticket queue e ≡ true =
-      ap (λ (b : Bool). b && same_queue queue queue) ((Decides-eqb it.ticket slot.0.row.key.ticket).1 (sym named)) ∙ own_queue queue in
+      ap (λ (b : Bool). b && same_queue queue queue) ((Decides-eqb it.ticket slot.0.row.key.ticket).1 (sym named)) ∙ queue_own queue in
       let last : joining_of slot.0.row.key.ticket queue (t.log.entries ++ e ∷ []) ≡ length t.log.entries + 1 =
       joining_of_last slot.0.row.key.ticket queue t.log.entries e joins_it in
       let is_its : waiter_of (t.log.entries ++ e ∷ []) (Some next.row) ≡ Some waiter =

@@ -1,10 +1,10 @@
 -- Those that wait by place, as the rows say and as one entry changes them.
-use Rattle.std.proofs.Common.{◌≡◌, ◌≢◌, ℕ, zero, suc, ◌+◌, ◌==◌, ◌&&◌, Bool, true, false, List, [], ◌∷◌, ◌++◌, Option, None}
-use Rattle.std.proofs.Common.{Some, option_map, slice_get, length, refl, ap, sym, ◌∙◌, arith}
+use Rattle.std.proofs.Common.{◌≡◌, ◌≢◌, ℕ, ◌==◌, ◌&&◌, Bool, true, false, List, [], ◌∷◌, ◌++◌, Option, None}
+use Rattle.std.proofs.Common.{Some, option_map, slice_get, refl, ap, sym, ◌∙◌}
 use Rattle.std.proofs.Math.ListN.{set}
 use Rattle.std.proofs.lemmas.Bool.Decides.{Decides-eqb}
 use Rattle.std.proofs.lemmas.List.{map-set, length-map}
-use Rattle.std.proofs.lemmas.Option.{same_Some, slice_get-map}
+use Rattle.std.proofs.lemmas.Option.{slice_get-map}
 use Rattle.dispatch_log.specs.declared.entry.Entry.{Entry}
 use Rattle.dispatch_log.specs.declared.entry.Entry.TheVariants.{Joined, Moved}
 use Rattle.dispatch_log.specs.declared.queue.Queue.{Queue}
@@ -14,35 +14,13 @@ use Rattle.dispatch_log.specs.declared.row.Phase.TheVariants.{Loose, Waiting, Se
 use Rattle.dispatch_log.specs.declared.row.Row.{Row}
 use Rattle.dispatch_log.specs.Refusals.{is_waiting}
 use Rattle.dispatch_log.specs.Rows.{Rows, StandsAt, same_queue}
-use Rattle.list_facts.proofs.Places.{same_places}
+use Rattle.list_facts.proofs.Places.{set_alike}
 use Rattle.dispatch_log.proofs.RowLemmas.{HaveOwnTickets}
 use Rattle.readable_log.specs.Grants.{joining_in, joins}
 use Rattle.readable_log.proofs.Joinings.{joining_of_other, nothing_joins}
 use Rattle.wait_queues.specs.declared.waiters.Waiter.{Waiter}
 use Rattle.wait_queues.specs.Waitlists.{Waiters}
 use Rattle.dispatch_trace.specs.Traces.{waiter_in, waiter_of, waiters_of}
-
-module _ {X : Type 0} where
-  pub set_same : (xs : List X) (p : ℕ) (x : X) → slice_get xs p ≡ Some x → set xs p x ≡ xs
-  set_same [] p x e = cc
-  set_same (y ∷ xs) zero x e = ap (λ z. z ∷ xs) (sym (same_Some y x e))
-  set_same (y ∷ xs) (suc p) x e = ap (λ l. y ∷ l) (set_same xs p x e)
-
-  -- lists that differ at one place alone are one once that is written
-  pub set_alike : (xs ys : List X) (p : ℕ) (x : X) → length xs ≡ length ys → ((k : ℕ) → k ≢ p → slice_get xs k ≡ slice_get ys k)
-      → set xs p x ≡ set ys p x
-  set_alike [] [] p x long same = refl
-  set_alike [] (y ∷ ys) p x long same =
-      let more : length (y ∷ ys) ≡ length ys + 1 = omega arith in let none : length {A = X} [] ≡ 0 = refl in absurd (omega arith)
-  set_alike (z ∷ xs) [] p x long same =
-      let more : length (z ∷ xs) ≡ length xs + 1 = omega arith in let none : length {A = X} [] ≡ 0 = refl in absurd (omega arith)
-  set_alike (z ∷ xs) (y ∷ ys) zero x long same = ap (λ l. x ∷ l) (same_places xs ys (λ k. same (suc k) (λ e. cc)))
-  set_alike (z ∷ xs) (y ∷ ys) (suc p) x long same =
-      let head : z ≡ y = same_Some z y (same 0 (λ e. cc)) in
-      let rest : set xs p x ≡ set ys p x =
-      set_alike xs ys p x (let a : length (z ∷ xs) ≡ length xs + 1 = omega arith in let b : length (y ∷ ys) ≡ length ys + 1 = omega arith in
-      omega arith) (λ k differs. same (suc k) (λ e. differs (omega arith))) in
-      ap (λ w. w ∷ set xs p x) head ∙ ap (λ l. y ∷ l) rest
 
 -- an entry that doesn't put a ticket into a queue leaves how its row waits
 pub same_waiter : (log : List Entry) (e : Entry) (cell : Option Row)

@@ -1,8 +1,7 @@
 -- The servers and queues of placements are those that there are.
-use Rattle.std.proofs.Common.{◌≡◌, ℕ, ◌<◌, ◌==◌, ◌||◌, nat_lt, if◌then◌else◌, MatchOption, Bool, true, false, Option, None, Some}
+use Rattle.std.proofs.Common.{◌≡◌, ℕ, ◌<◌, MatchOption, true, Option, None, Some}
 use Rattle.std.proofs.Common.{length, refl, sym, subst}
 use Rattle.std.proofs.lemmas.Bool.Decides.{Decides-eqb}
-use Rattle.std.proofs.lemmas.Option.{same_Some}
 use Rattle.dispatch_log.specs.declared.entry.Entry.TheVariants.{Joined}
 use Rattle.dispatch_log.specs.declared.queue.Queue.{Queue}
 use Rattle.dispatch_log.specs.declared.queue.Queue.TheVariants.{Backend, Server}
@@ -10,42 +9,24 @@ use Rattle.dispatch_log.specs.Histories.{History, state_of}
 use Rattle.dispatch_log.specs.Judgement.{Stage, placing, freed_by_failure, MayCome}
 use Rattle.dispatch_log.specs.Picks.{IsPick}
 use Rattle.dispatch_log.specs.Placement.{IsCandidate, IsChosen}
-use Rattle.dispatch_log.specs.Rows.{queued, pin_of}
+use Rattle.dispatch_log.specs.Rows.{pin_of}
 use Rattle.dispatch_log.specs.States.{scene}
-use Rattle.dispatch_log.specs.Scenes.{Scene, of_server, is_up, is_free, takes_pinned, working_pin, may_take}
+use Rattle.dispatch_log.specs.Scenes.{Scene, is_up, working_pin, may_take}
+use Rattle.dispatch_log.proofs.Choices.{free_there, pinned_there, room_there}
 use Rattle.slot_ledger.specs.Counts.{IsQueueOf}
 use Rattle.list_facts.proofs.Both.{and_second}
-use Rattle.server_pick.proofs.Chosen.{room_within}
-use Rattle.server_pick.proofs.Filled.{free_within, server_within}
 use Rattle.server_pick.specs.declared.heads.Heads.{Heads}
 use Rattle.server_pick.specs.Heads.{IsLawfulTake}
 use Rattle.dispatch_trace.specs.Histories.{stage_of, MayComeNext}
 
 -- a server that a request is put on is one of them
-takes_within : (here : Scene) (server : ℕ) → takes_pinned here server ≡ true → server < length here.servers
-takes_within here server takes = by_free (is_free here server) refl (and_second (is_up here server) _ takes)
-  where
-    by_free : (b : Bool) → is_free here server ≡ b
-        → b || of_server here server (λ it. (it.maxqueue == 0) || nat_lt (queued (Server server) here.rows) it.maxqueue) ≡ true
-        → server < length here.servers
-    by_free true e t = free_within here server e
-    by_free false e t = server_within here server (λ it. (it.maxqueue == 0) || nat_lt (queued (Server server) here.rows) it.maxqueue) t
-
-pin_within : (here : Scene) (pin : Option ℕ) (server : ℕ) → working_pin here pin ≡ Some server → server < length here.servers
-pin_within here None server e = cc
-pin_within here (Some own) server e = by_test (takes_pinned here own) refl e
-  where
-    by_test : (b : Bool) → takes_pinned here own ≡ b → (if b then Some own else None) ≡ Some server → server < length here.servers
-    by_test true t same = subst (λ n. n < length here.servers) (same_Some own server same) (takes_within here own t)
-    by_test false t same = cc
-
 chosen_within : (here : Scene) (cursor : ℕ) (pin avoid : Option ℕ) (server : ℕ) → IsChosen here cursor pin avoid server → server < length here.servers
 chosen_within here cursor pin avoid server chosen = by_pin (working_pin here pin) refl chosen
   where
     by_pin : (w : Option ℕ) → working_pin here pin ≡ w → MatchOption w (IsPick here cursor (IsCandidate here avoid) server) (λ own. own ≡ server)
         → server < length here.servers
-    by_pin None e pick = room_within here server pick.member.0
-    by_pin (Some own) e same = subst (λ n. n < length here.servers) same (pin_within here pin own e)
+    by_pin None e pick = room_there here server pick.member.0
+    by_pin (Some own) e same = subst (λ n. n < length here.servers) same (pinned_there here pin own e)
 
 -- the queue that a newcomer joins is one of them
 pub joined_within : (h : History) (u : ℕ) (queue : Queue) → MayComeNext h (Joined u queue) → IsQueueOf (length h.setup.servers) queue
@@ -62,7 +43,7 @@ pub take_within : (here : Scene) (cursor : ℕ) (heads : Heads) (server : ℕ) (
     → (server < length here.servers) × IsQueueOf (length here.servers) queue
 take_within here cursor heads server queue take =
     let grant = take.2 in
-    let within : server < length here.servers = free_within here server grant.next.takes.0 in
+    let within : server < length here.servers = free_there here server grant.next.takes.0 in
     (within, by_queue queue grant.taken within)
   where
     by_queue : (q : Queue) → may_take here server q ≡ true → server < length here.servers → IsQueueOf (length here.servers) q

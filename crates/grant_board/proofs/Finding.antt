@@ -15,7 +15,7 @@ use Rattle.grant_board.specs.Views.{Grant, grant, Terms, KeeperPart, RelayView, 
 use Rattle.grant_board.specs.Rule.{BoardState, standing, taken, posted, of_keepers, of_relays, Orderly}
 use Rattle.grant_board.specs.Ruled.{view}
 use Rattle.list_facts.proofs.Totals.{term_le, terms_le, total-one, weightless, alone}
-use Rattle.grant_board.proofs.Positions.{along_mono, along_found, along_at, along_once, along_length}
+use Rattle.list_facts.proofs.Positions.{along_mono, along_found, along_at, along_once, along_length}
 use Rattle.list_facts.proofs.Each.{index-map, item_in}
 use Rattle.list_facts.proofs.Ones as members
 use Rattle.grant_board.proofs.Grants as grants

@@ -1,5 +1,5 @@
 -- Views that are cut in two or made one keep the rule.
-use Rattle.std.proofs.Common.{◌≡◌, ℕ, ◌+◌, ◌≢◌, Bool, true, false, cond, List, [], ◌∷◌, ◌++◌, set, sym, refl, ◌∙◌, subst, ⊎_elim, arith}
+use Rattle.std.proofs.Common.{◌≡◌, ℕ, ◌+◌, ◌≢◌, Bool, true, false, List, [], ◌∷◌, ◌++◌, set, sym, refl, ◌∙◌, subst, ⊎_elim, arith}
 use Rattle.std.proofs.lemmas.Bool.{cond-true, cond-false}
 use mathlib.Core.Option.{some}
 use lib.ListN.{get_elem?}
@@ -12,6 +12,7 @@ use Rattle.grant_board.specs.Views.{Grant, Terms, KeeperPart, RelayView, count_o
 use Rattle.grant_board.specs.Rule.{BoardState, of_keepers, of_relays, is_first, is_other, split_off, joined_in, KeeperAgrees, RelayAgrees, Agrees, Orderly}
 use Rattle.grant_board.specs.Ruled.{view}
 use Rattle.grant_board.specs.Plays.{blank, beside, but_last, last_alone, aside, cut_off, parent, child, gathered}
+use Rattle.list_facts.proofs.Places.{tally}
 use Rattle.list_facts.proofs.Totals.{total-append, total-set, terms_le}
 use Rattle.list_facts.proofs.Each.{Each-append}
 use Rattle.grant_board.proofs.Moving.{board}
@@ -127,9 +128,6 @@ beside_kept t id v other w s o me apart them =
     (λ h. rs (λ x. total h x.passes)) (λ h. rs (λ x. total h x.takes)) (λ h. rs (λ x. total h x.posts))
     (join-agree s id v other w b me apart them (Agrees t o.bounds) o.agree
     (Each-append (KeeperAgrees t o.bounds) v.keepers w.keepers mine.0 theirs.0, Each-append (RelayAgrees t) v.relays w.relays mine.1 theirs.1) (tt, tt))
-
-abbrev tally : Bool → ℕ
-tally b = cond b 1 0
 
 is_false : (b : Bool) → tally b ≡ 0 → b ≡ false
 is_false true e = absurd (omega arith)

@@ -27,7 +27,7 @@ use Rattle.grant_board.specs.KeeperCalls.{keeper_looked, offer_after, collect_af
 use Rattle.grant_board.specs.RelayCalls.{relay_looked, take_after, post_after}
 use Rattle.grant_board.specs.Plays.{Seated, seated, keeper_seat, relay_seat, offers, sees, clears, limits, vouches, glances, takes, posts, meets, counts}
 use Rattle.list_facts.proofs.Totals as sums
-use Rattle.grant_board.proofs.Positions.{along_le}
+use Rattle.list_facts.proofs.Positions.{along_le}
 use Rattle.list_facts.proofs.Each as items
 use Rattle.grant_board.proofs.Grants as grants
 use Rattle.grant_board.proofs.Codes.{same_word}

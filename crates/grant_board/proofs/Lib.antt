@@ -1,4 +1,3 @@
-pub mod Positions
 pub mod Grants
 mod Codes
 mod Moving

@@ -15,7 +15,7 @@ use Rattle.grant_board.specs.Views.{Grant, Terms, KeeperPart, RelayView, Sightin
 use Rattle.grant_board.specs.Rule.{Slot, BoardState, standing, offered, taken, posted, as_return, of_keepers}
 use Rattle.grant_board.specs.Rule.{of_relays, is_first, is_other, split_off, joined_in, KeeperAgrees, Agrees, Orderly}
 use Rattle.list_facts.proofs.Totals.{total-set}
-use Rattle.grant_board.proofs.Positions.{along-set}
+use Rattle.list_facts.proofs.Positions.{along-set}
 use Rattle.list_facts.proofs.Each.{Each-set, item_in}
 
 abbrev pub board : List ℕ → List (Option Slot) → List View → BoardState

@@ -14,7 +14,7 @@ use Rattle.grant_board.specs.Rule.{BoardState, standing, taken, of_relays, Order
 use Rattle.grant_board.specs.Ruled.{view}
 use Rattle.grant_board.specs.Places.{HasKeeper, HasRelay, HasItsWord, ByPlaces, RuleByPlaces}
 use Rattle.list_facts.proofs.Totals.{term_le, terms_le, has_le, found_at}
-use Rattle.grant_board.proofs.Positions.{along_le, along_found}
+use Rattle.list_facts.proofs.Positions.{along_le, along_found}
 use Rattle.list_facts.proofs.Each.{item_at, item_in, Each-at}
 use Rattle.grant_board.proofs.Grants as grants
 use Rattle.grant_board.proofs.Codes.{same_word}

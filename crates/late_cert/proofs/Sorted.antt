@@ -6,13 +6,13 @@ use Rattle.std.specs.List.{AllByRecursion, filter, prefix_len}
 use Rattle.std.specs.List.Sorted.{IsSortedBy, IsStableBy, ties}
 use Rattle.std.specs.Ordering.{int_eq}
 use Rattle.std.proofs.lemmas.Bool.{false≢true, and_parts}
-use Rattle.std.proofs.lemmas.Bool.Decides.{Decides-eqb, Decides-int_eq}
+use Rattle.std.proofs.lemmas.Bool.Decides.{Decides-int_eq}
 use Rattle.std.proofs.lemmas.List.Elements.{recursion_from_All, filter_agree}
 use Rattle.std.proofs.lemmas.List.Sorted.{sorted_far}
 use Rattle.list_facts.proofs.Members.{filter_none}
 use Rattle.dispatch_log.specs.declared.queue.Queue.{Queue}
-use Rattle.dispatch_log.specs.declared.queue.Queue.TheVariants.{Backend, Server}
 use Rattle.dispatch_log.specs.Rows.{same_queue}
+use Rattle.dispatch_log.proofs.Choices.{queue_own, queue_same}
 use Rattle.readable_log.specs.Grants.{is_of}
 use Rattle.readable_log.specs.declared.grant.SlotGrant.{SlotGrant}
 use Rattle.late_cert.specs.Groups.{is_before}
@@ -45,23 +45,12 @@ sorted_drop zero gs sorted = sorted
 sorted_drop (suc n) [] sorted = tt
 sorted_drop (suc n) (g ∷ gs) sorted = sorted_drop n gs sorted.1
 
--- one queue
-pub same_queue_is : (p q : Queue) → same_queue p q ≡ true → p ≡ q
-same_queue_is Backend Backend e = refl
-same_queue_is Backend (Server n) e = cc
-same_queue_is (Server m) Backend e = cc
-same_queue_is (Server m) (Server n) e = ap Server ((Decides-eqb m n).0 e)
-
-pub same_queue_refl : (q : Queue) → same_queue q q ≡ true
-same_queue_refl Backend = refl
-same_queue_refl (Server n) = (Decides-eqb n n).1 refl
-
 -- a grant from a queue and of a class
 pub is_of_true : (q : Queue) (c : ℤ) (g : SlotGrant) → is_of q c g ≡ true → (q ≡ g.queue) × (c ≡ g.class)
-is_of_true q c g e = let h = and_parts (same_queue q g.queue) (int_eq c g.class) e in (same_queue_is q g.queue h.0, (Decides-int_eq c g.class).0 h.1)
+is_of_true q c g e = let h = and_parts (same_queue q g.queue) (int_eq c g.class) e in (queue_same q g.queue h.0, (Decides-int_eq c g.class).0 h.1)
 
 pub is_of_own : (g : SlotGrant) → is_of g.queue g.class g ≡ true
-is_of_own g = rw (same_queue_refl g.queue, (Decides-int_eq g.class g.class).1 refl) refl
+is_of_own g = rw (queue_own g.queue, (Decides-int_eq g.class g.class).1 refl) refl
 
 -- no grant comes before a queue and class
 abbrev pub NoneBefore : Queue → ℤ → List SlotGrant → Type 0

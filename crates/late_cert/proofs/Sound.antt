@@ -2,13 +2,14 @@
 use Rattle.std.proofs.Common.{◌≡◌, ℕ, zero, suc, ◌-◌, ◌<◌, ◌≤◌, ◌==◌, ◌&&◌, ◌||◌, not, Bool, true}
 use Rattle.std.proofs.Common.{false, cond, ℤ, pos, ◌-ℤ◌, ◌≤ℤ◌, int_lt, List, [], ◌∷◌, map, length, drop}
 use Rattle.std.proofs.Common.{count_by, slice_index_or, ◌↔◌, IsTrue, Decides, refl, ap, sym, ◌∙◌, subst, arith, length-drop, nat_lt}
-use Rattle.std.specs.List.{AllByRecursion, filter, list_all, list_any}
+use Rattle.std.specs.List.{AllByRecursion, filter, list_any}
 use Rattle.std.specs.Ordering.{int_eq}
 use Rattle.std.proofs.lemmas.Bool.{false≢true}
 use Rattle.std.proofs.lemmas.Bool.Decides.{nat_tests, Decides-and, Decides-eqb, Decides-int_eq, Decides-like}
 use Rattle.std.proofs.lemmas.Int.{ints}
 use Rattle.std.proofs.lemmas.List.{length-map, drop_all}
 use Rattle.std.proofs.lemmas.List.Sums.{length-filter}
+use Rattle.list_facts.proofs.Members.{all_decides}
 use Rattle.readable_log.specs.Grants.{grants, stays}
 use Rattle.readable_log.specs.Readable.{IsReadable}
 use Rattle.readable_log.specs.Timely.{IsTimely}
@@ -28,10 +29,6 @@ about r gs = map (λ g. g.stay) (filter (is_about r) gs)
 -- a grant's lateness is that of its stay with its own slot
 pub lateness_of : (log : Window) (g : SlotGrant) → IsTimely log g → own_lateness log g.stay ≡ late_by g
 lateness_of log g timely = ap (λ (m : ℕ). pos m -ℤ g.stay.due) (sym timely.moment)
-
-all_decides : {X : Type 0} (p : X → Bool) (P : X → Type 0) → ((x : X) → Decides (p x) (P x)) → (xs : List X) → Decides (list_all p xs) (AllByRecursion P xs)
-all_decides p P each [] = (λ e. tt, λ h. refl)
-all_decides p P each (x ∷ xs) = Decides-and (p x) (list_all p xs) (each x) (all_decides p P each xs)
 
 -- none is later than the worst
 keeps_decides : (r : Report) (g : SlotGrant) → Decides (keeps_worst r g) (is_about r g ≡ true → late_by g ≤ℤ r.worst)

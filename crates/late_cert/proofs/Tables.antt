@@ -1,39 +1,23 @@
 -- Rows of the worst of each queue, and the table of these.
-use Rattle.std.proofs.Common.{◌≡◌, ◌≢◌, ℕ, zero, suc, ◌+◌, ◌-◌, ◌<◌, ◌≤◌, ◌==◌, Bool, true, false, cond, List, [], ◌∷◌, ◌++◌, length, slice_get, is_some}
-use Rattle.std.proofs.Common.{Option, Some, None, ℤ, refl, sym, ap, subst, ◌∙◌, arith, Decides}
+use Rattle.std.proofs.Common.{◌≡◌, ℕ, ◌<◌, ◌==◌, Bool, true, false, cond, List, length, is_some}
+use Rattle.std.proofs.Common.{Option, Some, None, ℤ, refl, sym, ap, ◌∙◌, arith}
 use Rattle.std.proofs.Common.{pos, negsuc, ◌-ℤ◌, ◌≤ℤ◌, ◌&&◌}
 use Rattle.std.specs.Int.{int_max}
 use Rattle.std.specs.Ordering.{int_eq}
 use Rattle.std.proofs.lemmas.Int.{ints}
 use Rattle.due_key.specs.Range.{IsBetween}
 use Rattle.due_key.specs.declared.class.TheConstants.{LOWEST_CLASS, HIGHEST_CLASS}
-use Rattle.std.specs.Option.{unwrap_or, option_and_then, option_map_or}
+use Rattle.std.specs.Option.{option_and_then, option_map_or}
 use Rattle.std.specs.Vec.{with_item}
 use Rattle.std.proofs.Math.ListN.{set}
 use Rattle.std.proofs.lemmas.Bool.Decides.{Decides-eqb, Decides-int_eq}
-use Rattle.list_facts.proofs.Places.{get-set_other}
+use Rattle.list_facts.proofs.Places.{got_set}
 use Rattle.dispatch_log.specs.declared.queue.Queue.{Queue}
 use Rattle.dispatch_log.specs.declared.queue.Queue.TheVariants.{Backend, Server}
 use Rattle.dispatch_log.specs.Rows.{same_queue}
 use Rattle.late_cert.specs.Table.{at_least_zero, row_number, row_at, worst_of, worst_at}
 use Rattle.late_cert.specs.Running.{worst_with}
 use Rattle.late_cert.specs.declared.worsts.Worsts.{Worsts}
-
-set_here : {X : Type 0} (xs : List X) (at : ℕ) (new : X) → at < length xs → slice_get (set xs at new) at ≡ Some new
-set_here [] at new there = absurd (omega arith)
-set_here (x ∷ xs) zero new there = refl
-set_here (x ∷ xs) (suc at) new there = set_here xs at new (omega arith)
-
--- what stands at a place, or else an item, once one place was written
-pub got_set : {X : Type 0} (xs : List X) (at : ℕ) (new other : X) → at < length xs → (place : ℕ)
-    → unwrap_or (slice_get (set xs at new) place) other ≡ cond (place == at) new (unwrap_or (slice_get xs place) other)
-got_set xs at new other there place = go (place == at) refl
-  where
-    go : (b : Bool) → (place == at) ≡ b → unwrap_or (slice_get (set xs at new) place) other ≡ cond b new (unwrap_or (slice_get xs place) other)
-    go true e =
-        subst (λ k. unwrap_or (slice_get (set xs at new) k) other ≡ new) (sym ((Decides-eqb place at).0 e))
-        (ap (λ o. unwrap_or o other) (set_here xs at new there))
-    go false e = ap (λ o. unwrap_or o other) (get-set_other xs at place new (λ same. let t : (place == at) ≡ true = (Decides-eqb place at).1 same in cc))
 
 -- what a row says once the worst of a server's queue was set
 pub server_set : (row : Worsts) (s : ℕ) (x : Option ℤ) → s < length row.servers.items → (other : Queue)

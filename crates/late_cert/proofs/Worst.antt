@@ -1,18 +1,13 @@
 -- The worst of grants: of one grant more, and of the stays of a window.
-use Rattle.std.proofs.Common.{◌≡◌, ℕ, zero, suc, ◌+◌, ◌<◌, ◌≤◌, Bool, true, false, cond, List, [], ◌∷◌, ◌++◌, length, map, take, drop, Contains, refl, sym}
-use Rattle.std.proofs.Common.{ap, subst, ◌∙◌, arith, Option, Some, None, ℤ, ◌≤ℤ◌, ◌&&◌, int_lt, inl, inr}
-use Rattle.std.proofs.Math.ListN.{get_or}
+use Rattle.std.proofs.Common.{◌≡◌, Bool, true, false, cond, List, [], ◌∷◌, ◌++◌, map, Contains, refl, sym}
+use Rattle.std.proofs.Common.{ap, subst, ◌∙◌, arith, Option, Some, None, ℤ, ◌≤ℤ◌, int_lt, inl, inr}
 use Rattle.std.specs.Int.{int_max}
 use Rattle.std.specs.Option.{option_map_or}
-use Rattle.std.specs.Ordering.{int_eq}
 use Rattle.std.specs.List.{AllByRecursion, filter}
 use Rattle.std.proofs.lemmas.Int.{ints, clamps}
 use Rattle.std.proofs.lemmas.List.{map-append, append-nil}
 use Rattle.std.proofs.lemmas.List.Elements.{Contains-append_left, Contains-append_right, Contains-append_cases, filter-append}
-use Rattle.due_key.specs.Range.{IsBetween}
-use Rattle.due_key.specs.declared.class.TheConstants.{LOWEST_CLASS, HIGHEST_CLASS}
 use Rattle.dispatch_log.specs.declared.queue.Queue.{Queue}
-use Rattle.dispatch_log.specs.Rows.{same_queue}
 use Rattle.readable_log.specs.Grants.{is_of, stays, grants}
 use Rattle.readable_log.specs.Readable.{IsReadable}
 use Rattle.readable_log.specs.Timely.{IsTimely}
@@ -25,27 +20,17 @@ use Rattle.late_cert.specs.Reports.{IsSoundReport}
 use Rattle.late_cert.specs.Running.{IsGreatest, IsWorstIn, IsWorstOf, IsWorstAmong, latenesses_of, worst_so_far, worst_with}
 use Rattle.late_cert.specs.declared.table.Running.{Running}
 use Rattle.late_cert.specs.declared.report.Report.{Report}
-use Rattle.list_facts.proofs.Members.{Contains-head, Contains-tail, Contains-nil, Contains-cases, each_at_member, all_map}
+use Rattle.list_facts.proofs.Members.{Contains-head, Contains-nil, Contains-one, Contains-map, each_at_member, all_map}
 use Rattle.late_cert.specs.Tests.{late_by}
 use Rattle.late_cert.proofs.Sorted.{is_of_true}
 use Rattle.late_cert.proofs.Sound.{lateness_of}
-
-Contains-lone : {X : Type 0} (x y : X) → Contains (x ∷ []) y → y ≡ x
-Contains-lone x y among = elim (Contains-cases x [] y among) [ inl same ↦ sym same | inr none ↦ absurd (Contains-nil y none) ]
-
-Contains-map : {X Y : Type 0} (f : X → Y) (xs : List X) (x : X) → Contains xs x → Contains (map f xs) (f x)
-Contains-map f [] x among = absurd (Contains-nil x among)
-Contains-map f (y ∷ ys) x among = elim (Contains-cases y ys x among) [
-  | inl same ↦ subst (λ z. Contains (f y ∷ map f ys) (f z)) same (Contains-head (f y) (map f ys))
-  | inr later ↦ Contains-tail (f y) (map f ys) (f x) (Contains-map f ys x later)
-]
 
 -- the greatest of numbers and one more
 pub greatest_with : (numbers : List ℤ) (worst : Option ℤ) (number : ℤ) → IsGreatest numbers worst
     → IsGreatest (numbers ++ number ∷ []) (Some (option_map_or (int_max number) worst number))
 greatest_with numbers None number is =
     subst (λ l. IsGreatest (l ++ number ∷ []) (Some number)) (sym is)
-    (Contains-head number [], λ n among. subst (λ z. z ≤ℤ number) (sym (Contains-lone number n among)) (grind (arith, ints)))
+    (Contains-head number [], λ n among. subst (λ z. z ≤ℤ number) (Contains-one number n among) (grind (arith, ints)))
 greatest_with numbers (Some worst) number is = (reached (int_lt worst number), bounded)
   where
     reached : (b : Bool) → Contains (numbers ++ number ∷ []) (cond b number worst)
@@ -55,7 +40,7 @@ greatest_with numbers (Some worst) number is = (reached (int_lt worst number), b
     bounded : (n : ℤ) → Contains (numbers ++ number ∷ []) n → n ≤ℤ int_max number worst
     bounded n among = elim (Contains-append_cases numbers (number ∷ []) n among) [
       | inl old ↦ let below : n ≤ℤ worst = is.1 n old in grind (arith, ints, clamps)
-      | inr new ↦ let same : n ≡ number = Contains-lone number n new in grind (arith, ints, clamps)
+      | inr new ↦ let same : n ≡ number = sym (Contains-one number n new) in grind (arith, ints, clamps)
     ]
 
 -- the greatest of numbers is one
@@ -122,15 +107,6 @@ none_certified window queue class worst is none = go (stays window queue class) 
     go : (ss : List Stay) → map (own_lateness window) ss ≡ [] → ss ≡ []
     go [] e = refl
     go (s ∷ ss) e = cc
-
--- what holds of each item from one on
-pub from_one_on : {X : Type 0} (P : X → Type 0) (xs : List X) (from at : ℕ) (other : X) → AllByRecursion P (drop from xs) → from ≤ at → at < length xs
-    → P (get_or xs at other)
-from_one_on P [] from at other all reached there = absurd (omega arith)
-from_one_on P (x ∷ xs) zero zero other all reached there = all.0
-from_one_on P (x ∷ xs) zero (suc at) other all reached there = from_one_on P xs zero at other all.1 (omega arith) (omega arith)
-from_one_on P (x ∷ xs) (suc from) zero other all reached there = absurd (omega arith)
-from_one_on P (x ∷ xs) (suc from) (suc at) other all reached there = from_one_on P xs from at other all (omega arith) (omega arith)
 
 -- the worst so far of a readable window's grants is that of its stays
 pub worst_of_window : (window : Window) → IsReadable window → (running : Running) → IsWorstAmong (grants window) running → IsWorstOf window running

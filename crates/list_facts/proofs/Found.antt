@@ -1,19 +1,15 @@
 -- What is found in a list: the last item, the first one that passes a test, and its place.
-use Rattle.std.proofs.Common.{◌≡◌, ◌+◌, ◌∙◌, ◌||◌, Bool, true, false, not, nat_lt, cond, Option, Some, None, IfSome, option_map, List, [], ◌∷◌, ◌++◌}
+use Rattle.std.proofs.Common.{◌≡◌, ℕ, ◌+◌, ◌<◌, ◌∙◌, ◌||◌, Bool, true, false, not, nat_lt, cond, Option, Some, None, IfSome, option_map, List, [], ◌∷◌, ◌++◌}
 use Rattle.std.proofs.Common.{length, map, refl, sym, ap}
 use Rattle.std.specs.List.{All, last_or, find, filter_map, flat_map, list_any, cons_option, position, position_or_len, prefix_len}
-use Rattle.std.specs.Option.{option_or}
 use Rattle.std.proofs.lemmas.List.{length-map}
 use Rattle.std.proofs.lemmas.List.Elements.{All-head, All-tail, filter_map-append}
 use Rattle.std.proofs.lemmas.List.Folds.{list_any-append}
+use Rattle.std.proofs.lemmas.List.Quantifiers.{position-Some}
 
 pub last_or-append : {A : Type 0} (o : Option A) (xs ys : List A) → last_or o (xs ++ ys) ≡ last_or (last_or o xs) ys
 last_or-append o [] ys = refl
 last_or-append o (x ∷ xs) ys = last_or-append (Some x) xs ys
-
-pub last_or-option : {A : Type 0} (o next : Option A) (xs : List A) → last_or (option_or next o) xs ≡ last_or o (cons_option next xs)
-last_or-option o None xs = refl
-last_or-option o (Some x) xs = refl
 
 pub last_or-none : {A B : Type 0} (f : A → Option B) (o : Option B) (xs : List A) → All (λ x. f x ≡ None) xs → last_or o (filter_map f xs) ≡ o
 last_or-none f o [] none = refl
@@ -64,3 +60,8 @@ pub position-map : {X Y : Type 0} (p : Y → Bool) (f : X → Y) (xs : List X) �
 position-map p f xs =
     ap (λ n. cond (nat_lt n (length (map f xs))) (Some n) None) (prefix_len-map (λ y. not (p y)) f xs)
     ∙ ap (λ m. cond (nat_lt (position_or_len (λ x. p (f x)) xs) m) (Some (position_or_len (λ x. p (f x)) xs)) None) (length-map xs f)
+
+-- where an item is found is within the list
+pub position_below : {A : Type 0} (p : A → Bool) (xs : List A) (i : ℕ) → position p xs ≡ Some i → i < length xs
+position_below p [] i found = absurd (let none = found in cc)
+position_below p (x ∷ xs) i found = (position-Some p (x ∷ xs) i x found).0

@@ -1,5 +1,8 @@
 pub mod Members
 pub mod Places
+pub mod Pushed
+pub mod Replicated
+pub mod Options
 pub mod Orders
 pub mod Never
 pub mod Both
@@ -8,6 +11,7 @@ pub mod Counts
 pub mod Once
 pub mod Sums
 pub mod Totals
+pub mod Positions
 pub mod Ones
 pub mod Each
 pub mod Front
@@ -15,3 +19,4 @@ pub mod Filtered
 pub mod Fronts
 pub mod Windows
 pub mod Shuffles
+pub mod Reversed

@@ -1,8 +1,12 @@
 -- What a list contains, by cases on the list, around one item and after a filter; which filters keep all or none; what holds of each
 -- item.
-use Rattle.std.proofs.Common.{◌≡◌, ℕ, zero, suc, ◌<◌, ◌⊎◌, Bool, true, false, cond, List, [], ◌∷◌, ◌++◌, length, map, take, drop, filter, Contains}
-use Rattle.std.proofs.Common.{refl, sym, ap, subst, ◌∙◌, inl, inr, true≢false, arith}
-use Rattle.std.specs.List.{AllByRecursion}
+use Rattle.std.proofs.Common.{◌≡◌, ℕ, zero, suc, ◌+◌, ◌<◌, ◌≤◌, ◌⊎◌, Bool, true, false, cond, List, [], ◌∷◌, ◌++◌, length, map, take, drop, filter, Contains}
+use Rattle.std.proofs.Common.{refl, sym, ap, subst, ◌∙◌, inl, inr, true≢false, arith, Decides}
+use Rattle.std.proofs.Common.{All, get_or, length-append}
+use Rattle.std.specs.List.{AllByRecursion, list_all}
+use Rattle.std.proofs.Math.ListN.{get_or-map}
+use Rattle.std.proofs.lemmas.Bool.Decides.{Decides-and}
+use Rattle.std.proofs.lemmas.List.{get_or_append_left, get_or-append-add, length-map}
 use Rattle.std.proofs.lemmas.List.Elements.{Contains-append_left, Contains-append_right, Contains-append_cases}
 
 module _ {X : Type 0} where
@@ -18,6 +22,9 @@ module _ {X : Type 0} where
   pub Contains-cases : (y : X) (xs : List X) (x : X) → Contains (y ∷ xs) x → (y ≡ x) ⊎ Contains xs x
   Contains-cases y xs x (zero, in_range, is) = inl is
   Contains-cases y xs x (suc k, in_range, is) = inr (k, omega arith, is)
+
+  pub Contains-one : (x y : X) → Contains (x ∷ []) y → x ≡ y
+  Contains-one x y among = elim (Contains-cases x [] y among) [ inl same ↦ same | inr none ↦ absurd (Contains-nil y none) ]
 
   -- an item of either part, or the one between
   pub Contains-middle : (xs : List X) (x : X) (ys : List X) → Contains (xs ++ x ∷ ys) x
@@ -124,6 +131,15 @@ module _ {X : Type 0} where
   all_drop P (suc n) [] all = tt
   all_drop P (suc n) (x ∷ xs) all = all_drop P n xs all.1
 
+  -- and of each item from one on, what holds of one there
+  pub from_one_on : (P : X → Type 0) (xs : List X) (from at : ℕ) (other : X) → AllByRecursion P (drop from xs) → from ≤ at → at < length xs
+      → P (get_or xs at other)
+  from_one_on P [] from at other all reached there = absurd (omega arith)
+  from_one_on P (x ∷ xs) zero zero other all reached there = all.0
+  from_one_on P (x ∷ xs) zero (suc at) other all reached there = from_one_on P xs zero at other all.1 (omega arith) (omega arith)
+  from_one_on P (x ∷ xs) (suc from) zero other all reached there = absurd (omega arith)
+  from_one_on P (x ∷ xs) (suc from) (suc at) other all reached there = from_one_on P xs from at other all (omega arith) (omega arith)
+
   pub all_filter : (P : X → Type 0) (p : X → Bool) (xs : List X) → AllByRecursion P xs → AllByRecursion P (filter p xs)
   all_filter P p [] all = tt
   all_filter P p (x ∷ xs) all = go (p x) (all_filter P p xs all.1)
@@ -141,3 +157,26 @@ module _ {X : Type 0} where
           → (0 < length (filter p xs) → (y : X) × (p y ≡ true) × P y) → (y : X) × (p y ≡ true) × P y
       go true e s rest = (x, e, all.0)
       go false e s rest = rest s
+
+  -- a test of each decides what holds of each
+  pub all_decides : (p : X → Bool) (P : X → Type 0) → ((x : X) → Decides (p x) (P x)) → (xs : List X) → Decides (list_all p xs) (AllByRecursion P xs)
+  all_decides p P each [] = (λ e. tt, λ h. refl)
+  all_decides p P each (x ∷ xs) = Decides-and (p x) (list_all p xs) (each x) (all_decides p P each xs)
+
+  -- what holds of each element by its place holds of each in a part
+  pub all_front : (P : X → Type 0) (xs ys : List X) → All P (xs ++ ys) → All P xs
+  all_front P xs ys all k d within = subst P (get_or_append_left xs ys d k within) (all k d (let long = length-append xs ys in omega arith))
+
+  pub all_back : (P : X → Type 0) (xs ys : List X) → All P (xs ++ ys) → All P ys
+  all_back P xs ys all k d within = subst P (get_or-append-add xs ys k d) (all (length xs + k) d (let long = length-append xs ys in omega arith))
+
+  pub All-from_map : {Y : Type 0} (P : Y → Type 0) (f : X → Y) (xs : List X) → All P (map f xs) → All (λ x. P (f x)) xs
+  All-from_map P f xs all k d below = subst P (get_or-map f xs k d) (all k (f d) (omega (arith, length-map xs f)))
+
+-- what is made of an element
+pub Contains-map : {X Y : Type 0} (f : X → Y) (xs : List X) (x : X) → Contains xs x → Contains (map f xs) (f x)
+Contains-map f [] x among = absurd (Contains-nil x among)
+Contains-map f (y ∷ ys) x among = elim (Contains-cases y ys x among) [
+  | inl same ↦ subst (λ z. Contains (f y ∷ map f ys) (f z)) same (Contains-head (f y) (map f ys))
+  | inr later ↦ Contains-tail (f y) (map f ys) (f x) (Contains-map f ys x later)
+]

@@ -1,10 +1,12 @@
 -- A list around one of its items, and lists in which none comes twice.
-use Rattle.std.proofs.Common.{◌≡◌, ◌≢◌, ℕ, zero, suc, ◌+◌, ◌<◌, ◌≤◌, ◌⊎◌, List, [], ◌∷◌, ◌++◌, Contains, length, length-append}
-use Rattle.std.proofs.Common.{sym, ap, subst, inl, inr, arith}
-use Rattle.std.proofs.lemmas.Bool.{cases_eq}
-use Rattle.std.proofs.lemmas.List.Elements.{Contains-append_cases, Contains-push_cases}
+use Rattle.std.proofs.Common.{◌≡◌, ℕ, ◌<◌, ◌≤◌, ◌⊎◌, true, false, List, [], ◌∷◌, ◌++◌, Contains, length, eqb}
+use Rattle.std.proofs.Common.{sym, ap, subst, inl, inr}
+use Rattle.std.specs.List.{AllByRecursion, IsDistinct, list_any}
+use Rattle.std.proofs.lemmas.Bool.{cases_eq, eqb-true, ne_eqb, or_cases}
+use Rattle.std.proofs.lemmas.List.Elements.{Contains-push_cases}
+use Rattle.std.proofs.lemmas.Map.Steps.{length-le_from_distinct_below}
 use Rattle.list_facts.specs.Once.{ComeOnce}
-use Rattle.list_facts.proofs.Members.{Contains-nil, Contains-head, Contains-tail, Contains-cases, Contains-middle, Contains-around}
+use Rattle.list_facts.proofs.Members.{Contains-nil, Contains-head, Contains-tail, Contains-cases, Contains-middle, Contains-around, each_from_members}
 
 module _ {X : Type 0} where
   -- the list around one of its elements
@@ -58,33 +60,20 @@ contains_or_not (y ∷ xs) x = elim (cases_eq y x) [
 ]
 
 -- no more different numbers are below a number than it says
-pub once_within : (room : ℕ) (xs : List ℕ) → ComeOnce xs → ((x : ℕ) → Contains xs x → x < room) → length xs ≤ room
-once_within room [] once below = omega arith
-once_within zero (x ∷ xs) once below = let none = below x (Contains-head x xs) in absurd (omega arith)
-once_within (suc room) xs once below = elim (contains_or_not xs room) [
-  | inl among ↦
-      let parts = split_at xs room among in
-      let apart : ComeOnce (parts.before ++ room ∷ parts.after) = subst ComeOnce parts.parts once in
-      let rest : length (parts.before ++ parts.after) ≤ room =
-      once_within room (parts.before ++ parts.after) (once_around parts.before room parts.after apart) (λ x in_rest.
-      let less : x < suc room = below x (subst (λ l. Contains l x) (sym parts.parts) (Contains-around parts.before room parts.after x in_rest)) in
-      let differs : x ≢ room = λ same. not_around parts.before room parts.after apart (subst (Contains (parts.before ++ parts.after)) same in_rest) in
-      omega arith) in
-      let whole : length xs ≡ length (parts.before ++ room ∷ parts.after) = ap length parts.parts in
-      let first = length-append parts.before parts.after in
-      let second = length-append parts.before (room ∷ parts.after) in
-      let longer : length (room ∷ parts.after) ≡ length parts.after + 1 = omega arith in
-      omega arith
-  | inr absent ↦
-      let rest : length xs ≤ room = once_within room xs once (λ x among.
-      let less : x < suc room = below x among in
-      let differs : x ≢ room = λ same. absent (subst (Contains xs) same among) in
-      omega arith) in
-      omega arith
+each_differs : (x : ℕ) (xs : List ℕ) → ¬ (Contains xs x) → AllByRecursion (λ y. eqb x y ≡ false) xs
+each_differs x xs absent = each_from_members (λ y. eqb x y ≡ false) xs (λ y among. ne_eqb x y (λ same. absent (subst (Contains xs) (sym same) among)))
+
+distinct : (xs : List ℕ) → ComeOnce xs → IsDistinct eqb xs
+unfolding IsDistinct
+distinct [] once = tt
+distinct (x ∷ xs) once = (each_differs x xs once.0, distinct xs once.1)
+
+any_contains : (xs : List ℕ) (x : ℕ) → list_any (eqb x) xs ≡ true → Contains xs x
+any_contains [] x any = cc
+any_contains (y ∷ xs) x any = elim (or_cases _ _ any) [
+  | inl here ↦ subst (Contains (y ∷ xs)) (sym (eqb-true x y here)) (Contains-head y xs)
+  | inr later ↦ Contains-tail y xs x (any_contains xs x later)
 ]
-  where
-    not_around : (xs : List ℕ) (x : ℕ) (ys : List ℕ) → ComeOnce (xs ++ x ∷ ys) → ¬ (Contains (xs ++ ys) x)
-    not_around xs x ys once among = elim (Contains-append_cases xs ys x among) [
-      | inl left ↦ not_before xs x ys once left
-      | inr right ↦ not_after xs x ys once right
-    ]
+
+pub once_within : (room : ℕ) (xs : List ℕ) → ComeOnce xs → ((x : ℕ) → Contains xs x → x < room) → length xs ≤ room
+once_within room xs once below = length-le_from_distinct_below xs room (distinct xs once) (λ x any. below x (any_contains xs x any))

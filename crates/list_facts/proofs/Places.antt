@@ -1,11 +1,12 @@
 -- One place of a list: read, written, counted and cut at.
-use Rattle.std.proofs.Common.{◌≡◌, ◌≢◌, ℕ, zero, suc, ◌+◌, ◌==◌, Bool, true, false, cond, List, [], ◌∷◌, ◌++◌, take, drop, None, Some, slice_get, count_by}
+use Rattle.std.proofs.Common.{◌≡◌, ◌≢◌, ℕ, zero, suc, ◌+◌, ◌<◌, ◌==◌, Bool, true, false, cond, List, [], ◌∷◌, ◌++◌, length, take, drop, None, Some, slice_get, count_by}
 use Rattle.std.proofs.Common.{refl, sym, ap, subst, arith, ◌∙◌, ◌⊎◌, inl, inr}
 use Rattle.std.proofs.Math.ListN.{set}
-use Rattle.std.proofs.lemmas.List.{set-get_or}
-use Rattle.std.proofs.lemmas.Option.{same_Some, slice_get_within, get_or_from_slice_get}
+use Rattle.std.specs.Option.{unwrap_or}
+use Rattle.std.proofs.lemmas.List.{set-get_or, get_or-set_same}
+use Rattle.std.proofs.lemmas.Option.{same_Some, slice_get_within, get_or_from_slice_get, unwrap_or-slice_get}
 use Rattle.std.proofs.lemmas.Bool.Decides.{Decides-eqb}
-use Rattle.std.proofs.lemmas.List.Sums.{sum_by-set, sum_by-cons}
+use Rattle.std.proofs.lemmas.List.Sums.{sum_by-set}
 
 -- 1 where a test holds
 abbrev pub tally : Bool → ℕ
@@ -41,6 +42,18 @@ module _ {X : Type 0} where
   pub set_read : (xs : List X) (i : ℕ) (x : X) → slice_get xs i ≡ Some x → set xs i x ≡ xs
   set_read xs i x is = ap (λ (y : X). set xs i y) (sym (get_or_from_slice_get xs i x x is)) ∙ set-get_or xs i x
 
+  -- lists that differ at one place alone are one once that is written
+  pub set_alike : (xs ys : List X) (p : ℕ) (x : X) → length xs ≡ length ys → ((k : ℕ) → k ≢ p → slice_get xs k ≡ slice_get ys k)
+      → set xs p x ≡ set ys p x
+  set_alike [] [] p x long same = refl
+  set_alike [] (y ∷ ys) p x long same = absurd (omega (arith, long))
+  set_alike (z ∷ xs) [] p x long same = absurd (omega (arith, long))
+  set_alike (z ∷ xs) (y ∷ ys) zero x long same = ap (λ l. x ∷ l) (same_places xs ys (λ k. same (suc k) (λ e. cc)))
+  set_alike (z ∷ xs) (y ∷ ys) (suc p) x long same =
+      let head : z ≡ y = same_Some z y (same 0 (λ e. cc)) in
+      let rest : set xs p x ≡ set ys p x = set_alike xs ys p x (omega (arith, long)) (λ k differs. same (suc k) (λ e. differs (omega arith))) in
+      ap (λ w. w ∷ set xs p x) head ∙ ap (λ l. y ∷ l) rest
+
   -- what stands at a place after a write
   pub get-set : (xs : List X) (i j : ℕ) (y z : X) → slice_get (set xs i y) j ≡ Some z → (y ≡ z) ⊎ (slice_get xs j ≡ Some z)
   get-set [] i j y z g = cc
@@ -72,10 +85,18 @@ same_or_other i j = by_test (i == j) refl
     by_test true e = inl ((Decides-eqb i j).0 e)
     by_test false e = inr (λ same. let t : (i == j) ≡ true = (Decides-eqb i j).1 same in cc)
 
--- a count of what fails the test everywhere
-pub count_none : {X : Type 0} (p : X → Bool) (xs : List X) → ((k : ℕ) (x : X) → slice_get xs k ≡ Some x → p x ≡ false) → count_by p xs ≡ 0
-count_none p [] fails = refl
-count_none p (x ∷ xs) fails =
-    let first : tally (p x) ≡ 0 = ap tally (fails 0 x refl) in
-    let rest : count_by p xs ≡ 0 = count_none p xs (λ k y at. fails (suc k) y at) in
-    sum_by-cons (λ z. tally (p z)) x xs ∙ omega arith
+-- what stands at a place, or else an item, once one place was written
+pub got_set : {X : Type 0} (xs : List X) (at : ℕ) (new other : X) → at < length xs → (place : ℕ)
+    → unwrap_or (slice_get (set xs at new) place) other ≡ cond (place == at) new (unwrap_or (slice_get xs place) other)
+got_set xs at new other there place = go (place == at) refl
+  where
+    go : (b : Bool) → (place == at) ≡ b → unwrap_or (slice_get (set xs at new) place) other ≡ cond b new (unwrap_or (slice_get xs place) other)
+    go true e =
+        subst (λ k. unwrap_or (slice_get (set xs at new) k) other ≡ new) (sym ((Decides-eqb place at).0 e))
+        (unwrap_or-slice_get (set xs at new) at other ∙ get_or-set_same xs at new other there)
+    go false e = ap (λ o. unwrap_or o other) (get-set_other xs at place new (λ same. let t : (place == at) ≡ true = (Decides-eqb place at).1 same in cc))
+
+-- where nothing stands at the first place the list is empty
+pub nil_from_first : {X : Type 0} (xs : List X) → None ≡ slice_get xs 0 → xs ≡ []
+nil_from_first [] e = refl
+nil_from_first (x ∷ xs) e = let no : None ≡ Some x = e in cc

@@ -1,5 +1,6 @@
 //! What several crates need of lists: a list that contracts see as its items, and in `proofs/` facts on members, on what
-//! holds of each item, on writes and counts, and on the order of three keys, each over any type.
+//! holds of each item, on places and writes, on pushed, reversed and replicated lists, on fronts and windows, on counts and
+//! weights, on tests of what may be missing, and on the order of three keys, each over any type.
 #![tactic(auto)]
 
 mod items;

@@ -1,41 +1,23 @@
 -- Pairs by falling key, as the list queue keeps them: the reverse of the list that contracts see.
 use Rattle.std.proofs.Common.{◌≡◌, ℕ, zero, suc, ◌+◌, ◌<◌, ◌≤◌, List, [], ◌∷◌, ◌++◌, length, take, drop}
-use Rattle.std.proofs.Common.{get_or, reverse, insert, remove, All, Contains, Result, Ok, Err, IfOk, IfErr, Some, refl, sym}
+use Rattle.std.proofs.Common.{get_or, reverse, insert, remove, Contains, Result, Ok, Err, IfOk, IfErr, Some, refl, sym}
 use Rattle.std.proofs.Common.{ap, subst, ◌∙◌, inl, inr, Ordering, Less, Equal, Greater, arith, length-take, length-drop, take-append-drop, drop-cons}
 use Rattle.std.specs.Cmp.{IsTotalOrder}
-use Rattle.std.specs.List.{AllByRecursion}
 use Rattle.std.specs.List.Sorted.{IsNonDecreasingBy, IsSearchInRange, IsBinarySearchResult}
 use Rattle.std.specs.Ordering.{ordering_index}
 use Rattle.std.proofs.lemmas.Cmp.{tied_back}
 use Rattle.std.proofs.lemmas.Bool.{cases_eq}
-use Rattle.std.proofs.lemmas.List.{reverse-append, append_assoc, get_or-take, get_or-drop}
-use Rattle.std.proofs.lemmas.List.Elements.{Contains-get_or, recursion_from_All}
-use Rattle.std.proofs.lemmas.List.Sorted.{IsPermutation-reverse, All-permutation, Contains-permutation}
+use Rattle.std.proofs.lemmas.List.{reverse-append, get_or-take, get_or-drop}
+use Rattle.std.proofs.lemmas.List.Elements.{Contains-get_or}
+use Rattle.std.proofs.lemmas.List.Sorted.{IsPermutation-reverse, Contains-permutation}
 use Rattle.pend_queue.specs.Pairs.{IsAscending, IsAbsent, inserted, pair_at, without}
 use Rattle.pend_queue.specs.Places.{IsAt, IsGapFor}
 use Rattle.list_facts.proofs.Orders.{greater_from_less, less_from_greater, less_then_tied}
 use Rattle.list_facts.proofs.Members.{Contains-head, each_at_member}
+use Rattle.list_facts.proofs.Reversed.{reverse-cons, reverse_around, reverse_parts, each_in_reverse}
 use Rattle.pend_queue.proofs.Ascending.{ascending_parts, absent_from_members, absent-append, absent_at_member, pair_at-member}
 use Rattle.pend_queue.proofs.Inserted.{inserted_between}
 use Rattle.pend_queue.proofs.Without.{without_between}
-
-module _ {X : Type 0} where
-  reverse-cons : (x : X) (xs : List X) → reverse (x ∷ xs) ≡ reverse xs ++ x ∷ []
-  reverse-cons x xs = reverse-append (x ∷ []) xs
-
-  pub reverse-push : (xs : List X) (x : X) → reverse (xs ++ x ∷ []) ≡ x ∷ reverse xs
-  reverse-push xs x = reverse-append xs (x ∷ [])
-
-  -- around a place
-  reverse_around : (xs ys : List X) (x : X) → reverse (xs ++ x ∷ ys) ≡ reverse ys ++ x ∷ reverse xs
-  reverse_around xs ys x =
-      reverse-append xs (x ∷ ys) ∙ ap (λ (l : List X). l ++ reverse xs) (reverse-cons x ys) ∙ append_assoc (reverse ys) (x ∷ []) (reverse xs)
-
-  reverse_parts : (i : ℕ) (xs : List X) → reverse xs ≡ reverse (drop i xs) ++ reverse (take i xs)
-  reverse_parts i xs = ap reverse (sym (take-append-drop i xs)) ∙ reverse-append (take i xs) (drop i xs)
-
-  each_in_reverse : (P : X → Type 0) (xs : List X) → All P xs → AllByRecursion P (reverse xs)
-  each_in_reverse P xs all = recursion_from_All P (reverse xs) (All-permutation P xs (reverse xs) (IsPermutation-reverse xs) all)
 
 module _ {K : Type 0} {cmp : K → K → Ordering} (order : IsTotalOrder cmp) where
   -- what a key is compared with rises along falling keys

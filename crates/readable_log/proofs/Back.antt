@@ -3,7 +3,7 @@ use Rattle.std.proofs.Common.{◌≡◌, ◌≢◌, ℕ, ◌==◌, ◌&&◌, Boo
 use Rattle.std.proofs.Common.{None, Some, slice_get, option_map, IsTrue, refl, ap, sym, ◌∙◌, subst, ◌⊎◌, inl, inr}
 use Rattle.std.specs.List.{AllByRecursion}
 use Rattle.std.specs.Option.{option_map_or, IfSome, IsSomeAnd}
-use Rattle.std.proofs.lemmas.Bool.{false≢true}
+use Rattle.std.proofs.lemmas.Bool.{false≢true, and_from}
 use Rattle.std.proofs.lemmas.Bool.Decides.{Decides-eqb}
 use Rattle.std.proofs.lemmas.List.Sums.{fold_push}
 use Rattle.std.proofs.lemmas.Option.{same_Some, slice_get-map}
@@ -83,11 +83,8 @@ puts_there e t queue since change pin puts changes b r named made =
       λ q waits none.
           let own : (t == r.key.ticket) ≡ true = (Decides-eqb t r.key.ticket).1 (sym named ∙ ap (λ (x : Row). x.key.ticket) it) in
           let into : same_queue q queue ≡ true = subst (λ (x : Row). IsTrue (phase_waits_in q x.phase)) (sym it) waits in
-          absurd (false≢true (sym none ∙ puts r.key.ticket q ∙ joined_is own into)),
+          absurd (false≢true (sym none ∙ puts r.key.ticket q ∙ and_from _ _ own into)),
     )
-  where
-    joined_is : {a b : Bool} → a ≡ true → b ≡ true → (a && b) ≡ true
-    joined_is e f = rw (e, f) refl
 
 -- a change of a row that leaves its key and its phase
 keeps_stay : (e : Entry) (t : ℕ) (setup : Setup) → Keeps e t (failed setup)

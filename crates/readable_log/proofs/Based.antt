@@ -3,6 +3,7 @@ use Rattle.std.proofs.Common.{◌≡◌, ◌≢◌, ℕ, zero, suc, ◌==◌, �
 use Rattle.std.proofs.Common.{[], ◌∷◌, Option, None, Some, IsTrue, refl, ap, sym, ◌∙◌, subst, arith}
 use Rattle.std.specs.List.{fold}
 use Rattle.std.specs.Option.{option_map_or, IsSomeAnd}
+use Rattle.std.proofs.lemmas.Bool.{and_from, or_left, or_right}
 use Rattle.std.proofs.lemmas.Bool.Decides.{Decides-eqb}
 use Rattle.std.proofs.lemmas.Option.{same_Some}
 use Rattle.list_facts.proofs.Never.{false_true}
@@ -16,7 +17,7 @@ use Rattle.dispatch_log.specs.Legal.{IsBase}
 use Rattle.dispatch_log.specs.Rows.{Rows, StandsAt, phase_waits_in, same_queue, queue_in}
 use Rattle.dispatch_log.specs.States.{State}
 use Rattle.dispatch_log.proofs.Dispatched.{base_consistent}
-use Rattle.dispatch_log.proofs.RowLemmas.{HaveOwnTickets}
+use Rattle.dispatch_log.proofs.RowLemmas.{HaveOwnTickets, own_later}
 use Rattle.readable_log.specs.Ordered.{HaveArrived, HaveJoined}
 use Rattle.readable_log.specs.Windows.{base_row, base_rows, newer_base_key, waited}
 
@@ -37,17 +38,11 @@ other_rows t before (None ∷ rows) others = other_rows t before rows (λ p w at
 other_rows t before (Some w ∷ rows) others =
     ap (λ o. key_by t o rows) (other_step t before w (others zero w refl)) ∙ other_rows t before rows (λ p x at. others (suc p) x at)
 
-same_suc : (k l : ℕ) → suc k ≡ suc l → k ≡ l
-same_suc k l e = omega arith
-
-later : (cell : Option Row) (rows : Rows) → HaveOwnTickets (cell ∷ rows) → HaveOwnTickets rows
-later cell rows own = record { own = λ k l u v a b e. same_suc k l (own.own (suc k) (suc l) u v a b e) }
-
 pub known_row : (t : ℕ) (before : Option Key) (rows : Rows) (p : ℕ) (r : Row) → StandsAt rows p r → r.key.ticket ≡ t → HaveOwnTickets rows
     → key_by t before rows ≡ Some r.key
 known_row t before [] p r at named own = cc
 known_row t before (None ∷ rows) zero r at named own = cc
-known_row t before (None ∷ rows) (suc p) r at named own = known_row t before rows p r at named (later None rows own)
+known_row t before (None ∷ rows) (suc p) r at named own = known_row t before rows p r at named (own_later None rows own)
 known_row t before (Some w ∷ rows) zero r at named own =
     let it : w ≡ r = same_Some w r (same_Some (Some w) (Some r) at) in
     let test : (w.key.ticket == t) ≡ true = (Decides-eqb w.key.ticket t).1 (ap (λ (x : Row). x.key.ticket) it ∙ named) in
@@ -57,7 +52,7 @@ known_row t before (Some w ∷ rows) zero r at named own =
   where
     none_at : (p : ℕ) → suc p ≡ 0 → ⊥
     none_at p e = absurd (omega arith)
-known_row t before (Some w ∷ rows) (suc p) r at named own = known_row t (newer_base_key t before (base_row w)) rows p r at named (later (Some w) rows own)
+known_row t before (Some w ∷ rows) (suc p) r at named own = known_row t (newer_base_key t before (base_row w)) rows p r at named (own_later (Some w) rows own)
 
 waits_there : (q : Queue) (phase : Phase) → IsTrue (phase_waits_in q phase) → option_map_or (same_queue q) (queue_in phase) false ≡ true
 waits_there q (Waiting other m) waits = waits
@@ -74,16 +69,9 @@ waited_row (Some w ∷ rows) zero r q at waits =
     let own : (w.key.ticket == r.key.ticket) ≡ true = (Decides-eqb w.key.ticket r.key.ticket).1 (ap (λ (x : Row). x.key.ticket) (sym it)) in
     let there : option_map_or (same_queue q) (queue_in w.phase) false ≡ true =
     waits_there q w.phase (subst (λ (x : Row). IsTrue (phase_waits_in q x.phase)) it waits) in
-    both (waited r.key.ticket q (base_rows rows)) own there
-  where
-    both : {a b : Bool} (c : Bool) → a ≡ true → b ≡ true → (a && b) || c ≡ true
-    both c e f = rw (e, f) refl
+    or_left _ (waited r.key.ticket q (base_rows rows)) (and_from _ _ own there)
 waited_row (Some w ∷ rows) (suc p) r q at waits =
-    right ((w.key.ticket == r.key.ticket) && option_map_or (same_queue q) (queue_in w.phase) false) (waited_row rows p r q at waits)
-  where
-    right : (a : Bool) {b : Bool} → b ≡ true → a || b ≡ true
-    right true e = refl
-    right false e = e
+    or_right ((w.key.ticket == r.key.ticket) && option_map_or (same_queue q) (queue_in w.phase) false) _ (waited_row rows p r q at waits)
 
 pub base_arrived : (setup : Setup) (base : State) → IsBase setup base → HaveArrived (base_rows base.rows) [] base.rows
 base_arrived setup base is row live =

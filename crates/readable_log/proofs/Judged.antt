@@ -22,7 +22,7 @@ use Rattle.dispatch_log.specs.Rows.{IsRow, phase_waits_in}
 use Rattle.dispatch_log.specs.Legal.{IsBase}
 use Rattle.dispatch_log.specs.States.{State, scene, after}
 use Rattle.dispatch_log.specs.Scenes.{Scene, may_take, may_go_to}
-use Rattle.dispatch_log.proofs.Dispatched.{base_consistent}
+use Rattle.dispatch_log.proofs.Dispatched.{base_consistent, last_after}
 use Rattle.readable_log.specs.Grants.{Wait, arrival_in, moment_in, grant_in, moment_of, key_known, has_joined}
 use Rattle.readable_log.specs.Windows.{base_rows}
 use Rattle.readable_log.specs.declared.base.BaseRow.{BaseRow}
@@ -37,11 +37,6 @@ use Rattle.readable_log.proofs.RowsLeft.{have_joined_after}
 abbrev pub AreBelow : State → Type 0
 AreBelow s = (row : Row) → IsRow s.rows row → row.key.ticket ≤ s.ticket
 
--- the last ticket never falls
-ticket_rises : (setup : Setup) (s : State) (n : ℕ) (t : Stage) (e : Entry) → MayCome setup s n t e → s.ticket ≤ (after setup s e).ticket
-ticket_rises setup s n t (Arrive m a) may = let next : a.ticket ≡ s.ticket + 1 = may.1.numbered in omega arith
-ticket_rises setup s n t e may = omega arith
-
 arrived_ticket : (setup : Setup) (s : State) (e : Entry) (a : Arrival) → arrival_in e ≡ Some a → (after setup s e).ticket ≡ a.ticket
 arrived_ticket setup s (Arrive m b) a is = ap (λ (x : Arrival). x.ticket) (same_Some b a is)
 arrived_ticket setup s e a is = cc
@@ -52,7 +47,7 @@ below_after setup s n t e below may row live =
       | inl came ↦ let h : row.key.ticket ≡ came.arrival.ticket = ap (λ (r : Row). r.key.ticket) came.row in
           let k : (after setup s e).ticket ≡ came.arrival.ticket = arrived_ticket setup s e came.arrival came.is in omega arith
       | inr was ↦ let h : was.row.key.ticket ≤ s.ticket = below was.row (live.0, was.stands) in
-          let k : s.ticket ≤ (after setup s e).ticket = ticket_rises setup s n t e may in
+          let k : s.ticket ≤ (after setup s e).ticket = last_after setup s n t e may in
           let same : was.row.key.ticket ≡ row.key.ticket = ap (λ (x : Key). x.ticket) was.key in omega arith
     ]
 

@@ -9,3 +9,4 @@ pub mod Based
 pub mod Judged
 pub mod Indexed
 pub mod Placeless
+pub mod Windows

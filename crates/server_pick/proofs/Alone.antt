@@ -1,5 +1,5 @@
 -- The heads of the queues where one request waits.
-use Rattle.std.proofs.Common.{◌≡◌, ◌≢◌, ℕ, zero, suc, List, Option, None, Some, IsTrue, replicate}
+use Rattle.std.proofs.Common.{◌≡◌, ◌≢◌, ℕ, List, Option, None, Some, IsTrue, replicate}
 use Rattle.std.proofs.Common.{option_map, slice_get, refl, ap, sym, ◌∙◌, subst, inl, inr, Less, Greater}
 use Rattle.std.proofs.Math.ListN.{set}
 use Rattle.std.proofs.lemmas.Option.{same_Some, slice_get-map}
@@ -8,6 +8,7 @@ use Rattle.due_key.specs.Order.{key_cmp}
 use Rattle.due_key.proofs.KeyOrder.{key_cmp_total}
 use Rattle.list_facts.proofs.Orders.{less_from_greater}
 use Rattle.list_facts.proofs.Places.{get-set_cases}
+use Rattle.list_facts.proofs.Replicated.{none_in_empty}
 use Rattle.dispatch_log.specs.declared.queue.Queue.TheVariants.{Backend, Server}
 use Rattle.dispatch_log.specs.declared.row.Phase.{Phase}
 use Rattle.dispatch_log.specs.declared.row.Phase.TheVariants.{Waiting}
@@ -56,11 +57,6 @@ module _ {H : Type 0} where
       by_cell (Some None) at e = let f : Some None ≡ Some (Some row) = e in cc
       by_cell (Some (Some s)) at e = (s, at, same_Some s.row row (same_Some (Some s.row) (Some row) e))
 
-  none_yet : (n p : ℕ) (s : Slot H) → StandsIn (replicate n None) p s → ⊥
-  none_yet zero p s e = let f : None ≡ Some (Some s) = e in cc
-  none_yet (suc n) zero s e = let f : Some None ≡ Some (Some s) = e in cc
-  none_yet (suc n) (suc p) s e = none_yet n p s e
-
   -- the first request that is put at a place is the only one
   pub one_stands : (empty now : List (Option (Slot H))) (n p : ℕ) (slot : Slot H) → empty ≡ replicate n None → slice_get empty p ≡ Some None
       → now ≡ set empty p (Some slot)
@@ -72,5 +68,5 @@ module _ {H : Type 0} where
       alone other q it =
           elim (get-set_cases empty p q None (Some slot) (Some it.0) free (subst (λ (l : List (Option (Slot H))). StandsIn l q it.0) put it.1)) [
             | inl same ↦ ap (λ (s : Slot H). s.row) (same_Some slot it.0 same.1) ∙ it.2
-            | inr older ↦ absurd (none_yet n q it.0 (subst (λ (l : List (Option (Slot H))). StandsIn l q it.0) none older.1))
+            | inr older ↦ absurd (none_in_empty n q it.0 (subst (λ (l : List (Option (Slot H))). StandsIn l q it.0) none older.1))
           ]

@@ -1,6 +1,6 @@
 -- Placements and picks.
 use Rattle.std.proofs.Common.{◌≡◌, ℕ, ◌+◌, ◌<◌, ◌==◌, nat_lt, ◌||◌, ◌&&◌, Bool, true, false, Option, None}
-use Rattle.std.proofs.Common.{Some, MatchOption, List, length, slice_get, ◌↔◌, refl, sym, ◌∙◌, subst, arith, inl, inr}
+use Rattle.std.proofs.Common.{Some, MatchOption, length, slice_get, ◌↔◌, refl, sym, ◌∙◌, subst, arith, inl, inr}
 use Rattle.std.specs.Option.{option_map_or}
 use Rattle.std.proofs.lemmas.Bool.Decides.{nat_tests, Decides-eqb}
 use Rattle.std.proofs.lemmas.Option.{same_Some}
@@ -12,18 +12,14 @@ use Rattle.dispatch_log.specs.Rows.{served, queued}
 use Rattle.dispatch_log.specs.States.{cursor_after_placing}
 use Rattle.dispatch_log.specs.Scenes.{Scene, of_server, is_up, is_usable, is_free, has_room, takes_pinned, working_pin, limit_of}
 use Rattle.list_facts.proofs.Places.{same_or_other}
+use Rattle.dispatch_log.proofs.Choices.{there as server_there}
 use Rattle.server_pick.specs.Order.{HasRoomBut}
 use Rattle.server_pick.specs.Picked.{IsPlacement, cursor_placed, placed_on}
 use Rattle.server_pick.specs.Sets.{IsIn}
-use Rattle.list_facts.proofs.Both.{and_first, and_second}
-use Rattle.server_pick.proofs.Filled.{server_within}
+use Rattle.list_facts.proofs.Both.{and_second}
 
 pub usable_within : (scene : Scene) (server : ℕ) → is_usable scene server ≡ true → server < length scene.servers
-usable_within scene server usable = server_within scene server (λ it. nat_lt 0 it.weight) (and_second (is_up scene server) _ usable)
-
--- a server with room is one of them
-pub room_within : (scene : Scene) (server : ℕ) → has_room scene server ≡ true → server < length scene.servers
-room_within scene server room = usable_within scene server (and_first (is_usable scene server) _ room)
+usable_within scene server usable = server_there scene server (λ it. nat_lt 0 it.weight) (and_second (is_up scene server) _ usable)
 
 -- a server with room takes its pinned requests
 pub room_takes : (scene : Scene) (server : ℕ) → has_room scene server ≡ true → takes_pinned scene server ≡ true

@@ -1,12 +1,7 @@
 -- Sets of servers that a loop fills.
-use Rattle.std.proofs.Common.{◌≡◌, ℕ, zero, suc, ◌+◌, ◌<◌, ◌≤◌, ◌==◌, nat_lt, ◌||◌, Bool, true, false, List, Option}
-use Rattle.std.proofs.Common.{None, Some, IsTrue, replicate, slice_index_or, slice_get, ◌↔◌, length, refl, ap, sym, subst, arith, inl, inr}
-use Rattle.std.specs.Option.{option_map_or}
-use Rattle.std.proofs.lemmas.Option.{slice_get_within}
-use Rattle.dispatch_log.specs.declared.setup.ServerSet.{ServerSet}
+use Rattle.std.proofs.Common.{◌≡◌, ℕ, ◌+◌, ◌<◌, ◌≤◌, Bool}
+use Rattle.std.proofs.Common.{IsTrue, ◌↔◌, length, ap, sym, subst, arith, inl, inr}
 use Rattle.dispatch_log.specs.declared.setup.Setup.{Setup}
-use Rattle.dispatch_log.specs.Scenes.{Scene, of_server, is_free, limit_of}
-use Rattle.dispatch_log.specs.Rows.{served}
 use Rattle.server_pick.specs.Sets.{IsIn, IsMore}
 use Rattle.server_pick.proofs.Preferred.{below_cases}
 
@@ -36,18 +31,6 @@ pub filled_all : (passes : ℕ → Type 0) (servers : ℕ) (set : ℕ) → ((ser
     → IsIn set server ↔ passes server
 filled_all passes servers set within is server = ((λ own. ((is server).0 own).1), (λ passing. (is server).1 (within server passing, passing)))
 
--- a server that passes a test is one of them
-pub server_within : (scene : Scene) (server : ℕ) (test : ServerSet → Bool) → of_server scene server test ≡ true → server < length scene.servers
-server_within scene server test passes = by_server (slice_get scene.servers server) refl passes
-  where
-    by_server : (it : Option ServerSet) → slice_get scene.servers server ≡ it → option_map_or test it false ≡ true → server < length scene.servers
-    by_server None at e = cc
-    by_server (Some x) at e = slice_get_within scene.servers server x at
-
 -- where a loop over all servers ends
 pub loop_end : (setup now : Setup) (len next : ℕ) → setup ≡ now → len ≡ length setup.servers → len ≤ next → next ≤ len → next ≡ length now.servers
 loop_end setup now len next same is low high = let e : length setup.servers ≡ length now.servers = ap (λ (s : Setup). length s.servers) same in omega arith
-
-pub free_within : (scene : Scene) (server : ℕ) → is_free scene server ≡ true → server < length scene.servers
-free_within scene server free = server_within scene server
-    (λ it. (limit_of scene server == 0) || nat_lt (served server scene.rows) (limit_of scene server)) free

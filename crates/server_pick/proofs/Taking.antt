@@ -1,7 +1,8 @@
 -- Servers that take from queues.
-use Rattle.std.proofs.Common.{◌≡◌, ◌≢◌, ℕ, ◌<◌, ◌≤◌, nat_lt, ◌||◌, ◌&&◌, ◌==◌, Bool, true, false, IsTrue, Option, None, Some, MatchOption}
+use Rattle.std.proofs.Common.{◌≡◌, ◌≢◌, ℕ, ◌<◌, ◌≤◌, nat_lt, ◌&&◌, ◌==◌, Bool, true, false, IsTrue, Option, None, Some, MatchOption}
 use Rattle.std.proofs.Common.{slice_get, if◌then◌else◌, ◌↔◌, refl, ap, sym, ◌∙◌, subst, arith, ◌⊎◌, inl, inr, Ordering, Less, Equal, Greater}
 use Rattle.std.specs.Ordering.{is_lt}
+use Rattle.std.proofs.lemmas.Bool.{and_from, or_cases, or_left, or_right}
 use Rattle.std.proofs.lemmas.Bool.Decides.{Decides-eqb, nat_tests}
 use Rattle.due_key.specs.declared.key.Key.{Key}
 use Rattle.due_key.specs.Order.{key_cmp}
@@ -14,8 +15,9 @@ use Rattle.dispatch_log.specs.declared.row.Phase.TheVariants.{Loose, Waiting, Se
 use Rattle.dispatch_log.specs.declared.row.Row.{Row}
 use Rattle.dispatch_log.specs.Grants.{CanTake, IsSettled, IsNextTaker}
 use Rattle.dispatch_log.specs.Picks.{weight_of, IsPick}
-use Rattle.dispatch_log.specs.Rows.{Rows, IsRow, same_queue, phase_waits_in, waits_in, queued}
+use Rattle.dispatch_log.specs.Rows.{Rows, IsRow, phase_waits_in, waits_in, queued}
 use Rattle.dispatch_log.specs.Scenes.{Scene, is_up, is_usable, may_take, may_go_to}
+use Rattle.dispatch_log.proofs.Choices.{goes, queue_own}
 use Rattle.server_pick.specs.declared.heads.Heads.{Heads}
 use Rattle.server_pick.specs.Heads.{head_at, IsLeastIn, IsHead, IsLawfulTake, has_stay, goes_first, queue_of}
 use Rattle.server_pick.specs.Picked.{IsFirstWeightless}
@@ -35,31 +37,13 @@ no_greater a b c one two = by_order (key_cmp a b) refl
         let far : key_cmp c b ≡ Less = key_cmp_total.trans c a b back e in
         two (greater_from_less key_cmp_total c b far)
 
-pub same_queues : (a b : Queue) → same_queue a b ≡ true → a ≡ b
-same_queues Backend Backend e = refl
-same_queues (Server s) (Server t) e = ap Server ((Decides-eqb s t).0 e)
-same_queues Backend (Server t) e = cc
-same_queues (Server s) Backend e = cc
-
-pub own_queue : (q : Queue) → same_queue q q ≡ true
-own_queue Backend = refl
-own_queue (Server s) = (Decides-eqb s s).1 refl
-
--- a row that waits in a queue may go to a server that may take from it
-pub waits_may_go : (scene : Scene) (server : ℕ) (queue : Queue) (phase : Phase) → phase_waits_in queue phase ≡ true → may_take scene server queue ≡ true
-    → may_go_to scene server phase ≡ true
-waits_may_go scene server queue Loose w t = cc
-waits_may_go scene server queue (Serving s) w t = cc
-waits_may_go scene server queue (Told c) w t = cc
-waits_may_go scene server queue (Waiting other since) w t = subst (λ (q : Queue). may_take scene server q ≡ true) (same_queues queue other w) t
-
 -- and a row that may go to a server waits in a queue that it may take from
 pub may_go_waits : (scene : Scene) (server : ℕ) (phase : Phase) → may_go_to scene server phase ≡ true
     → (queue : Queue) × (phase_waits_in queue phase ≡ true) × (may_take scene server queue ≡ true)
 may_go_waits scene server Loose m = cc
 may_go_waits scene server (Serving s) m = cc
 may_go_waits scene server (Told c) m = cc
-may_go_waits scene server (Waiting queue since) m = (queue, own_queue queue, m)
+may_go_waits scene server (Waiting queue since) m = (queue, queue_own queue, m)
 
 -- a row that may go to a server waits in its own queue where the server is up, or in the backend's where it is usable
 by_queues : (scene : Scene) (server : ℕ) (phase : Phase) → may_go_to scene server phase ≡ true
@@ -98,17 +82,19 @@ waits_counted queue rows = (
 -- a server has a stay exactly where a request may go to it
 pub stay_may_go : (scene : Scene) (server : ℕ) → has_stay scene server ≡ true ↔ ((row : Row) × IsRow scene.rows row × IsTrue (may_go_to scene server row.phase))
 stay_may_go scene server = (
-  (λ stay. elim (either (is_up scene server && own) (is_usable scene server && other) stay) [
+  (λ stay. elim (or_cases (is_up scene server && own) (is_usable scene server && other) stay) [
     | inl it ↦
         let r = (waits_counted (Server server) scene.rows).0 (and_second (is_up scene server) own it) in
-        (r.0, r.1, waits_may_go scene server (Server server) r.0.phase r.2 (own_taken scene server (and_first (is_up scene server) own it)))
+        (r.0, r.1, goes scene server (Server server) r.0.phase r.2 (own_taken scene server (and_first (is_up scene server) own it)))
     | inr it ↦
         let r = (waits_counted Backend scene.rows).0 (and_second (is_usable scene server) other it) in
-        (r.0, r.1, waits_may_go scene server Backend r.0.phase r.2 (and_first (is_usable scene server) other it))
+        (r.0, r.1, goes scene server Backend r.0.phase r.2 (and_first (is_usable scene server) other it))
   ]),
   (λ may. elim (by_queues scene server may.0.phase may.2) [
-    | inl w ↦ one (is_up scene server) own (is_usable scene server && other) w.0 ((waits_counted (Server server) scene.rows).1 (may.0, may.1, w.1))
-    | inr w ↦ two (is_up scene server && own) (is_usable scene server) other w.0 ((waits_counted Backend scene.rows).1 (may.0, may.1, w.1))
+    | inl w ↦ or_left (is_up scene server && own) (is_usable scene server && other)
+        (and_from (is_up scene server) own w.0 ((waits_counted (Server server) scene.rows).1 (may.0, may.1, w.1)))
+    | inr w ↦ or_right (is_up scene server && own) (is_usable scene server && other)
+        (and_from (is_usable scene server) other w.0 ((waits_counted Backend scene.rows).1 (may.0, may.1, w.1)))
   ]),
 )
   where
@@ -117,21 +103,6 @@ stay_may_go scene server = (
 
     other : Bool
     other = nat_lt 0 (queued Backend scene.rows)
-
-    either : (a b : Bool) → a || b ≡ true → (a ≡ true) ⊎ (b ≡ true)
-    either true b e = inl refl
-    either false b e = inr e
-
-    one : (a b c : Bool) → a ≡ true → b ≡ true → (a && b) || c ≡ true
-    one true true c e f = refl
-    one true false c e f = cc
-    one false b c e f = cc
-
-    two : (a b c : Bool) → b ≡ true → c ≡ true → a || (b && c) ≡ true
-    two true b c e f = refl
-    two false true true e f = refl
-    two false true false e f = cc
-    two false false c e f = cc
 
 -- the first of weight 0 takes next
 pub weightless_next : (scene : Scene) (cursor : ℕ) (among : ℕ → Type 0) (server : ℕ) → ((k : ℕ) → among k ↔ CanTake scene k)

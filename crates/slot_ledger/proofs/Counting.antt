@@ -1,9 +1,9 @@
 -- Counts of rows, while one row changes.
-use Rattle.std.proofs.Common.{◌≡◌, ℕ, ◌+◌, ◌≤◌, ◌==◌, Bool, true, List, Option, None, Some, slice_get, slice_index_or}
+use Rattle.std.proofs.Common.{◌≡◌, ℕ, ◌+◌, ◌≤◌, ◌==◌, Bool, true, false, List, Option, None, Some, slice_get, slice_index_or}
 use Rattle.std.proofs.Common.{replicate, length, option_map, count_by, refl, ap, sym, ◌∙◌, subst, arith, zero, suc}
 use Rattle.std.proofs.Math.ListN.{set, length-set, length-replicate}
 use Rattle.std.proofs.lemmas.List.{map-set, length-map}
-use Rattle.std.proofs.lemmas.List.Sums.{count_by-le-length, sum_by-cons}
+use Rattle.std.proofs.lemmas.List.Sums.{count_by-le-length}
 use Rattle.std.proofs.lemmas.Option.{slice_get-map}
 use Rattle.std.proofs.lemmas.Bool.Decides.{Decides-eqb}
 use Rattle.dispatch_log.specs.declared.queue.Queue.{Queue}
@@ -14,7 +14,9 @@ use Rattle.dispatch_log.specs.declared.row.Row.{Row}
 use Rattle.dispatch_log.specs.declared.setup.Setup.{Setup}
 use Rattle.dispatch_log.specs.Rows.{Rows, phase_waits_in, phase_is_served_by, waits_in, is_served_by, served, queued}
 use Rattle.dispatch_log.specs.Setups.{IsSound}
+use Rattle.list_facts.proofs.Counts.{count-map}
 use Rattle.list_facts.proofs.Places.{tally, count-set}
+use Rattle.list_facts.proofs.Replicated.{count-replicate, index-replicate}
 use Rattle.slot_ledger.specs.declared.places.Slot.{Slot}
 use Rattle.slot_ledger.specs.Counts.{Counted, AreCounts, one_if, queued_at, IsPassed, Includes, AreAtMost}
 use Rattle.slot_ledger.specs.Ledgers.{IsLedger}
@@ -99,16 +101,10 @@ own_included inside counts phase queue since server same is waits one =
     subst (λ b. one_if b ≤ slice_index_or inside.own server 0) own
     (queue_included inside counts phase (Server server) since same is (waits ∙ ap (λ (q : Queue). Waiting q since) one))
 
-zero_at : (n k : ℕ) → ◌≡◌ {A = ℕ} (slice_index_or (replicate n 0) k 0) 0
-zero_at zero k = refl
-zero_at (suc n) zero = refl
-zero_at (suc n) (suc k) = zero_at n k
-
-none_counted : (H : Type 0) (test : Option Row → Bool) (n : ℕ) → tally (test None) ≡ 0 → count_by test (rows_in {H = H} (replicate n None)) ≡ 0
-none_counted H test zero none = refl
-none_counted H test (suc n) none =
-    let rest = none_counted H test n none in
-    sum_by-cons (λ x. tally (test x)) None (rows_in {H = H} (replicate n None)) ∙ omega arith
+none_counted : (H : Type 0) (test : Option Row → Bool) (n : ℕ) → test None ≡ false → count_by test (rows_in {H = H} (replicate n None)) ≡ 0
+none_counted H test n none =
+    let row : Option (Slot H) → Option Row = option_map (λ slot. slot.row) in
+    count-map test row (replicate n None) ∙ count-replicate (λ cell. test (row cell)) n None none
 
 module _ {H : Type 0} where
   -- a ledger without a request
@@ -121,7 +117,7 @@ module _ {H : Type 0} where
         sound = sound;
         places = length-replicate setup.places None;
         counted = record {
-          serving = λ server. zero_at (length setup.servers) server ∙ sym (none_counted H (is_served_by server) setup.places refl);
+          serving = λ server. index-replicate (length setup.servers) server 0 ∙ sym (none_counted H (is_served_by server) setup.places refl);
           waiting = by_queue;
         };
         served = length-replicate (length setup.servers) 0;
@@ -134,7 +130,7 @@ module _ {H : Type 0} where
         backend = 0;
       }) queue ≡ queued queue (rows_in {H = H} (replicate setup.places None))
       by_queue Backend = sym (none_counted H (waits_in Backend) setup.places refl)
-      by_queue (Server server) = zero_at (length setup.servers) server ∙ sym (none_counted H (waits_in (Server server)) setup.places refl)
+      by_queue (Server server) = index-replicate (length setup.servers) server 0 ∙ sym (none_counted H (waits_in (Server server)) setup.places refl)
 
   -- the row of a slot
   abbrev pub row_in : Option (Slot H) → Option Row

@@ -2,38 +2,18 @@
 use Rattle.std.proofs.Common.{◌≡◌, ℕ, zero, suc, ◌+◌, ◌-◌, ◌<◌, ◌≤◌, cond, List, [], ◌∷◌, ◌++◌, Option, None}
 use Rattle.std.proofs.Common.{Some, is_some, length, count_by, replicate, slice_get, Contains, refl, ap, sym, ◌∙◌, subst, arith, inl, inr}
 use Rattle.std.proofs.Math.ListN.{set, length-replicate}
-use Rattle.std.proofs.lemmas.List.Sums.{sum_by-cons}
 use Rattle.std.proofs.lemmas.Option.{same_Some, slice_get_within}
-use Rattle.list_facts.proofs.Places.{same_or_other}
+use Rattle.list_facts.proofs.Pushed.{get-push_new}
+use Rattle.list_facts.proofs.Replicated.{get-replicate, count-replicate, none_in_empty}
 use Rattle.slot_ledger.specs.declared.places.Slot.{Slot}
 use Rattle.slot_ledger.specs.Places.{IsKept}
 use Rattle.slot_ledger.specs.Slots.{StandsIn, AreBelow}
 use Rattle.slot_ledger.specs.Tickets.{Indexed, Removes}
-use Rattle.slot_ledger.proofs.Keeping.{kept_admit, kept_end, get-push_new, get-push_old}
-
--- one more in a list whose elements are known by their places
-pub each_push : {X : Type 0} (f : ℕ → X) (xs : List X) (n : ℕ) → length xs ≡ n → ((at : ℕ) → at < n → slice_get xs at ≡ Some (f at)) → (at : ℕ) → at < n + 1
-    → slice_get (xs ++ f n ∷ []) at ≡ Some (f at)
-each_push f xs n long each at within =
-    elim (same_or_other at n) [
-      | inl e ↦ subst (λ k. slice_get (xs ++ f n ∷ []) k ≡ Some (f k)) (sym e)
-          (subst (λ k. slice_get (xs ++ f n ∷ []) k ≡ Some (f n)) long (get-push_new xs (f n)))
-      | inr e ↦ let h : at < n = omega arith in get-push_old xs (f n) at (f at) (each at h)
-    ]
+use Rattle.slot_ledger.proofs.Keeping.{kept_admit, kept_end}
 
 -- an empty place
 abbrev none : (H : Type 0) → Option (Slot H)
 none H = None
-
-none_counted : (H : Type 0) (n : ℕ) → count_by is_some (replicate n (none H)) ≡ 0
-none_counted H zero = refl
-none_counted H (suc n) = let rest : count_by is_some (replicate n (none H)) ≡ 0 = none_counted H n in
-    sum_by-cons (λ (x : Option (Slot H)). cond (is_some x) 1 0) None (replicate n (none H)) ∙ omega arith
-
-free_there : (H : Type 0) (n p : ℕ) → p < n → slice_get (replicate n (none H)) p ≡ Some None
-free_there H zero p h = absurd (omega arith)
-free_there H (suc n) zero h = refl
-free_there H (suc n) (suc p) h = free_there H n p (omega arith)
 
 module _ {H : Type 0} where
   -- the last place of the list is free
@@ -58,12 +38,6 @@ module _ {H : Type 0} where
       subst (λ (c : Option (Slot H)). IsKept (set slots p c) more left new) (sym empty)
       (kept_end slots vacant more capacity left index new p s is stands parts kept removed room)
 
-  -- no row stands in a list of free places
-  none_there : (n p : ℕ) (s : Slot H) → StandsIn (replicate n None) p s → ⊥
-  none_there zero p s e = cc
-  none_there (suc n) zero s e = cc
-  none_there (suc n) (suc p) s e = none_there n p s e
-
   -- a new ledger: all places are free, the lowest last
   pub kept_new : (slots : List (Option (Slot H))) (vacant : List ℕ) (capacity places n : ℕ) (index : Indexed) → n ≡ places → slots ≡ replicate n None
       → length vacant ≡ n → ((at : ℕ) → at < n → slice_get vacant at ≡ Some (places - 1 - at)) → capacity ≡ places → index.pairs ≡ [] → places ≤ index.room
@@ -72,7 +46,7 @@ module _ {H : Type 0} where
     free = λ at p e.
         let within : at < length vacant = slice_get_within vacant at p e in
         let same : places - 1 - at ≡ p = same_Some (places - 1 - at) p (sym (each at (omega arith)) ∙ e) in
-        subst (λ (l : List (Option (Slot H))). slice_get l p ≡ Some None) (sym are) (free_there H n p (omega arith));
+        subst (λ (l : List (Option (Slot H))). slice_get l p ≡ Some None) (sym are) (get-replicate n p (none H) (omega arith));
     once = λ at other p a b.
         let within : at < length vacant = slice_get_within vacant at p a in
         let within' : other < length vacant = slice_get_within vacant other p b in
@@ -80,16 +54,16 @@ module _ {H : Type 0} where
         let same' : places - 1 - other ≡ p = same_Some (places - 1 - other) p (sym (each other (omega arith)) ∙ b) in
         omega arith;
     all =
-        let count : count_by is_some slots ≡ 0 = ap (count_by is_some) are ∙ none_counted H n in
+        let count : count_by is_some slots ≡ 0 = ap (count_by is_some) are ∙ count-replicate is_some n (none H) refl in
         let len : length slots ≡ n = ap length are ∙ length-replicate n None in
         omega arith;
     room = let len : length slots ≡ n = ap length are ∙ length-replicate n None in omega arith;
     indexed = λ ticket p among. let none : Contains [] (ticket, p) = subst (λ (l : List (ℕ × ℕ)). Contains l (ticket, p)) empty among in
         absurd (omega (arith, none.1));
-    complete = λ p s there. absurd (none_there n p s (subst (λ (l : List (Option (Slot H))). StandsIn l p s) are there));
-    own = λ p q s u a b e. absurd (none_there n p s (subst (λ (l : List (Option (Slot H))). StandsIn l p s) are a));
+    complete = λ p s there. absurd (none_in_empty n p s (subst (λ (l : List (Option (Slot H))). StandsIn l p s) are there));
+    own = λ p q s u a b e. absurd (none_in_empty n p s (subst (λ (l : List (Option (Slot H))). StandsIn l p s) are a));
     counted =
-        let count : count_by is_some slots ≡ 0 = ap (count_by is_some) are ∙ none_counted H n in
+        let count : count_by is_some slots ≡ 0 = ap (count_by is_some) are ∙ count-replicate is_some n (none H) refl in
         let len : length index.pairs ≡ 0 = ap length empty in
         omega arith;
     index_room = let len : length slots ≡ n = ap length are ∙ length-replicate n None in omega arith;

@@ -5,30 +5,14 @@ use Rattle.std.proofs.Math.ListN.{set, length-set}
 use Rattle.std.proofs.lemmas.Option.{same_Some, slice_get_within}
 use Rattle.std.proofs.lemmas.List.Elements.{All-contains, Contains-append_left, Contains-append_right}
 use Rattle.std.proofs.lemmas.List.Elements.{Contains-append_cases, Contains-push, Contains-push_cases}
+use Rattle.list_facts.proofs.Members.{Contains-one}
 use Rattle.list_facts.proofs.Places.{get-set_same, get-set_other, get-set_cases, count-set, same_or_other}
+use Rattle.list_facts.proofs.Pushed.{get-push_cases, get-push_old, get-push_new}
 use Rattle.list_facts.proofs.Never.{none_some}
 use Rattle.slot_ledger.specs.declared.places.Slot.{Slot}
 use Rattle.slot_ledger.specs.Places.{IsKept}
 use Rattle.slot_ledger.specs.Slots.{StandsIn, HasTicketAt, AreBelow}
 use Rattle.slot_ledger.specs.Tickets.{Indexed, Removes}
-
-module _ {X : Type 0} where
-  -- what stands in a list with one more at its end
-  pub get-push_cases : (xs : List X) (x : X) (k : ℕ) (y : X) → slice_get (xs ++ x ∷ []) k ≡ Some y → (slice_get xs k ≡ Some y) ⊎ ((k ≡ length xs) × (x ≡ y))
-  get-push_cases [] x zero y e = inr (refl, same_Some x y e)
-  get-push_cases [] x (suc k) y e = cc
-  get-push_cases (w ∷ ws) x zero y e = inl e
-  get-push_cases (w ∷ ws) x (suc k) y e = elim (get-push_cases ws x k y e) [ inl h ↦ inl h | inr h ↦ inr (omega (arith, h.0), h.1) ]
-
-  pub get-push_old : (xs : List X) (x : X) (k : ℕ) (y : X) → slice_get xs k ≡ Some y → slice_get (xs ++ x ∷ []) k ≡ Some y
-  get-push_old [] x k y e = cc
-  get-push_old (w ∷ ws) x zero y e = e
-  get-push_old (w ∷ ws) x (suc k) y e = get-push_old ws x k y e
-
-  pub get-push_new : (xs : List X) (x : X) → slice_get (xs ++ x ∷ []) (length xs) ≡ Some x
-  get-push_new [] x = refl
-  get-push_new (w ∷ ws) x = let e : length (w ∷ ws) ≡ suc (length ws) = omega arith in
-      subst (λ k. slice_get (w ∷ (ws ++ x ∷ [])) k ≡ Some x) (sym e) (get-push_new ws x)
 
 -- what is in a list from which a ticket's pair was taken
 module _ (ticket : ℕ) (old new : List (ℕ × ℕ)) where
@@ -46,13 +30,10 @@ module _ (ticket : ℕ) (old new : List (ℕ × ℕ)) where
       (elim (Contains-append_cases is.front ((ticket, is.place) ∷ is.back) x (subst (λ (l : List (ℕ × ℕ)). Contains l x) is.before among)) [
         | inl first ↦ Contains-append_left is.front is.back x first
         | inr second ↦ elim (Contains-append_cases ((ticket, is.place) ∷ []) is.back x second) [
-          | inl own ↦ absurd (other (sym (ap (λ (y : ℕ × ℕ). y.0) (one_only (ticket, is.place) x own))))
+          | inl own ↦ absurd (other (sym (ap (λ (y : ℕ × ℕ). y.0) (Contains-one (ticket, is.place) x own))))
           | inr later ↦ Contains-append_right is.front is.back x later
         ]
       ])
-    where
-      one_only : (y x : ℕ × ℕ) → Contains (y ∷ []) x → y ≡ x
-      one_only y x among = elim (Contains-push_cases [] y x among) [ inl none ↦ absurd (omega (arith, none.1)) | inr same ↦ same ]
 
   pub removed_length : Removes ticket old new → length new + 1 ≡ length old
   removed_length is =

@@ -2,19 +2,11 @@
 use Rattle.std.proofs.Common.{◌≡◌, ◌≢◌, ℕ, ◌+◌, ◌<◌, Bool, true, false, cond, List, [], ◌∷◌, ◌++◌, Option, None}
 use Rattle.std.proofs.Common.{Some, option_map, is_some, length, filter, All, Contains, MatchOption, refl, sym, ap, subst, ◌∙◌, arith, length-append}
 use Rattle.std.specs.List.{cons_option}
-use Rattle.std.proofs.lemmas.List.{get_or_append_left, get_or-append-add}
 use Rattle.std.proofs.lemmas.List.Elements.{All-append, All-cons, All-contains, All-filter, All-head}
 use Rattle.std.proofs.lemmas.List.Elements.{All-nil, All-tail, All-weaker, filter_map-append, Contains-append_right}
+use Rattle.list_facts.proofs.Members.{all_front, all_back}
 use Rattle.slot_ledger.specs.declared.tickets.TicketPlace.{TicketPlace}
 use Rattle.slot_ledger.specs.Tickets.{IsAbsent, IsBelowAll, IsRising, Removes, has_place, pair_of, pairs_in}
-
-module _ {X : Type 0} (P : X → Type 0) where
-  -- what holds of each element holds of each in a part
-  pub all_front : (xs ys : List X) → All P (xs ++ ys) → All P xs
-  all_front xs ys all k d within = subst P (get_or_append_left xs ys d k within) (all k d (let long = length-append xs ys in omega arith))
-
-  pub all_back : (xs ys : List X) → All P (xs ++ ys) → All P ys
-  all_back xs ys all k d within = subst P (get_or-append-add xs ys k d) (all (length xs + k) d (let long = length-append xs ys in omega arith))
 
 -- what two parts are that rise together
 pub record AreRisingParts (front back : List TicketPlace) : Type 0 where

@@ -1,43 +1,17 @@
 -- The cells of an order, and what each change leaves in them.
-use Rattle.std.proofs.Common.{◌≡◌, ◌≢◌, ℕ, ◌+◌, ◌<◌, ◌≤◌, ◌⊎◌, ◌↔◌, true, false, not, List, [], ◌∷◌, ◌++◌}
+use Rattle.std.proofs.Common.{◌≡◌, ◌≢◌, ℕ, ◌+◌, ◌<◌, ◌≤◌, ◌⊎◌, ◌↔◌, true, not, List, [], ◌∷◌, ◌++◌}
 use Rattle.std.proofs.Common.{Contains, Some, None, cond, eqb, ltb, length, set, get_or, slice_get, refl, sym, ap, subst, ◌∙◌, inl, inr, IsTrue, arith}
 use Rattle.std.proofs.Common.{get_or-set_same, get_or-set_other, length-set}
-use Rattle.std.specs.List.{IsDistinct, AllByRecursion, list_any}
 use Rattle.std.specs.Prelude.{slice_index}
-use Rattle.std.proofs.lemmas.Bool.{eq-eqb, ne_eqb, eqb-true, ltb-true, or_cases, cases_eq, true≢false}
+use Rattle.std.proofs.lemmas.Bool.{eq-eqb, ne_eqb, ltb-true, cases_eq, true≢false}
 use Rattle.std.proofs.lemmas.List.{get_or_default}
 use Rattle.std.proofs.lemmas.List.Elements.{Contains-append_left, Contains-append_right, Contains-push, Contains-push_cases}
-use Rattle.std.proofs.lemmas.Map.Steps.{length-le_from_distinct_below}
 use Rattle.wait_queues.specs.Order.{Order, IsOrder, without, next_after}
-use Rattle.list_facts.specs.Once.{ComeOnce}
 use Rattle.wait_queues.specs.Links.{AreLinked, places_of, IsLinked}
-use Rattle.list_facts.proofs.Members.{Contains-nil, Contains-head, Contains-tail, Contains-cases, Contains-middle, Contains-around, Contains-around_cases}
-use Rattle.list_facts.proofs.Once.{contains_or_not, split_at, not_before, not_after, once_around, once_push}
+use Rattle.list_facts.proofs.Members.{Contains-nil, Contains-tail, Contains-cases, Contains-middle, Contains-around, Contains-around_cases}
+use Rattle.list_facts.proofs.Once.{contains_or_not, once_within, split_at, not_before, not_after, once_around, once_push}
 use Rattle.wait_queues.proofs.Members.{without_parts}
 use Rattle.wait_queues.proofs.Rings.{before_in, last_in, head_next, linked_after, walk_is, first_is, next_after_parts, unlinked, linked_at_end}
-
--- no more places than the room has
-each_differs : (x : ℕ) (xs : List ℕ) → ¬ (Contains xs x) → AllByRecursion (λ y. eqb x y ≡ false) xs
-each_differs x [] absent = tt
-each_differs x (y ∷ xs) absent = (
-  ne_eqb x y (λ same. absent (subst (Contains (y ∷ xs)) (sym same) (Contains-head y xs))),
-  each_differs x xs (λ among. absent (Contains-tail y xs x among)),
-)
-
-distinct : (xs : List ℕ) → ComeOnce xs → IsDistinct eqb xs
-unfolding IsDistinct
-distinct [] once = tt
-distinct (x ∷ xs) once = (each_differs x xs once.0, distinct xs once.1)
-
-any_contains : (xs : List ℕ) (x : ℕ) → list_any (eqb x) xs ≡ true → Contains xs x
-any_contains [] x any = cc
-any_contains (y ∷ xs) x any = elim (or_cases _ _ any) [
-  | inl here ↦ subst (Contains (y ∷ xs)) (sym (eqb-true x y here)) (Contains-head y xs)
-  | inr later ↦ Contains-tail y xs x (any_contains xs x later)
-]
-
-fits : (xs : List ℕ) (room : ℕ) → ComeOnce xs → ((x : ℕ) → Contains xs x → x < room) → length xs ≤ room
-fits xs room once below = length-le_from_distinct_below xs room (distinct xs once) (λ x any. below x (any_contains xs x any))
 
 module _ (n v : List ℕ) (room : ℕ) (places : List ℕ) (is : IsLinked n v room places) where
   end_apart : ¬ (Contains places room)
@@ -45,7 +19,7 @@ module _ (n v : List ℕ) (room : ℕ) (places : List ℕ) (is : IsLinked n v ro
 
   -- the places are those of the ring
   pub read : places_of n room ≡ places
-  read = walk_is (slice_index n) (slice_index v) room places room room is.ring end_apart (fits places room is.once is.below)
+  read = walk_is (slice_index n) (slice_index v) room places room room is.ring end_apart (once_within room places is.once is.below)
 
   -- a cell of the ring
   on_ring : (cell : ℕ) → Contains (room ∷ places) cell → cell < room + 1

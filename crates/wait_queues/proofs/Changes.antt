@@ -5,7 +5,7 @@ use Rattle.std.specs.List.{sum_by}
 use Rattle.std.specs.Option.{option_to_list}
 use Rattle.std.proofs.Math.ListN.{set, length-set}
 use Rattle.std.proofs.lemmas.Cmp.{tied_itself}
-use Rattle.std.proofs.lemmas.List.{set-set, length-replicate}
+use Rattle.std.proofs.lemmas.List.{set-set, set-get_or, length-replicate}
 use Rattle.std.proofs.lemmas.List.Sorted.{IsPermutation-refl}
 use Rattle.std.proofs.lemmas.Option.{same_Some}
 use Rattle.due_key.specs.declared.key.Key.{Key}
@@ -13,7 +13,7 @@ use Rattle.due_key.specs.Order.{key_cmp}
 use Rattle.due_key.proofs.KeyOrder.{key_cmp_total}
 use Rattle.dispatch_log.specs.declared.queue.Queue.{Queue}
 use Rattle.dispatch_log.specs.declared.queue.Queue.TheVariants.{Backend, Server}
-use Rattle.list_facts.proofs.Places.{get-set_same, get-set_cases}
+use Rattle.list_facts.proofs.Places.{get-set_same, get-set_cases, nil_from_first}
 use Rattle.pend_queue.specs.Pairs.{IsAscending, HaveNoCommonKey, inserted, pair_at, without}
 use Rattle.list_facts.proofs.Members.{Contains-nil, Contains-head}
 use Rattle.pend_queue.proofs.Ascending.{IsAscending-drop, pair_at-member}
@@ -28,7 +28,7 @@ use Rattle.wait_queues.specs.Order.{without as without_place}
 use Rattle.wait_queues.specs.Waitlists.{Waitlist, Waiters, WaitsAt, HasNoKey, IsFirstIn, IsHeadOf, AreFirst, moved_waiter, with_waiter_anew}
 use Rattle.wait_queues.proofs.Lineup.{IsWhole, gathered_whole, server_whole, gathered_up, joined_up, left_up, aside_up, first_in, none_in, waits_line}
 use Rattle.wait_queues.proofs.Lineup.{line_waits}
-use Rattle.wait_queues.proofs.Lining.{index-replicate}
+use Rattle.list_facts.proofs.Replicated.{index-replicate, none_in_empty}
 use Rattle.wait_queues.proofs.Orders.{ordered_more, ordered_less}
 
 -- what was moved is merged
@@ -195,30 +195,16 @@ shift_kept lined next ws new order after p s w moved pair is take its key backen
     same_moved l (Server s) x = refl
 
 -- nobody was in a queue, and none is taken from it
-no_first : {X : Type 0} (xs : List X) → None ≡ slice_get xs 0 → xs ≡ []
-no_first [] e = refl
-no_first (x ∷ xs) e = let no : None ≡ Some x = e in cc
-
-set_none : (own : List Line) (s : ℕ) → slice_index_or own s [] ≡ [] → set own s [] ≡ own
-set_none [] s e = refl
-set_none (w ∷ own) zero e = ap (λ (x : Line). x ∷ own) (sym e)
-set_none (w ∷ own) (suc s) e = ap (λ (l : List Line). w ∷ l) (set_none own s e)
-
 pub nothing_popped : (lined left : Lined) (queue : Queue) → None ≡ slice_get (line_at lined queue) 0
     → left ≡ with_line lined queue (drop 1 (line_at lined queue)) → left ≡ lined
 nothing_popped lined left queue none goes =
-    goes ∙ ap (λ (w : Line). with_line lined queue (drop 1 w)) (no_first (line_at lined queue) none) ∙ by_queue queue (no_first (line_at lined queue) none)
+    let empty = nil_from_first (line_at lined queue) none in
+    goes ∙ ap (λ (w : Line). with_line lined queue (drop 1 w)) empty ∙ by_queue queue empty
   where
     by_queue : (q : Queue) → line_at lined q ≡ [] → with_line lined q [] ≡ lined
     by_queue Backend e = ap (λ (w : Line). record { own = lined.own; backend = w; moved = lined.moved; room = lined.room }) (sym e)
     by_queue (Server s) e =
-        ap (λ (l : List Line). record { own = l; backend = lined.backend; moved = lined.moved; room = lined.room }) (set_none lined.own s e)
-
--- nobody waits where all places are empty
-pub nobody : (n place : ℕ) (w : Waiter) → WaitsAt (replicate n None) place w → ⊥
-nobody zero place w e = cc
-nobody (suc n) zero w e = let no : None ≡ Some w = same_Some None (Some w) e in cc
-nobody (suc n) (suc place) w e = nobody n place w e
+        ap (λ (l : List Line). record { own = l; backend = lined.backend; moved = lined.moved; room = lined.room }) (ap (set lined.own s) (sym e) ∙ set-get_or lined.own s [])
 
 -- nobody waits at first
 pub none_wait : (lined : Lined) (ws : Waiters) (order : Order) (servers places : ℕ)
@@ -233,14 +219,14 @@ none_wait lined ws order servers places queues cells joined =
         moved = tt;
         apart = tt;
         room = sym (length-replicate places None);
-        within = λ place w waits. absurd (nobody places place w waits);
-        own_keys = λ place other w v waits there same. absurd (nobody places place w waits);
+        within = λ place w waits. absurd (none_in_empty places place w waits);
+        own_keys = λ place other w v waits there same. absurd (none_in_empty places place w waits);
       };
       order_room = sym (length-replicate places None);
       in_order = record {
         once = tt;
         waits = λ place among. absurd (Contains-nil place among);
-        all = λ place w waits. absurd (nobody places place w waits);
+        all = λ place w waits. absurd (none_in_empty places place w waits);
       };
     })))
   where

@@ -23,7 +23,7 @@ use Rattle.pend_queue.proofs.Inserted.{IsAscending-inserted, IsPermutation-inser
 use Rattle.list_facts.proofs.Members.{Contains-nil, Contains-head}
 use Rattle.pend_queue.proofs.Merged.{IsAscending-merged, IsPermutation-merged}
 use Rattle.slot_ledger.specs.Counts.{IsQueueOf}
-use Rattle.server_pick.proofs.Taking.{same_queues, own_queue}
+use Rattle.dispatch_log.proofs.Choices.{queue_same, queue_own}
 use Rattle.wait_queues.specs.declared.waiters.Waiter.{Waiter}
 use Rattle.wait_queues.specs.InQueues.{weight_at, weight_of, line_weight, AreLinedUp}
 use Rattle.wait_queues.specs.Lines.{Line, Lined, line_at, with_line, with_moved, gathered}
@@ -79,7 +79,7 @@ found_there ws queue key place heavy =
     let it = weight_found (one_pair key place) queue 0 ws heavy in
     let is = that_pair key place (it.waiter.key, 0 + it.place) it.heavy in
     let there : it.place ≡ place = (let e : 0 + it.place ≡ place = is.1 in omega arith) in
-    (it.waiter, subst (λ n. WaitsAt ws n it.waiter) there it.waits, sym (same_queues queue it.waiter.queue it.its), is.0)
+    (it.waiter, subst (λ n. WaitsAt ws n it.waiter) there it.waits, sym (queue_same queue it.waiter.queue it.its), is.0)
 
 -- who is in a queue waits
 pub line_waits : (lined : Lined) (ws : Waiters) (queue : Queue) (key : Key) (place : ℕ) → AreLinedUp lined ws → IsQueueOf (length lined.own) queue
@@ -108,7 +108,7 @@ waits_line lined ws place w is whole waits =
     let f = one_pair w.key place in
     let one = its_weight w.key place in
     let has = weight_has f w.queue 0 ws place (Some w) waits in
-    let here : weight_at f w.queue (0 + place) (Some w) ≡ f (w.key, place) = ap (λ (b : Bool). cond {A = ℕ} b (f (w.key, 0 + place)) 0) (own_queue w.queue)
+    let here : weight_at f w.queue (0 + place) (Some w) ≡ f (w.key, place) = ap (λ (b : Bool). cond {A = ℕ} b (f (w.key, 0 + place)) 0) (queue_own w.queue)
     ∙ (let e : 0 + place ≡ place = omega arith in ap (λ n. f (w.key, n)) e) in
     let weighs = is.weighs w.queue (is.within place w waits) f in
     let line = whole f in
@@ -173,12 +173,12 @@ weight_other : (weight : Key × ℕ → ℕ) (queue : Queue) (place : ℕ) (w : 
 weight_other weight queue place w differs = by_test (same_queue queue w.queue) refl
   where
     by_test : (b : Bool) → same_queue queue w.queue ≡ b → cond {A = ℕ} (same_queue queue w.queue) (weight (w.key, place)) 0 ≡ 0
-    by_test true e = absurd (differs (sym (same_queues queue w.queue e)))
+    by_test true e = absurd (differs (sym (queue_same queue w.queue e)))
     by_test false e = ap (λ (b : Bool). cond {A = ℕ} b (weight (w.key, place)) 0) e
 
 weight_own : (weight : Key × ℕ → ℕ) (place : ℕ) (w : Waiter) → weight_at weight w.queue (0 + place) (Some w) ≡ weight (w.key, place)
 weight_own weight place w =
-    ap (λ (b : Bool). cond {A = ℕ} b (weight (w.key, 0 + place)) 0) (own_queue w.queue)
+    ap (λ (b : Bool). cond {A = ℕ} b (weight (w.key, 0 + place)) 0) (queue_own w.queue)
     ∙ (let e : 0 + place ≡ place = omega arith in ap (λ n. weight (w.key, n)) e)
 
 -- each line ascends once one of them is another one that does
@@ -240,7 +240,7 @@ join_room lined ws queue p is within vacant key =
     let ones = sum_ones (line_at lined queue) in
     let most = weight_most queue 0 (set ws p (Some w)) in
     let more = weight_set (λ pair. 1) queue 0 ws p None (Some w) vacant in
-    let one : weight_at (λ pair. 1) queue (0 + p) (Some w) ≡ 1 = ap (λ (b : Bool). cond {A = ℕ} b 1 0) (own_queue queue) in
+    let one : weight_at (λ pair. 1) queue (0 + p) (Some w) ≡ 1 = ap (λ (b : Bool). cond {A = ℕ} b 1 0) (queue_own queue) in
     let long = length-set ws p (Some w) in
     let room = is.room in
     omega arith

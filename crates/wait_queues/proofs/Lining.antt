@@ -1,50 +1,33 @@
 -- Queues of which one changes.
-use Rattle.std.proofs.Common.{◌≡◌, ◌≢◌, ℕ, zero, suc, ◌+◌, ◌<◌, Bool, true, false, List, [], ◌∷◌, slice_index_or, replicate, length}
-use Rattle.std.proofs.Common.{refl, ap, subst, arith, ◌⊎◌, inl, inr}
-use Rattle.std.proofs.Math.ListN.{set, length-set}
+use Rattle.std.proofs.Common.{◌≡◌, ◌≢◌, Bool, true, false, [], length}
+use Rattle.std.proofs.Common.{refl, ap, subst, ◌⊎◌, inl, inr}
+use Rattle.std.proofs.Math.ListN.{length-set}
+use Rattle.std.proofs.lemmas.List.{get_or-set_same, get_or-set_other}
 use Rattle.dispatch_log.specs.declared.queue.Queue.{Queue}
 use Rattle.dispatch_log.specs.declared.queue.Queue.TheVariants.{Backend, Server}
 use Rattle.dispatch_log.specs.Rows.{same_queue}
 use Rattle.slot_ledger.specs.Counts.{IsQueueOf}
-use Rattle.server_pick.proofs.Taking.{same_queues, own_queue}
+use Rattle.dispatch_log.proofs.Choices.{queue_same, queue_own}
 use Rattle.wait_queues.specs.Lines.{Line, Lined, line_at, with_line}
-
-module _ {X : Type 0} where
-  pub index-set_same : (xs : List X) (i : ℕ) (x d : X) → i < length xs → slice_index_or (set xs i x) i d ≡ x
-  index-set_same [] i x d within = absurd (omega arith)
-  index-set_same (y ∷ ys) zero x d within = refl
-  index-set_same (y ∷ ys) (suc i) x d within = index-set_same ys i x d (let l : length (y ∷ ys) ≡ length ys + 1 = omega arith in omega arith)
-
-  pub index-set_other : (xs : List X) (i j : ℕ) (x d : X) → j ≢ i → slice_index_or (set xs i x) j d ≡ slice_index_or xs j d
-  index-set_other [] i j x d differs = refl
-  index-set_other (y ∷ ys) zero zero x d differs = absurd (differs refl)
-  index-set_other (y ∷ ys) zero (suc j) x d differs = refl
-  index-set_other (y ∷ ys) (suc i) zero x d differs = refl
-  index-set_other (y ∷ ys) (suc i) (suc j) x d differs = index-set_other ys i j x d (λ e. differs (ap suc e))
-
-  pub index-replicate : (n j : ℕ) (d : X) → slice_index_or (replicate n d) j d ≡ d
-  index-replicate zero j d = refl
-  index-replicate (suc n) zero d = refl
-  index-replicate (suc n) (suc j) d = index-replicate n j d
 
 -- two queues are one, or not
 pub one_or_other : (a b : Queue) → (a ≡ b) ⊎ (a ≢ b)
 one_or_other a b = by_test (same_queue a b) refl
   where
     by_test : (t : Bool) → same_queue a b ≡ t → (a ≡ b) ⊎ (a ≢ b)
-    by_test true e = inl (same_queues a b e)
-    by_test false e = inr (λ same. let t : same_queue a b ≡ true = subst (λ (q : Queue). same_queue a q ≡ true) same (own_queue a) in cc)
+    by_test true e = inl (queue_same a b e)
+    by_test false e = inr (λ same. let t : same_queue a b ≡ true = subst (λ (q : Queue). same_queue a q ≡ true) same (queue_own a) in cc)
 
 pub line_own : (lined : Lined) (queue : Queue) (waits : Line) → IsQueueOf (length lined.own) queue → line_at (with_line lined queue waits) queue ≡ waits
 line_own lined Backend waits within = refl
-line_own lined (Server s) waits within = index-set_same lined.own s waits [] within
+line_own lined (Server s) waits within = get_or-set_same lined.own s waits [] within
 
 pub line_other : (lined : Lined) (queue other : Queue) (waits : Line) → other ≢ queue
     → line_at (with_line lined queue waits) other ≡ line_at lined other
 line_other lined Backend Backend waits differs = absurd (differs refl)
 line_other lined Backend (Server t) waits differs = refl
 line_other lined (Server s) Backend waits differs = refl
-line_other lined (Server s) (Server t) waits differs = index-set_other lined.own s t waits [] (λ e. differs (ap Server e))
+line_other lined (Server s) (Server t) waits differs = get_or-set_other lined.own s t waits [] (λ e. differs (ap Server e))
 
 pub lines_kept : (lined : Lined) (queue : Queue) (waits : Line) → length (with_line lined queue waits).own ≡ length lined.own
 lines_kept lined Backend waits = refl

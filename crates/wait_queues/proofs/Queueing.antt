@@ -7,7 +7,7 @@ use Rattle.std.proofs.lemmas.Option.{slice_get-map, slice_get_read, get_or_from_
 use Rattle.dispatch_log.specs.declared.queue.Queue.{Queue}
 use Rattle.dispatch_log.specs.declared.queue.Queue.TheVariants.{Backend, Server}
 use Rattle.list_facts.proofs.Places.{get-set_cases}
-use Rattle.slot_ledger.proofs.Keeping.{get-push_cases}
+use Rattle.list_facts.proofs.Pushed.{get-push_cases}
 use Rattle.slot_ledger.specs.Counts.{IsQueueOf}
 use Rattle.wait_queues.specs.Lines.{Line, Lined, line_at, with_line, HaveRoom}
 

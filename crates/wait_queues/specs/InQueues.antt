@@ -1,11 +1,12 @@
 -- How the waiting requests are kept in queues.
-use Rattle.std.specs.Prelude.{◌≡◌, ℕ, suc, ◌+◌, [], ◌∷◌, Option, None, Some, length, if◌then◌else◌}
+use Rattle.std.specs.Prelude.{◌≡◌, ℕ, ◌+◌, Option, None, Some, length, if◌then◌else◌}
 use Rattle.std.specs.List.{sum_by}
 use Rattle.due_key.specs.declared.key.Key.{Key}
 use Rattle.due_key.specs.Order.{key_cmp}
 use Rattle.dispatch_log.specs.declared.queue.Queue.{Queue}
 use Rattle.dispatch_log.specs.declared.queue.Queue.TheVariants.{Backend, Server}
 use Rattle.dispatch_log.specs.Rows.{same_queue}
+use Rattle.list_facts.specs.Weights.{along}
 use Rattle.pend_queue.specs.Pairs.{IsAscending, HaveNoCommonKey}
 use Rattle.slot_ledger.specs.Counts.{IsQueueOf}
 use Rattle.wait_queues.specs.declared.waiters.Waiter.{Waiter}
@@ -20,8 +21,7 @@ weight_at weight queue place (Some waiter) = if same_queue queue waiter.queue th
 
 -- what the requests from a place on weigh in a queue together
 abbrev pub weight_of : (Key × ℕ → ℕ) → Queue → ℕ → Waiters → ℕ
-weight_of weight queue place [] = 0
-weight_of weight queue place (cell ∷ later) = weight_at weight queue place cell + weight_of weight queue (suc place) later
+weight_of weight queue = along (weight_at weight queue)
 
 -- what a queue weighs, the backend's with what was moved into it
 abbrev pub line_weight : (Key × ℕ → ℕ) → Lined → Queue → ℕ

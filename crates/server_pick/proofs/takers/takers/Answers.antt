@@ -1,7 +1,8 @@
 use Rattle.std.proofs.Common.{length, subst}
 use Rattle.dispatch_log.specs.Grants.{CanTake}
+use Rattle.dispatch_log.proofs.Choices.{free_there}
 use Rattle.slot_ledger.specs.Ledgers.{scene_of}
-use Rattle.server_pick.proofs.Filled.{IsFilled, filled_step, filled_all, loop_end, free_within}
+use Rattle.server_pick.proofs.Filled.{IsFilled, filled_step, filled_all, loop_end}
 use Rattle.server_pick.proofs.takers.takers.Goals as goal
 
 pub filling-preserved : goal.filling-preserved
@@ -13,5 +14,5 @@ returns g c =
     let scene = scene_of c.args.ledger.now in
     let all = loop_end c.setup.result.now c.args.ledger.now.setup _ _ c.setup.ensures.setup c.len-server-end.ensures c.filling-test.false
     c.filling.auto.server-end in
-    filled_all (CanTake scene) (length scene.servers) _ (λ server can. free_within scene server can.0)
+    filled_all (CanTake scene) (length scene.servers) _ (λ server can. free_there scene server can.0)
     (subst (λ n. IsFilled (CanTake scene) n c.filling.set) all c.filling.invariant)

@@ -1,11 +1,8 @@
-use Rattle.std.proofs.Common.{◌≡◌, ℕ, Option, None, Some, is_some, false, not, get_or, refl, ap, ◌∙◌}
+use Rattle.std.proofs.Common.{None, not, get_or, ap, ◌∙◌}
 use Rattle.std.proofs.lemmas.Option.{slice_get-get_or}
+use Rattle.list_facts.proofs.Options.{none_from_test}
 use Rattle.slot_ledger.proofs.Stretches.{pass_dropped}
 use Rattle.slot_ledger.proofs.tickets.pass.Goals as goal
-
-none_from_test : (o : Option ℕ) → is_some o ≡ false → o ≡ None
-none_from_test None is = refl
-none_from_test (Some place) is = cc
 
 -- an entry without a place stays behind
 pub returns-then-is_none : goal.returns-then-is_none

@@ -4,12 +4,12 @@ use Rattle.dispatch_log.specs.declared.setup.Setup.{Setup}
 use Rattle.dispatch_log.specs.Histories.{History}
 use Rattle.dispatch_log.specs.Logs.{Recorded}
 use Rattle.slot_ledger.specs.Counts.{IsQueueOf}
-use Rattle.slot_ledger.specs.Ledgers.{Kept, with_slots}
+use Rattle.slot_ledger.specs.Ledgers.{Kept, with_slots, scene_of as kept_scene}
 use Rattle.slot_ledger.specs.Slots.{with_phase}
 use Rattle.slot_ledger.proofs.Standing.{still_stands}
 use Rattle.wait_queues.specs.Waitlists.{Waitlist, AreFirst, without_waiter}
 use Rattle.dispatch_trace.specs.Histories.{waiting_of, IsGrant}
-use Rattle.dispatch_trace.proofs.Grants.{kept_scene, heads_are, not_empty, grant_within, grant_row, grant_kept, is_grant, grant_room, grant_arrived}
+use Rattle.dispatch_trace.proofs.Grants.{heads_are, not_empty, grant_within, grant_row, grant_kept, is_grant, grant_room, grant_arrived}
 use Rattle.dispatch_trace.proofs.Grants.{grant_joined, grant_waits, grant_begun}
 use Rattle.dispatch_trace.proofs.Stepping.{closed}
 use Rattle.dispatch_trace.proofs.Within.{take_within}

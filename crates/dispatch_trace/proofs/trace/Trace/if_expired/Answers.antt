@@ -1,7 +1,8 @@
 use Rattle.std.proofs.Common.{sym, ◌∙◌, subst, Option, ℕ}
 use Rattle.std.specs.Option.{IfSome}
+use Rattle.list_facts.proofs.Never.{false_true}
 use Rattle.dispatch_trace.specs.Timeouts.{HasRowAt, ExpiresAt}
-use Rattle.dispatch_trace.proofs.Expiring.{row_there, expires_there, expires_not, false_true}
+use Rattle.dispatch_trace.proofs.Expiring.{row_there, expires_there, expires_not}
 use Rattle.dispatch_trace.proofs.trace.Trace.if_expired.Goals as goal
 
 pub row-requires : goal.row-requires

@@ -1,14 +1,13 @@
-use Rattle.std.proofs.Common.{◌≡◌, ℤ, ℕ, ◌+◌, ◌<◌, ◌≤◌, List, ◌∷◌, [], ◌++◌, IsTrue, length, take, drop, sym, ap, subst, ◌∙◌, arith, w64, to_z, of_z}
+use Rattle.std.proofs.Common.{◌≡◌, ℤ, ◌+◌, List, ◌∷◌, [], ◌++◌, IsTrue, take, drop, sym, ap, subst, ◌∙◌, arith, w64, to_z, of_z}
 use Rattle.std.proofs.lemmas.Int.{to_z-of_z}
 use Rattle.std.proofs.lemmas.List.{take_more, take_all}
 use Rattle.std.specs.List.{AllByRecursion}
-use Rattle.readable_log.specs.Grants.{grants}
-use Rattle.readable_log.specs.Windows.{window_of}
 use Rattle.readable_log.specs.declared.grant.SlotGrant.{SlotGrant}
 use Rattle.late_cert.specs.Queues.{IsQueueOf}
-use Rattle.late_cert.specs.Running.{IsGreatest, IsWorstAmong, HasRoomFor, has_room, latenesses_of, worst_so_far, worst_with}
+use Rattle.late_cert.specs.Running.{IsGreatest, HasRoomFor, latenesses_of, worst_so_far, worst_with}
 use Rattle.late_cert.specs.Tests.{late_by}
-use Rattle.late_cert.proofs.Worst.{among_with, from_one_on}
+use Rattle.late_cert.proofs.Worst.{among_with}
+use Rattle.list_facts.proofs.Members.{from_one_on}
 use Rattle.late_cert.proofs.table.Running.granted_from.Goals as goal
 
 roomy : (c : goal.After-lateness) → HasRoomFor c.args.self.now c.index-grants-number.result

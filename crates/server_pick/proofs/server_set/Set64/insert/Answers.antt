@@ -1,4 +1,4 @@
-use Rattle.std.proofs.Common.{ℕ, ◌^◌, ◌*◌, ◌%◌, bit_or, ◌↔◌, ◌⊎◌, ◌≡◌, subst}
+use Rattle.std.proofs.Common.{◌^◌, ◌*◌, ◌%◌, bit_or, ◌↔◌, ◌⊎◌, ◌≡◌, subst}
 use Rattle.server_pick.specs.Sets.{IsIn}
 use Rattle.server_pick.proofs.Marks.{one_more}
 use Rattle.server_pick.proofs.server_set.Set64.insert.Goals as goal

@@ -1,6 +1,7 @@
 use Rattle.std.proofs.Common.{rules, ◌≡◌, ◌-◌, [], ◌∷◌, ◌++◌, None, length, ap, ◌∙◌, replicate, slice_get, arith, length-append}
 use Rattle.std.proofs.lemmas.List.{replicate_more}
-use Rattle.slot_ledger.proofs.Indexing.{kept_new, each_push}
+use Rattle.list_facts.proofs.Pushed.{each_push}
+use Rattle.slot_ledger.proofs.Indexing.{kept_new}
 use Rattle.slot_ledger.proofs.places.Places.new.Goals as goal
 
 pub loop-place-preserved : goal.loop-place-preserved

@@ -1,5 +1,5 @@
 use Rattle.std.proofs.Common.{length, ap, ◌∙◌}
-use Rattle.wait_queues.specs.Waitlists.{Waitlist, Waiters, in_next_window}
+use Rattle.wait_queues.specs.Waitlists.{Waiters, in_next_window}
 use Rattle.wait_queues.proofs.Windows.{waiting_before}
 use Rattle.wait_queues.proofs.waiting.WaitQueues.begin_window.Goals as goal
 

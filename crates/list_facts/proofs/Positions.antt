@@ -1,12 +1,24 @@
 -- Weights that look at positions, along rows of any items.
-use Rattle.std.proofs.Common.{◌≡◌, ℕ, zero, suc, ◌+◌, ◌<◌, ◌≤◌, ◌≢◌, List, [], ◌∷◌, length, set, sym, refl, ap, arith}
+use Rattle.std.proofs.Common.{◌≡◌, ℕ, zero, suc, ◌+◌, ◌<◌, ◌≤◌, ◌≢◌, List, [], ◌∷◌, length, set, Some, slice_get, sym, refl, ap, arith}
 use mathlib.Core.Logic.{dite}
 use native.Mathlib.Decide.{ℕ_discrete}
 use mathlib.Core.Option.{some, some-injective, some-ne-none}
 use lib.ListN.{get_elem?}
+use Rattle.std.proofs.lemmas.Option.{same_Some}
 use Rattle.list_facts.specs.Weights.{along}
 
 module _ {A : Type 0} where
+  -- an item that stands at a place has that position
+  pub item_stands : (l : List A) (i : ℕ) (c : A) → slice_get l i ≡ Some c → get_elem? l i ≡ some c
+  item_stands [] i c at = cc
+  item_stands (x ∷ xs) zero c at = ap some (same_Some x c at)
+  item_stands (x ∷ xs) (suc i) c at = item_stands xs i c at
+
+  pub stands_item : (l : List A) (i : ℕ) (c : A) → get_elem? l i ≡ some c → slice_get l i ≡ Some c
+  stands_item [] i c e = absurd (some-ne-none c (sym e))
+  stands_item (x ∷ xs) zero c e = ap Some (some-injective x c e)
+  stands_item (x ∷ xs) (suc i) c e = stands_item xs i c e
+
   -- along a row, the item at i has the position k, which is j + i
   pub along-set : (f : ℕ → A → ℕ) (l : List A) (j i k : ℕ) (c d : A) → k ≡ j + i → get_elem? l i ≡ some c → along f j (set l i d) + f k c ≡ along f j l + f k d
   along-set f [] j i k c d at e = absurd (some-ne-none c (sym e))

@@ -27,7 +27,8 @@ pub struct Explanation {
     pub whole: bool,
 }
 
-/// Names every faulty line, up to a thousand. In the worst case it reads the file anew for each of the first 63 words of a faulty line, and twice more; fails only where memory is refused.
+/// Names every faulty line, up to a thousand. In the worst case it reads the file anew for each of the first 63 words of a faulty line,
+/// and twice more; fails only where memory is refused.
 pub fn explain(alloc: Global, bytes: &[u8]) -> Result<Explanation, AllocError>
     ensures whole { IfOk result (λ told. IsTrue told.whole ↔ IsOk (reading bytes.now)) }
 {

@@ -37,8 +37,8 @@ pub fn each_cause_stands_in_its_row()
         EachInItsRow servers too_long so_far n line }
 {}
 
-/// The other causes stand where their rows say: `keyword`, `words`, `number`, `address`, `name`, `twice`, `unknown`,
-/// `condition` and `limit`, each for the words that have it, whatever words follow them.
+/// The other causes stand where their rows say, `keyword`, `words`, `number`, `address`, `name`, `twice`, `unknown` and
+/// `condition`, each for the words that have it, whatever words follow them; `limit` too, where there is one thing too many.
 pub fn each_cause_has_its_words()
     ensures { (servers : List Server) (so_far : Resolved) (n : ℕ) (words : List (List ℕ)) (cause : FaultCause) →
         HasFault servers so_far words cause → resolved_words servers so_far n words ≡ Err cause }

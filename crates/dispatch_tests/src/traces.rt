@@ -95,6 +95,91 @@ fn arrive_twice(rt: &impl Abort, alloc: Global, trace: &mut OfLists)
     );
 }
 
+// A call that is refused.
+enum Call {
+    Arrive(Option<usize>),
+    Done(u64),
+    Fail(u64),
+    Abort(u64),
+    Check(usize),
+    Limit(usize),
+}
+
+// A log of 16 entries has room for one arrival: what a call answers before it, and behind it.
+struct Refused {
+    name: &'static str,
+    call: Call,
+    before: Option<Refusal>,
+    behind: Option<Refusal>,
+}
+
+static REFUSED: [Refused; 7] = [
+    Refused {
+        name: "an arrival",
+        call: Call::Arrive(None),
+        before: None,
+        behind: Some(Refusal::LogFull),
+    },
+    Refused {
+        name: "an arrival with a pin to no server",
+        call: Call::Arrive(Some(1)),
+        before: Some(Refusal::NoSuchServer),
+        behind: Some(Refusal::LogFull),
+    },
+    Refused {
+        name: "an end",
+        call: Call::Done(1),
+        before: Some(Refusal::NoSuchTicket),
+        behind: Some(Refusal::LogFull),
+    },
+    Refused {
+        name: "a failure",
+        call: Call::Fail(1),
+        before: Some(Refusal::NoSuchTicket),
+        behind: Some(Refusal::LogFull),
+    },
+    Refused {
+        name: "an abort",
+        call: Call::Abort(1),
+        before: Some(Refusal::NoSuchTicket),
+        behind: Some(Refusal::LogFull),
+    },
+    Refused {
+        name: "a check of a server that isn't checked",
+        call: Call::Check(0),
+        before: Some(Refusal::WrongPhase),
+        behind: Some(Refusal::LogFull),
+    },
+    Refused {
+        name: "a limit of no server",
+        call: Call::Limit(1),
+        before: Some(Refusal::NoSuchServer),
+        behind: Some(Refusal::LogFull),
+    },
+];
+
+fn refusal(trace: &OfLists, call: &Call) -> Option<Refusal> {
+    match *call {
+        Call::Arrive(pin) => trace.refuses_arrival(pin),
+        Call::Done(ticket) => trace.accept_done(ticket).err(),
+        Call::Fail(ticket) => trace.accept_failure(ticket).err(),
+        Call::Abort(ticket) => trace.accept_abort(ticket).err(),
+        Call::Check(server) => trace.refuses_check(server),
+        Call::Limit(server) => trace.refuses_limit(server),
+    }
+}
+
+fn are_refused(rt: &impl Abort, trace: &OfLists, roomy: bool) {
+    for row in &REFUSED {
+        let answer = if roomy { row.before } else { row.behind };
+        same(
+            rt,
+            (row.name, refusal(trace, &row.call)),
+            (row.name, answer),
+        );
+    }
+}
+
 #[test]
 fn a_full_log_refuses_all_calls(rt: HostRuntime) {
     let mut trace = made(&rt, rt.alloc(), 16);
@@ -105,13 +190,8 @@ fn a_full_log_refuses_all_calls(rt: HostRuntime) {
 fn fill(rt: &impl Abort, alloc: Global, trace: &mut OfLists)
     requires { IsLegal trace.old }
 {
-    same(
-        rt,
-        trace.refuses_arrival(Some(1)),
-        Some(Refusal::NoSuchServer),
-    );
+    are_refused(rt, trace, true);
     arrive(rt, alloc, trace);
     holds(rt, !trace.has_room());
-    same(rt, trace.refuses_arrival(Some(1)), Some(Refusal::LogFull));
-    same(rt, trace.accept_done(1), Err(Refusal::LogFull));
+    are_refused(rt, trace, false);
 }

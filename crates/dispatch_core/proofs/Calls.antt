@@ -21,6 +21,7 @@ use Rattle.dispatch_log.specs.Judgement.{Stage, returning, ending, granting, May
 use Rattle.dispatch_log.specs.Refusals.{first_of, is_waiting, lacks_room}
 use Rattle.dispatch_log.specs.Rows.{Rows, StandsAt, row_of, server_in, has_ticket, phase_is_served_by, phase_is_told}
 use Rattle.dispatch_log.specs.States.{State, after}
+use Rattle.dispatch_log.proofs.Accepted.{none_refuses}
 use Rattle.dispatch_log.proofs.Consistency.{IsConsistent}
 use Rattle.dispatch_log.proofs.Dispatched.{dispatched, base_consistent}
 use Rattle.dispatch_log.proofs.Runs.{first_legal, adds_legally}
@@ -45,10 +46,10 @@ may_next h e next t stage may =
 -- what is accepted has room, and nothing else refuses it
 done_tests : (a b c : Bool) → first_of ((a, LogFull) ∷ (b, NoSuchTicket) ∷ (c, WrongPhase) ∷ []) ≡ None
     → (a ≡ false) × (b ≡ false) × (c ≡ false)
-done_tests true b c e = cc
-done_tests false true c e = cc
-done_tests false false true e = cc
-done_tests false false false e = (refl, refl, refl)
+done_tests a b c accepted =
+    let first = none_refuses a LogFull ((b, NoSuchTicket) ∷ (c, WrongPhase) ∷ []) accepted in
+    let second = none_refuses b NoSuchTicket ((c, WrongPhase) ∷ []) first.1 in
+    (first.0, second.0, (none_refuses c WrongPhase [] second.1).0)
 
 -- the states of a legal log are consistent
 pub legal_consistent : (h : History) → IsLegal h → IsConsistent (state_of h).rows (state_of h).ticket (stage_of h)

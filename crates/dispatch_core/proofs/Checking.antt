@@ -14,7 +14,7 @@ use Rattle.dispatch_log.specs.declared.refusal.Refusal.TheVariants.{LogFull, NoS
 use Rattle.dispatch_log.specs.declared.setup.ServerSet.{ServerSet}
 use Rattle.dispatch_log.specs.declared.setup.Setup.{Setup}
 use Rattle.dispatch_log.specs.Health.{is_up_by, results_of, with_result, without_last}
-use Rattle.dispatch_log.proofs.Runs.{adds_legally}
+use Rattle.dispatch_log.proofs.Runs.{adds_legally, after_on}
 use Rattle.dispatch_log.proofs.Windows.{opening_base}
 use Rattle.dispatch_log.specs.Histories.{History, first_window, state_of, begins_event, refuses_check}
 use Rattle.dispatch_log.specs.Legal.{IsBase, IsLegal, AddsEvent}
@@ -61,17 +61,13 @@ no_results setup s (e ∷ es) inside =
     no_results setup (after setup s e) es (All-tail (λ (entry : Entry). begins_event entry ≡ false) e es inside)
     ∙ no_result setup s e (All-head (λ (entry : Entry). begins_event entry ≡ false) e es inside)
 
-after_both : (setup : Setup) (s : State) (xs ys : List Entry) → after_all setup s (xs ++ ys) ≡ after_all setup (after_all setup s xs) ys
-after_both setup s [] ys = refl
-after_both setup s (x ∷ xs) ys = after_both setup (after setup s x) xs ys
-
 -- the results after an event are those that its first entry left
 results_added : (h now : History) (event : Entry) → AddsEvent h now event → (state_of now).results ≡ (after h.setup (state_of h) event).results
 results_added h now event added =
     ap (λ (s : Setup). (after_all s now.base now.log).results) added.setup
     ∙ ap (λ (s : State). (after_all h.setup s now.log).results) added.base
     ∙ ap (λ (l : List Entry). (after_all h.setup h.base l).results) added.log
-    ∙ ap (λ (s : State). s.results) (after_both h.setup h.base h.log (event ∷ added.brought))
+    ∙ ap (λ (s : State). s.results) (after_on h.setup h.base h.log (event ∷ added.brought))
     ∙ no_results h.setup (after h.setup (state_of h) event) added.brought added.one_event
 
 -- a base of a setup is as long as one

@@ -1,5 +1,6 @@
 -- Aborts and ticks as compositions of entries.
-use Rattle.std.proofs.Common.{◌≡◌, ℕ, ◌+◌, ◌≤◌, not, Bool, true, false, None, length, refl, ap, sym, ◌∙◌, subst, arith}
+use Rattle.std.proofs.Common.{◌≡◌, ℕ, ◌+◌, ◌≤◌, not, Bool, None, length, refl, ap, sym, ◌∙◌, subst, arith}
+use Rattle.std.proofs.lemmas.Bool.{not-false}
 use Rattle.dispatch_log.specs.declared.entry.Entry.TheVariants.{Abort, Left}
 use Rattle.verdict.specs.declared.cause.Cause.TheVariants.{Aborted}
 use Rattle.dispatch_log.specs.declared.row.Phase.{Phase}
@@ -23,14 +24,10 @@ pub ticket_room : (wrong : Phase → Bool) (h : History) (t : ℕ) → ticket_re
 ticket_room wrong h t accepted = has_room h (accepted_room wrong h.setup (state_of h) (length h.log) t accepted)
 
 -- a ticket whose abort nothing refuses waits
-passes : (b : Bool) → not b ≡ false → b ≡ true
-passes true e = refl
-passes false e = cc
-
 abort_waits : (h : History) (t : ℕ) → refuses_abort h t ≡ None → IsInPhase is_waiting (state_of h).rows t
 abort_waits h t accepted =
     let it = row_of_accepted (λ (p : Phase). not (is_waiting p)) h.setup (state_of h) (length h.log) t accepted in
-    record { row = it.row; live = (it.place, it.stands); named = it.named; phase = passes (is_waiting it.row.phase) it.right }
+    record { row = it.row; live = (it.place, it.stands); named = it.named; phase = not-false (is_waiting it.row.phase) it.right }
 
 module _ (h one : History) (m ticket : ℕ) (it : Ticketed) (found : IsFound (state_of h).rows ticket it) (given : refuses_abort h ticket ≡ None)
     (begun : one ≡ with_entry h (Abort m it.ticket)) where

@@ -2,6 +2,7 @@
 use Rattle.std.proofs.Common.{◌≡◌, ◌≢◌, ℕ, zero, suc, ◌+◌, ◌<◌, Bool, List, [], ◌∷◌, ◌++◌, Option, None, Some, get_or}
 use Rattle.std.proofs.Common.{slice_get, slice_index_or, length, replicate, refl, ap, sym, ◌∙◌, subst, arith, inl, inr}
 use Rattle.std.proofs.Math.ListN.{set, length-set, length-replicate}
+use Rattle.std.proofs.lemmas.List.{get_or-set_same, get_or-set_other, get_or_append_left, get_or_push}
 use Rattle.std.proofs.lemmas.Option.{same_Some, slice_get_within, slice_get-get_or, slice_get_read, get_or_from_slice_get}
 use Rattle.check_state.specs.declared.health.Change.{Change}
 use Rattle.check_state.specs.Results.{is_up}
@@ -9,14 +10,9 @@ use Rattle.check_state.specs.Standing.{Standing, IsHealthOf, change_between}
 use Rattle.dispatch_log.specs.declared.setup.ServerSet.{ServerSet}
 use Rattle.dispatch_log.specs.Health.{is_up_by, results_of, with_result}
 use Rattle.list_facts.proofs.Places.{same_or_other}
+use Rattle.list_facts.proofs.Replicated.{index-replicate}
 use Rattle.dispatch_core.specs.Checks.{IsHealthBy, AreHealths}
 use Rattle.dispatch_trace.specs.Traces.{is_up_at}
-
--- what stands in a list of lists without an element
-none_of : (n k : ℕ) → results_of (replicate n []) k ≡ []
-none_of zero k = refl
-none_of (suc n) zero = refl
-none_of (suc n) (suc k) = none_of n k
 
 -- one health more
 pub one_more : (servers : List ServerSet) (healths more : List (Option Standing)) (health : Option Standing) (n : ℕ) (it : ServerSet) → length healths ≡ n
@@ -30,26 +26,14 @@ one_more servers healths more health n it long pushed at is before server x with
       | inl e ↦
           let same : it ≡ x = same_Some it x (sym at ∙ ap (slice_get servers) (sym e) ∙ stands) in
           subst (λ (o : Option Standing). IsHealthBy x.rise_fall [] o)
-          (sym (ap (λ (l : List (Option Standing)). slice_index_or l server None) pushed ∙ at_end server (e ∙ sym long)))
+          (sym (ap (λ (l : List (Option Standing)). slice_index_or l server None) pushed ∙ get_or_push healths health None server (long ∙ sym e)))
           (subst (λ (y : ServerSet). IsHealthBy y.rise_fall [] health) same is)
       | inr e ↦
           let below : server < n = omega arith in
           subst (λ (o : Option Standing). IsHealthBy x.rise_fall [] o)
-          (sym (ap (λ (l : List (Option Standing)). slice_index_or l server None) pushed ∙ earlier healths server (omega arith)))
+          (sym (ap (λ (l : List (Option Standing)). slice_index_or l server None) pushed ∙ get_or_append_left healths (health ∷ []) None server (omega arith)))
           (before server x below stands)
     ]
-  where
-    at_end : (k : ℕ) → k ≡ length healths → slice_index_or (healths ++ health ∷ []) k None ≡ health
-    at_end k e = ap (λ n. slice_index_or (healths ++ health ∷ []) n None) e ∙ last healths
-      where
-        last : (l : List (Option Standing)) → slice_index_or (l ++ health ∷ []) (length l) None ≡ health
-        last [] = refl
-        last (y ∷ l) = last l
-
-    earlier : (l : List (Option Standing)) (k : ℕ) → k < length l → slice_index_or (l ++ health ∷ []) k None ≡ slice_index_or l k None
-    earlier [] k h = absurd (omega arith)
-    earlier (y ∷ l) zero h = refl
-    earlier (y ∷ l) (suc k) h = earlier l k (omega arith)
 
 pub all_made : (servers : List ServerSet) (healths : List (Option Standing)) (n : ℕ) → n ≡ length servers → length healths ≡ n
     → ((server : ℕ) (x : ServerSet) → server < n → slice_get servers server ≡ Some x
@@ -59,7 +43,7 @@ all_made servers healths n all long each = record {
   many = length-replicate (length servers) [];
   each_one = long ∙ all;
   each = λ server it stands.
-      subst (λ (l : List Bool). IsHealthBy it.rise_fall l (slice_index_or healths server None)) (sym (none_of (length servers) server))
+      subst (λ (l : List Bool). IsHealthBy it.rise_fall l (slice_index_or healths server None)) (sym (index-replicate (length servers) server []))
       (each server it (let within : server < length servers = slice_get_within servers server it stands in omega arith) stands);
 }
 
@@ -75,31 +59,11 @@ up_at (first ∷ servers) (own ∷ results) (suc server) it stands = up_at serve
 -- a result more of one server
 pub results_set : (results : List (List Bool)) (server : ℕ) (ok : Bool) → server < length results
     → results_of (with_result server ok results) server ≡ results_of results server ++ ok ∷ []
-results_set [] server ok h = absurd (omega arith)
-results_set (own ∷ results) zero ok h = refl
-results_set (own ∷ results) (suc server) ok h = results_set results server ok (omega arith)
+results_set results server ok within = get_or-set_same results server (results_of results server ++ ok ∷ []) [] within
 
 results_other : (results : List (List Bool)) (server other : ℕ) (ok : Bool) → other ≢ server
     → results_of (with_result server ok results) other ≡ results_of results other
-results_other [] server other ok h = refl
-results_other (own ∷ results) zero zero ok h = absurd (h refl)
-results_other (own ∷ results) zero (suc other) ok h = refl
-results_other (own ∷ results) (suc server) zero ok h = refl
-results_other (own ∷ results) (suc server) (suc other) ok h = results_other results server other ok (λ e. h (ap suc e))
-
-healths_other : (healths : List (Option Standing)) (server other : ℕ) (new : Option Standing) → other ≢ server
-    → slice_index_or (set healths server new) other None ≡ slice_index_or healths other None
-healths_other [] server other new h = refl
-healths_other (x ∷ healths) zero zero new h = absurd (h refl)
-healths_other (x ∷ healths) zero (suc other) new h = refl
-healths_other (x ∷ healths) (suc server) zero new h = refl
-healths_other (x ∷ healths) (suc server) (suc other) new h = healths_other healths server other new (λ e. h (ap suc e))
-
-healths_set : (healths : List (Option Standing)) (server : ℕ) (new : Option Standing) → server < length healths
-    → slice_index_or (set healths server new) server None ≡ new
-healths_set [] server new h = absurd (omega arith)
-healths_set (x ∷ healths) zero new h = refl
-healths_set (x ∷ healths) (suc server) new h = healths_set healths server new (omega arith)
+results_other results server other ok differs = get_or-set_other results server other (results_of results server ++ ok ∷ []) [] differs
 
 -- the health of a server that has one is of its limits
 pub record IsItsHealth (servers : List ServerSet) (results : List (List Bool)) (server : ℕ) (standing : Standing) : Type 0 where
@@ -160,7 +124,7 @@ healths_after servers results healths now server ok standing new are at written 
         | inr e ↦
             subst (λ (l : List Bool). IsHealthBy it.rise_fall l (slice_index_or now other None)) (sym (results_other results server other ok e))
             (subst (λ (o : Option Standing). IsHealthBy it.rise_fall (results_of results other) o)
-            (sym (ap (λ (l : List (Option Standing)). slice_index_or l other None) written ∙ healths_other healths server other (Some new) e))
+            (sym (ap (λ (l : List (Option Standing)). slice_index_or l other None) written ∙ get_or-set_other healths server other (Some new) None e))
             (are.each other it stands))
       ];
 }
@@ -177,7 +141,7 @@ healths_after servers results healths now server ok standing new are at written 
         subst (λ n. IsHealthBy it.rise_fall (results_of (with_result server ok results) n) (slice_index_or now n None)) (sym e)
         (subst (λ (l : List Bool). IsHealthBy it.rise_fall l (slice_index_or now server None)) (sym (results_set results server ok long))
         (subst (λ (o : Option Standing). IsHealthBy it.rise_fall (results_of results server ++ ok ∷ []) o)
-        (sym (ap (λ (l : List (Option Standing)). slice_index_or l server None) written ∙ healths_set healths server (Some new) within))
+        (sym (ap (λ (l : List (Option Standing)). slice_index_or l server None) written ∙ get_or-set_same healths server (Some new) None within))
         (subst (λ (r : Option (ℕ × ℕ)). IsHealthBy r (results_of results server ++ ok ∷ []) (Some new))
         (sym own.checked ∙ ap (λ (x : ServerSet). x.rise_fall) same)
         (new, refl, goes own.rise own.fall (results_of results server) own.health))))

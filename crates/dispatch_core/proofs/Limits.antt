@@ -9,7 +9,7 @@ use Rattle.dispatch_log.specs.Legal.{IsLegal, AddsEvent}
 use Rattle.dispatch_log.specs.Refusals.{lacks_room}
 use Rattle.dispatch_log.proofs.Accepted.{none_refuses}
 use Rattle.dispatch_log.proofs.Judged.{stage_after-push}
-use Rattle.dispatch_core.specs.Steps.{Settles, HasEventRoom}
+use Rattle.dispatch_core.specs.Steps.{Settles}
 use Rattle.dispatch_trace.specs.Histories.{with_entry, stage_of, waiting_of, MayGrantNext}
 use Rattle.dispatch_core.proofs.Calls.{legal_places}
 use Rattle.dispatch_core.proofs.Going.{goes_none, room_left, begun_room, adds}

@@ -1,18 +1,17 @@
 -- The next window of a core.
-use Rattle.std.proofs.Common.{◌≡◌, ℕ, zero, suc, ◌+◌, ◌<◌, Bool, true, false, not, cond, List, [], ◌∷◌}
-use Rattle.std.proofs.Common.{◌++◌, Option, None, Some, map, length, replicate, slice_get, slice_index_or, All, IsTrue, nat_le, nat_lt}
+use Rattle.std.proofs.Common.{◌≡◌, ℕ, zero, suc, ◌<◌, Bool, true, false, not, cond, List, [], ◌∷◌}
+use Rattle.std.proofs.Common.{◌++◌, Option, None, Some, map, replicate, slice_get, slice_index_or, All, IsTrue, nat_le, nat_lt}
 use Rattle.std.proofs.Common.{refl, ap, sym, ◌∙◌, subst, arith}
 use Rattle.std.proofs.lemmas.Bool.{and_parts}
 use Rattle.std.proofs.lemmas.Bool.Decides.{nat_tests}
 use Rattle.std.proofs.lemmas.Option.{same_Some, slice_get_within, get_or_from_slice_get}
-use Rattle.check_state.specs.Results.{is_up, run_at_end}
+use Rattle.check_state.specs.Results.{run_at_end}
 use Rattle.check_state.specs.Shortened.{shortened}
 use Rattle.check_state.specs.Standing.{Standing, IsHealthOf}
 use Rattle.check_state.proofs.Shortened.{same_health}
 use Rattle.dispatch_log.specs.declared.setup.ServerSet.{ServerSet}
 use Rattle.dispatch_log.specs.Health.{results_of, shortened_by, shortened_all}
 use Rattle.dispatch_log.specs.Histories.{History, state_of, next_window}
-use Rattle.dispatch_log.specs.Legal.{IsLegal}
 use Rattle.dispatch_log.specs.Setups.{IsSound, is_within, has_rise_and_fall}
 use Rattle.dispatch_log.specs.States.{State}
 use Rattle.dispatch_log.proofs.Windows.{next_legal, shortened_length}

@@ -1,8 +1,9 @@
 -- Ticks, from one timeout to the next.
-use Rattle.std.proofs.Common.{IsTrue, if◌then◌else◌, max, ◌≡◌, ◌≢◌, ℕ, ◌+◌, ◌<◌, ◌≤◌, ◌==◌, Bool, true, false, List, []}
+use Rattle.std.proofs.Common.{IsTrue, max, ◌≡◌, ◌≢◌, ℕ, ◌+◌, ◌<◌, ◌≤◌, ◌==◌, Bool, true, false, List, []}
 use Rattle.std.proofs.Common.{◌∷◌, Option, None, Some, option_map, slice_get, drop, count_by, Contains, length, refl, ap, sym, ◌∙◌, subst, arith}
 use Rattle.std.proofs.Common.{nat_cmp, Equal, Greater, inl, inr}
 use Rattle.std.proofs.Math.ListN.{set}
+use Rattle.std.proofs.lemmas.Bool.{true≢false}
 use Rattle.std.proofs.lemmas.Bool.Decides.{nat_tests, Decides-eqb}
 use Rattle.std.proofs.lemmas.Cmp.{nat_cmp_total}
 use Rattle.std.proofs.lemmas.Option.{same_Some, slice_get-map}
@@ -11,18 +12,18 @@ use Rattle.verdict.specs.declared.cause.Cause.TheVariants.{Timeout}
 use Rattle.dispatch_log.specs.declared.row.Phase.{Phase}
 use Rattle.dispatch_log.specs.declared.row.Phase.TheVariants.{Told}
 use Rattle.dispatch_log.specs.declared.row.Row.{Row}
-use Rattle.dispatch_log.specs.declared.refusal.Refusal.TheVariants.{LogFull}
 use Rattle.dispatch_log.specs.declared.setup.Setup.{Setup}
 use Rattle.dispatch_log.specs.Histories.{History, SomeExpires, state_of, effective}
 use Rattle.dispatch_log.specs.Legal.{IsLegal, AddsEvent}
 use Rattle.dispatch_log.specs.Judgement.{Stage, telling, granting, HasExpired, IsExpired, IsFirstExpired, IsInPhase, IsOver, MayGrant, MayCome, next_stage}
-use Rattle.dispatch_log.specs.Refusals.{is_waiting, lacks_room, tick_refusal}
+use Rattle.dispatch_log.specs.Refusals.{is_waiting}
 use Rattle.dispatch_log.specs.Rows.{Rows, StandsAt, with_change, changed, in_phase}
 use Rattle.dispatch_log.specs.Grants.{IsSettled}
-use Rattle.dispatch_log.specs.States.{State, opening_state, scene}
+use Rattle.dispatch_log.specs.States.{State, scene}
 use Rattle.dispatch_log.specs.Scenes.{Scene}
-use Rattle.dispatch_log.proofs.Judged.{after_all-push, stage_after-push, judged_push}
-use Rattle.list_facts.proofs.Places.{tally, count-set}
+use Rattle.dispatch_log.proofs.Judged.{after_all-push, stage_after-push}
+use Rattle.list_facts.proofs.Places.{tally, count-set, nil_from_first}
+use Rattle.list_facts.proofs.Never.{false_true}
 use Rattle.dispatch_log.proofs.RowLemmas.{with_change_own, with_change_other}
 use Rattle.pend_queue.specs.Pairs.{IsAscending}
 use Rattle.pend_queue.proofs.Ascending.{least_first, absent_from_rest, absent_at_member}
@@ -40,10 +41,7 @@ told_not_expired : (setup : Setup) (now : ℕ) (r : Row) (phase : Phase) → Has
     → ⊥
 told_not_expired setup now r phase expired same idle =
     let it = expired_since setup now r.phase expired in
-    true_false (sym (ap is_waiting (sym same ∙ it.waits)) ∙ idle)
-  where
-    true_false : true ≡ false → ⊥
-    true_false e = cc
+    true≢false (sym (ap is_waiting (sym same ∙ it.waits)) ∙ idle)
 
 -- once a ticket is told, the rows that have expired are the other ones that had
 module _ (setup : Setup) (rows : Rows) (now t : ℕ) (phase : Phase) (idle : is_waiting phase ≡ false) where
@@ -61,9 +59,6 @@ module _ (setup : Setup) (rows : Rows) (now t : ℕ) (phase : Phase) (idle : is_
           let other : old.key.ticket ≢ t = λ same. false_true (sym test ∙ (Decides-eqb old.key.ticket t).1 same) in
           let kept : old ≡ r = same_Some old r (sym (with_change_other t (in_phase phase) old other) ∙ is) in
           (at ∙ ap (λ (x : Row). Some (Some x)) kept, subst (λ (x : Row). x.key.ticket ≢ t) kept other)
-        where
-          false_true : false ≡ true → ⊥
-          false_true e = cc
 
       by_cell : (cell : Option (Option Row)) → slice_get rows p ≡ cell → option_map (with_change t (in_phase phase)) cell ≡ Some (Some r)
           → StandsAt rows p r × (r.key.ticket ≢ t)
@@ -223,10 +218,6 @@ module _ (old now : History) (tickets : List (ℕ × ℕ)) (t u : ℕ) (since : 
     })
 
 -- where no ticket is left, nothing is owed but grants
-none_left : (tickets : List (ℕ × ℕ)) → None ≡ slice_get tickets 0 → tickets ≡ []
-none_left [] e = refl
-none_left (x ∷ later) e = cc
-
 pub times_out : (old now : History) (tickets : List (ℕ × ℕ)) → TellsSince old now tickets → None ≡ slice_get tickets 0 → CarriesOn old now
 times_out old now tickets since none = record {
   goes = since.goes;
@@ -238,7 +229,7 @@ times_out old now tickets since none = record {
     over : (row : Row) → IsExpired now.setup (state_of now) row → ⊥
     over row expired =
         Contains-nil (row.key.ticket, expired.0.0)
-        (subst (λ (l : List (ℕ × ℕ)). Contains l (row.key.ticket, expired.0.0)) (none_left tickets none)
+        (subst (λ (l : List (ℕ × ℕ)). Contains l (row.key.ticket, expired.0.0)) (nil_from_first tickets none)
         ((since.expired row.key.ticket expired.0.0).1 (row, expired.0.1, expired.1, refl)))
 
 -- the calls of a tick

@@ -1,15 +1,16 @@
 -- A relay's seat keeps its counts.
 use Rattle.std.proofs.Common.{◌≡◌, ℕ, ◌+◌, ◌<◌, ◌≤◌, ◌^◌, Bool, List, [], ◌∷◌, ◌++◌, length, slice_index, replicate, sym, ap, subst, arith}
 use Rattle.std.proofs.lemmas.List.{get_or-replicate, length-append}
+use Rattle.std.specs.List.{AllByRecursion}
 use Rattle.verdict.specs.declared.Ending.{Ending}
 use Rattle.grant_board.specs.declared.tally.Tally.{Tally}
-use Rattle.list_facts.specs.Weights.{total, Each}
+use Rattle.list_facts.specs.Weights.{total}
 use Rattle.grant_board.specs.Views.{Grant, Terms, RelayView, serves_at, count_of, without}
 use Rattle.grant_board.specs.RelayCalls.{Relay, new_relay, relay_looked, take_after, post_after, join_after}
 use Rattle.grant_board.specs.Counted.{IsPassOf, IsCounted}
 use Rattle.list_facts.proofs.Totals.{total-append, total-push, total-one}
-use Rattle.list_facts.proofs.Each.{Each-append}
-use Rattle.grant_board.proofs.Grants.{count_of_le, Each-without}
+use Rattle.list_facts.proofs.Members.{all_append}
+use Rattle.grant_board.proofs.Grants.{count_of_le, all_without}
 
 -- no server's count is above the whole
 pub server_room : (x : Relay) (first : Bool) (tally : Tally) → IsCounted x first tally → (n : ℕ) → n < 64 → slice_index tally.of_server n ≤ tally.all
@@ -23,7 +24,7 @@ counted_new x terms b tally is none few_places few_servers = record {
   few_places = omega (arith, ap (λ (r : RelayView). r.terms.places) is);
   few_servers = omega (arith, ap (λ (r : RelayView). length r.terms.limits) is);
   room = omega (arith, ap (λ (r : RelayView). length r.passes) is);
-  passes = subst (λ (gs : List Grant). Each (IsPassOf x.board.words) gs) (sym (ap (λ (r : RelayView). r.passes) is)) tt;
+  passes = subst (λ (gs : List Grant). AllByRecursion (IsPassOf x.board.words) gs) (sym (ap (λ (r : RelayView). r.passes) is)) tt;
   all = omega (arith, ap (λ (t : Tally). t.all) none, ap (λ (r : RelayView). length r.passes) is);
   of_server = λ n near. omega (
     arith,
@@ -43,7 +44,7 @@ counted_take x y b old new p n g counted is room pass all servers = subst (λ (z
   few_places = counted.few_places;
   few_servers = counted.few_servers;
   room = omega (arith, room, length-append x.view.passes (g ∷ []));
-  passes = Each-append (IsPassOf x.board.words) x.view.passes (g ∷ []) counted.passes (pass, tt);
+  passes = all_append (IsPassOf x.board.words) x.view.passes (g ∷ []) counted.passes (pass, tt);
   all = omega (arith, all, counted.all, length-append x.view.passes (g ∷ []));
   of_server = λ m near. omega (arith, servers m near, counted.of_server m near, total-push (λ h. serves_at m h.verdict) x.view.passes g);
 })
@@ -63,7 +64,7 @@ counted_post x y b old new g e counted is weighs all servers =
       few_places = counted.few_places;
       few_servers = counted.few_servers;
       room = omega (arith, counted.room, total-one left, total-one x.view.passes);
-      passes = Each-without (IsPassOf x.board.words) g.place x.view.passes counted.passes;
+      passes = all_without (IsPassOf x.board.words) g.place x.view.passes counted.passes;
       all = omega (arith, all, counted.all, total-one left, total-one x.view.passes);
       of_server = λ m near. omega (arith, servers m near, counted.of_server m near, same (λ h. serves_at m h.verdict));
     })
@@ -80,8 +81,8 @@ counted_join x y z b c old other new mine theirs board is room all servers =
       few_places = mine.few_places;
       few_servers = mine.few_servers;
       room = omega (arith, room, ap (λ (w : Relay). length w.view.passes) is, ap (λ (w : Relay). w.view.terms.places) is);
-      passes = Each-append (IsPassOf x.board.words) x.view.passes y.view.passes mine.passes
-          (subst (λ n. Each (IsPassOf n) y.view.passes) (ap (λ t. t.words) board) theirs.passes);
+      passes = all_append (IsPassOf x.board.words) x.view.passes y.view.passes mine.passes
+          (subst (λ n. AllByRecursion (IsPassOf n) y.view.passes) (ap (λ t. t.words) board) theirs.passes);
       all = omega (arith, all, mine.all, theirs.all, more);
       of_server = λ m near. omega (
         arith,

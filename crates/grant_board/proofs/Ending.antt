@@ -4,6 +4,7 @@ use Rattle.std.proofs.Common.{◌++◌, map, take, replicate, length, sym, refl,
 use Rattle.std.proofs.lemmas.Bool.{cond-true}
 use Rattle.std.proofs.lemmas.List.{length-map, length-replicate}
 use Rattle.std.proofs.Math.Seq.{take-append_seam}
+use Rattle.std.specs.List.{AllByRecursion}
 use mathlib.Core.Option.{some, some-injective, some-ne-none}
 use lib.ListN.{get_elem?}
 use Rattle.atomic_table.specs.Table.{opening}
@@ -12,7 +13,7 @@ use Rattle.grant_board.specs.declared.laws.Word.TheVariants.{Empty, Offered, Tak
 use Rattle.verdict.specs.declared.Ending.TheVariants.{Done, Failed}
 use Rattle.grant_board.specs.declared.view.View.{View}
 use Rattle.grant_board.specs.BoardWords.{code_of, encode_of, IsWord, IsWordAmong, nonzero}
-use Rattle.list_facts.specs.Weights.{total, along, Each}
+use Rattle.list_facts.specs.Weights.{total, along}
 use Rattle.grant_board.specs.Views.{Terms, KeeperView, KeeperPart, RelayView}
 use Rattle.grant_board.specs.Rule.{BoardState, standing, offered, taken, posted, as_return, of_relays}
 use Rattle.grant_board.specs.Rule.{is_first, is_other, split_off, joined_in, Agrees, Orderly}
@@ -34,9 +35,9 @@ words-empty : (n : ℕ) → replicate n 0 ≡ map encode_of (replicate n Empty)
 words-empty zero = refl
 words-empty (suc n) = ap (λ (ns : List ℕ). 0 ∷ ns) (words-empty n)
 
-Each-empty : (P : Word → Type 0) → P Empty → (n : ℕ) → Each P (replicate n Empty)
-Each-empty P p zero = tt
-Each-empty P p (suc n) = (p, Each-empty P p n)
+each_empty : (P : Word → Type 0) → P Empty → (n : ℕ) → AllByRecursion P (replicate n Empty)
+each_empty P p zero = tt
+each_empty P p (suc n) = (p, each_empty P p n)
 
 -- a board with empty words, the limits for bounds, one keeper and its first seat
 pub opens : (t : Terms) → Orderly t (opening (replicate t.places 0 ++ t.limits) [] (view (at_rest (new_keeper t) ∷ []) (new_relay t true ∷ [])))
@@ -47,8 +48,8 @@ opens t =
       words = ap (λ (ws : List ℕ). ws ++ t.limits) (words-empty t.places);
       long = length-replicate t.places Empty;
       servers = refl;
-      valid = Each-empty IsWord tt t.places;
-      among = Each-empty (IsWordAmong (length t.limits)) tt t.places;
+      valid = each_empty IsWord tt t.places;
+      among = each_empty (IsWordAmong (length t.limits)) tt t.places;
       one_keeper = refl;
       one_first = refl;
       others = refl;

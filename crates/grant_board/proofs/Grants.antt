@@ -3,11 +3,12 @@ use Rattle.std.proofs.Common.{◌≡◌, ℕ, ◌+◌, ◌≤◌, ◌≢◌, Boo
 use mathlib.Core.Logic.{dite}
 use native.Mathlib.Decide.{ℕ_discrete}
 use Rattle.std.proofs.lemmas.Bool.{eqb-true}
+use Rattle.std.specs.List.{AllByRecursion}
 use Rattle.verdict.specs.declared.cause.Cause.{Cause}
 use Rattle.verdict.specs.declared.cause.Cause.TheVariants.{Aborted, Timeout, Retries, NoServer}
 use Rattle.verdict.specs.declared.Verdict.{Verdict}
 use Rattle.verdict.specs.declared.Verdict.TheVariants.{Serve, Told}
-use Rattle.list_facts.specs.Weights.{total, Each}
+use Rattle.list_facts.specs.Weights.{total}
 use Rattle.grant_board.specs.Views.{Grant, grant, at_place, serves_at, count_at, count_of, without}
 use Rattle.list_facts.proofs.Totals.{total-one, total_mono}
 use Rattle.list_facts.proofs.Ones.{TellsEqual, both_true}
@@ -73,15 +74,15 @@ without-none place xs =
 pub without_le : (place : ℕ) (weight : Grant → ℕ) (xs : List Grant) → total weight (without place xs) ≤ total weight xs
 without_le place weight xs = omega (arith, without-total place weight xs)
 
-Each-without_by : (P : Grant → Type 0) (place : ℕ) (g : Grant) (gs : List Grant) → P g → Each P (without place gs) → (b : Bool) → (g.place == place) ≡ b
-    → Each P (without place (g ∷ gs))
-Each-without_by P place g gs p rest true is = rw is rest
-Each-without_by P place g gs p rest false is = rw is (p, rest)
+all_without_by : (P : Grant → Type 0) (place : ℕ) (g : Grant) (gs : List Grant) → P g → AllByRecursion P (without place gs) → (b : Bool) → (g.place == place) ≡ b
+    → AllByRecursion P (without place (g ∷ gs))
+all_without_by P place g gs p rest true is = rw is rest
+all_without_by P place g gs p rest false is = rw is (p, rest)
 
 -- what each grant meets, each of the other places does
-pub Each-without : (P : Grant → Type 0) (place : ℕ) (gs : List Grant) → Each P gs → Each P (without place gs)
-Each-without P place [] h = tt
-Each-without P place (g ∷ gs) h = Each-without_by P place g gs h.0 (Each-without P place gs h.1) (g.place == place) refl
+pub all_without : (P : Grant → Type 0) (place : ℕ) (gs : List Grant) → AllByRecursion P gs → AllByRecursion P (without place gs)
+all_without P place [] h = tt
+all_without P place (g ∷ gs) h = all_without_by P place g gs h.0 (all_without P place gs h.1) (g.place == place) refl
 
 -- no more grants serve at a server than there are
 pub count_of_le : (server : ℕ) (xs : List Grant) → count_of server xs ≤ length xs

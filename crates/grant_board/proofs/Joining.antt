@@ -1,20 +1,21 @@
 -- Views that are cut in two or made one keep the rule.
 use Rattle.std.proofs.Common.{◌≡◌, ℕ, ◌+◌, ◌≢◌, Bool, true, false, List, [], ◌∷◌, ◌++◌, set, sym, refl, ◌∙◌, subst, ⊎_elim, arith}
 use Rattle.std.proofs.lemmas.Bool.{cond-true, cond-false}
+use Rattle.std.specs.List.{AllByRecursion}
 use mathlib.Core.Option.{some}
 use lib.ListN.{get_elem?}
 use Rattle.atomic_table.specs.Table.{Splits, Joins}
 use Rattle.atomic_table.proofs.Lists.{at_set, at_snoc, set_else}
 use Rattle.grant_board.specs.declared.returned.Return.{Return}
 use Rattle.grant_board.specs.declared.view.View.{View}
-use Rattle.list_facts.specs.Weights.{total, Each}
+use Rattle.list_facts.specs.Weights.{total}
 use Rattle.grant_board.specs.Views.{Grant, Terms, KeeperPart, RelayView, count_of}
 use Rattle.grant_board.specs.Rule.{BoardState, of_keepers, of_relays, is_first, is_other, split_off, joined_in, KeeperAgrees, RelayAgrees, Agrees, Orderly}
 use Rattle.grant_board.specs.Ruled.{view}
 use Rattle.grant_board.specs.Plays.{blank, beside, but_last, last_alone, aside, cut_off, parent, child, gathered}
 use Rattle.list_facts.proofs.Places.{tally}
 use Rattle.list_facts.proofs.Totals.{total-append, total-set, terms_le}
-use Rattle.list_facts.proofs.Each.{Each-append}
+use Rattle.list_facts.proofs.Members.{all_append}
 use Rattle.grant_board.proofs.Moving.{board}
 
 -- other views of the same words keep the rule, where they weigh the same
@@ -94,10 +95,10 @@ total-but_last f [] = refl
 total-but_last f (r ∷ []) = omega arith
 total-but_last f (r ∷ q ∷ relays) = omega (arith, total-but_last f (q ∷ relays))
 
-Each-but_last : (P : RelayView → Type 0) (l : List RelayView) → Each P l → Each P (but_last l) × Each P (last_alone l)
-Each-but_last P [] h = (tt, tt)
-Each-but_last P (r ∷ []) h = (tt, h)
-Each-but_last P (r ∷ q ∷ relays) h = let t = Each-but_last P (q ∷ relays) h.1 in ((h.0, t.0), t.1)
+all_but_last : (P : RelayView → Type 0) (l : List RelayView) → AllByRecursion P l → AllByRecursion P (but_last l) × AllByRecursion P (last_alone l)
+all_but_last P [] h = (tt, tt)
+all_but_last P (r ∷ []) h = (tt, h)
+all_but_last P (r ∷ q ∷ relays) h = let t = all_but_last P (q ∷ relays) h.1 in ((h.0, t.0), t.1)
 
 -- a seat's last relay is cut off
 pub cut_kept : (t : Terms) (id : ℕ) (v : View) → Splits (Orderly t) id v (aside v) (cut_off v)
@@ -108,7 +109,7 @@ cut_kept t id v s o me =
     let rs : (f : RelayView → ℕ) → of_relays f (set s.views id l ++ r ∷ []) ≡ of_relays f s.views = λ f.
     omega (arith, cut-relays s id v l r me f, total-but_last f v.relays) in
     let mine = o.agree id v me in
-    let relays = Each-but_last (RelayAgrees t) v.relays mine.1 in
+    let relays = all_but_last (RelayAgrees t) v.relays mine.1 in
     resettled t s o (set s.views id l ++ r ∷ []) ks (rs is_first ∙ o.one_first) (omega (arith, rs is_other, rs joined_in, rs split_off, o.others))
     (λ h. rs (λ x. total h x.passes)) (λ h. rs (λ x. total h x.takes)) (λ h. rs (λ x. total h x.posts))
     (cut-agree s id v l r me (Agrees t o.bounds) o.agree (mine.0, relays.0) (tt, relays.1))
@@ -127,7 +128,7 @@ beside_kept t id v other w s o me apart them =
     resettled t s o views ks (rs is_first ∙ o.one_first) (omega (arith, rs is_other, rs joined_in, rs split_off, o.others))
     (λ h. rs (λ x. total h x.passes)) (λ h. rs (λ x. total h x.takes)) (λ h. rs (λ x. total h x.posts))
     (join-agree s id v other w b me apart them (Agrees t o.bounds) o.agree
-    (Each-append (KeeperAgrees t o.bounds) v.keepers w.keepers mine.0 theirs.0, Each-append (RelayAgrees t) v.relays w.relays mine.1 theirs.1) (tt, tt))
+    (all_append (KeeperAgrees t o.bounds) v.keepers w.keepers mine.0 theirs.0, all_append (RelayAgrees t) v.relays w.relays mine.1 theirs.1) (tt, tt))
 
 is_false : (b : Bool) → tally b ≡ 0 → b ≡ false
 is_false true e = absurd (omega arith)

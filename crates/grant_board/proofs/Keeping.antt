@@ -112,7 +112,7 @@ sees_else t slots id k p s o c blind me there other =
     let v : View = view (k ∷ []) [] in
     let w : View = view (at_rest (keeper_looked k.view p (get_or s.words p 0)) ∷ []) [] in
     let n : get_or s.words p 0 ≡ encode_of c = number_at t s o p c there in
-    let word : IsWord c = items.Each-at IsWord o.cells p c o.valid there in (
+    let word : IsWord c = items.all_at IsWord o.cells p c o.valid there in (
       w,
       keeps,
       tt,
@@ -143,7 +143,7 @@ sees_word t slots id k p s o (Posted u b x) blind me there =
     let found : Sighting = record { pass = grant p u b; ending = x } in
     let w : View = view (record { view = keeper_looked k.view p (get_or s.words p 0); sight = found ∷ [] } ∷ []) [] in
     let n : get_or s.words p 0 ≡ encode_of (Posted u b x) = number_at t s o p (Posted u b x) there in
-    let word : IsWord (Posted u b x) = items.Each-at IsWord o.cells p (Posted u b x) o.valid there in (
+    let word : IsWord (Posted u b x) = items.all_at IsWord o.cells p (Posted u b x) o.valid there in (
       w,
       keeps,
       tt,
@@ -342,8 +342,8 @@ taken_kept t slots id r p ticket d old new was is word inside s o wide me _ =
     let near : p < length o.cells = omega (arith, inside, o.long, ap (λ (x : Terms). x.places) agree) in
     let there = items.item_at o.cells p near in
     let c : Word = there.0 in
-    let valid : IsWord c = items.Each-at IsWord o.cells p c o.valid there.1 in
-    let servers : IsWordAmong (length t.limits) c = items.Each-at (IsWordAmong (length t.limits)) o.cells p c o.among there.1 in
+    let valid : IsWord c = items.all_at IsWord o.cells p c o.valid there.1 in
+    let servers : IsWordAmong (length t.limits) c = items.all_at (IsWordAmong (length t.limits)) o.cells p c o.among there.1 in
     let n : get_or s.words p 0 ≡ encode_of c = number_at t s o p c there.1 in
     let G = Goes t s p id (relay_seat r) (takes (step slots p old new none) (relay_seat r)) in
     exchanged (get_or s.words p 0) old new G
@@ -398,7 +398,7 @@ posted_kept t slots id r p ticket d e new is word mine s o wide me _ =
     let has = sums.has_le (one g) r.passes g mine in
     let all = relays_le t s o id v me (λ x. total (one g) x.passes) in
     let there : get_elem? o.cells p ≡ some (Taken ticket d) = taken_there t s o g (omega (arith, one-same g)) in
-    let among : IsAmong (length t.limits) d = items.Each-at (IsWordAmong (length t.limits)) o.cells p (Taken ticket d) o.among there in
+    let among : IsAmong (length t.limits) d = items.all_at (IsWordAmong (length t.limits)) o.cells p (Taken ticket d) o.among there in
     let weighs : (h : Grant → ℕ) → total h (without p r.passes) + h g ≡ total h r.passes = λ h.
     omega (
       arith,

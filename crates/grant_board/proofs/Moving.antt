@@ -2,6 +2,7 @@
 use Rattle.std.proofs.Common.{◌≡◌, ℕ, ◌+◌, ◌-◌, ◌<◌, ◌≤◌, ◌≢◌, List, [], ◌∷◌, ◌++◌, map}
 use Rattle.std.proofs.Common.{length, get_or, set, slice_index, sym, refl, ap, ◌∙◌, subst, ⊎_elim, arith, length-set}
 use Rattle.std.proofs.lemmas.List.{length-map, map-set, set-append_left, set-append_right}
+use Rattle.std.specs.List.{AllByRecursion}
 use mathlib.Core.Option.{Option, some}
 use lib.ListN.{get_elem?}
 use lib.Seq.{set-get_or}
@@ -10,13 +11,13 @@ use Rattle.grant_board.specs.declared.laws.Word.{Word}
 use Rattle.grant_board.specs.declared.returned.Return.{Return}
 use Rattle.grant_board.specs.declared.view.View.{View}
 use Rattle.grant_board.specs.BoardWords.{encode_of, IsWord, IsWordAmong}
-use Rattle.list_facts.specs.Weights.{total, along, Each}
+use Rattle.list_facts.specs.Weights.{total, along}
 use Rattle.grant_board.specs.Views.{Grant, Terms, KeeperPart, RelayView, Sighting, count_of}
 use Rattle.grant_board.specs.Rule.{Slot, BoardState, standing, offered, taken, posted, as_return, of_keepers}
 use Rattle.grant_board.specs.Rule.{of_relays, is_first, is_other, split_off, joined_in, KeeperAgrees, Agrees, Orderly}
 use Rattle.list_facts.proofs.Totals.{total-set}
 use Rattle.list_facts.proofs.Positions.{along-set}
-use Rattle.list_facts.proofs.Each.{Each-set, item_in}
+use Rattle.list_facts.proofs.Each.{all_set, item_in}
 
 abbrev pub board : List ℕ → List (Option Slot) → List View → BoardState
 board words homes views = record { words = words; homes = homes; views = views }
@@ -53,8 +54,8 @@ pub record IsRow (t : Terms) (numbers : List ℕ) (cells : List Word) (bounds : 
   pub words : numbers ≡ map encode_of cells ++ bounds
   pub long : length cells ≡ t.places
   pub servers : length bounds ≡ length t.limits
-  pub valid : Each IsWord cells
-  pub among : Each (IsWordAmong (length t.limits)) cells
+  pub valid : AllByRecursion IsWord cells
+  pub among : AllByRecursion (IsWordAmong (length t.limits)) cells
 
 shifted : (t : Terms) (s : BoardState) (o : Orderly t s) (j : ℕ) (v w : View) (homes : List (Option Slot)) (cells : List Word) (bounds words : List ℕ)
     (gone come : Weighing → ℕ)
@@ -103,8 +104,8 @@ moved t s o j p new v w homes c d me there is valid among owes =
       words = words;
       long = length-set o.cells p d ∙ o.long;
       servers = o.servers;
-      valid = Each-set IsWord o.cells p d o.valid valid;
-      among = Each-set (IsWordAmong (length t.limits)) o.cells p d o.among among;
+      valid = all_set IsWord o.cells p d o.valid valid;
+      among = all_set (IsWordAmong (length t.limits)) o.cells p d o.among among;
     })
     (λ f. along-set f o.cells 0 p p c d (omega arith) there) (λ i u other. o.agree i u) owes
 
@@ -131,6 +132,6 @@ rebounded t s o j server new v w homes me alone owes =
     (record { words = words; long = o.long; servers = length-set o.bounds server new ∙ o.servers; valid = o.valid; among = o.among }) (λ f. refl)
     (λ i u other them. (no_keeper u.keepers (alone i u other them), (o.agree i u them).1)) owes
   where
-    no_keeper : (keepers : List KeeperPart) → length keepers ≡ 0 → Each (KeeperAgrees t (set o.bounds server new)) keepers
+    no_keeper : (keepers : List KeeperPart) → length keepers ≡ 0 → AllByRecursion (KeeperAgrees t (set o.bounds server new)) keepers
     no_keeper [] none = tt
     no_keeper (k ∷ keepers) some_keeper = absurd (omega arith)

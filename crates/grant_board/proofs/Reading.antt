@@ -15,7 +15,7 @@ use Rattle.grant_board.specs.Ruled.{view}
 use Rattle.grant_board.specs.Places.{HasKeeper, HasRelay, HasItsWord, ByPlaces, RuleByPlaces}
 use Rattle.list_facts.proofs.Totals.{term_le, terms_le, has_le, found_at}
 use Rattle.list_facts.proofs.Positions.{along_le, along_found}
-use Rattle.list_facts.proofs.Each.{item_at, item_in, Each-at}
+use Rattle.list_facts.proofs.Each.{item_at, item_in, all_at}
 use Rattle.grant_board.proofs.Grants as grants
 use Rattle.grant_board.proofs.Codes.{same_word}
 use Rattle.grant_board.proofs.Finding.{one, one-is, one-same, has_one, empty_there, keeper_alone}
@@ -86,7 +86,7 @@ module _ (t : Terms) (s : BoardState) (o : Orderly t s) where
         empty = λ place near.
             let there = item_at o.cells place (omega (arith, o.long)) in
             let c : Word = there.0 in
-            let valid : IsWord c = Each-at IsWord o.cells place c o.valid there.1 in
+            let valid : IsWord c = all_at IsWord o.cells place c o.valid there.1 in
             let n = number_at t s o place c there.1 in
             let counted : count_at place k.view.out ≡ standing (at_place place) place c = sym (all (λ x. total (at_place place) x.view.out))
             ∙ out_at t s o place c there.1 (at_place place) (λ g ne. grants.at_place-no place g ne) in (
@@ -98,12 +98,12 @@ module _ (t : Terms) (s : BoardState) (o : Orderly t s) where
             let w = out_there k at g has in
             let near : g.place < t.places = omega (arith, item_in o.cells g.place w.0 w.1, o.long) in (
               near,
-              has_word g w.0 w.2 (Each-at IsWord o.cells g.place w.0 o.valid w.1),
-              has_among (length t.limits) g w.0 w.2 (Each-at (IsWordAmong (length t.limits)) o.cells g.place w.0 o.among w.1),
+              has_word g w.0 w.2 (all_at IsWord o.cells g.place w.0 o.valid w.1),
+              has_among (length t.limits) g w.0 w.2 (all_at (IsWordAmong (length t.limits)) o.cells g.place w.0 o.among w.1),
             );
         taken = λ g near word is.
             let there = item_at o.cells g.place (omega (arith, o.long)) in
-            let valid : IsWord there.0 = Each-at IsWord o.cells g.place there.0 o.valid there.1 in
+            let valid : IsWord there.0 = all_at IsWord o.cells g.place there.0 o.valid there.1 in
             let c = same_word there.0 (Taken g.ticket g.verdict) valid word (sym (number_at t s o g.place there.0 there.1) ∙ is) in
             let weighs = along_le (taken (one g)) o.cells 0 g.place g.place (Taken g.ticket g.verdict) (omega arith) (there.1 ∙ ap (λ (x : Word). some x) c) in
             let v = found_at (λ (u : View). total (λ (r : RelayView). total (one g) r.passes) u.relays) s.views

@@ -1,9 +1,9 @@
 -- What a relay's seat keeps of its counts.
 use Rattle.std.specs.Prelude.{◌≡◌, ℕ, ◌<◌, ◌≤◌, Bool, length, slice_index}
+use Rattle.std.specs.List.{AllByRecursion}
 use Rattle.grant_board.specs.declared.laws.Word.TheVariants.{Taken}
 use Rattle.grant_board.specs.declared.tally.Tally.{Tally}
 use Rattle.grant_board.specs.BoardWords.{IsWord}
-use Rattle.list_facts.specs.Weights.{Each}
 use Rattle.grant_board.specs.Views.{Grant, count_of}
 use Rattle.grant_board.specs.RelayCalls.{Relay}
 
@@ -17,6 +17,6 @@ pub record IsCounted (r : Relay) (first : Bool) (tally : Tally) : Type 0 where
   pub few_places : r.view.terms.places ≤ 4096
   pub few_servers : length r.view.terms.limits ≤ 64
   pub room : length r.view.passes ≤ r.view.terms.places
-  pub passes : Each (IsPassOf r.board.words) r.view.passes
+  pub passes : AllByRecursion (IsPassOf r.board.words) r.view.passes
   pub all : tally.all ≡ length r.view.passes
   pub of_server : (server : ℕ) → server < 64 → slice_index tally.of_server server ≡ count_of server r.view.passes

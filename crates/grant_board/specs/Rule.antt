@@ -1,5 +1,6 @@
 -- The rule of the board, which holds between any two steps. A clause about each weighing says that two lists have the same grants, each as often.
 use Rattle.std.specs.Prelude.{◌≡◌, ℕ, ◌+◌, ◌<◌, ◌≤◌, ◌++◌, if◌then◌else◌, List, map, take, length, slice_index}
+use Rattle.std.specs.List.{AllByRecursion}
 use mathlib.Core.Option.{some}
 use lib.ListN.{get_elem?}
 use Rattle.atomic_table.specs.Table.{State}
@@ -9,7 +10,7 @@ use Rattle.grant_board.specs.declared.returned.Return.{Return}
 use Rattle.grant_board.specs.declared.view.View.{View}
 use Rattle.grant_board.specs.declared.view.Plan.{Plan}
 use Rattle.grant_board.specs.BoardWords.{encode_of, IsWord, IsWordAmong}
-use Rattle.list_facts.specs.Weights.{total, along, Each}
+use Rattle.list_facts.specs.Weights.{total, along}
 use Rattle.grant_board.specs.Views.{Grant, grant, Terms, KeeperPart, RelayView, Sighting, return_of, count_of}
 
 -- what a board was opened with
@@ -78,7 +79,7 @@ abbrev pub RelayAgrees : Terms → RelayView → Type 0
 RelayAgrees terms r = r.terms ≡ terms
 
 abbrev pub Agrees : Terms → List ℕ → View → Type 0
-Agrees terms bounds v = Each (KeeperAgrees terms bounds) v.keepers × Each (RelayAgrees terms) v.relays
+Agrees terms bounds v = AllByRecursion (KeeperAgrees terms bounds) v.keepers × AllByRecursion (RelayAgrees terms) v.relays
 
 pub record Orderly (terms : Terms) (s : BoardState) : Type 0 where
   -- a word for each place, and behind them one for each server, which is its bound
@@ -88,8 +89,8 @@ pub record Orderly (terms : Terms) (s : BoardState) : Type 0 where
   pub long : length cells ≡ terms.places
   pub servers : length bounds ≡ length terms.limits
   -- the places' words have numbers, and speak of the board's servers
-  pub valid : Each IsWord cells
-  pub among : Each (IsWordAmong (length terms.limits)) cells
+  pub valid : AllByRecursion IsWord cells
+  pub among : AllByRecursion (IsWordAmong (length terms.limits)) cells
   -- one keeper, and one first seat, which knows how many others there are
   pub one_keeper : of_keepers (λ _. 1) s.views ≡ 1
   pub one_first : of_relays is_first s.views ≡ 1

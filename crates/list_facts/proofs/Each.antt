@@ -1,23 +1,19 @@
 -- The items of lists of any type: what each of them meets, and where they stand.
-use Rattle.std.proofs.Common.{◌≡◌, ℕ, zero, suc, ◌<◌, List, [], ◌∷◌, ◌++◌, length, get_or, set, map, subst, sym, refl, ap, arith}
+use Rattle.std.proofs.Common.{◌≡◌, ℕ, zero, suc, ◌<◌, List, [], ◌∷◌, length, get_or, set, map, subst, sym, refl, ap, arith}
 use mathlib.Core.Option.{some, some-injective, some-ne-none}
 use lib.ListN.{get_elem?}
-use Rattle.list_facts.specs.Weights.{Each}
+use Rattle.std.specs.List.{AllByRecursion}
 
 module _ {A : Type 0} where
-  pub Each-at : (P : A → Type 0) (l : List A) (i : ℕ) (a : A) → Each P l → get_elem? l i ≡ some a → P a
-  Each-at P [] i a h e = absurd (some-ne-none a (sym e))
-  Each-at P (x ∷ xs) zero a h e = subst P (some-injective x a e) h.0
-  Each-at P (x ∷ xs) (suc i) a h e = Each-at P xs i a h.1 e
+  pub all_at : (P : A → Type 0) (l : List A) (i : ℕ) (a : A) → AllByRecursion P l → get_elem? l i ≡ some a → P a
+  all_at P [] i a h e = absurd (some-ne-none a (sym e))
+  all_at P (x ∷ xs) zero a h e = subst P (some-injective x a e) h.0
+  all_at P (x ∷ xs) (suc i) a h e = all_at P xs i a h.1 e
 
-  pub Each-set : (P : A → Type 0) (l : List A) (i : ℕ) (a : A) → Each P l → P a → Each P (set l i a)
-  Each-set P [] i a h p = tt
-  Each-set P (x ∷ xs) zero a h p = (p, h.1)
-  Each-set P (x ∷ xs) (suc i) a h p = (h.0, Each-set P xs i a h.1 p)
-
-  pub Each-append : (P : A → Type 0) (l m : List A) → Each P l → Each P m → Each P (l ++ m)
-  Each-append P [] m h k = k
-  Each-append P (x ∷ xs) m h k = (h.0, Each-append P xs m h.1 k)
+  pub all_set : (P : A → Type 0) (l : List A) (i : ℕ) (a : A) → AllByRecursion P l → P a → AllByRecursion P (set l i a)
+  all_set P [] i a h p = tt
+  all_set P (x ∷ xs) zero a h p = (p, h.1)
+  all_set P (x ∷ xs) (suc i) a h p = (h.0, all_set P xs i a h.1 p)
 
   -- an item that is there
   pub item_at : (l : List A) (i : ℕ) → i < length l → (a : A) × (get_elem? l i ≡ some a)

@@ -11,11 +11,6 @@ abbrev pub along : {A : Type 0} → (ℕ → A → ℕ) → ℕ → List A → �
 along weight i [] = 0
 along weight i (x ∷ xs) = weight i x + along weight (suc i) xs
 
--- each item meets P
-abbrev pub Each : {A : Type 0} → (A → Type 0) → List A → Type 0
-Each P [] = Unit {0}
-Each P (x ∷ xs) = P x × Each P xs
-
 -- each item of the first list is in the second, as often
 abbrev pub AreIn : {A : Type 0} → List A → List A → Type 0
 AreIn {A} xs ys = (weight : A → ℕ) → total weight xs ≤ total weight ys

@@ -1,6 +1,4 @@
-use Rattle.std.proofs.Common.{◌≡◌, map, ap, sym, ◌∙◌, subst}
-use Rattle.check_state.specs.Standing.{Standing}
-use Rattle.dispatch_log.specs.Dispatch.{IsDispatched}
+use Rattle.std.proofs.Common.{map, ap, ◌∙◌}
 use Rattle.dispatch_log.specs.Histories.{next_window}
 use Rattle.dispatch_log.proofs.Dispatched.{dispatched}
 use Rattle.readable_log.specs.Bases.{results_by}

@@ -1,6 +1,7 @@
 use Rattle.dispatch_log.proofs.WrongWindows.{not_of_no_class_before, not_due_to_come, not_waiting_to_come}
 use Rattle.dispatch_log.proofs.WrongWindows.{not_at_the_lowered_limit, not_idle_after_a_raise, not_of_no_server, not_forgotten, not_reset, not_anew}
-use Rattle.dispatch_log.proofs.WrongLogs.{not_first_come, not_idle, not_above_limit, not_without_offset, not_of_no_class, not_at_no_moment, not_without_end, not_left_out}
+use Rattle.dispatch_log.proofs.WrongLogs.{not_first_come, not_idle, not_above_limit, not_without_offset, not_of_no_class}
+use Rattle.dispatch_log.proofs.WrongLogs.{not_at_no_moment, not_without_end, not_left_out}
 use Rattle.dispatch_log.proofs.WrongLogs.{not_backend_first, not_more_loaded, not_against_cursor, not_by_loads_alone, not_without_queues, not_beside_room}
 use Rattle.dispatch_log.proofs.WrongChanges.{not_past_the_retries, not_counted_twice, not_with_the_pin, not_to_the_failed, not_before_the_grant}
 use Rattle.dispatch_log.proofs.WrongChanges.{not_beside_a_usable_one, not_early, not_by_falling_ticket, not_untold, not_while_served}

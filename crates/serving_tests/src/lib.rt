@@ -7,4 +7,6 @@ mod gates;
 mod runs;
 mod sizes;
 #[cfg(test)]
+mod texts;
+#[cfg(test)]
 mod workers;

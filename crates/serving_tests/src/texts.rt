@@ -1,0 +1,60 @@
+//! What is printed of faults.
+
+use proxy_config::{ConfigFault, FaultCause};
+use proxy_run::{RunFault, ServeFault};
+use relay_workers::Stopped;
+use socket_gate::TellFault;
+use std::alloc::Global;
+use std::fmt::Display;
+use std::process::Abort;
+
+static OF_WORKERS: [(Stopped, &str); 2] = [
+    (Stopped::NoMemory, "no memory"),
+    (Stopped::PausesSpent, "turns spent"),
+];
+
+static OF_WINDOWS: [(TellFault, &str); 2] = [
+    (TellFault::NoMemory, "no memory"),
+    (TellFault::Write, "write fault"),
+];
+
+static OF_SERVING: [(ServeFault, &str); 4] = [
+    (ServeFault::NoMemory, "no memory"),
+    (ServeFault::Read, "read fault"),
+    (ServeFault::Write, "write fault"),
+    (ServeFault::Turns, "turns spent"),
+];
+
+static OF_RUNS: [(RunFault, &str); 3] = [
+    (
+        RunFault::Config(ConfigFault {
+            line: 28,
+            cause: FaultCause::Keyword,
+        }),
+        "config line 28: keyword",
+    ),
+    (
+        RunFault::Config(ConfigFault {
+            line: 0,
+            cause: FaultCause::Missing,
+        }),
+        "config line 0: missing",
+    ),
+    (RunFault::Serve(ServeFault::Read), "read fault"),
+];
+
+// Each has its text.
+fn say<T: Display>(rt: &impl Abort, alloc: Global, rows: &[(T, &str)]) {
+    for (it, text) in rows {
+        let said = it.to_string(alloc).expect(rt, "memory");
+        assert_eq!(rt; said.as_str(), *text);
+    }
+}
+
+#[test]
+fn each_fault_says_what_it_is(rt: HostRuntime) {
+    say(&rt, rt.alloc(), &OF_WORKERS);
+    say(&rt, rt.alloc(), &OF_WINDOWS);
+    say(&rt, rt.alloc(), &OF_SERVING);
+    say(&rt, rt.alloc(), &OF_RUNS);
+}

@@ -46,7 +46,8 @@ opening_base setup = record {
   cursor = λ some. omega (arith, some);
   tried = λ row live untold. absurd (none_in_empty setup.places live.0 row live.1);
   dispatched = record {
-    limits = λ server some. let none : served server (replicate setup.places None) ≡ 0 = count-replicate (is_served_by server) setup.places None refl in omega arith;
+    limits = λ server some.
+        let none : served server (replicate setup.places None) ≡ 0 = count-replicate (is_served_by server) setup.places None refl in omega arith;
     one_place = λ ticket. record {
       arrives_once = none_between 0 ticket;
       until_its_end = refl;

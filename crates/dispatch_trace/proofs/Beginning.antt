@@ -319,7 +319,8 @@ module _ {N : Type 0} (pair_of : N → Key × ℕ) where
           rows = none_rows N setup.places;
           nodes =
               λ p s there. absurd
-              (none_in_empty setup.places p s.row (stands_row (replicate setup.places None) (replicate setup.places None) p s (none_rows N setup.places) there));
+              (none_in_empty setup.places p s.row
+              (stands_row (replicate setup.places None) (replicate setup.places None) p s (none_rows N setup.places) there));
           ups = opening_ups setup;
           limits = refl;
           waiters = sym (none_waits setup.places);

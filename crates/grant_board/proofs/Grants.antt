@@ -74,8 +74,8 @@ without-none place xs =
 pub without_le : (place : ℕ) (weight : Grant → ℕ) (xs : List Grant) → total weight (without place xs) ≤ total weight xs
 without_le place weight xs = omega (arith, without-total place weight xs)
 
-all_without_by : (P : Grant → Type 0) (place : ℕ) (g : Grant) (gs : List Grant) → P g → AllByRecursion P (without place gs) → (b : Bool) → (g.place == place) ≡ b
-    → AllByRecursion P (without place (g ∷ gs))
+all_without_by : (P : Grant → Type 0) (place : ℕ) (g : Grant) (gs : List Grant) → P g → AllByRecursion P (without place gs)
+    → (b : Bool) → (g.place == place) ≡ b → AllByRecursion P (without place (g ∷ gs))
 all_without_by P place g gs p rest true is = rw is rest
 all_without_by P place g gs p rest false is = rw is (p, rest)
 

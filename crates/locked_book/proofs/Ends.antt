@@ -1,10 +1,10 @@
 -- Returns, new limits and windows: what they owe.
-use Rattle.std.proofs.Common.{◌≡◌, ℕ, zero, suc, ◌<◌, ◌≤◌, ◌==◌, max, min, nat_le, not, Bool, true, false, cond}
+use Rattle.std.proofs.Common.{◌≡◌, ℕ, ◌<◌, ◌≤◌, ◌==◌, max, min, nat_le, not, Bool, true, false, cond}
 use Rattle.std.proofs.Common.{List, [], ◌∷◌, ◌++◌, Option, None, Some, map, drop, length, set, is_none, ◌⊎◌, inl}
 use Rattle.std.proofs.Common.{inr, IfOk, IfSome, IfNone, OnErr, Result, Ok, Err, refl, ap, sym, ◌∙◌, subst, arith}
 use Rattle.std.specs.Option.{option_map_or}
 use Rattle.std.proofs.lemmas.Bool.Decides.{nat_tests}
-use Rattle.std.proofs.lemmas.List.{append-nil, length-map}
+use Rattle.std.proofs.lemmas.List.{append-nil, length-map, map-set}
 use Rattle.std.proofs.lemmas.List.Sums.{count_by-le-length}
 use Rattle.verdict.specs.declared.Verdict.{Verdict}
 use Rattle.verdict.specs.declared.Verdict.TheVariants.{Serve}
@@ -15,7 +15,6 @@ use Rattle.grant_board.specs.declared.returned.Return.{Return}
 use Rattle.grant_board.specs.Views.{grant, Terms, KeeperView, serves_at, count_of}
 use Rattle.grant_board.specs.BoardWords.{MayEnd}
 use Rattle.grant_board.specs.KeeperCalls.{Keeper, Collects, FindsUnposted, MayLimit, limit_after}
-use Rattle.dispatch_log.specs.declared.allowance.Allowance.{Allowance}
 use Rattle.dispatch_log.specs.declared.entry.Entry.TheVariants.{Done, Fail, Limit}
 use Rattle.dispatch_log.specs.declared.refusal.Refusal.TheVariants.{LogFull, NoSuchServer, NoSuchTicket, WrongPhase}
 use Rattle.dispatch_log.specs.declared.row.Phase.{Phase}
@@ -28,6 +27,7 @@ use Rattle.dispatch_log.specs.Legal.{IsLegal, AddsEvent}
 use Rattle.dispatch_log.specs.Refusals.{first_of, lacks_room, is_waiting, has_a_slot}
 use Rattle.dispatch_log.specs.Rows.{row_of, is_served_by, served}
 use Rattle.dispatch_log.specs.States.{State, after}
+use Rattle.dispatch_log.proofs.Accepted.{none_refuses}
 use Rattle.dispatch_log.proofs.RowLemmas.{row_of_at}
 use Rattle.dispatch_log.proofs.Within.{within}
 use Rattle.dispatch_trace.specs.Histories.{HasEntryRoom}
@@ -127,17 +127,11 @@ takes_back old h new first between now place moment back woken woken_then from s
       wakes = subst (λ n. Wakes (grants_in new (drop n new.log)) woken woken_then) at wakes;
     }
 
--- a server's bound
-map_set : (xs : List Allowance) (i : ℕ) (y : Allowance) → map bound_by (set xs i y) ≡ set (map bound_by xs) i (bound_by y)
-map_set [] i y = refl
-map_set (x ∷ xs) zero y = refl
-map_set (x ∷ xs) (suc i) y = ap (λ l. bound_by x ∷ l) (map_set xs i y)
-
+-- a limit that nothing refuses is of a server that there is
 known_server : (a b : Bool) → first_of ((a, LogFull) ∷ (b, NoSuchServer) ∷ []) ≡ None → b ≡ false
-known_server true b e = cc
-known_server false true e = cc
-known_server false false e = refl
+known_server a b accepted = (none_refuses b NoSuchServer [] (none_refuses a LogFull ((b, NoSuchServer) ∷ []) accepted).1).0
 
+-- what is served at a server with a bound is within it
 at_least : (limit count : ℕ) → 0 < bound_by (record { limit = limit; served = count }) → count ≤ bound_by (record { limit = limit; served = count })
 at_least limit count some = by_test (limit == 0) some
   where
@@ -170,7 +164,7 @@ limit_owes h new view now moment server limit bound legal is adds same after_it 
     ∙ limits_kept h.setup (after h.setup (state_of h) (Limit moment server limit)) adds.brought adds.one_event in
     let bounds : set view.bounds server bound ≡ map bound_by (state_of new).limits =
     ap (λ l. set l server bound) is.bounds ∙ ap (set (map bound_by (state_of h).limits) server) same
-    ∙ sym (map_set (state_of h).limits server (record { limit = limit; served = served server (state_of h).rows }))
+    ∙ sym (map-set bound_by (state_of h).limits server (record { limit = limit; served = served server (state_of h).rows }))
     ∙ ap (map bound_by) (sym set_here) in
     subst (λ (v : KeeperView). IsOwing new v (added h new)) (sym after_it)
     (subst (IsOwing new (limit_after view server bound)) (sym (added_is h new (Limit moment server limit) adds))

@@ -1,15 +1,16 @@
 -- What is outstanding, by weight.
-use Rattle.std.proofs.Common.{◌≡◌, ◌≢◌, ℕ, zero, suc, ◌+◌, ◌<◌, ◌≤◌, ◌==◌, Bool, true, false, cond, [], ◌∷◌}
-use Rattle.std.proofs.Common.{Option, None, Some, Contains, length, slice_get, refl, ap, sym, ◌∙◌, arith, inl, inr}
+use Rattle.std.proofs.Common.{◌≡◌, ◌≢◌, ℕ, zero, suc, ◌+◌, ◌≤◌, ◌==◌, Bool, true, false, cond, [], ◌∷◌}
+use Rattle.std.proofs.Common.{Option, None, Some, Contains, slice_get, refl, ap, sym, ◌∙◌, arith, inl, inr}
 use Rattle.std.proofs.Math.ListN.{set}
 use Rattle.std.proofs.lemmas.Bool.Decides.{Decides-eqb}
 use Rattle.std.proofs.lemmas.List.Elements.{Contains-append_cases}
 use Rattle.std.proofs.lemmas.List.Sums.{sum_by-cons}
 use Rattle.std.proofs.lemmas.Option.{same_Some}
 use Rattle.verdict.specs.declared.Verdict.{Verdict}
-use Rattle.list_facts.specs.Weights.{total}
+use Rattle.list_facts.specs.Weights.{total, along}
 use Rattle.list_facts.proofs.Never.{none_some}
 use Rattle.list_facts.proofs.Places.{tally, get-set_cases}
+use Rattle.list_facts.proofs.Positions.{item_stands, along-set, along_once}
 use Rattle.list_facts.proofs.Totals.{total-append}
 use Rattle.grant_board.specs.Views.{Grant, grant, at_place, serves_at, count_at, count_of}
 use Rattle.grant_board.proofs.Grants.{at_place-no, at_place-one}
@@ -17,7 +18,7 @@ use Rattle.dispatch_log.specs.declared.row.Phase.{Phase}
 use Rattle.dispatch_log.specs.declared.row.Phase.TheVariants.{Loose, Waiting, Serving, Told}
 use Rattle.dispatch_log.specs.declared.row.Row.{Row}
 use Rattle.dispatch_log.specs.Rows.{Rows, StandsAt, phase_is_served_by, is_served_by, served}
-use Rattle.dispatch_log.proofs.RowLemmas.{HaveOwnTickets}
+use Rattle.dispatch_log.proofs.RowLemmas.{HaveOwnTickets, own_later}
 use Rattle.outstanding.specs.Outstanding.{verdict_at, granted, grants_at, outstanding_from, outstanding, place_in}
 
 -- the weight of what is outstanding at a place
@@ -25,40 +26,16 @@ abbrev pub weigh : (Grant → ℕ) → ℕ → Option Row → ℕ
 weigh weight place cell = total weight (grants_at place cell)
 
 module _ (weight : Grant → ℕ) where
+  -- what is outstanding weighs what the places do
+  pub by_place : (i : ℕ) (rows : Rows) → total weight (outstanding_from i rows) ≡ along (weigh weight) i rows
+  by_place i [] = refl
+  by_place i (cell ∷ rows) = omega (arith, by_place (suc i) rows, total-append weight (grants_at i cell) (outstanding_from (suc i) rows))
+
   -- one place is written
   pub put : (i p q : ℕ) (rows : Rows) (old new : Option Row) → q ≡ i + p → slice_get rows p ≡ Some old
       → total weight (outstanding_from i (set rows p new)) + weigh weight q old ≡ total weight (outstanding_from i rows) + weigh weight q new
-  put i p q [] old new at stands = cc
-  put i zero q (cell ∷ rows) old new at stands =
-      let here : q ≡ i = omega arith in
-      let is : cell ≡ old = same_Some cell old stands in
-      let before : weigh weight q old ≡ weigh weight i cell = ap (λ n. weigh weight n old) here ∙ ap (λ x. weigh weight i x) (sym is) in
-      let after : weigh weight q new ≡ weigh weight i new = ap (λ n. weigh weight n new) here in
-      omega (
-        arith,
-        total-append weight (grants_at i new) (outstanding_from (suc i) rows),
-        total-append weight (grants_at i cell) (outstanding_from (suc i) rows),
-        before,
-        after,
-      )
-  put i (suc p) q (cell ∷ rows) old new at stands =
-      omega (
-        arith,
-        put (suc i) p q rows old new (omega arith) stands,
-        total-append weight (grants_at i cell) (outstanding_from (suc i) (set rows p new)),
-        total-append weight (grants_at i cell) (outstanding_from (suc i) rows),
-      )
-
-  -- a place weighs at most the whole
-  pub at_le : (i p q : ℕ) (rows : Rows) (cell : Option Row) → q ≡ i + p → slice_get rows p ≡ Some cell
-      → weigh weight q cell ≤ total weight (outstanding_from i rows)
-  at_le i p q [] cell at stands = cc
-  at_le i zero q (c ∷ rows) cell at stands =
-      let here : q ≡ i = omega arith in
-      let same : weigh weight q cell ≡ weigh weight i c = ap (λ n. weigh weight n cell) here ∙ ap (λ x. weigh weight i x) (sym (same_Some c cell stands)) in
-      omega (arith, total-append weight (grants_at i c) (outstanding_from (suc i) rows), same)
-  at_le i (suc p) q (c ∷ rows) cell at stands =
-      omega (arith, at_le (suc i) p q rows cell (omega arith) stands, total-append weight (grants_at i c) (outstanding_from (suc i) rows))
+  put i p q rows old new at stands =
+      omega (arith, by_place i rows, by_place i (set rows p new), along-set (weigh weight) rows i p q old new at (item_stands rows p old stands))
 
   -- where no place weighs anything, nothing does
   pub none_weigh : (i : ℕ) (rows : Rows) → ((p q : ℕ) (cell : Option Row) → q ≡ i + p → slice_get rows p ≡ Some cell → weigh weight q cell ≡ 0)
@@ -122,33 +99,9 @@ elsewhere_weighs : (p i : ℕ) (cell : Option Row) → i ≢ p → weigh (at_pla
 elsewhere_weighs p i None other = refl
 elsewhere_weighs p i (Some r) other = none_elsewhere p i r.key.ticket (verdict_at r.phase) other
 
-pub nothing_before : (p i : ℕ) (rows : Rows) → p < i → count_at p (outstanding_from i rows) ≡ 0
-nothing_before p i rows before = none_weigh (at_place p) i rows (λ k q cell at stands. elsewhere_weighs p q cell (λ same. absurd (omega arith)))
-
-pub nothing_past : (p i : ℕ) (rows : Rows) → i + length rows ≤ p → count_at p (outstanding_from i rows) ≡ 0
-nothing_past p i [] past = refl
-nothing_past p i (cell ∷ rows) past =
-    omega (
-      arith,
-      elsewhere_weighs p i cell (λ same. absurd (omega arith)),
-      nothing_past p (suc i) rows (omega arith),
-      total-append (at_place p) (grants_at i cell) (outstanding_from (suc i) rows),
-    )
-
 pub once_at : (p i : ℕ) (rows : Rows) → count_at p (outstanding_from i rows) ≤ 1
-once_at p i [] = omega arith
-once_at p i (cell ∷ rows) = by_test (i == p) refl (once_at p (suc i) rows)
-  where
-    whole : count_at p (outstanding_from i (cell ∷ rows)) ≡ weigh (at_place p) i cell + count_at p (outstanding_from (suc i) rows)
-    whole = total-append (at_place p) (grants_at i cell) (outstanding_from (suc i) rows)
-
-    by_test : (b : Bool) → (i == p) ≡ b → count_at p (outstanding_from (suc i) rows) ≤ 1 → count_at p (outstanding_from i (cell ∷ rows)) ≤ 1
-    by_test true e rest =
-        let here : i ≡ p = (Decides-eqb i p).0 e in
-        omega (arith, whole, one_weighs p i cell, nothing_before p (suc i) rows (omega arith))
-    by_test false e rest =
-        let differs : i ≢ p = λ same. let t : (i == p) ≡ true = (Decides-eqb i p).1 same in cc in
-        omega (arith, whole, elsewhere_weighs p i cell differs, rest)
+once_at p i rows =
+    omega (arith, by_place (at_place p) i rows, along_once (weigh (at_place p)) p (elsewhere_weighs p) (one_weighs p) rows i)
 
 -- as many serve at a server as it serves
 served_by : (s place ticket : ℕ) (r : Row) (phase : Phase) → r.phase ≡ phase
@@ -199,21 +152,18 @@ is_out i (cell ∷ rows) g there =
     at (Some r) here = let it = cell_out i r (verdict_at r.phase) g here in
         (0, omega (arith, it.0), record { row = r; stands = refl; named = it.1; verdict = it.2 })
 
-same_suc : (k l : ℕ) → suc k ≡ suc l → k ≡ l
-same_suc k l e = omega arith
-
 -- the place of a ticket's row
 pub place_at : (rows : Rows) (t p : ℕ) (r : Row) → HaveOwnTickets rows → StandsAt rows p r → r.key.ticket ≡ t → place_in t rows ≡ p
 place_at [] t p r own stands named = cc
 place_at (None ∷ rows) t zero r own stands named = cc
 place_at (None ∷ rows) t (suc p) r own stands named =
-    ap suc (place_at rows t p r (record { own = λ k l u v a b e. same_suc k l (own.own (suc k) (suc l) u v a b e) }) stands named)
+    ap suc (place_at rows t p r (own_later None rows own) stands named)
 place_at (Some u ∷ rows) t zero r own stands named =
     let it : u ≡ r = same_Some u r (same_Some (Some u) (Some r) stands) in
     let test : (u.key.ticket == t) ≡ true = (Decides-eqb (u.key.ticket) t).1 (ap (λ (x : Row). x.key.ticket) it ∙ named) in
     rw test refl
 place_at (Some u ∷ rows) t (suc p) r own stands named =
-    by_test (u.key.ticket == t) refl (place_at rows t p r (record { own = λ k l v w a b e. same_suc k l (own.own (suc k) (suc l) v w a b e) }) stands named)
+    by_test (u.key.ticket == t) refl (place_at rows t p r (own_later (Some u) rows own) stands named)
   where
     by_test : (b : Bool) → (u.key.ticket == t) ≡ b → place_in t rows ≡ p → place_in t (Some u ∷ rows) ≡ suc p
     by_test true e rest = let at : 0 ≡ suc p = own.own 0 (suc p) u r refl stands ((Decides-eqb (u.key.ticket) t).0 e ∙ sym named) in absurd (omega arith)

@@ -2,7 +2,7 @@
 use Rattle.std.proofs.lemmas.Bool.Decides.{nat_tests}
 use Rattle.std.proofs.Math.Nat.{div-le_self}
 use Rattle.std.proofs.lemmas.Nat.{shr-shr}
-use Rattle.std.proofs.Common.{zero, replicate, div-one, Bool, true, false, nat_lt, ◌≡◌, ◌≢◌, ℕ, suc, ◌+◌, ◌-◌, ◌*◌, ◌/◌, ◌%◌, ◌^◌, ◌<◌}
+use Rattle.std.proofs.Common.{zero, div-one, Bool, true, false, nat_lt, ◌≡◌, ◌≢◌, ℕ, suc, ◌+◌, ◌-◌, ◌*◌, ◌/◌, ◌%◌, ◌^◌, ◌<◌}
 use Rattle.std.proofs.Common.{◌≤◌, ◌⊎◌, ◌↔◌, inl, inr, List, length, slice_index, slice_set, bit_and, bit_or, w64, refl, ap, sym, ◌∙◌, subst, arith}
 use mathlib.Core.Logic.{dite}
 use native.Mathlib.Decide.{ℕ_discrete}
@@ -124,12 +124,6 @@ first_in words from rest low is some fits =
             let high : 64 ≤ b = grind (arith, nat_tests) in
             let none : bit_at n b ≡ 0 = bit_at_above n 64 b fits high in
             absurd (omega (arith, none, one))
-
--- words of no bits
-pub zeros : (n i : ℕ) → slice_index (replicate n 0) i ≡ 0
-zeros zero i = refl
-zeros (suc n) zero = refl
-zeros (suc n) (suc i) = zeros n i
 
 -- the next place's word comes later
 pub first_later : (words : List ℕ) (first word : ℕ) → first ≤ word → word < 64 → slice_index words word ≢ 0 → slice_index words word < 2 ^ 64

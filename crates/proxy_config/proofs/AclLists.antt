@@ -1,11 +1,12 @@
 -- Where an ACL's new alternative goes.
-use Rattle.std.proofs.Common.{◌≡◌, ◌∙◌, ◌<◌, ◌≤◌, ◌++◌, ℕ, zero, suc, Bool, true, false, cond, List, [], ◌∷◌, length, get_or, Some, None, refl, sym, ap, arith}
+use Rattle.std.proofs.Common.{◌≡◌, ◌∙◌, ◌<◌, ◌≤◌, ◌++◌, ℕ, zero, suc, Bool, true, false, List, [], ◌∷◌, length, get_or, Some, None, refl, sym, ap, arith}
 use Rattle.std.proofs.Math.ListN.{set}
 use Rattle.std.specs.List.{position_or_len}
 use Rattle.std.specs.Str.{bytes_eq}
 use Rattle.std.proofs.lemmas.List.Sums.{fails_before_first}
 use Rattle.std.proofs.lemmas.List.Quantifiers.{position-Some}
 use borrow.Author.Tests.{ltb-false}
+use Rattle.list_facts.proofs.Options.{cond_none}
 use Rattle.proxy_config.specs.declared.parts.Acl.{Acl}
 use Rattle.proxy_config.specs.declared.parts.Test.{Test}
 use Rattle.proxy_config.specs.Conditions.{acl_index}
@@ -40,13 +41,9 @@ none_named name test (acl ∷ acls) none =
     let first : is_named name acl ≡ false = none 0 acl (omega arith) in
     rw first (ap (λ more. acl ∷ more) (none_named name test acls (λ k d below. none (suc k) d (omega arith))))
 
-stays_below : (b : Bool) (n : ℕ) → cond b (Some n) None ≡ None → b ≡ false
-stays_below true n at = cc
-stays_below false n at = refl
-
 -- where there is none, it is a new ACL
 pub with_test-new : (name : List ℕ) (test : Test) (acls : List Acl) → acl_index name acls ≡ None
     → with_test name test acls ≡ acls ++ record { name = name; tests = test ∷ [] } ∷ []
 with_test-new name test acls at =
-    let past : length acls ≤ position_or_len (is_named name) acls = ltb-false _ _ (stays_below _ _ at) in
+    let past : length acls ≤ position_or_len (is_named name) acls = ltb-false _ _ (cond_none _ _ at) in
     none_named name test acls (λ k d below. fails_before_first (is_named name) acls k d (omega arith))

@@ -3,6 +3,7 @@ use Rattle.std.proofs.Common.{◌≡◌, ◌∙◌, ◌⊎◌, inl, inr, ◌||�
 use Rattle.std.proofs.Common.{[], ◌∷◌, length, Option, Some, None, Result, Err, refl, sym, ap, subst}
 use Rattle.std.specs.Option.{is_some}
 use Rattle.std.specs.List.{list_any}
+use Rattle.std.proofs.lemmas.Bool.{or_left}
 use Rattle.proxy_words.specs.Text.{uncommented}
 use Rattle.proxy_config.specs.declared.faults.FaultCause.{FaultCause}
 use Rattle.proxy_config.specs.declared.faults.FaultCause.TheVariants as causes
@@ -54,13 +55,9 @@ is_of_keywords cause = is_placed true cause || is_place cause
 abbrev is_of_lines : FaultCause → Bool
 is_of_lines cause = is_of_keywords cause || is_section cause
 
-more : (a b : Bool) → a ≡ true → (a || b) ≡ true
-more true b is = refl
-more false b is = cc
-
 pub weaker : {A : Type 0} {may : FaultCause → Bool} {r : Result A FaultCause} (also : FaultCause → Bool) → Within may r
     → Within (λ cause. may cause || also cause) r
-weaker {A} {may} also within = record { fault = λ cause is. more (may cause) (also cause) (within.fault cause is) }
+weaker {A} {may} also within = record { fault = λ cause is. or_left (may cause) (also cause) (within.fault cause is) }
 
 -- where a cause can't stand, it doesn't
 pub never : {A : Type 0} {may : FaultCause → Bool} {r : Result A FaultCause} (cause : FaultCause) → Within may r → may cause ≡ false → r ≡ Err cause → ⊥

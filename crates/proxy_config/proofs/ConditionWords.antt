@@ -4,7 +4,7 @@ use Rattle.std.proofs.Common.{[], ◌∷◌, ◌++◌, length, Result, Ok, refl,
 use Rattle.std.specs.List.{list_all, onto_first}
 use Rattle.std.specs.Option.{ok_or}
 use Rattle.std.specs.Str.{bytes_eq}
-use Rattle.std.proofs.lemmas.Bool.{eqb-true, and_parts}
+use Rattle.std.proofs.lemmas.Bool.{eqb-true, and_parts, not-false, or_from}
 use Rattle.proxy_config.specs.declared.faults.FaultCause.{FaultCause}
 use Rattle.proxy_config.specs.declared.faults.FaultCause.TheVariants as causes
 use Rattle.proxy_config.specs.declared.parts.Acl.{Acl}
@@ -21,11 +21,7 @@ use Rattle.proxy_config.specs.Conditions.{acl_index, alternatives, condition, is
 use Rattle.proxy_config.specs.ConditionGrammar.{IsOperand, IsSigned, IsTerm, AreSeparated, NoneEmpty, IsCondition, with_sign}
 use Rattle.proxy_config.specs.Faulty.{has_sign}
 use Rattle.proxy_config.proofs.Outcomes.{bind_ok, chosen, from_ok, ok_or_ok, unless_ok}
-use Rattle.proxy_config.proofs.TestWords.{same_text, not_text, neither, word_at-found, test_in_braces-found, test_in_braces-again}
-
-not_false : (b : Bool) → not b ≡ false → b ≡ true
-not_false true is = refl
-not_false false is = cc
+use Rattle.proxy_config.proofs.TestWords.{same_text, not_text, word_at-found, test_in_braces-found, test_in_braces-again}
 
 -- an operand was spelled as one
 operand_at-found : (acls : List Acl) (negated : Bool) (word : List ℕ) (words : List (List ℕ)) (x : Term × List (List ℕ))
@@ -56,7 +52,7 @@ operand_at-found acls negated word words x is = elim (chosen (bytes_eq word (cod
         (
           word,
           refl,
-          not_false (is_acl_name word) (unless_ok (not (is_acl_name word)) causes.Condition named.0 named.1),
+          not-false (is_acl_name word) (unless_ok (not (is_acl_name word)) causes.Condition named.0 named.1),
           ok_or_ok (acl_index word acls) causes.Unknown index.0 index.1,
         ),
       )
@@ -228,7 +224,7 @@ operand_again acls front (operands.Acl index) is =
     let parts = name_parts name is.2 in
     let no_bar : bytes_eq name (codes "||") ≡ false = is_no (list_all is_name_byte) name (codes "||") parts.0 refl in
     let no_brace : bytes_eq name (codes "{") ≡ false = is_no (list_all is_name_byte) name (codes "{") parts.0 refl in
-    (name, [], is.1, neither parts.1 no_bar, name_no_sign name is.2, λ negated rest. rw (no_brace, is.2, is.3) refl, name_some name is.2)
+    (name, [], is.1, or_from _ _ parts.1 no_bar, name_no_sign name is.2, λ negated rest. rw (no_brace, is.2, is.3) refl, name_some name is.2)
 operand_again acls front (operands.Test test) is = (
   codes "{",
   is.0 ++ codes "}" ∷ [],

@@ -2,10 +2,10 @@
 use Rattle.std.proofs.Common.{◌≡◌, inl, inr, ◌<◌, ◌≤◌, ◌++◌, ℕ, suc, Bool, true, false, cond}
 use Rattle.std.proofs.Common.{List, [], ◌∷◌, length, Option, Some, None, Ok, subst, arith, codes, not}
 use Rattle.std.specs.Option.{IfSome, ok_or}
-use Rattle.std.specs.List.{All, AllByRecursion, position}
+use Rattle.std.specs.List.{All, AllByRecursion}
 use Rattle.std.specs.Str.{bytes_eq}
 use Rattle.std.proofs.lemmas.List.Elements.{All-from_recursion, All-weaker}
-use Rattle.std.proofs.lemmas.List.Quantifiers.{position-Some}
+use Rattle.list_facts.proofs.Found.{position_below}
 use Rattle.proxy_config.specs.declared.faults.FaultCause.TheVariants as causes
 use Rattle.proxy_config.specs.declared.parts.Acl.{Acl}
 use Rattle.proxy_config.specs.declared.parts.Condition.{Condition}
@@ -30,11 +30,6 @@ use Rattle.proxy_config.proofs.Resolving.{pin_line}
 use Rattle.proxy_config.specs.Sound.{IsSoundOperand, IsSoundCondition, IsSoundGuard}
 use Rattle.proxy_config.proofs.Outcomes.{bind_ok, chosen, from_ok, ok_or_ok}
 use Rattle.proxy_config.proofs.ConditionWords.{condition-found}
-
--- where an item is found is within the list
-pub position_below : {A : Type 0} (p : A → Bool) (all : List A) (i : ℕ) → position p all ≡ Some i → i < length all
-position_below p [] i at_ = absurd (let none = at_ in cc)
-position_below p (one ∷ more) i at_ = (position-Some p (one ∷ more) i one at_).0
 
 operand_sound : (acls : List Acl) (words : List (List ℕ)) (operand : Operand) → IsOperand acls words operand → IsSoundOperand (length acls) operand
 operand_sound acls words (operands.Acl index) is = position_below (λ acl. bytes_eq acl.name is.0) acls index is.3

@@ -1,10 +1,10 @@
 -- The words of a test, read and spelled.
-use Rattle.std.proofs.Common.{◌≡◌, ◌∙◌, inl, inr, ◌<◌, ◌==◌, ◌||◌, ℕ, Bool, true, false, List, []}
+use Rattle.std.proofs.Common.{◌≡◌, ◌∙◌, inl, inr, ◌<◌, ◌==◌, ℕ, Bool, true, false, List, []}
 use Rattle.std.proofs.Common.{◌∷◌, ◌++◌, length, Some, Ok, refl, sym, ap, subst, arith, append_assoc, codes}
 use Rattle.std.specs.List.{list_any}
 use Rattle.std.specs.Option.{ok_or}
 use Rattle.std.specs.Str.{bytes_eq}
-use Rattle.std.proofs.lemmas.Bool.{eqb-true, and_parts}
+use Rattle.std.proofs.lemmas.Bool.{eqb-true, and_parts, or_from, or_parts}
 use Rattle.proxy_config.specs.declared.faults.FaultCause.TheVariants as causes
 use Rattle.proxy_config.specs.declared.parts.Subject.{Subject}
 use Rattle.proxy_config.specs.declared.parts.Test.{Test}
@@ -33,13 +33,6 @@ not_text p one other fails holds = tells (bytes_eq one other) refl
     tells true is = let same : one ≡ other = same_text one other is in absurd (let both : true ≡ false = sym holds ∙ ap p (sym same) ∙ fails in cc)
     tells false is = refl
 
-pub either : (a b : Bool) → (a || b) ≡ false → (a ≡ false) × (b ≡ false)
-either true b is = cc
-either false b is = (refl, is)
-
-pub neither : {a b : Bool} → a ≡ false → b ≡ false → (a || b) ≡ false
-neither {a} {b} first second = rw (first, second) refl
-
 -- a value that doesn't begin with `-` is read as it is
 value_of-plain : (word : List ℕ) → is_dashed word ≡ false → value_of word ≡ Ok word
 value_of-plain word plain = rw plain refl
@@ -55,8 +48,8 @@ pub values_to_brace-again : (values rest : List (List ℕ)) → list_any is_dash
     → values_to_brace (values ++ codes "}" ∷ rest) ≡ Ok (values, rest)
 values_to_brace-again [] rest plain open_ = refl
 values_to_brace-again (value ∷ values) rest plain open_ =
-    let p = either (is_dashed value) (list_any is_dashed values) plain in
-    let o = either (is_brace value) (list_any is_brace values) open_ in
+    let p = or_parts (is_dashed value) (list_any is_dashed values) plain in
+    let o = or_parts (is_brace value) (list_any is_brace values) open_ in
     rw (o.0, p.0, values_to_brace-again values rest p.1 o.1) refl
 
 -- and what was read stood there
@@ -82,8 +75,8 @@ values_to_brace-found (word ∷ words) values rest is = elim (chosen (is_brace w
       subst (λ (vs : List (List ℕ)). (word ∷ words ≡ vs ++ codes "}" ∷ rest) × (list_any is_dashed vs ≡ false) × (list_any is_brace vs ≡ false))
       (ap (λ (w : List ℕ). w ∷ more.0.0) plain.1 ∙ all) (
         ap (λ (ws : List (List ℕ)). word ∷ ws) (others.0 ∙ ap (λ (r : List (List ℕ)). more.0.0 ++ codes "}" ∷ r) after),
-        neither plain.0 others.1,
-        neither other others.2,
+        or_from _ _ plain.0 others.1,
+        or_from _ _ other others.2,
       )
 ]
 
@@ -142,8 +135,8 @@ in_braces words of ignore_case value first behind others rest start open_ plain 
   start.2 ∙ ap (λ (v : List ℕ). (start.0 ∷ flag ignore_case) ++ v ∷ behind) same
       ∙ ap (λ (ws : List (List ℕ)). (start.0 ∷ flag ignore_case) ++ first ∷ ws) more.0
       ∙ sym (append_assoc (start.0 ∷ flag ignore_case) (first ∷ others) (codes "}" ∷ rest)),
-  record { subject = start.0; known = start.1; is = refl; some = omega arith; plain = neither (ap is_dashed (sym same) ∙ plain) more.1 },
-  neither (ap is_brace (sym same) ∙ open_) more.2,
+  record { subject = start.0; known = start.1; is = refl; some = omega arith; plain = or_from _ _ (ap is_dashed (sym same) ∙ plain) more.1 },
+  or_from _ _ (ap is_brace (sym same) ∙ open_) more.2,
 )
 
 -- a test in braces was spelled as one
@@ -168,8 +161,8 @@ braces_again : (subject : List ℕ) (of : Subject) (ignore_case : Bool) (values 
 unfolding test_in_braces
 braces_again subject of ignore_case [] rest known some plain open_ = absurd (omega arith)
 braces_again subject of ignore_case (value ∷ values) rest known some plain open_ =
-    let p = either (is_dashed value) (list_any is_dashed values) plain in
-    let o = either (is_brace value) (list_any is_brace values) open_ in
+    let p = or_parts (is_dashed value) (list_any is_dashed values) plain in
+    let o = or_parts (is_brace value) (list_any is_brace values) open_ in
     ap test_in_braces (append_assoc (subject ∷ flag ignore_case) (value ∷ values) (codes "}" ∷ rest))
     ∙ rw (head_at-again subject of ignore_case value (values ++ codes "}" ∷ rest) known p.0, o.0, p.0, values_to_brace-again values rest p.1 o.1) refl
 

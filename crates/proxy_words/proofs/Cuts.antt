@@ -10,6 +10,7 @@ use Rattle.std.proofs.lemmas.Option.{cond_some}
 use Rattle.std.proofs.lemmas.Bool.Decides.{nat_tests}
 use Rattle.std.proofs.lemmas.List.{length-take}
 use borrow.Author.Tests.{ltb-true, ltb-false}
+use Rattle.list_facts.proofs.Options.{cond_none}
 use Rattle.proxy_words.specs.Text.{is_line_feed, is_blank, is_filled, words}
 
 -- up to the first element that passes there is one part
@@ -19,14 +20,10 @@ slice_split-first p xs n at =
     subst (λ (m : ℕ). slice_split p xs ≡ take m xs ∷ slice_split p (drop (m + 1) xs)) found.1
     (slice_split_first p xs 0 (ltb-true _ _ found.0))
 
-none_below : (b : Bool) (n : ℕ) → cond b (Some n) None ≡ None → b ≡ false
-none_below true n at = cc
-none_below false n at = refl
-
 -- where none passes there is one part
 pub slice_split-whole : (p : ℕ → Bool) (xs : List ℕ) → position p xs ≡ None → slice_split p xs ≡ xs ∷ []
 slice_split-whole p xs at =
-    let past : length xs ≤ position_or_len p xs = ltb-false _ _ (none_below _ _ at) in
+    let past : length xs ≤ position_or_len p xs = ltb-false _ _ (cond_none _ _ at) in
     slice_split_none p xs (λ k d below. fails_before_first p xs k d (omega arith))
 
 -- a part that others follow is a line

@@ -6,6 +6,8 @@ use Rattle.std.proofs.lemmas.Bool.Decides.{nat_tests}
 use Rattle.std.proofs.lemmas.List.{length-map}
 use Rattle.std.proofs.lemmas.List.Folds.{list_all-append}
 use Rattle.std.proofs.lemmas.List.Splits.{length-slice_split}
+use Rattle.std.proofs.lemmas.Option.{cond_some}
+use Rattle.list_facts.proofs.Options.{cond_none}
 use Rattle.list_facts.proofs.Filtered.{list_all_flat_map}
 use Rattle.proxy_words.specs.Numerals.{is_numeral, value_of, numeral}
 use Rattle.proxy_words.specs.Parts.{parts, trimmed, is_comma}
@@ -26,19 +28,11 @@ parts_some text none =
 same_number : (n : ℕ) → (n == n) ≡ true
 same_number n = grind (arith, nat_tests)
 
-found : (b : Bool) (value count : ℕ) → cond b (Some value) None ≡ Some count → (b ≡ true) × (value ≡ count)
-found true value count e = (refl, cc)
-found false value count e = cc
-
-missed : (b : Bool) (value : ℕ) → cond b (Some value) None ≡ None → b ≡ false
-missed true value e = cc
-missed false value e = refl
-
 -- what a first part that isn't a number makes of all
 pub first_faulty : (first : List ℕ) (rest : List (List ℕ)) (part : List ℕ) (more : List (List ℕ)) → parts first ≡ part ∷ more → numeral 18 part ≡ None
     → Faulty ≡ stated_of (flat_map parts (first ∷ rest))
 first_faulty first rest part more e none =
-    let no = missed (is_numeral 18 part) (value_of part) none in
+    let no = cond_none (is_numeral 18 part) (value_of part) none in
     let tail = more ++ flat_map parts rest in
     let is : common (part ∷ tail) ≡ None = ap (λ b. cond (b && list_all (is_number (value_of part)) tail) (Some (value_of part)) None) no in
     sym (ap (λ l. stated_of (l ++ flat_map parts rest)) e ∙ ap count_or_fault is)
@@ -49,7 +43,7 @@ all_parts : (first : List ℕ) (rest : List (List ℕ)) (part : List ℕ) (more 
     → stated_of (flat_map parts (first ∷ rest))
     ≡ count_or_fault (cond (list_all (is_number count) (parts first) && list_all (λ value. list_all (is_number count) (parts value)) rest) (Some count) None)
 all_parts first rest part more count e number =
-    let yes = found (is_numeral 18 part) (value_of part) count number in
+    let yes = cond_some (is_numeral 18 part) (value_of part) count number in
     let p = is_number count in
     let tail = more ++ flat_map parts rest in
     let own : p part ≡ true = (λ i. yes.0 i && (yes.1 i == count)) ∙ same_number count in

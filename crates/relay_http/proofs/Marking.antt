@@ -3,6 +3,7 @@ use Rattle.std.proofs.Common.{◌≡◌, ◌∙◌, ℕ, ◌+◌, ◌<◌, ◌�
 use Rattle.std.proofs.Common.{◌++◌, length, Option, Some, None, refl, sym, ap, arith, append-nil, subst}
 use Rattle.std.specs.Prelude.{◌||◌, nat_lt}
 use Rattle.std.specs.Io.KnownBytes.{Appends, Keeps}
+use Rattle.std.proofs.lemmas.Bool.{or_parts, true_from_ne_false, true≢false}
 use Rattle.std.proofs.lemmas.Bool.Decides.{nat_tests}
 use Rattle.counted_io.specs.Streams.{Stream}
 use Rattle.list_facts.proofs.Fronts.{some_behind}
@@ -12,9 +13,6 @@ use Rattle.relay_http.specs.Messages.{IsAnswered, interims_text}
 use Rattle.relay_http.specs.States.{Marks, emptied}
 use Rattle.relay_http.specs.Texts.{answer_text}
 use Rattle.req_view.specs.Answer.{answer_of}
-
-true_false : true ≡ false → ⊥
-true_false e = cc
 
 nothing_kept : (old new : Option (List ℕ)) (front : List ℕ) → front ≡ [] → Appends old new front → Keeps old new
 nothing_kept None new front none appends = tt
@@ -36,11 +34,11 @@ marks_by : {w0 w : Stream} {front : List ℕ} (begun now : Bool) (before after :
     → now ≡ nat_lt before after → Marks w0 w begun (begun || now)
 marks_by {w0} {w} {front} true now before after b a wrote is = record {
   stays = λ yes. yes;
-  unset = λ no. absurd (true_false no);
-  rose = λ no yes. absurd (true_false no);
+  unset = λ no. absurd (true≢false no);
+  rose = λ no yes. absurd (true≢false no);
 }
 marks_by {w0} {w} {front} false now before after b a wrote is = record {
-  stays = λ yes. absurd (true_false (sym yes));
+  stays = λ yes. absurd (true≢false (sym yes));
   unset = λ no. nothing_kept w0.bytes w.bytes front (none_taken before after b a wrote (no_less before after (sym is ∙ no))) wrote.bytes;
   rose = λ no yes.
       let more : before < after = is_less before after (sym is ∙ yes) in
@@ -52,20 +50,12 @@ pub marks : {w0 w : Stream} {front : List ℕ} (begun after_begun : Bool) (befor
 marks {w0} {w} begun after_begun before after b a wrote is =
     subst (λ (m : Bool). Marks w0 w begun m) (sym is) (marks_by begun (nat_lt before after) before after b a wrote refl)
 
-either : (begun now : Bool) → (begun || now) ≡ false → now ≡ false
-either true now e = absurd (true_false e)
-either false now e = e
-
-by_cases : (b : Bool) → (b ≡ false → ⊥) → b ≡ true
-by_cases true not_false = refl
-by_cases false not_false = absurd (not_false refl)
-
 -- where something was written, that is known
 pub begun_by : {w0 w : Stream} {front : List ℕ} (begun after_begun : Bool) (before after : ℕ) → before + w0.failures ≡ w0.calls → after + w.failures ≡ w.calls
     → Wrote w0 w front → after_begun ≡ (begun || nat_lt before after) → 0 < length front → after_begun ≡ true
 begun_by begun after_begun before after b a wrote is some =
-    by_cases after_begun (λ no.
-    let few = no_less before after (either begun (nat_lt before after) (sym is ∙ no)) in
+    true_from_ne_false after_begun (λ no.
+    let few = no_less before after (or_parts begun (nat_lt before after) (sym is ∙ no)).1 in
     omega (arith, some, ap length (none_taken before after b a wrote few)))
 
 -- the pipe holds nothing, and is the same otherwise

@@ -1,14 +1,16 @@
 -- What an event adds to the grants of a window, and what is known of each of them.
-use Rattle.std.proofs.Common.{◌≡◌, ℕ, zero, suc, ◌+◌, ◌<◌, ◌≤◌, ◌==◌, ◌&&◌, Bool, true, false, cond, ℤ, List, [], ◌∷◌, ◌++◌, length, take, drop, All}
-use Rattle.std.proofs.Common.{Option, Some, None, IsTrue, ◌||◌, nat_lt, slice_get, replicate, refl, sym, ap, subst, ◌∙◌, arith}
+use Rattle.std.proofs.Common.{◌≡◌, ℕ, zero, suc, ◌+◌, ◌<◌, ◌≤◌, ◌==◌, Bool, true, false, cond, ℤ, List, [], ◌∷◌, ◌++◌, length, take, drop, All}
+use Rattle.std.proofs.Common.{Option, Some, None, IsTrue, replicate, refl, sym, ap, subst, ◌∙◌, arith}
 use Rattle.std.specs.List.{AllByRecursion, fold}
 use Rattle.std.specs.Option.{IfSome, IsSomeAnd, option_map_or}
 use Rattle.std.proofs.lemmas.List.{append_assoc, append-nil}
 use Rattle.std.proofs.lemmas.List.Elements.{All-head, All-tail}
 use Rattle.std.proofs.Math.Seq.{drop-append_seam}
-use Rattle.std.proofs.lemmas.Option.{slice_get_within, same_Some}
+use Rattle.std.proofs.lemmas.Option.{same_Some}
 use Rattle.std.proofs.lemmas.Bool.Decides.{Decides-eqb}
 use Rattle.std.proofs.lemmas.List.{take_at, length-append}
+use Rattle.list_facts.proofs.Both.{and_second}
+use Rattle.dispatch_log.proofs.Choices.{free_there}
 use Rattle.list_facts.proofs.Members.{all_append, all_both}
 use Rattle.list_facts.proofs.Never.{false_true}
 use Rattle.due_key.specs.declared.key.Key.{Key}
@@ -17,15 +19,14 @@ use Rattle.dispatch_log.specs.declared.entry.Entry.{Entry}
 use Rattle.dispatch_log.specs.declared.entry.Entry.TheVariants.{Arrive, Granted}
 use Rattle.dispatch_log.specs.declared.queue.Queue.{Queue}
 use Rattle.dispatch_log.specs.declared.queue.Queue.TheVariants.{Backend, Server}
-use Rattle.dispatch_log.specs.declared.setup.ServerSet.{ServerSet}
 use Rattle.dispatch_log.specs.declared.setup.Setup.{Setup}
 use Rattle.dispatch_log.specs.Histories.{History, first_window, next_window, rolled, state_of, begins_event}
 use Rattle.dispatch_log.specs.Judgement.{Stage, AllMayCome, MayCome, next_stage, granting}
 use Rattle.dispatch_log.specs.Legal.{AddsEvent, IsLegal}
 use Rattle.dispatch_log.specs.Logs.{Recorded}
 use Rattle.dispatch_log.specs.States.{State, opening_state, scene, after, key_of}
-use Rattle.dispatch_log.specs.Scenes.{may_take, is_free, is_up, limit_of}
-use Rattle.dispatch_log.specs.Rows.{Rows, IsRow, served}
+use Rattle.dispatch_log.specs.Scenes.{may_take, is_free, is_up}
+use Rattle.dispatch_log.specs.Rows.{Rows, IsRow}
 use Rattle.dispatch_log.specs.declared.row.Row.{Row}
 use Rattle.readable_log.specs.Ordered.{HaveArrived}
 use Rattle.readable_log.specs.Readable.{HasArrived}
@@ -138,18 +139,8 @@ queue_there : (setup : Setup) (s : State) (queue : Queue) (server : ℕ) → may
     → is_free (scene setup s) server ≡ true → IsQueueOf (length setup.servers) queue
 queue_there setup s Backend server takes free = tt
 queue_there setup s (Server own) server takes free =
-    subst (λ n. n < length setup.servers) (sym ((Decides-eqb own server).0 (second (is_up (scene setup s) server) (own == server) takes)))
-    (there (slice_get setup.servers server) refl free)
-  where
-    second : (a b : Bool) → (a && b) ≡ true → b ≡ true
-    second true b e = e
-    second false b e = cc
-
-    there : (o : Option ServerSet) → slice_get setup.servers server ≡ o
-        → option_map_or (λ it. (limit_of (scene setup s) server == 0) || nat_lt (served server s.rows) (limit_of (scene setup s) server)) o false ≡ true
-        → server < length setup.servers
-    there None is test = false_true test
-    there (Some it) is test = slice_get_within setup.servers server it is
+    subst (λ n. n < length setup.servers) (sym ((Decides-eqb own server).0 (and_second (is_up (scene setup s) server) (own == server) takes)))
+    (free_there (scene setup s) server free)
 
 pub granted_queues : (setup : Setup) (s : State) (used : ℕ) (stage : Stage) (base : List BaseRow) (past es : List Entry)
     → AllMayCome setup s used stage es → AllByRecursion (λ grant. IsQueueOf (length setup.servers) grant.queue) (grants_after base past es)
@@ -222,12 +213,6 @@ module _ (h new : History) (e : Entry) (running : Running) (queues : running.ser
           arrived = all_append (λ entry. IfSome (arrival_in entry) (λ arrival. P arrival.class)) h.log (e ∷ adds.brought) have.arrived came;
         }));
   }
-
--- the window that a dispatcher's log is
-pub same_window : (log : Recorded) (h : History) → log.base ≡ h.base → log.entries ≡ h.log → window_of log ≡ window_in h
-same_window log h base entries =
-    ap (λ (b : State). record { base = base_rows b.rows; entries = log.entries }) base
-    ∙ ap (λ es. record { base = base_rows h.base.rows; entries = es }) entries
 
 -- what a running worst asks before it is told of the grants of a log from a number on
 pub record IsReady (log : Recorded) (before : List SlotGrant) (running : Running) : Type 0 where

@@ -1,9 +1,9 @@
 -- The names of a parsed head are names for a map.
 use Rattle.std.proofs.Common.{◌≡◌, ℕ, ◌-◌, ◌≤◌, List, length, drop, map, get_or, sym, subst, arith}
 use Rattle.std.specs.List.{All}
-use Rattle.std.proofs.Math.ListN.{get_or-map}
-use Rattle.std.proofs.lemmas.List.{length-map, length-take}
+use Rattle.std.proofs.lemmas.List.{length-take}
 use Rattle.std.proofs.lemmas.List.Elements.{All-map}
+use Rattle.list_facts.proofs.Members.{All-from_map}
 use Rattle.http_header.specs.Token.{is_token_byte, IsToken}
 use Rattle.httparse.specs.declared.spans.HeaderSpan.{HeaderSpan}
 use Rattle.httparse.specs.Grammar.{Field, IsField, is_token_byte as is_grammar_byte, IsToken as IsGrammarToken}
@@ -15,9 +15,6 @@ use Rattle.req_view.specs.Spans.{AreNames}
 same_tokens : (bytes : List ℕ) → IsGrammarToken bytes → IsToken bytes
 unfolding is_token_byte is_grammar_byte
 same_tokens bytes token = token
-
-All-from_map : {X Y : Type 0} (P : Y → Type 0) (f : X → Y) (xs : List X) → All P (map f xs) → All (λ x. P (f x)) xs
-All-from_map P f xs all k d below = subst P (get_or-map f xs k d) (all k (f d) (omega (arith, length-map xs f)))
 
 name-length : (bytes : List ℕ) (place : HeaderSpan) (n : ℕ) → n ≤ 16384 → IsHeaderWithin n place → length (span_bytes bytes place.name) ≤ 65535
 name-length bytes place n small within =

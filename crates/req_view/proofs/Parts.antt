@@ -2,6 +2,7 @@
 use Rattle.std.proofs.Common.{◌≡◌, ℕ, ◌+◌, ◌-◌, ◌≤◌, ◌∙◌, List, ◌++◌, length, take, drop, sym, ap, subst, Ok, arith, append_assoc}
 use Rattle.std.proofs.Math.Seq.{take-append-add}
 use Rattle.std.proofs.lemmas.List.{take-append-le, take-append-drop}
+use Rattle.list_facts.proofs.Fronts.{take_then}
 use Rattle.httparse.specs.declared.Error.{Error}
 use Rattle.httparse.specs.declared.Status.{Status}
 use Rattle.httparse.specs.declared.Status.TheVariants.{Complete, Partial}
@@ -12,10 +13,6 @@ of_complete s x P is holds = subst (λ t. IfComplete {E = Error} (Ok t) P) is ho
 
 pub of_partial : {A : Type 0} (s : Status A) (P : Type 0) → s ≡ Partial → OnPartial {E = Error} (Ok s) P → P
 of_partial s P is holds = subst (λ t. OnPartial {E = Error} (Ok t) P) is holds
-
--- the first n bytes, and then all that follows
-pub take-drop-more : (bytes : List ℕ) (n : ℕ) (more : List ℕ) → bytes ++ more ≡ take n bytes ++ (drop n bytes ++ more)
-take-drop-more bytes n more = ap (λ front. front ++ more) (sym (take-append-drop n bytes)) ∙ append_assoc (take n bytes) (drop n bytes) more
 
 module _ {H : Type 0} (Is : H → Type 0) (print : H → List ℕ) where
   -- a tree of at most n bytes stands in the first n
@@ -43,4 +40,4 @@ module _ {H : Type 0} (Is : H → Type 0) (print : H → List ℕ) where
   -- what stands in the bytes stands in their first n, with the others behind them
   pub beyond : (bytes : List ℕ) (n : ℕ) (h : H) (rest more : List ℕ) → Is h × (bytes ++ more ≡ print h ++ rest)
       → Is h × (take n bytes ++ (drop n bytes ++ more) ≡ print h ++ rest)
-  beyond bytes n h rest more reads = (reads.0, sym (take-drop-more bytes n more) ∙ reads.1)
+  beyond bytes n h rest more reads = (reads.0, sym (take_then n bytes more) ∙ reads.1)

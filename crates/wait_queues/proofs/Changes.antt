@@ -204,7 +204,8 @@ nothing_popped lined left queue none goes =
     by_queue : (q : Queue) → line_at lined q ≡ [] → with_line lined q [] ≡ lined
     by_queue Backend e = ap (λ (w : Line). record { own = lined.own; backend = w; moved = lined.moved; room = lined.room }) (sym e)
     by_queue (Server s) e =
-        ap (λ (l : List Line). record { own = l; backend = lined.backend; moved = lined.moved; room = lined.room }) (ap (set lined.own s) (sym e) ∙ set-get_or lined.own s [])
+        ap (λ (l : List Line). record { own = l; backend = lined.backend; moved = lined.moved; room = lined.room })
+        (ap (set lined.own s) (sym e) ∙ set-get_or lined.own s [])
 
 -- nobody waits at first
 pub none_wait : (lined : Lined) (ws : Waiters) (order : Order) (servers places : ℕ)

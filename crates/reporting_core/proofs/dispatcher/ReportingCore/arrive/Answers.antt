@@ -1,7 +1,8 @@
 use Rattle.std.proofs.Common.{pos, ◌+ℤ◌}
 use Rattle.dispatch_log.specs.declared.entry.Entry.TheVariants.{Arrive}
 use Rattle.dispatch_log.specs.Histories.{effective}
-use Rattle.reporting_core.proofs.Telling.{IsTelling, IsReady, tells, ready, reported, reserved, same_window}
+use Rattle.readable_log.proofs.Windows.{same_window}
+use Rattle.reporting_core.proofs.Telling.{IsTelling, IsReady, tells, ready, reported, reserved}
 use Rattle.reporting_core.specs.Reporting.{IsReporting}
 use Rattle.reporting_core.proofs.dispatcher.ReportingCore.arrive.Given as given
 use Rattle.reporting_core.proofs.dispatcher.ReportingCore.arrive.Goals as goal

@@ -1,6 +1,7 @@
 use Rattle.dispatch_log.specs.declared.entry.Entry.TheVariants.{Done}
 use Rattle.dispatch_log.specs.Histories.{effective}
-use Rattle.reporting_core.proofs.Telling.{IsTelling, IsReady, tells, ready, reported, same_window}
+use Rattle.readable_log.proofs.Windows.{same_window}
+use Rattle.reporting_core.proofs.Telling.{IsTelling, IsReady, tells, ready, reported}
 use Rattle.reporting_core.proofs.dispatcher.ReportingCore.done.Given as given
 use Rattle.reporting_core.proofs.dispatcher.ReportingCore.done.Goals as goal
 

@@ -4,7 +4,7 @@ use Rattle.readable_log.specs.Readable.{IsReadable}
 use Rattle.readable_log.specs.Windows.{window_in}
 use Rattle.late_cert.specs.Running.{IsWorstIn}
 use Rattle.late_cert.proofs.Worst.{worst_of_window}
-use Rattle.reporting_core.proofs.Telling.{same_window}
+use Rattle.readable_log.proofs.Windows.{same_window}
 use Rattle.reporting_core.proofs.dispatcher.ReportingCore.worst.Goals as goal
 
 pub returns : goal.returns

@@ -3,6 +3,7 @@ use Rattle.std.proofs.Common.{◌≡◌, ◌∙◌, ◌≤◌, ◌||◌, ℕ, ze
 use Rattle.std.proofs.Common.{[], ◌∷◌, ◌++◌, length, Err, refl, ap, arith, append_assoc, length-append, codes}
 use Rattle.std.specs.List.{list_all}
 use Rattle.std.specs.Str.{bytes_eq}
+use Rattle.std.proofs.lemmas.Bool.{or_from}
 use Rattle.proxy_words.specs.Names.{is_name_byte}
 use Rattle.proxy_config.specs.declared.faults.FaultCause.{FaultCause}
 use Rattle.proxy_config.specs.declared.parts.Acl.{Acl}
@@ -12,7 +13,6 @@ use Rattle.proxy_config.specs.ConditionGrammar.{AreSeparated}
 use Rattle.proxy_config.specs.Faulty as fault
 use Rattle.proxy_config.specs.Faulty.{IsFront, LastMayBeEmpty, NoTerm, is_guard}
 use Rattle.proxy_config.proofs.ConditionWords.{rows_after, term_at-plain, name_parts, name_no_sign, is_no, signed_again, separated-split}
-use Rattle.proxy_config.proofs.TestWords.{neither}
 
 -- such a word separates nothing, and has its cause where a term is read
 no_term : (acls : List Acl) (word : List ℕ) (words : List (List ℕ)) (cause : FaultCause) → NoTerm acls word cause
@@ -21,7 +21,7 @@ unfolding operand_at
 no_term acls word words cause (fault.undeclared name none) =
     let parts = name_parts word name in
     let no_brace : bytes_eq word (codes "{") ≡ false = is_no (list_all is_name_byte) word (codes "{") parts.0 refl in (
-      neither parts.1 (is_no (list_all is_name_byte) word (codes "||") parts.0 refl),
+      or_from _ _ parts.1 (is_no (list_all is_name_byte) word (codes "||") parts.0 refl),
       term_at-plain acls word words (name_no_sign word name) ∙ rw (no_brace, name, none) refl,
     )
 no_term acls word words cause (fault.no_name name plain no_brace no_or) = (no_or, term_at-plain acls word words plain ∙ rw (no_brace, name) refl)

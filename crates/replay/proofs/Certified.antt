@@ -3,16 +3,11 @@ use Rattle.std.proofs.Common.{◌≡◌, List, subst}
 use Rattle.dispatch_log.specs.Dispatch.{IsDispatched}
 use Rattle.dispatch_log.specs.Histories.{History}
 use Rattle.dispatch_log.specs.Legal.{IsLegal}
-use Rattle.dispatch_log.specs.Logs.{Recorded}
 use Rattle.late_cert.specs.Reports.{AreReports}
 use Rattle.late_cert.specs.declared.report.Report.{Report}
 use Rattle.late_cert.proofs.Legal.{legal_reports_sound, legal_reports_least}
-use Rattle.readable_log.specs.Windows.{Window, window_in, window_of}
+use Rattle.readable_log.specs.Windows.{Window, window_in}
 use Rattle.script.specs.Certificates.{IsCertified}
-
--- a log with a history's base and entries records its window
-pub same_window : (history : History) (log : Recorded) → log.base ≡ history.base → log.entries ≡ history.log → window_of log ≡ window_in history
-same_window history log based logged = cc
 
 pub certified : (history : History) (window : Window) (reports : List Report) → window ≡ window_in history → IsLegal history → IsDispatched history
     → AreReports window reports → IsCertified history reports

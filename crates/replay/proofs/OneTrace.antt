@@ -1,25 +1,23 @@
 -- A script has one trace.
 use Rattle.std.proofs.Common.{◌≡◌, ◌⊎◌, inl, inr, ℕ, ◌+◌, pos, ◌+ℤ◌, max, List, [], ◌∷◌}
-use Rattle.std.proofs.Common.{◌++◌, map, length, Option, None, Some, flat_map, refl, ap, sym, ◌∙◌, subst}
+use Rattle.std.proofs.Common.{◌++◌, map, length, None, refl, ap, sym, ◌∙◌, subst}
 use Rattle.std.specs.Str.Lines.{lines}
-use Rattle.std.proofs.lemmas.List.{map-append}
+use Rattle.std.proofs.lemmas.List.{append_cancel_left, map-append}
 use Rattle.std.proofs.lemmas.Option.{same_Some}
 use Rattle.list_facts.proofs.Never.{none_some}
 use Rattle.dispatch_log.specs.declared.entry.Arrival.{Arrival}
 use Rattle.dispatch_log.specs.declared.entry.Entry.{Entry}
 use Rattle.dispatch_log.specs.declared.entry.Entry.TheVariants as entries
-use Rattle.dispatch_log.specs.declared.refusal.Refusal.{Refusal}
-use Rattle.dispatch_log.specs.Determined.{unplaced, AreSameButForPlaces, IsSameButForPlaces, AreSameHistories, AreRefusedAlike}
+use Rattle.dispatch_log.specs.Determined.{unplaced, AreSameButForPlaces, AreSameHistories, AreRefusedAlike}
 use Rattle.dispatch_log.specs.Histories.{History, state_of, next_window, effective, refuses_arrival}
 use Rattle.dispatch_log.specs.Histories.{refuses_done, refuses_failure, refuses_abort, refuses_check, refuses_limit}
 use Rattle.dispatch_log.specs.Judgement.{MayCome, granting}
-use Rattle.dispatch_log.specs.Legal.{IsBase, IsLegal, AddsEvent}
+use Rattle.dispatch_log.specs.Legal.{IsBase, IsLegal}
 use Rattle.dispatch_log.specs.States.{State}
 use Rattle.dispatch_log.proofs.Runs.{adds_legally}
 use Rattle.dispatch_log.proofs.SameCalls.{refused_alike, added_alike, rolled_alike}
 use Rattle.dispatch_log.proofs.SameRows.{same_state-itself}
 use Rattle.dispatch_log.proofs.Windows.{opening_base, empty_legal}
-use Rattle.late_cert.specs.declared.report.Report.{Report}
 use Rattle.late_cert.proofs.OneReport.{reports_same}
 use Rattle.script.specs.declared.step.Step.{Step}
 use Rattle.script.specs.declared.step.Step.TheVariants.{Arrive, Done, Fail, Abort, Tick, Check, Limit, Roll}
@@ -29,7 +27,7 @@ use Rattle.script.specs.ScriptTexts.{Answers, IsAccepted, IsEventOf, IsRefused, 
 use Rattle.script.specs.Steps.{steps_of}
 use Rattle.script.specs.Traces.{entry_text, entries_text, refusal_text}
 use Rattle.replay.specs.Defaults.{opening, names_of, setup_of}
-use Rattle.replay.specs.TraceTexts.{IsTraceFrom, IsTraceOf}
+use Rattle.replay.specs.TraceTexts.{IsTraceOf}
 
 -- no line of a trace shows a place
 unplaced_text : (names : List (List ℕ)) (e : Entry) → entry_text names (unplaced e) ≡ entry_text names e
@@ -114,13 +112,6 @@ module _ (names : List (List ℕ)) (h other : History) (same : AreSameHistories 
   same_event (Limit moment name limit) (entries.Limit at v k) f asked wanted may might = absurd wanted
   same_event step e f asked wanted may might = absurd asked
 
--- what stands behind the same is the same
-append_same : {X : Type 0} (xs ys zs : List X) → xs ++ ys ≡ xs ++ zs → ys ≡ zs
-append_same [] ys zs same = same
-append_same (x ∷ xs) ys zs same =
-    let both : x ∷ (xs ++ ys) ≡ x ∷ (xs ++ zs) = same in
-    append_same xs ys zs (cc)
-
 -- what a step leaves of histories that are the same but for places
 record AreLeftAlike (new theirs : History) (front back : List ℕ) : Type 0 where
   pub text : front ≡ back
@@ -139,7 +130,7 @@ module _ (names : List (List ℕ)) (h other new theirs : History) (same : AreSam
       sym (map-append unplaced h.log (a.event ∷ a.adds.brought)) ∙ ap (map unplaced) (sym a.adds.log) ∙ left.log ∙ ap (map unplaced) b.adds.log
       ∙ map-append unplaced other.log (b.event ∷ b.adds.brought) ∙ ap (λ l. l ++ map unplaced (b.event ∷ b.adds.brought)) (sym same.log)
       in
-      let brought : AreSameButForPlaces (a.event ∷ a.adds.brought) (b.event ∷ b.adds.brought) = append_same (map unplaced h.log) _ _ grown in
+      let brought : AreSameButForPlaces (a.event ∷ a.adds.brought) (b.event ∷ b.adds.brought) = append_cancel_left (map unplaced h.log) _ _ grown in
       record {
         text = a.written ∙ sym (same_texts names (a.event ∷ a.adds.brought) (b.event ∷ b.adds.brought) brought) ∙ sym b.written;
         same = left;

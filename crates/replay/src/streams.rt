@@ -8,7 +8,7 @@ ghost use Rattle.replay.specs.TraceTexts.{IsTraceOf};
 use crate::events::{Replayed, replay_events};
 use crate::fault::Fault;
 use crate::reports::report;
-use crate::transfers::{MOST_READS, read_whole, write_whole};
+use crate::transfers::{read_whole, write_whole};
 use binom_queue::BinomQueue;
 use counted_io::{Counted, Sink, Source};
 use due_key::Key;
@@ -56,7 +56,7 @@ pub fn replay_between<S: Source, K: Sink>(
     ensures nothing { result ≢ Err Fault.Write → OnErr result (Keeps (K.stream sink.old).bytes (K.stream sink.new).bytes) }
     ensures read_failed { (S.stream source.new).failures ≡ (S.stream source.old).failures + read_failures result }
     ensures write_failed { (K.stream sink.new).failures ≡ (K.stream sink.old).failures + write_failures result }
-    ensures few_reads { (S.stream source.new).calls ≤ MOST_READS }
+    ensures few_reads { (S.stream source.new).calls ≤ 4194305 }
     ensures few_writes { IfSome (S.stream source.old).bytes (λ script. AreFewWrites script (K.stream sink.new).calls) }
     ensures same_source { (S.stream source.new).name ≡ (S.stream source.old).name }
     ensures same_sink { (K.stream sink.new).name ≡ (K.stream sink.old).name }

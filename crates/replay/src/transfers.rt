@@ -22,7 +22,7 @@ pub(crate) fn read_whole<S: Source>(alloc: Global, source: &mut S) -> Result<Vec
         → (line ≡ 0) × IfSome (S.stream source.old).bytes (λ script. MOST_BYTES < length script)) }
     ensures of_reading { IfErr result (λ fault. fault ≢ Fault.Write) }
     ensures failed { (S.stream source.new).failures ≡ (S.stream source.old).failures + read_failures result }
-    ensures few { (S.stream source.new).calls ≤ MOST_READS }
+    ensures few { (S.stream source.new).calls ≤ 4194305 }
     ensures same { (S.stream source.new).name ≡ (S.stream source.old).name }
 {
     let mut all = Vec::new(alloc);

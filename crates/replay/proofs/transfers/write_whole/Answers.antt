@@ -1,4 +1,4 @@
-use Rattle.std.proofs.Common.{◌+◌, ◌-◌, ◌≤◌, length, drop, refl, ◌∙◌, arith, length-take}
+use Rattle.std.proofs.Common.{◌-◌, ◌≤◌, length, drop, refl, ◌∙◌, arith, length-take}
 use Rattle.std.proofs.KnownBytes.{Appends-kept}
 use Rattle.replay.proofs.Fronts.{written_more, front_written}
 use Rattle.replay.proofs.transfers.write_whole.Goals as goal

@@ -3,7 +3,7 @@ use Rattle.std.proofs.Common.{◌≡◌, ◌+◌, ◌≤◌, pos, ◌+ℤ◌, �
 use Rattle.std.proofs.lemmas.Int.{ints}
 use Rattle.dispatch_log.specs.Legal.{IsLegal}
 use Rattle.dispatch_log.specs.WorkedWindows.{worked_by_pairs, grant_at_the_lowered_limit, raised_limit_grants_nothing, limit_of_no_server}
-use Rattle.dispatch_log.specs.WorkedWindows.{class_of_the_base_is_out_of_range, due_date_of_the_base_is_to_come, wait_of_the_base_is_to_come}
+use Rattle.dispatch_log.specs.WorkedWindows.{class_of_the_base_is_out_of_range, due_date_of_the_base_is_too_late, wait_of_the_base_is_to_come}
 use Rattle.dispatch_log.specs.WorkedWindows.{waits_of_the_base_are_forgotten, cursor_is_reset, tickets_begin_anew}
 
 pub not_at_the_lowered_limit : IsLegal (worked_by_pairs grant_at_the_lowered_limit) → ⊥
@@ -18,8 +18,8 @@ not_of_no_server legal = let accepted = legal.lawful.judged.1.1.1.1.1.1.0.accept
 pub not_of_no_class_before : IsLegal class_of_the_base_is_out_of_range → ⊥
 not_of_no_class_before legal = let above : pos 2048 ≤ℤ pos 2047 = (legal.begins.timed_rows _ (2, refl)).class.upper in absurd (omega (arith, ints))
 
-pub not_due_to_come : IsLegal due_date_of_the_base_is_to_come → ⊥
-not_due_to_come legal =
+pub not_due_too_late : IsLegal due_date_of_the_base_is_too_late → ⊥
+not_due_too_late legal =
     let due = (legal.begins.timed_rows _ (2, refl)).due in
     let low : due.0 ≤ 2 = due.1 in
     let most : due.2.0 ≤ℤ pos 524287 = due.2.1.upper in

@@ -19,7 +19,7 @@ IsAtOneOf servers (Waiting Backend since) = Unit {0}
 IsAtOneOf servers Loose = Unit {0}
 IsAtOneOf servers (Told cause) = Unit {0}
 
--- a due date that a request may have by a moment: it is from some moment up to then
+-- a due date that a request may have by a moment: some offset makes it of an arrival up to then
 abbrev pub IsDueBy : ℕ → ℤ → Type 0
 IsDueBy moment due = (arrival : ℕ) × (arrival ≤ moment) × IsDueFrom arrival due
 
@@ -30,7 +30,8 @@ IsSinceBy moment Loose = Unit {0}
 IsSinceBy moment (Serving server) = Unit {0}
 IsSinceBy moment (Told cause) = Unit {0}
 
--- a request as it may stand by a moment: its class is in its range, and it was due and began to wait from moments up to then
+-- a request as it may stand by a moment: its class is in range, its due date comes of an arrival up to then, and where it waits it
+-- began to no later
 pub record IsRowBy (moment : ℕ) (row : Row) : Type 0 where
   pub class : IsBetween LOWEST_CLASS HIGHEST_CLASS row.key.class
   pub due : IsDueBy moment row.key.due

@@ -67,8 +67,8 @@ abbrev pub class_of_the_base_is_out_of_range : History
 class_of_the_base_is_out_of_range = begins_with_another (λ row. record row { key = record row.key { class = pos 2048 } })
 
 -- 3 is due later than any offset makes it by now
-abbrev pub due_date_of_the_base_is_to_come : History
-due_date_of_the_base_is_to_come = begins_with_another (λ row. record row { key = record row.key { due = pos 524290 } })
+abbrev pub due_date_of_the_base_is_too_late : History
+due_date_of_the_base_is_too_late = begins_with_another (λ row. record row { key = record row.key { due = pos 524290 } })
 
 -- 3 waits since a moment that is to come
 abbrev pub wait_of_the_base_is_to_come : History

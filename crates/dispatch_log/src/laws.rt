@@ -12,7 +12,7 @@ ghost use Rattle.dispatch_log.specs.declared.setup.Setup.{Setup};
 ghost use Rattle.dispatch_log.specs.Runs.{Call, IsRun};
 ghost use Rattle.dispatch_log.specs.Worked.{worked, worked_by_two, worked_by_weights, worked_by_queues, worked_by_room, first_come_first_served, idle_slot, grant_above_the_limit, due_date_of_no_offset, class_out_of_range, moment_out_of_range, end_is_missing, ticket_left_out, backend_head_first, more_loaded_server, tie_against_the_cursor, loads_without_weights, loads_without_queues, waits_beside_room};
 ghost use Rattle.dispatch_log.specs.WorkedRight.{redispatch_to_the_other_server, told_by_rising_ticket, fall_moves_its_queue};
-ghost use Rattle.dispatch_log.specs.WorkedWindows.{worked_by_pairs, raised_limit_grants, lowered_limit_is_reached, waits_of_the_base_are_served, grant_at_the_lowered_limit, raised_limit_grants_nothing, limit_of_no_server, class_of_the_base_is_out_of_range, due_date_of_the_base_is_to_come, wait_of_the_base_is_to_come, waits_of_the_base_are_forgotten, cursor_is_reset, tickets_begin_anew};
+ghost use Rattle.dispatch_log.specs.WorkedWindows.{worked_by_pairs, raised_limit_grants, lowered_limit_is_reached, waits_of_the_base_are_served, grant_at_the_lowered_limit, raised_limit_grants_nothing, limit_of_no_server, class_of_the_base_is_out_of_range, due_date_of_the_base_is_too_late, wait_of_the_base_is_to_come, waits_of_the_base_are_forgotten, cursor_is_reset, tickets_begin_anew};
 ghost use Rattle.dispatch_log.specs.WorkedChanges.{worked_with_checks, worked_in_time, worked_with_a_retry, retry_past_the_retries, failure_counted_twice, redispatch_keeps_the_pin, redispatch_to_the_failed_server, redispatch_before_the_grant, no_server_beside_a_usable_one, told_one_millisecond_early, told_by_falling_ticket, expired_and_not_told, abort_of_a_served_request, failure_of_a_waiting_request, fall_leaves_its_queue, moves_by_ticket, grant_before_the_moves, rise_grants_nothing, rise_is_not_told, down_after_its_rise, down_though_it_answers, fall_grants_nothing, moved_without_a_fall, redispatched_by_a_new_due_date, served_by_a_fallen_server};
 
 /// The law of legal logs: whatever was asked of a dispatcher, in whatever order, as long as its
@@ -120,7 +120,7 @@ pub fn wrong_logs_are_not_legal()
     ensures raised_limit_grants_nothing { IsLegal (worked_by_pairs raised_limit_grants_nothing) → ⊥ }
     ensures limit_of_no_server { IsLegal (worked_by_pairs limit_of_no_server) → ⊥ }
     ensures class_of_the_base_is_out_of_range { IsLegal class_of_the_base_is_out_of_range → ⊥ }
-    ensures due_date_of_the_base_is_to_come { IsLegal due_date_of_the_base_is_to_come → ⊥ }
+    ensures due_date_of_the_base_is_too_late { IsLegal due_date_of_the_base_is_too_late → ⊥ }
     ensures wait_of_the_base_is_to_come { IsLegal wait_of_the_base_is_to_come → ⊥ }
     ensures waits_of_the_base_are_forgotten { IsLegal waits_of_the_base_are_forgotten → ⊥ }
     ensures cursor_is_reset { IsLegal cursor_is_reset → ⊥ }

@@ -1,4 +1,4 @@
-use Rattle.dispatch_log.proofs.WrongWindows.{not_of_no_class_before, not_due_to_come, not_waiting_to_come}
+use Rattle.dispatch_log.proofs.WrongWindows.{not_of_no_class_before, not_due_too_late, not_waiting_to_come}
 use Rattle.dispatch_log.proofs.WrongWindows.{not_at_the_lowered_limit, not_idle_after_a_raise, not_of_no_server, not_forgotten, not_reset, not_anew}
 use Rattle.dispatch_log.proofs.WrongLogs.{not_first_come, not_idle, not_above_limit, not_without_offset, not_of_no_class}
 use Rattle.dispatch_log.proofs.WrongLogs.{not_at_no_moment, not_without_end, not_left_out}
@@ -109,8 +109,8 @@ returns-clause-moment_out_of_range c = not_at_no_moment
 pub returns-clause-class_of_the_base_is_out_of_range : goal.returns-clause-class_of_the_base_is_out_of_range
 returns-clause-class_of_the_base_is_out_of_range c = not_of_no_class_before
 
-pub returns-clause-due_date_of_the_base_is_to_come : goal.returns-clause-due_date_of_the_base_is_to_come
-returns-clause-due_date_of_the_base_is_to_come c = not_due_to_come
+pub returns-clause-due_date_of_the_base_is_too_late : goal.returns-clause-due_date_of_the_base_is_too_late
+returns-clause-due_date_of_the_base_is_too_late c = not_due_too_late
 
 pub returns-clause-wait_of_the_base_is_to_come : goal.returns-clause-wait_of_the_base_is_to_come
 returns-clause-wait_of_the_base_is_to_come c = not_waiting_to_come

@@ -2,9 +2,8 @@
 
 ghost use Rattle.std.specs.Prelude.{◌≡◌, ◌≤◌, ◌+◌, true, [], IfOk};
 
-use crate::hall::Hall;
 use crate::rooms::rooms_of;
-use crate::threads::run_all;
+use event_loops::{Hall, run_all};
 use grant_board::{BoardName, RelaySeat};
 use relay_workers::{Proxy, Stopped, join_all, split_off};
 use socket_gate::Front;

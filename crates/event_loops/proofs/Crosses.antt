@@ -1,0 +1,57 @@
+-- A hall may be lent to other threads.
+use denote.RattleType.{RattleType}
+use denote.Ref.{NamedLft}
+use denote.Param.Send.{IsSync, sendable}
+use denote.Param.SendFields.{declared_sync}
+use Rattle.std.proofs.Crossing.{crosses}
+use Rattle.std.proofs.sync.Mutex.TheSendSync as mutex
+use Rattle.grant_board.specs.declared.board.BoardName as board_name
+use Rattle.pass_seat.proofs.idle.Idle.TheSendSync as idle
+use Rattle.event_loops.proofs.jobs.Counter.TheSendSync as counter
+use Rattle.event_loops.proofs.mail.Mailbox.TheSendSync as mailbox
+use Rattle.event_loops.proofs.parts.Waiting.TheSendSync as waiting
+use Rattle.event_loops.specs.contracts.hall.Hall as hall
+use Rattle.relay_workers.proofs.Crosses.{proxy_sync}
+use Rattle.socket_gate.proofs.front.Front.TheSendSync as front
+
+pub hall_sync : (a : NamedLft) (N : RattleType) (g : board_name.Ghosts N.Denot) → IsSync (hall.the_row a N g)
+hall_sync a N g = declared_sync (hall.the_type a N g) (
+  search (proxy_sync N g, crosses, sendable) depth 60 fits 20000,
+  (
+    search (front.the_sync, mutex.the_sync, crosses, sendable) depth 60 fits 20000,
+    (
+      search (waiting.the_send, mutex.the_sync, crosses, sendable) depth 60 fits 20000,
+      (
+        search (idle.the_send, mutex.the_sync, crosses, sendable) depth 60 fits 20000,
+        (
+          search (counter.the_sync, mutex.the_sync, crosses, sendable) depth 60 fits 20000,
+          (
+            search (mailbox.the_sync, crosses, sendable) depth 60 fits 20000,
+            (
+              search (crosses, sendable) depth 60 fits 20000,
+              (
+                search (crosses, sendable),
+                (
+                  search (crosses, sendable),
+                  (
+                    search (crosses, sendable),
+                    (
+                      search (crosses, sendable),
+                      (
+                        search (crosses, sendable),
+                        (
+                          search (crosses, sendable),
+                          tt,
+                        ),
+                      ),
+                    ),
+                  ),
+                ),
+              ),
+            ),
+          ),
+        ),
+      ),
+    ),
+  ),
+)

@@ -1,0 +1,312 @@
+ghost use Rattle.std.specs.Prelude.{◌≡◌, ◌<◌, ◌≤◌, vec_len, IfSome};
+ghost use Rattle.std.specs.Bool.{OnTrue};
+
+use crate::jobs::Counter;
+use crate::mail::Mailbox;
+use crate::parts::{Granted, Request, Waiting};
+use dispatch_trace::Ticketed;
+use grant_board::BoardName;
+use pass_seat::{Asked, Held, Idle};
+use place_set::PlaceSet;
+use relay_workers::{Admitted, Proxy, Stopped};
+use socket_gate::{Front, has_left};
+use std::net::{SocketAddr, TcpStream};
+use std::os::fd::AsRawFd;
+use std::sync::atomic::{AtomicBool, AtomicU64, Ordering};
+use std::sync::{Mutex, Wait};
+
+/// What a hall is made of.
+#[derive(Drop)]
+pub struct Rooms {
+    /// One for each place.
+    pub spots: Vec<Mutex<Option<Waiting>>>,
+    /// One for each loop.
+    pub mail: Vec<Mailbox>,
+    /// Those of the servers, as they are found now.
+    pub addresses: Vec<Option<SocketAddr>>,
+    /// So many clients are had at a time.
+    pub most: u64,
+}
+
+/// What all threads share.
+pub struct Hall<'a, N: BoardName> {
+    pub(crate) proxy: &'a Proxy<N>,
+    pub(crate) front: &'a Front<'a>,
+    /// Where the request of each place lies until its pass is there.
+    pub(crate) spots: Vec<Mutex<Option<Waiting>>>,
+    /// The seats without a pass.
+    pub(crate) idle: Mutex<Vec<Idle<N>>>,
+    pub(crate) counter: Counter<N>,
+    pub(crate) mail: Vec<Mailbox>,
+    /// The first address of each server, as it was found when all began. None: its name had none.
+    pub(crate) addresses: Vec<Option<SocketAddr>>,
+    /// So many clients are had at a time: each may want a descriptor, and some want one for a server.
+    pub(crate) most: u64,
+    /// So many clients came, and so many are through.
+    pub(crate) came: AtomicU64,
+    pub(crate) ended: AtomicU64,
+    /// Requests wait that may time out, so that the first loop looks at the queues.
+    pub(crate) waits: AtomicBool,
+    pub(crate) over: AtomicBool,
+    /// It is over because memory was short, or a thread.
+    pub(crate) failed: AtomicBool,
+    ghost sized: { vec_len spots ≤ N.terms.places },
+}
+
+impl<'a, N: BoardName> Hall<'a, N> {
+    /// What the threads of a proxy share, with these seats.
+    pub fn new(
+        proxy: &'a Proxy<N>,
+        front: &'a Front<'a>,
+        seats: Vec<Idle<N>>,
+        rooms: Rooms,
+    ) -> Hall<'a, N>
+        requires { vec_len rooms.spots ≤ N.terms.places }
+    {
+        let Rooms {
+            spots,
+            mail,
+            addresses,
+            most,
+        } = rooms;
+        Hall {
+            proxy,
+            front,
+            spots,
+            idle: Mutex::new(seats),
+            counter: Counter::new(proxy.alloc),
+            mail,
+            addresses,
+            most,
+            came: AtomicU64::new(0),
+            ended: AtomicU64::new(0),
+            waits: AtomicBool::new(false),
+            over: AtomicBool::new(false),
+            failed: AtomicBool::new(false),
+        }
+    }
+
+    /// What was still to be done is over, and the seats come back.
+    pub fn end(self) -> (Vec<Idle<N>>, Result<(), Stopped>) {
+        let Hall {
+            proxy,
+            front: _,
+            spots: _,
+            idle,
+            counter,
+            mail: _,
+            addresses: _,
+            most: _,
+            came: _,
+            ended: _,
+            waits: _,
+            over: _,
+            failed,
+        } = self;
+        let mut seats = idle.into_inner();
+        counter.end(proxy, &mut seats);
+        if failed.load(Ordering::SeqCst) {
+            (seats, Err(Stopped::NoMemory))
+        } else {
+            (seats, Ok(()))
+        }
+    }
+}
+
+impl<N: BoardName> Hall<'_, N> {
+    /// Whether a place is one of the board's.
+    pub(crate) fn has(&self, place: usize) -> bool
+        ensures { OnTrue result (place < N.terms.places) }
+    {
+        place < self.spots.len()
+    }
+
+    /// A request lies down in the spot of its place. Whoever calls it looks there afterwards.
+    pub(crate) fn lie_down<R: Wait>(&self, rt: &R, waiting: Waiting) {
+        if let Some(spot) = self.spots.as_slice().get(waiting.at.place) {
+            *spot.lock(rt) = Some(waiting);
+        }
+    }
+
+    /// Looks at a place: the request that lies there, where its pass is there too. Else it stays.
+    pub(crate) fn look<R: Wait>(&self, rt: &R, place: usize) -> Option<Granted<N>> {
+        let spot = self.spots.as_slice().get(place)?;
+        let mut spot = spot.lock(rt);
+        let waiting = spot.take()?;
+        match self.ask(rt, waiting.at) {
+            Some(held) => Some(Granted { held, waiting }),
+            None => {
+                *spot = Some(waiting);
+                None
+            }
+        }
+    }
+
+    // The pass of a place and a ticket, where it is offered.
+    fn ask<R: Wait>(&self, rt: &R, at: Ticketed) -> Option<Held<N>>
+        ensures { IfSome result (λ held. (held.pass.place ≡ at.place) × (held.pass.ticket ≡ at.ticket)) }
+    {
+        if !self.has(at.place) {
+            return None;
+        }
+        let popped = self.idle.lock(rt).pop();
+        let idle = popped?;
+        match idle.take(self.proxy.desk.board(), at.place, at.ticket) {
+            Asked::Held(held) => Some(held),
+            Asked::NotYet(idle) => {
+                self.sit_down(rt, idle);
+                None
+            }
+        }
+    }
+
+    /// A seat comes back. There is room for each.
+    pub(crate) fn sit_down<R: Wait>(&self, rt: &R, idle: Idle<N>) {
+        let _ = self.idle.lock(rt).push(idle);
+    }
+
+    /// Whether a ticket's request still lies at a place, its client gone.
+    pub(crate) fn lies_left<R: Wait>(&self, rt: &R, place: usize, ticket: u64) -> bool {
+        let Some(spot) = self.spots.as_slice().get(place) else {
+            return false;
+        };
+        let spot = spot.lock(rt);
+        match &*spot {
+            Some(waiting) if waiting.at.ticket == ticket => has_left(
+                waiting.request.client.as_raw_fd(),
+                self.front.config.abortonclose,
+            ),
+            _ => false,
+        }
+    }
+
+    /// A request waits. Where requests time out and none waited before, the first loop is told.
+    pub(crate) fn note_wait(&self) {
+        if self.front.config.queue_timeout.is_some() && !self.waits.swap(true, Ordering::SeqCst) {
+            if let Some(mail) = self.mail.as_slice().first() {
+                mail.ring();
+            }
+        }
+    }
+
+    /// Notes that none waits, unless one is found that does. One that comes meanwhile is noted by whoever brings it.
+    pub(crate) fn look_for_waits<R: Wait>(&self, rt: &R) {
+        self.waits.store(false, Ordering::SeqCst);
+        for spot in self.spots.as_slice() {
+            if spot.lock(rt).is_some() {
+                self.waits.store(true, Ordering::SeqCst);
+                return;
+            }
+        }
+    }
+
+    /// Whether requests wait that may time out.
+    pub(crate) fn has_waits(&self) -> bool {
+        self.waits.load(Ordering::SeqCst)
+    }
+
+    /// Whether some server is checked.
+    pub(crate) fn has_checks(&self) -> bool {
+        let servers = self.front.config.servers.as_slice();
+        servers.iter().any(|server| server.check.is_some())
+    }
+
+    /// A server's address, where it is known.
+    pub(crate) fn address_of(&self, server: usize) -> Option<SocketAddr> {
+        *self.addresses.as_slice().get(server)?
+    }
+
+    /// Whether there are descriptors for one client more.
+    pub(crate) fn has_room(&self) -> bool {
+        let ended = self.ended.load(Ordering::SeqCst);
+        let came = self.came.load(Ordering::SeqCst);
+        came.saturating_sub(ended) < self.most
+    }
+
+    /// A client came.
+    pub(crate) fn note_client(&self) {
+        self.came.fetch_add(1, Ordering::SeqCst);
+    }
+
+    /// A client is through. Where it was the last one that may come, all threads are told.
+    pub(crate) fn note_end<R: Wait>(&self, rt: &R) {
+        let before = self.ended.fetch_add(1, Ordering::SeqCst);
+        let most = self.front.clients.most();
+        if most != 0 && most <= before.saturating_add(1) {
+            self.close(rt);
+        }
+    }
+
+    /// All is over: each thread is told.
+    pub(crate) fn close<R: Wait>(&self, rt: &R) {
+        self.over.store(true, Ordering::SeqCst);
+        self.counter.close(rt);
+        for mail in self.mail.as_slice() {
+            mail.ring();
+        }
+    }
+
+    /// The same, because there is no memory or no thread to be had.
+    pub(crate) fn give_up<R: Wait>(&self, rt: &R) {
+        self.failed.store(true, Ordering::SeqCst);
+        self.close(rt);
+    }
+
+    /// Each place is looked at by some loop.
+    pub(crate) fn post_places<R: Wait>(&self, rt: &R, places: &PlaceSet) {
+        let mut from = 0;
+        for _ in 0..4096 {
+            let Some(place) = places.next(from) else {
+                return;
+            };
+            if let Some(mail) = self.mail.as_slice().get(place % self.mail.len().max(1)) {
+                mail.send(rt, place);
+            }
+            from = place.saturating_add(1);
+        }
+    }
+
+    /// A request whose server a runner found none lies down anew, and its place is looked at.
+    pub(crate) fn wait_anew<R: Wait>(
+        &self,
+        rt: &R,
+        admitted: Admitted<TcpStream>,
+        behind: Vec<u8>,
+        failed: Option<usize>,
+    )
+        requires { vec_len behind ≤ 65536 }
+    {
+        let Admitted { client, view, at } = admitted;
+        let _ = client.set_nonblocking(true);
+        let request = Request {
+            client,
+            view,
+            behind,
+        };
+        self.lie_down(
+            rt,
+            Waiting {
+                at,
+                request,
+                failed,
+            },
+        );
+        let mut here = PlaceSet::new();
+        if at.place < 4096 {
+            here.insert(at.place);
+        }
+        self.post_places(rt, &here);
+    }
+
+    /// Returns once all is over.
+    pub(crate) fn wait_for_end<R: Wait>(&self, rt: &R) {
+        let _jobs = self
+            .counter
+            .closed
+            .wait_while(rt, self.counter.jobs.lock(rt), |jobs| !jobs.over);
+    }
+
+    pub(crate) fn is_over(&self) -> bool {
+        self.over.load(Ordering::SeqCst)
+    }
+}

@@ -1,0 +1,43 @@
+//! A poll for each loop, and where it is told of places.
+
+use crate::mail::Mailbox;
+use crate::watching::{Subject, watch};
+use mio::{Interest, Poll, Token, Waker};
+use place_set::PlaceSet;
+use socket_gate::Front;
+use std::alloc::{AllocError, Global};
+use std::net::{Net, TcpListener, TcpStream};
+use std::os::fd::AsRawFd;
+use std::sync::Mutex;
+
+/// A poll for each loop, with the listener in it, and its mailbox. Fails where the system has no poll, too.
+pub fn polls_of<R: Net<Listener = TcpListener, Stream = TcpStream>>(
+    rt: &R,
+    alloc: Global,
+    front: &Front<'_>,
+    loops: usize,
+) -> Result<(Vec<Poll>, Vec<Mailbox>), AllocError> {
+    let mut polls = Vec::with_capacity(alloc, loops)?;
+    let mut mail = Vec::with_capacity(alloc, loops)?;
+    let _ = front.listener.set_nonblocking(true);
+    for _ in 0..loops {
+        let Some((poll, mailbox)) = poll_of(rt, front) else {
+            return Err(AllocError);
+        };
+        mail.push(mailbox)?;
+        polls.push(poll)?;
+    }
+    Ok((polls, mail))
+}
+
+fn poll_of<R: Net>(rt: &R, front: &Front<'_>) -> Option<(Poll, Mailbox)> {
+    let poll = Poll::new(rt).ok()?;
+    let registry = poll.registry();
+    let waker = Waker::new(registry, Token(Subject::Mailbox.number()?)).ok()?;
+    let listener = front.listener.as_raw_fd();
+    if !watch(registry, listener, Subject::Listener, Interest::READABLE) {
+        return None;
+    }
+    let places = Mutex::new(PlaceSet::new());
+    Some((poll, Mailbox { places, waker }))
+}

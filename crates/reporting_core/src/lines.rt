@@ -1,4 +1,4 @@
-ghost use Rattle.std.specs.Prelude.{◌≡◌};
+ghost use Rattle.std.specs.Prelude.{◌≡◌, count_by};
 ghost use Rattle.reporting_core.specs.Lines.{is_direct, is_granted, line_of};
 
 use dispatch_core::Core;
@@ -24,15 +24,28 @@ pub(crate) fn line_of<Q: PendQueue<Key, usize>>(core: &Core<Q>, server: usize) -
     let entries = core.log().entries();
     ServerLine {
         up: core.up(server),
-        direct: entries
-            .iter()
-            .filter(|entry| is_direct(server, entry))
-            .count(),
-        granted: entries
-            .iter()
-            .filter(|entry| is_granted(server, entry))
-            .count(),
+        direct: direct_in(entries, server),
+        granted: granted_in(entries, server),
     }
+}
+
+// How many requests entries give a server when they came, and how many after they had waited.
+fn direct_in(entries: &[Entry], server: usize) -> usize
+    ensures { result ≡ count_by (is_direct server) entries.now }
+{
+    entries
+        .iter()
+        .filter(|entry| is_direct(server, entry))
+        .count()
+}
+
+fn granted_in(entries: &[Entry], server: usize) -> usize
+    ensures { result ≡ count_by (is_granted server) entries.now }
+{
+    entries
+        .iter()
+        .filter(|entry| is_granted(server, entry))
+        .count()
 }
 
 fn is_direct(server: usize, entry: &Entry) -> bool

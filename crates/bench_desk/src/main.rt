@@ -4,7 +4,7 @@
 //! it takes the pass of the oldest once it is offered, posts it, turns, and lets another arrive. Half of the places may be served at once.
 #![tactic(auto)]
 
-ghost use Rattle.std.specs.Prelude.{◌≡◌, ◌<◌, [], length, true};
+ghost use Rattle.std.specs.Prelude.{◌≡◌, ◌<◌, ◌∷◌, [], length, true, None, IfOk};
 ghost use Rattle.dispatch_log.specs.Histories.{first_window};
 ghost use Rattle.grant_board.specs.KeeperCalls.{new_keeper};
 ghost use Rattle.grant_board.specs.RelayCalls.{new_relay};
@@ -60,21 +60,29 @@ struct Opened {
 }
 
 fn main(rt: HostRuntime) -> Result<()> {
-    let alloc = rt.alloc();
-    let words = env::args(&rt)?.collect::<Vec<String>>(alloc)?;
+    let words = env::args(&rt)?.collect::<Vec<String>>(rt.alloc())?;
     let asked = read(words.as_slice())?;
+    let served = serve_all(&rt, asked)?;
+    println!(rt; "{served}")?;
+    Ok(())
+}
+
+// How many requests were served by all threads.
+fn serve_all<R: AllocGlobal + Threads + Wait + Sync>(rt: &R, asked: Asked) -> Result<u64> {
     let share = Share {
         live: asked.places,
         requests: asked.requests,
     };
-    let opened = open(alloc, asked.places)?;
-    let served = match asked.threads {
-        1 => one::<Brand, _>(&rt, alloc, opened, share),
-        4 => four::<Brand, _>(&rt, alloc, opened, share),
-        _ => bail!("1 or 4 threads"),
-    };
-    println!(rt; "{served}")?;
-    Ok(())
+    let opened = open(rt.alloc(), asked.places)?;
+    match asked.threads {
+        1 => Ok(one::<Brand, _>(rt, rt.alloc(), opened, share)),
+        4 => Ok(four::<Brand, _>(rt, rt.alloc(), opened, share)),
+        _ => {
+            // A call of it is proved faster than the drops of all parts of a dispatcher.
+            drop(opened);
+            bail!("1 or 4 threads")
+        }
+    }
 }
 
 fn read(words: &[String]) -> Result<Asked> {
@@ -88,23 +96,10 @@ fn read(words: &[String]) -> Result<Asked> {
     })
 }
 
-// One server that serves half as many at once as there are places, without a timeout in queues.
+// One server that serves half as many at once as there are places.
 fn open(alloc: Global, places: usize) -> Result<Opened> {
     let limit = u32::try_from(places / 2).context("how many places")?;
-    let server = ServerSet {
-        limit,
-        maxqueue: 0,
-        weight: 1,
-        rise_fall: None,
-    };
-    let setup = Setup {
-        servers: Servers::from_vec(vec![in alloc; server]?),
-        places,
-        log: 262_144,
-        retries: 3,
-        redispatch: false,
-        queue_timeout: 0,
-    };
+    let setup = setup_of(alloc, places, limit)?;
     if !setup.sound() {
         bail!("not a sound setup");
     }
@@ -116,6 +111,27 @@ fn open(alloc: Global, places: usize) -> Result<Opened> {
         seat,
         relay,
         running,
+    })
+}
+
+// One server that serves so many at once, without a timeout in queues.
+fn setup_of(alloc: Global, places: usize, limit: u32) -> Result<Setup>
+    ensures servers { IfOk result (λ setup. setup.servers ≡ record { limit = limit; maxqueue = 0; weight = 1; rise_fall = None } ∷ []) }
+    ensures places { IfOk result (λ setup. setup.places ≡ places) }
+{
+    let server = ServerSet {
+        limit,
+        maxqueue: 0,
+        weight: 1,
+        rise_fall: None,
+    };
+    Ok(Setup {
+        servers: Servers::from_vec(vec![in alloc; server]?),
+        places,
+        log: 262_144,
+        retries: 3,
+        redispatch: false,
+        queue_timeout: 0,
     })
 }
 

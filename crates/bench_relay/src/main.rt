@@ -4,11 +4,13 @@
 //! memory to memory.
 #![tactic(auto)]
 
-ghost use Rattle.relay_http.specs.States.{Serves};
+ghost use Rattle.std.specs.Prelude.{◌≡◌, OnOk};
+ghost use Rattle.relay_http.specs.States.{IsAt, Serves, forwarded_on};
 
 use anyhow::{Result, bail};
 use grant_board::{Board, Pass, Taking};
-use relay_http::Exchange;
+use relay_http::{Exchange, Stage};
+use req_view::View;
 use std::alloc::Global;
 use std::env;
 use std::io::{Read, Write};
@@ -22,27 +24,31 @@ const REQUEST: &[u8] = b"GET / HTTP/1.1\r\nHost: h\r\n\r\n";
 const ANSWER: &[u8] = b"HTTP/1.1 200 OK\r\nContent-Length: 2\r\n\r\nab";
 
 fn main(rt: HostRuntime) -> Result<()> {
-    let alloc = rt.alloc();
-    let words = env::args(&rt)?.collect::<Vec<String>>(alloc)?;
-    match words.as_slice() {
-        [_, what] => {
-            let mut message = if what.as_str() == "forward" {
-                REQUEST
-            } else {
-                ANSWER
-            };
-            let mut written = Vec::new(alloc);
-            hand_on(alloc, what.as_str(), &mut message, &mut written)?;
-            println!(rt; "{}", written.len())?;
-        }
-        [_, what, from, to] => {
-            let mut reader = TcpStream::connect(&rt, from.as_str())?;
-            let mut writer = TcpStream::connect(&rt, to.as_str())?;
-            hand_on(alloc, what.as_str(), &mut reader, &mut writer)?;
-        }
+    let words = env::args(&rt)?.collect::<Vec<String>>(rt.alloc())?;
+    hand_on_as(&rt, words.as_slice())
+}
+
+fn hand_on_as(rt: &HostRuntime, words: &[String]) -> Result<()> {
+    match words {
+        [_, what] => println!(rt; "{}", in_memory(rt.alloc(), what.as_str())?)?,
+        [_, what, from, to] => between(rt, what.as_str(), from.as_str(), to.as_str())?,
         _ => bail!("forward or answer, and two addresses"),
     }
     Ok(())
+}
+
+// How many bytes were written, from memory to memory.
+fn in_memory(alloc: Global, what: &str) -> Result<usize> {
+    let mut message = if what == "forward" { REQUEST } else { ANSWER };
+    let mut written = Vec::new(alloc);
+    hand_on(alloc, what, &mut message, &mut written)?;
+    Ok(written.len())
+}
+
+fn between(rt: &HostRuntime, what: &str, from: &str, to: &str) -> Result<()> {
+    let mut reader = TcpStream::connect(rt, from)?;
+    let mut writer = TcpStream::connect(rt, to)?;
+    hand_on(rt.alloc(), what, &mut reader, &mut writer)
 }
 
 // Hands a message on, on a pass that is posted then.
@@ -56,10 +62,7 @@ fn hand_on<R: Read, W: Write>(
     keeper.offer(&board, 0, 1, Verdict::Serve(0));
     match seat.try_take(&board, 0, 1) {
         Taking::Taken(pass) => {
-            let done = match pass.verdict() {
-                Verdict::Serve(_) => serve(alloc, &pass, what, reader, writer),
-                Verdict::Told(_) => Ok(()),
-            };
+            let done = serve(alloc, &pass, what, reader, writer);
             seat.post(&board, pass, Ending::Done);
             done
         }
@@ -73,19 +76,56 @@ fn serve<R: Read, W: Write>(
     what: &str,
     reader: &mut R,
     writer: &mut W,
-) -> Result<()>
-    requires { Serves pass.now.verdict }
-{
+) -> Result<()> {
+    let Verdict::Serve(_) = pass.verdict() else {
+        return Ok(());
+    };
     let mut exchange = Exchange::new(alloc, TURNS)?;
     if what == "forward" {
-        let view = exchange.read_request(alloc, reader)?;
-        exchange.forward(pass, &view, reader, writer)?;
+        forward(alloc, pass, &mut exchange, reader, writer)?;
         return Ok(());
     }
-    let mut request = REQUEST;
-    let mut server = Vec::new(alloc);
-    let view = exchange.read_request(alloc, &mut request)?;
-    exchange.forward(pass, &view, &mut request, &mut server)?;
+    answer(alloc, pass, &mut exchange, reader, writer)
+}
+
+fn answer<R: Read, W: Write>(
+    alloc: Global,
+    pass: &Pass,
+    exchange: &mut Exchange,
+    reader: &mut R,
+    writer: &mut W,
+) -> Result<()>
+    requires new { IsAt Stage.New exchange.old }
+    requires serves { Serves pass.now.verdict }
+{
+    let view = ask(alloc, pass, exchange)?;
     exchange.answer(alloc, pass, &view, reader, writer)?;
     Ok(())
+}
+
+// Hands a small request on, as far as memory.
+fn ask(alloc: Global, pass: &Pass, exchange: &mut Exchange) -> Result<View>
+    requires new { IsAt Stage.New exchange.old }
+    requires serves { Serves pass.now.verdict }
+    ensures { OnOk result (exchange.new.stage ≡ forwarded_on pass.now) }
+{
+    let mut request = REQUEST;
+    let mut server = Vec::new(alloc);
+    forward(alloc, pass, exchange, &mut request, &mut server)
+}
+
+fn forward<R: Read, W: Write>(
+    alloc: Global,
+    pass: &Pass,
+    exchange: &mut Exchange,
+    reader: &mut R,
+    writer: &mut W,
+) -> Result<View>
+    requires new { IsAt Stage.New exchange.old }
+    requires serves { Serves pass.now.verdict }
+    ensures { OnOk result (exchange.new.stage ≡ forwarded_on pass.now) }
+{
+    let view = exchange.read_request(alloc, reader)?;
+    exchange.forward(pass, &view, reader, writer)?;
+    Ok(view)
 }

@@ -59,53 +59,49 @@ For example, dueproxy explain 2 < examples/overtaking.script";
 
 /// The program's words: one of its subcommands has to be there.
 pub(crate) fn commands<'a>(alloc: Global) -> Result<Command<'a>, AllocError> {
-    let command = dueproxy(alloc).subcommand(replay(alloc));
-    let command = with(command, draw(alloc));
-    let command = with(command, tell(alloc));
-    let command = with(command, check(alloc));
+    let command = dueproxy(alloc).subcommand(replay(alloc))?;
+    let command = with(command, draw(alloc))?;
+    let command = with(command, tell(alloc))?;
+    let command = with(command, check(alloc))?;
     with(command, run(alloc, file(alloc)))
 }
 
 fn with<'a>(
-    command: Result<Command<'a>, AllocError>,
+    command: Command<'a>,
     below: Result<Command<'a>, AllocError>,
 ) -> Result<Command<'a>, AllocError> {
-    command?.subcommand(below?)
+    command.subcommand(below?)
+}
+
+/// A command of this name, what it is for, and what its help says besides.
+pub(crate) fn told<'a>(alloc: Global, name: &'a str, about: &'a str, help: &'a str) -> Command<'a> {
+    Command::new(alloc, name).about(about).after_help(help)
 }
 
 fn dueproxy<'a>(alloc: Global) -> Command<'a> {
-    Command::new(alloc, "dueproxy")
-        .about("Queues requests by class and due date")
-        .after_help(SCRIPT_HELP)
-        .subcommand_required(true)
+    let about = "Queues requests by class and due date";
+    told(alloc, "dueproxy", about, SCRIPT_HELP).subcommand_required(true)
 }
 
 fn replay<'a>(alloc: Global) -> Command<'a> {
-    Command::new(alloc, "replay")
-        .about("Runs a script of events from standard input, and prints what the dispatcher did")
-        .after_help(SCRIPT_HELP)
+    let about = "Runs a script of events from standard input, and prints what the dispatcher did";
+    told(alloc, "replay", about, SCRIPT_HELP)
 }
 
 fn draw<'a>(alloc: Global) -> Result<Command<'a>, AllocError> {
-    Command::new(alloc, "draw")
-        .about("Draws a script, or a trace that replay wrote, as a picture for a browser (SVG)")
-        .after_help(DRAW_HELP)
-        .arg(of(alloc))
+    let about = "Draws a script, or a trace that replay wrote, as a picture for a browser (SVG)";
+    told(alloc, "draw", about, DRAW_HELP).arg(of(alloc))
 }
 
 fn tell<'a>(alloc: Global) -> Result<Command<'a>, AllocError> {
-    Command::new(alloc, "explain")
-        .about("Tells the story of one request of a script, or of a trace that replay wrote")
-        .after_help(TELL_HELP)
-        .arg(ticket(alloc))
+    let about = "Tells the story of one request of a script, or of a trace that replay wrote";
+    told(alloc, "explain", about, TELL_HELP).arg(ticket(alloc))
 }
 
 fn check<'a>(alloc: Global) -> Result<Command<'a>, AllocError> {
-    Command::new(alloc, "check")
-        .about(
-            "Reads a configuration, and prints how many servers it has, or its first faulty line",
-        )
-        .after_help(CHECK_HELP)
+    let about =
+        "Reads a configuration, and prints how many servers it has, or its first faulty line";
+    told(alloc, "check", about, CHECK_HELP)
         .arg(explain(alloc))?
         .arg(file(alloc))
 }

@@ -1,5 +1,6 @@
 //! The words of `run`.
 
+use crate::commands::told;
 use clap::{Arg, ArgAction, ArgMatches, Command};
 use proxy_words::number;
 use std::alloc::{AllocError, Global};
@@ -43,24 +44,31 @@ const WORKERS: &str =
 
 const LOOPS: &str = "Event loops, 1 to 64 [default: as many as there are processors]";
 
+const PLACES: &str = "Requests that are served or wait, 1 to 4096";
+
+const REQUESTS: &str = "Ends after so many clients; 0: never";
+
 /// The words of `run`.
 pub(crate) fn run<'a>(alloc: Global, file: Arg<'a>) -> Result<Command<'a>, AllocError> {
-    Command::new(alloc, "run")
-        .about("Serves as a configuration says")
-        .after_help(HELP)
-        .arg(file)?
+    let command = told(alloc, "run", "Serves as a configuration says", HELP).arg(file)?;
+    let command = with_threads(alloc, command)?;
+    with_bounds(alloc, command)
+}
+
+fn with_threads<'a>(alloc: Global, command: Command<'a>) -> Result<Command<'a>, AllocError> {
+    command
         .arg(size(alloc, "workers").help(WORKERS))?
-        .arg(size(alloc, "loops").help(LOOPS))?
-        .arg(
-            size(alloc, "places")
-                .default_value("1024")
-                .help("Requests that are served or wait, 1 to 4096"),
-        )?
-        .arg(
-            size(alloc, "requests")
-                .default_value("0")
-                .help("Ends after so many clients; 0: never"),
-        )
+        .arg(size(alloc, "loops").help(LOOPS))
+}
+
+fn with_bounds<'a>(alloc: Global, command: Command<'a>) -> Result<Command<'a>, AllocError> {
+    command
+        .arg(bound(alloc, "places", "1024", PLACES))?
+        .arg(bound(alloc, "requests", "0", REQUESTS))
+}
+
+fn bound<'a>(alloc: Global, name: &'a str, default: &'a str, help: &'a str) -> Arg<'a> {
+    size(alloc, name).default_value(default).help(help)
 }
 
 fn size<'a>(alloc: Global, name: &'a str) -> Arg<'a> {

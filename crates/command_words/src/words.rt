@@ -1,7 +1,7 @@
 use crate::commands::commands;
 use crate::running::{Numbers, RANGES, numbers_of};
 use clap::error::ErrorKind;
-use clap::{ArgMatches, Error};
+use clap::{ArgMatches, Command, Error};
 use due_key::Class;
 use proxy_words::{long_number, signed_long_number};
 
@@ -32,9 +32,17 @@ pub enum Asked {
 
 /// Reads the words, the program's name first, and prints help or what is wrong with them.
 pub fn ask(rt: &(impl Print + Eprint + AllocGlobal), words: &[String]) -> Asked {
-    let Ok(command) = commands(rt.alloc()) else {
-        return no_memory(rt);
-    };
+    match commands(rt.alloc()) {
+        Ok(command) => asked_from(rt, command, words),
+        Err(_) => no_memory(rt),
+    }
+}
+
+fn asked_from<'a>(
+    rt: &(impl Print + Eprint + AllocGlobal),
+    command: Command<'a>,
+    words: &'a [String],
+) -> Asked {
     match command.try_get_matches_from(words) {
         Err(error) => refuse(rt, error),
         Ok(matches) => asked_by(rt, &matches),

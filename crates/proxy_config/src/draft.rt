@@ -1,6 +1,6 @@
 //! What the lines read so far say.
 
-ghost use Rattle.std.specs.Prelude.{◌≡◌, length};
+ghost use Rattle.std.specs.Prelude.{◌≡◌, ◌∷◌, ◌++◌, [], length, Result, Ok};
 ghost use Rattle.std.specs.List.{list_any};
 ghost use Rattle.proxy_words.specs.Text.{words as words_of, uncommented};
 ghost use Rattle.proxy_config.specs.Outcomes.{Becomes, Gives, Leaves, Sees};
@@ -10,7 +10,7 @@ ghost use Rattle.proxy_config.specs.File as file;
 use crate::addresses::{address, bind};
 use crate::faults::{FaultCause, LineError};
 use crate::keywords::{Keyword, keyword_of, section_of};
-use crate::parts::{Acl, Bind, Rule, Server};
+use crate::parts::{Acl, Address, Bind, Rule, Server};
 use crate::pieces::{end, word};
 use crate::rules::{acl_line, rule_line, server_index};
 use crate::settings::{Settings, settings_to_end};
@@ -132,20 +132,35 @@ impl Draft {
         let Some(word) = words.next() else {
             return Ok(None);
         };
-        let keyword = keyword_of(word).ok_or(FaultCause::Keyword)?;
-        match keyword {
-            Keyword::Global => self.global(words)?,
-            Keyword::Defaults => self.defaults(words)?,
-            Keyword::Listen => self.listen(number, words)?,
-            Keyword::Refused => return Err(FaultCause::Section.into()),
-            Keyword::Shared(shared) => self.value(shared, words)?,
-            Keyword::Bind => self.bind(words)?,
-            Keyword::Server => self.server(alloc, words)?,
-            Keyword::Acl => self.test(alloc, words)?,
-            Keyword::HttpRequest => self.request(alloc, pins, words)?,
-            Keyword::UseServer => return Ok(Some(self.use_server(alloc, pins, number, words)?)),
+        match keyword_of(word) {
+            None => Err(FaultCause::Keyword.into()),
+            Some(keyword) => self.take_keyword(alloc, pins, number, keyword, words),
         }
-        Ok(None)
+    }
+
+    fn take_keyword(
+        &mut self,
+        alloc: Global,
+        pins: usize,
+        number: u64,
+        keyword: Keyword,
+        words: Words,
+    ) -> Result<Option<Wish>, LineError>
+        ensures { Leaves result self.old self.new
+            (grammar.keyword_line pins self.old number keyword words.entry) }
+    {
+        match keyword {
+            Keyword::Global => plain(self.global(words)),
+            Keyword::Defaults => plain(self.defaults(words)),
+            Keyword::Listen => plain(self.listen(number, words)),
+            Keyword::Refused => Err(FaultCause::Section.into()),
+            Keyword::Shared(shared) => plain(self.value(shared, words)),
+            Keyword::Bind => plain(self.bind(words)),
+            Keyword::Server => plain(self.server(alloc, words)),
+            Keyword::Acl => plain(self.test(alloc, words)),
+            Keyword::HttpRequest => plain(self.request(alloc, pins, words)),
+            Keyword::UseServer => Ok(Some(self.use_server(alloc, pins, number, words)?)),
+        }
     }
 
     #[tactic(auto, unfolding(crate::specs::Draft::global_line))]
@@ -239,6 +254,19 @@ impl Draft {
         let (second, words) = word(words)?;
         let address = address(alloc, second)?;
         let settings = settings_to_end(Settings::built_in(), words)?;
+        self.add_server(alloc, name, address, settings)
+    }
+
+    fn add_server(
+        &mut self,
+        alloc: Global,
+        name: &[u8],
+        address: Address,
+        settings: Settings,
+    ) -> Result<(), LineError>
+        ensures { Becomes result self.old self.new
+            (Ok (record self.old { servers = self.old.servers ++ grammar.server_of name.now address settings ∷ [] })) }
+    {
         let name = Items::copied(alloc, name)?;
         self.servers.push(Server {
             name,
@@ -304,6 +332,16 @@ impl Draft {
             return Err(FaultCause::Limit);
         }
         Ok(())
+    }
+}
+
+// A line that asks for no pin.
+fn plain(done: Result<(), LineError>) -> Result<Option<Wish>, LineError>
+    ensures { (old : Draft) → (new : Draft) → (read : Result Draft FaultCause) → Becomes done old new read → Leaves result old new (grammar.plain read) }
+{
+    match done {
+        Ok(()) => Ok(None),
+        Err(error) => Err(error),
     }
 }
 

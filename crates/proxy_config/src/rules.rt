@@ -1,6 +1,6 @@
 //! The lines that decide where a request goes, and when.
 
-ghost use Rattle.std.specs.Prelude.{◌≡◌, Ok, position};
+ghost use Rattle.std.specs.Prelude.{◌≡◌, ◌∷◌, [], Ok, IfOk, position};
 ghost use Rattle.std.specs.Str.{bytes_eq};
 ghost use Rattle.proxy_config.specs.Outcomes.{Gives, Becomes};
 ghost use Rattle.proxy_config.specs.Rules as grammar;
@@ -13,7 +13,7 @@ use crate::pieces::{is, word};
 use crate::samples::{expression, test_to_end};
 use list_facts::Items;
 use proxy_words::Words;
-use std::alloc::Global;
+use std::alloc::{AllocError, Global};
 
 /// `acl NAME TEST`.
 #[tactic(auto, unfolding(crate::specs::Rules::acl_line))]
@@ -52,13 +52,21 @@ fn add_test(alloc: Global, acls: &mut Items<Acl>, name: &[u8], test: Test) -> Re
     match acl_index(name, acls) {
         Some(i) => acls.items[i].tests.push(test)?,
         None => {
-            let name = Items::copied(alloc, name)?;
-            let mut tests = Items::new(alloc);
-            tests.push(test)?;
-            acls.push(Acl { name, tests })?;
+            let acl = acl_of(alloc, name, test)?;
+            acls.push(acl)?;
         }
     }
     Ok(())
+}
+
+// An ACL of one alternative.
+fn acl_of(alloc: Global, name: &[u8], test: Test) -> Result<Acl, AllocError>
+    ensures { IfOk result (λ acl. acl ≡ record { name = name.now; tests = test ∷ [] }) }
+{
+    let name = Items::copied(alloc, name)?;
+    let mut tests = Items::new(alloc);
+    tests.push(test)?;
+    Ok(Acl { name, tests })
 }
 
 fn action_of(word: &[u8]) -> Option<Action>

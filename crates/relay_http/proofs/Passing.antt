@@ -1,7 +1,6 @@
 -- Messages that are handed on, part by part.
-use Rattle.std.proofs.Common.{◌≡◌, ◌∙◌, ℕ, ◌<◌, ◌≤◌, Bool, true, List, [], ◌∷◌}
-use Rattle.std.proofs.Common.{◌++◌, length, Option, Some, refl, sym, ap, arith, append_assoc, append-nil, length-append, subst}
-use Rattle.std.specs.Prelude.{IsSome}
+use Rattle.std.proofs.Common.{◌≡◌, ◌∙◌, ℕ, ◌<◌, ◌≤◌, Bool, List, [], ◌∷◌}
+use Rattle.std.proofs.Common.{◌++◌, length, refl, sym, ap, arith, append_assoc, append-nil, length-append, subst}
 use Rattle.std.specs.List.{AllByRecursion}
 use Rattle.httparse.specs.Grammar.{ResponseHead, print_response}
 use Rattle.relay_body.specs.Bodies.{print_chunked}
@@ -12,8 +11,7 @@ use Rattle.relay_body.specs.declared.framing.Framing as Framed
 use Rattle.relay_body.specs.declared.framing.Framing.TheVariants.{Empty, Length, Chunked, ToEnd}
 use Rattle.list_facts.proofs.Filtered.{flat_last}
 use Rattle.list_facts.proofs.Members.{all_append}
-use Rattle.relay_http.specs.Framings.{answer_plan, is_interim}
-use Rattle.relay_http.specs.Heads.{IsAnswer, NoAnswer}
+use Rattle.relay_http.specs.Heads.{NoAnswer}
 use Rattle.relay_http.specs.Messages.{NoBody, IsInterim, IsFinal, AreInterims, print_heads, interims_text, BadlyFramed, LacksAnswer}
 use Rattle.relay_http.specs.Messages.EndsEarly.{no_head, no_body}
 use Rattle.relay_http.specs.Messages.BadlyFramed.{ninth, bad_body}
@@ -85,15 +83,6 @@ pub interims_more : (method : List ℕ) (hs : List ResponseHead) (h : ResponseHe
 interims_more method hs h all few is = record {
   each = all_append (IsInterim method) hs (h ∷ []) all (is, tt);
   few = omega (arith, few, length-append hs (h ∷ []));
-}
-
-pub interim_is : (method : List ℕ) (h : ResponseHead) (plan : Plan) → IsAnswer h → answer_plan method (answer_of h) ≡ Some plan
-    → is_interim (answer_of h).status ≡ true
-    → IsInterim method h
-interim_is method h plan is planned interim = record {
-  head = is;
-  planned = subst (λ (o : Option Plan). IsSome o) (sym planned) refl;
-  interim = interim;
 }
 
 -- the text of one more

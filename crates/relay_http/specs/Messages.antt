@@ -1,5 +1,5 @@
 -- Messages that are handed on: which input is one, or a part of one, and what it becomes.
-use Rattle.std.specs.Prelude.{◌≡◌, ℕ, ◌≤◌, Bool, true, false, List, [], ◌++◌, length, Some, None, IsSome}
+use Rattle.std.specs.Prelude.{◌≡◌, ◌⊎◌, ℕ, ◌<◌, ◌≤◌, Bool, true, false, List, [], ◌++◌, length, Some, None, IsSome}
 use Rattle.std.specs.List.{flat_map, AllByRecursion}
 use Rattle.httparse.specs.Grammar.{ResponseHead, print_response}
 use Rattle.relay_body.specs.Framings.{IsBody, PartOfBody, LacksBody}
@@ -9,8 +9,10 @@ use Rattle.relay_http.specs.Heads.{IsAnswer}
 use Rattle.relay_http.specs.Texts.{request_text, answer_text, interim_text}
 use Rattle.relay_http.specs.declared.fault.Fault.{Fault}
 use Rattle.relay_http.specs.declared.fault.Fault.TheVariants.{NoMemory, Head, Framing, Read, Write, Turns, Closed}
+use Rattle.relay_http.specs.declared.messages.Role.{Role}
+use Rattle.relay_http.specs.declared.messages.Role.TheVariants.{Final, Interim, Refused}
 use Rattle.relay_http.specs.declared.plans.Plan.{Plan}
-use Rattle.req_view.specs.Answer.{answer_of}
+use Rattle.req_view.specs.Answer.{Answer, answer_of}
 use Rattle.req_view.specs.AnswerHeads.{HasNoAnswer, NeverHasAnswer}
 use Rattle.req_view.specs.Request.{Request}
 
@@ -54,6 +56,12 @@ pub record IsFinal (method : List ℕ) (h : ResponseHead) (plan : Plan) : Type 0
   pub head : IsAnswer h
   pub planned : answer_plan method (answer_of h) ≡ Some plan
   pub final : is_interim (answer_of h).status ≡ false
+
+-- what a head behind so many others is to the answer: its own, one before it, or one that is framed badly or the ninth
+abbrev pub HasRole : List ℕ → Answer → ℕ → Role → Type 0
+HasRole method a n (Final plan) = (answer_plan method a ≡ Some plan) × (is_interim a.status ≡ false)
+HasRole method a n Interim = IsSome (answer_plan method a) × (is_interim a.status ≡ true) × (n < 8)
+HasRole method a n Refused = (answer_plan method a ≡ None) ⊎ (IsSome (answer_plan method a) × (is_interim a.status ≡ true) × (8 ≤ n))
 
 -- at most eight heads come before the answer
 pub record AreInterims (method : List ℕ) (hs : List ResponseHead) : Type 0 where

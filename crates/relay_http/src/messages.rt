@@ -1,10 +1,12 @@
-ghost use Rattle.std.specs.Prelude.{◌≡◌, ◌++◌, ℕ, List, [], IfOk, OnOk, IfErr};
+ghost use Rattle.std.specs.Prelude.{◌≡◌, ◌<◌, ◌+◌, ◌^◌, ◌++◌, ℕ, List, [], IfOk, OnOk, IfErr};
 ghost use Rattle.std.specs.Io.KnownBytes.{IsAtEnd};
 ghost use Rattle.httparse.specs.Grammar.{ResponseHead, print_response};
+ghost use Rattle.relay_body.specs.Framings.{IsBody, PartOfBody};
 ghost use Rattle.relay_body.specs.Steps.{ends, Countable, Moves};
+ghost use Rattle.relay_http.specs.Emissions.{Puts, Halts};
 ghost use Rattle.relay_http.specs.Failures.{Fails};
 ghost use Rattle.relay_http.specs.Messages as messages;
-ghost use Rattle.relay_http.specs.Texts.{framed_for};
+ghost use Rattle.relay_http.specs.Texts.{answer_text, interim_text, framed_for};
 ghost use Rattle.req_view.specs.Answer.{answer_of};
 
 use crate::fault::Fault;
@@ -14,7 +16,7 @@ use crate::lines::send;
 use crate::plans::{Plan, answer_plan, is_interim};
 use crate::reading::read_answer_head;
 use counted_io::{Sink, Source};
-use relay_body::{Framing, Pipe};
+use relay_body::{Fault as BodyFault, Framing, Pipe};
 use req_view::{AnswerHead, Version, View};
 use std::alloc::Global;
 
@@ -26,6 +28,17 @@ pub const MOST_INTERIMS: usize = 8;
 pub(crate) struct Planned {
     head: AnswerHead,
     plan: Plan,
+}
+
+/// What a head is to the answer that is waited for.
+#[derive(Clone, Copy)]
+enum Role {
+    /// The answer's own, with which this is done.
+    Final(Plan),
+    /// One before it.
+    Interim,
+    /// One with a bad framing, or one too many.
+    Refused,
 }
 
 /// Hands on a request whose head was read, and writes all of it.
@@ -69,9 +82,28 @@ pub(crate) fn pass_answer<S: Source, K: Sink>(
         × Fails (ends pipe.old (S.stream source.old) (K.stream sink.old)) (ends pipe.new (S.stream source.new) (K.stream sink.new)) used text (messages.LacksAnswer view.now.method) fault) }
 {
     let planned = read_answer(pipe, alloc, view, source, sink)?;
-    let Planned { head, plan } = planned;
-    let framed = is_framed(view.version());
-    put_answer(pipe, sink, &head, plan, framed)?;
+    pass_planned(pipe, &planned, is_framed(view.version()), source, sink)
+}
+
+// Hands on the answer whose head was read, and writes all of it.
+fn pass_planned<S: Source, K: Sink>(
+    pipe: &mut Pipe,
+    planned: &Planned,
+    framed: bool,
+    source: &mut S,
+    sink: &mut K,
+) -> Result<(), Fault>
+    requires { Countable (ends pipe.old (S.stream source.old) (K.stream sink.old)) }
+    ensures ok { OnOk result ((body : List ℕ) × (passed : List ℕ) × IsBody planned.now.plan.body framed body passed
+        × Moves (ends pipe.old (S.stream source.old) (K.stream sink.old)) (ends pipe.new (S.stream source.new) (K.stream sink.new)) body (answer_text framed planned.now.head planned.now.plan ++ passed)
+        × (planned.now.plan.body ≡ Framing.ToEnd → IsAtEnd (S.stream source.new).bytes)
+        × (planned.now.plan.body ≡ Framing.ToEnd → pipe.new.inbox ≡ [])) }
+    ensures empty { OnOk result (pipe.new.outbox ≡ []) }
+    ensures err { IfErr result (λ fault. (body : List ℕ) × (passed : List ℕ) × PartOfBody planned.now.plan.body framed body passed
+        × Fails (ends pipe.old (S.stream source.old) (K.stream sink.old)) (ends pipe.new (S.stream source.new) (K.stream sink.new)) body (answer_text framed planned.now.head planned.now.plan ++ passed) (messages.NoBody planned.now.plan.body) fault) }
+{
+    let plan = planned.plan;
+    put_answer(pipe, sink, &planned.head, plan, framed)?;
     pipe.pass_body(source, sink, plan.body, framed)?;
     send(pipe, sink)?;
     Ok(())
@@ -98,19 +130,43 @@ fn read_answer<S: Source, K: Sink>(
     let mut count = 0;
     'heads: loop {
         let head = read_answer_head(pipe, alloc, source)?;
-        let planned = answer_plan(view.method(), &head);
-        let Some(plan) = planned else {
-            return Err(Fault::Framing);
-        };
-        if !is_interim(head.status()) {
-            return Ok(Planned { head, plan });
+        match role_of(view.method(), &head, count) {
+            Role::Final(plan) => return Ok(Planned { head, plan }),
+            Role::Interim => pass_before(pipe, sink, head, framed)?,
+            Role::Refused => return Err(Fault::Framing),
         }
-        if MOST_INTERIMS <= count {
-            return Err(Fault::Framing);
-        }
-        pass_interim(pipe, sink, &head, framed)?;
         count += 1;
     }
+}
+
+// What a head behind so many others is to the answer.
+fn role_of(method: &[u8], head: &AnswerHead, count: usize) -> Role
+    ensures { messages.HasRole method.now head.now count result }
+{
+    let Some(plan) = answer_plan(method, head) else {
+        return Role::Refused;
+    };
+    if !is_interim(head.status()) {
+        return Role::Final(plan);
+    }
+    if MOST_INTERIMS <= count {
+        return Role::Refused;
+    }
+    Role::Interim
+}
+
+// Takes the head, of which so nothing is left at the exits of the loop that calls it: they are proved faster.
+fn pass_before<K: Sink>(
+    pipe: &mut Pipe,
+    sink: &mut K,
+    head: AnswerHead,
+    framed: bool,
+) -> Result<(), BodyFault>
+    requires { (K.stream sink.old).calls + pipe.old.turns < 2 ^ 64 }
+    ensures ok { OnOk result (Puts pipe.old pipe.new (K.stream sink.old) (K.stream sink.new) (interim_text framed head)) }
+    ensures err { IfErr result (Halts pipe.old pipe.new (K.stream sink.old) (K.stream sink.new) (interim_text framed head)) }
+{
+    pass_interim(pipe, sink, &head, framed)
 }
 
 pub(crate) fn is_framed(version: Version) -> bool

@@ -9,7 +9,7 @@ returns-in_ok-push-in-Some c =
     (ap Ok (with_test-at c.args.name.now c.args.test c.acls.inside.items.items c.in-Some.i c.index_mut.result.now
     (ap (acl_index c.args.name.now) c.acls.view_is ∙ sym c.in-Some.ensures) c.index_mut.ensures.value))
 
-pub returns-in_ok-push-in-None-2 : goal.returns-in_ok-push-in-None-2
-returns-in_ok-push-in-None-2 c =
-    rw (c.in_ok-push-in-None-2.ensures.ok, c.in_ok-push-in-None.ensures.ok, c.new-tests.ensures, c.in_ok-name-in-None.ensures)
+pub returns-in_ok-push-in-None : goal.returns-in_ok-push-in-None
+returns-in_ok-push-in-None c =
+    rw (c.in_ok-push-in-None.ensures.ok, c.in_ok-acl-in-None.ensures)
     (ap Ok (with_test-new c.args.name.now c.args.test c.args.acls.now (sym c.in-None.ensures)))

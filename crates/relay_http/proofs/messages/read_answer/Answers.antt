@@ -1,17 +1,21 @@
 -- Head after head, up to the answer's own.
-use Rattle.std.proofs.Common.{◌∙◌, ◌<◌, ◌≤◌, [], ◌∷◌, ◌++◌, length, refl, sym, ap, arith, append-nil, length-append}
+use Rattle.std.proofs.Common.{◌≡◌, ◌∙◌, ◌<◌, [], ◌∷◌, ◌++◌, length, Option, inl, inr}
+use Rattle.std.proofs.Common.{refl, sym, ap, arith, append-nil, length-append, subst}
+use Rattle.std.specs.Prelude.{IsSome}
 use Rattle.httparse.specs.Grammar.{print_response}
 use Rattle.relay_body.proofs.Exits.{at_exit}
 use Rattle.list_facts.proofs.Filtered.{flat_last}
 use Rattle.relay_body.proofs.Stepping.{moves_none, moves_trans, moves_as, Countable-later}
 use Rattle.relay_http.specs.Framings.{answer_plan, is_interim}
 use Rattle.relay_http.specs.Heads.{NoAnswer}
-use Rattle.relay_http.specs.Messages.{AreInterims, print_heads, interims_text, LacksAnswer}
+use Rattle.relay_http.specs.Messages.{IsInterim, AreInterims, print_heads, interims_text, LacksAnswer}
 use Rattle.relay_http.specs.Messages.BadlyFramed.{no_plan}
 use Rattle.relay_http.specs.Texts.{framed_for}
+use Rattle.relay_http.specs.declared.fault.Fault.TheVariants.{Framing}
+use Rattle.relay_http.specs.declared.plans.Plan.{Plan}
 use Rattle.relay_http.proofs.Failing.{moves_fails, moves_put, moves_halts, fails_as, fails_less, fails_framing}
-use Rattle.relay_http.proofs.Passing.{heads_then, bad_here, ninth_here, interims_more, interim_is, interims_text_more}
-use Rattle.req_view.specs.Answer.{Answer}
+use Rattle.relay_http.proofs.Passing.{heads_then, bad_here, ninth_here, interims_more, interims_text_more}
+use Rattle.req_view.specs.Answer.{Answer, answer_of}
 use Rattle.relay_http.proofs.messages.read_answer.Goals as goal
 
 pub heads-init : goal.heads-init
@@ -32,8 +36,8 @@ returns-in_err-head-clause-err g c =
           (g.K.Sink.stream c.heads.sink))),
     )
 
-pub returns-in_default-clause-err : goal.returns-in_default-clause-err
-returns-in_default-clause-err g c =
+pub returns-in-Final-clause-ok : goal.returns-in-Final-clause-ok
+returns-in-Final-clause-ok g c =
     let method = c.args.view.now.method in
     let framed = framed_for c.args.view.now.version in
     let so_far = c.heads.invariant in
@@ -42,37 +46,19 @@ returns-in_default-clause-err g c =
     let seen = c.in_ok-head.ensures.ok in
     let h = seen.0 in
     let read = moves_trans so_far.4 (seen.3 (g.K.Sink.stream c.heads.sink)) in
-    let planned = sym (c.answer_plan-planned.ensures ∙ (λ i. answer_plan (c.method.ensures i) (seen.2 i))) in
-    let bad = bad_here method hs h c.read_answer_head.new.pipe.inbox are (no_plan (length hs) h c.read_answer_head.new.pipe.inbox seen.1
-    (planned ∙ c.in_default.is)) in (
-      hs,
-      are,
-      fails_less (LacksAnswer method) (print_heads hs) (print_response h)
-          (fails_as (LacksAnswer method) refl (append-nil (interims_text framed hs)) (fails_framing (LacksAnswer method) read bad)),
-    )
-
-pub returns-then-not-is_interim-clause-ok : goal.returns-then-not-is_interim-clause-ok
-returns-then-not-is_interim-clause-ok g c =
-    let method = c.args.view.now.method in
-    let framed = framed_for c.args.view.now.version in
-    let so_far = c.heads.invariant in
-    let hs = so_far.0 in
-    let are : AreInterims method hs = record { each = so_far.1; few = omega (arith, so_far.2, so_far.3) } in
-    let seen = c.in_ok-head.ensures.ok in
-    let h = seen.0 in
-    let read = moves_trans so_far.4 (seen.3 (g.K.Sink.stream c.heads.sink)) in
-    let planned = sym (c.answer_plan-planned.ensures ∙ (λ i. answer_plan (c.method.ensures i) (seen.2 i))) in
-    let status = c.is_interim.ensures ∙ ap is_interim (c.status.ensures.value ∙ ap (λ (a : Answer). a.status) seen.2) in (
+    let same : answer_plan c.method.result.now c.in_ok-head.head ≡ answer_plan method (answer_of h) = λ i. answer_plan (c.method.ensures i) (seen.2 i) in
+    let status : is_interim c.in_ok-head.head.status ≡ is_interim (answer_of h).status = ap (λ (a : Answer). is_interim a.status) seen.2 in
+    let role = c.in-Final.ensures in (
       hs,
       h,
       are,
-      record { head = seen.1; planned = planned ∙ c.in-Some.is; final = sym status ∙ c.if-not-is_interim.true },
+      record { head = seen.1; planned = sym same ∙ role.0; final = sym status ∙ role.1 },
       seen.2,
       moves_as refl (append-nil (interims_text framed hs)) read,
     )
 
-pub returns-then-count-ge-MOST_INTERIMS-clause-err : goal.returns-then-count-ge-MOST_INTERIMS-clause-err
-returns-then-count-ge-MOST_INTERIMS-clause-err g c =
+pub returns-in-Refused-clause-err : goal.returns-in-Refused-clause-err
+returns-in-Refused-clause-err g c =
     let method = c.args.view.now.method in
     let framed = framed_for c.args.view.now.version in
     let so_far = c.heads.invariant in
@@ -81,25 +67,28 @@ returns-then-count-ge-MOST_INTERIMS-clause-err g c =
     let seen = c.in_ok-head.ensures.ok in
     let h = seen.0 in
     let read = moves_trans so_far.4 (seen.3 (g.K.Sink.stream c.heads.sink)) in
-    let planned = sym (c.answer_plan-planned.ensures ∙ (λ i. answer_plan (c.method.ensures i) (seen.2 i))) in
-    let status = c.is_interim.ensures ∙ ap is_interim (c.status.ensures.value ∙ ap (λ (a : Answer). a.status) seen.2) in
-    let is = interim_is method h c.in-Some.plan seen.1 (planned ∙ c.in-Some.is) (sym status ∙ c.if-not-is_interim.false) in
-    let many : 8 ≤ length hs = omega (arith, so_far.2, c.if-count-ge-MOST_INTERIMS.true) in
-    let bad = ninth_here method hs h c.read_answer_head.new.pipe.inbox are many is in (
+    let same : answer_plan c.method.result.now c.in_ok-head.head ≡ answer_plan method (answer_of h) = λ i. answer_plan (c.method.ensures i) (seen.2 i) in
+    let status : is_interim c.in_ok-head.head.status ≡ is_interim (answer_of h).status = ap (λ (a : Answer). is_interim a.status) seen.2 in
+    let rest = c.read_answer_head.new.pipe.inbox in
+    let bad : LacksAnswer method Framing ((print_heads hs ++ print_response h) ++ rest) = elim c.in-Refused.ensures [
+      | inl none ↦ bad_here method hs h rest are (no_plan (length hs) h rest seen.1 (sym same ∙ none))
+      | inr many ↦ ninth_here method hs h rest are (omega (arith, so_far.2, many.2))
+          (record { head = seen.1; planned = subst (λ (o : Option Plan). IsSome o) same many.0; interim = sym status ∙ many.1 })
+    ] in (
       hs,
       are,
       fails_less (LacksAnswer method) (print_heads hs) (print_response h)
           (fails_as (LacksAnswer method) refl (append-nil (interims_text framed hs)) (fails_framing (LacksAnswer method) read bad)),
     )
 
-pub pass_interim-requires : goal.pass_interim-requires
-pass_interim-requires g c =
+pub pass_before-requires : goal.pass_before-requires
+pass_before-requires g c =
     let so_far = c.heads.invariant in
     let read = moves_trans so_far.4 (c.in_ok-head.ensures.ok.3 (g.K.Sink.stream c.heads.sink)) in
     (Countable-later read.reads c.requires).writes
 
-pub returns-in_err-pass_interim-clause-err : goal.returns-in_err-pass_interim-clause-err
-returns-in_err-pass_interim-clause-err g c =
+pub returns-in_err-pass_before-in-Interim-clause-err : goal.returns-in_err-pass_before-in-Interim-clause-err
+returns-in_err-pass_before-in-Interim-clause-err g c =
     let method = c.args.view.now.method in
     let framed = framed_for c.args.view.now.version in
     let so_far = c.heads.invariant in
@@ -107,16 +96,17 @@ returns-in_err-pass_interim-clause-err g c =
     let seen = c.in_ok-head.ensures.ok in
     let h = seen.0 in
     let read = moves_trans so_far.4 (seen.3 (g.K.Sink.stream c.heads.sink)) in
-    let planned = sym (c.answer_plan-planned.ensures ∙ (λ i. answer_plan (c.method.ensures i) (seen.2 i))) in
-    let status = c.is_interim.ensures ∙ ap is_interim (c.status.ensures.value ∙ ap (λ (a : Answer). a.status) seen.2) in
-    let is = interim_is method h c.in-Some.plan seen.1 (planned ∙ c.in-Some.is) (sym status ∙ c.if-not-is_interim.false) in
+    let same : answer_plan c.method.result.now c.in_ok-head.head ≡ answer_plan method (answer_of h) = λ i. answer_plan (c.method.ensures i) (seen.2 i) in
+    let status : is_interim c.in_ok-head.head.status ≡ is_interim (answer_of h).status = ap (λ (a : Answer). is_interim a.status) seen.2 in
+    let role = c.in-Interim.ensures in
+    let is : IsInterim method h = record { head = seen.1; planned = subst (λ (o : Option Plan). IsSome o) same role.0; interim = sym status ∙ role.1 } in
     let told = c.is_framed-framed.ensures ∙ ap framed_for c.version.ensures in
     let text = interims_text_more framed c.is_framed-framed.result hs h c.in_ok-head.head told seen.2 in
-    let below : length hs < 8 = omega (arith, so_far.2, c.if-count-ge-MOST_INTERIMS.false) in
-    at_exit _ _ _ c.from_residual-in_err-pass_interim.ensures.1 (
+    let below : length hs < 8 = omega (arith, so_far.2, role.2) in
+    at_exit _ _ _ c.from_residual-in_err-pass_before-in-Interim.ensures.1 (
       hs ++ h ∷ [],
       interims_more method hs h so_far.1 below is,
-      fails_as (LacksAnswer method) (flat_last print_response hs h) text (moves_halts (LacksAnswer method) read c.in_err-pass_interim.ensures.err),
+      fails_as (LacksAnswer method) (flat_last print_response hs h) text (moves_halts (LacksAnswer method) read c.in_err-pass_before-in-Interim.ensures.err),
     )
 
 pub heads-preserved : goal.heads-preserved
@@ -128,13 +118,14 @@ heads-preserved g c =
     let seen = c.in_ok-head.ensures.ok in
     let h = seen.0 in
     let read = moves_trans so_far.4 (seen.3 (g.K.Sink.stream c.heads.sink)) in
-    let planned = sym (c.answer_plan-planned.ensures ∙ (λ i. answer_plan (c.method.ensures i) (seen.2 i))) in
-    let status = c.is_interim.ensures ∙ ap is_interim (c.status.ensures.value ∙ ap (λ (a : Answer). a.status) seen.2) in
-    let is = interim_is method h c.in-Some.plan seen.1 (planned ∙ c.in-Some.is) (sym status ∙ c.if-not-is_interim.false) in
+    let same : answer_plan c.method.result.now c.in_ok-head.head ≡ answer_plan method (answer_of h) = λ i. answer_plan (c.method.ensures i) (seen.2 i) in
+    let status : is_interim c.in_ok-head.head.status ≡ is_interim (answer_of h).status = ap (λ (a : Answer). is_interim a.status) seen.2 in
+    let role = c.in-Interim.ensures in
+    let is : IsInterim method h = record { head = seen.1; planned = subst (λ (o : Option Plan). IsSome o) same role.0; interim = sym status ∙ role.1 } in
     let told = c.is_framed-framed.ensures ∙ ap framed_for c.version.ensures in
     let text = interims_text_more framed c.is_framed-framed.result hs h c.in_ok-head.head told seen.2 in
-    let below : length hs < 8 = omega (arith, so_far.2, c.if-count-ge-MOST_INTERIMS.false) in
-    let passed = moves_put (g.S.Source.stream c.read_answer_head.new.source) c.in_ok-pass_interim.ensures.ok in
+    let below : length hs < 8 = omega (arith, so_far.2, role.2) in
+    let passed = moves_put (g.S.Source.stream c.read_answer_head.new.source) c.in_ok-pass_before-in-Interim.ensures.ok in
     let are = interims_more method hs h so_far.1 below is in (
       hs ++ h ∷ [],
       are.each,

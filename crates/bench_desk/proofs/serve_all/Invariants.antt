@@ -1,5 +1,5 @@
 use Rattle.outstanding.specs.Books.{terms_of}
-use Rattle.bench_desk.proofs.main.Given as goal
+use Rattle.bench_desk.proofs.serve_all.Given as goal
 
 -- the board that was opened
 abbrev pub ghosts-one : goal.ghosts-one

@@ -1,0 +1,64 @@
+-- The head, the body and what waits, one after the other.
+use Rattle.std.proofs.Common.{◌∙◌, [], ◌++◌, refl, sym, append-nil}
+use Rattle.relay_body.specs.Framings.{LacksBody}
+use Rattle.relay_body.proofs.Exits.{at_exit}
+use Rattle.relay_body.proofs.Stepping.{moves_trans, moves_as}
+use Rattle.relay_http.specs.Messages.{NoBody}
+use Rattle.relay_http.specs.Texts.{answer_text}
+use Rattle.relay_http.proofs.Failing.{moves_fails, moves_put, moves_halts, fails_put, fails_of, fails_as}
+use Rattle.relay_http.proofs.Passing.{part_none, body_part}
+use Rattle.relay_http.proofs.messages.pass_planned.Goals as goal
+
+pub returns-in_err-put_answer-clause-err : goal.returns-in_err-put_answer-clause-err
+returns-in_err-put_answer-clause-err g c =
+    let plan = c.args.planned.now.plan in
+    let text = answer_text c.args.framed c.args.planned.now.head plan in
+    at_exit _ _ _ c.from_residual.ensures.1 (
+      [],
+      [],
+      part_none plan.body c.args.framed,
+      fails_as (NoBody plan.body) refl (sym (append-nil text))
+          (fails_put (g.S.Source.stream c.args.source.now) (NoBody plan.body) c.in_err-put_answer.ensures.err),
+    )
+
+pub returns-in_err-pass_body-clause-err : goal.returns-in_err-pass_body-clause-err
+returns-in_err-pass_body-clause-err g c =
+    let plan = c.args.planned.now.plan in
+    let put = moves_put (g.S.Source.stream c.args.source.now) c.in_ok-put_answer.ensures.ok in
+    let part = c.in_err-pass_body.ensures.err in
+    at_exit _ _ _ c.from_residual-in_err-pass_body.ensures.1 (
+      part.0,
+      part.1,
+      part.2,
+      moves_fails (NoBody plan.body) (NoBody plan.body) (λ l why. why) put
+          (fails_of (LacksBody plan.body) (NoBody plan.body) (λ l lacks. lacks) (λ l lacks. lacks) part.3),
+    )
+
+pub returns-in_err-send-clause-err : goal.returns-in_err-send-clause-err
+returns-in_err-send-clause-err g c =
+    let plan = c.args.planned.now.plan in
+    let text = answer_text c.args.framed c.args.planned.now.head plan in
+    let put = moves_put (g.S.Source.stream c.args.source.now) c.in_ok-put_answer.ensures.ok in
+    let passed = c.in_ok-pass_body.ensures.ok in
+    at_exit _ _ _ c.from_residual-in_err-send.ensures.1 (
+      passed.0,
+      passed.1,
+      body_part plan.body c.args.framed passed.0 passed.1 passed.2,
+      fails_as (NoBody plan.body) refl (append-nil (text ++ passed.1))
+          (moves_halts (NoBody plan.body) (moves_trans put passed.3) c.in_err-send.ensures.err),
+    )
+
+pub returns-clause-ok : goal.returns-clause-ok
+returns-clause-ok g c =
+    let plan = c.args.planned.now.plan in
+    let text = answer_text c.args.framed c.args.planned.now.head plan in
+    let put = moves_put (g.S.Source.stream c.args.source.now) c.in_ok-put_answer.ensures.ok in
+    let passed = c.in_ok-pass_body.ensures.ok in
+    let sent = moves_put (g.S.Source.stream c.pass_body.new.source) c.in_ok-send.ensures.ok in (
+      passed.0,
+      passed.1,
+      passed.2,
+      moves_as (append-nil passed.0) (append-nil (text ++ passed.1)) (moves_trans (moves_trans put passed.3) sent),
+      c.in_ok-pass_body.ensures.end,
+      λ e. c.in_ok-send.ensures.ok.inbox ∙ c.in_ok-pass_body.ensures.all e,
+    )

@@ -1,5 +1,4 @@
 use Rattle.std.proofs.Common.{sym, ap, length, ◌∙◌}
-use Rattle.std.proofs.lemmas.List.{length-map}
 use Rattle.slot_ledger.proofs.Counting.{ledger_new}
 use Rattle.dispatch_log.proofs.Limiting.{opening_limits-length}
 use Rattle.slot_ledger.proofs.ledger.Ledger.new.Goals as goal

@@ -4,7 +4,9 @@ use Rattle.slot_ledger.proofs.Keeping.{kept_change}
 use Rattle.slot_ledger.proofs.places.Places.fail.Goals as goal
 
 pub index_mut-requires : goal.index_mut-requires
-index_mut-requires g c = let within : c.args.place < length c.self.inside.slots.items = row_within _ _ c.args.place c.self.view_is (c.requires.0, c.requires.1) in omega arith
+index_mut-requires g c =
+    let within : c.args.place < length c.self.inside.slots.items = row_within _ _ c.args.place c.self.view_is (c.requires.0, c.requires.1) in
+    omega arith
 
 pub unreachable-requires : goal.unreachable-requires
 unreachable-requires g c = row_missed _ _ c.args.place _ c.self.view_is (c.requires.0, c.requires.1) c.index_mut.ensures.value c.in_default.is

@@ -84,7 +84,8 @@ module _ (table : List (Option Worsts)) (at : ℕ) (fresh : Worsts) (there : at 
       go false = room
 
   pub same_worst : ((queue : Queue) → worst_of fresh queue ≡ None) → (queue : Queue) (place : ℕ)
-      → option_and_then (λ row. worst_of row queue) (row_at (set table at (Some fresh)) place) ≡ option_and_then (λ row. worst_of row queue) (row_at table place)
+      → option_and_then (λ row. worst_of row queue) (row_at (set table at (Some fresh)) place)
+      ≡ option_and_then (λ row. worst_of row queue) (row_at table place)
   same_worst bare queue place = ap worst (put_here place) ∙ go (place == at) refl
     where
       worst : Option Worsts → Option ℤ

@@ -6,9 +6,6 @@ use Rattle.req_view.proofs.target.path.Goals as goal
 
 -- the path by what the target begins with
 module _ (target : List ℕ) where
-  by_slash : begins (codes "/") target ≡ true → path_of target ≡ Some (without_query target)
-  by_slash e = rw e refl
-
   by_http : begins (codes "/") target ≡ false → begins (codes "http://") target ≡ true → path_of target ≡ Some (from_slash (without_query (drop 7 target)))
   by_http e f = rw (e, f) refl
 
@@ -25,9 +22,6 @@ slice_bounds-without_query-count c = c.starts_with-else-starts_with.ensures.boun
 
 pub slice_bounds-without_query-count-then-starts_with-3 : goal.slice_bounds-without_query-count-then-starts_with-3
 slice_bounds-without_query-count-then-starts_with-3 c = c.starts_with-else-starts_with-2.ensures.bound c.if-starts_with-3.true
-
-pub returns-then-starts_with : goal.returns-then-starts_with
-returns-then-starts_with c = by_slash c.args.target.now (sym c.starts_with.ensures.value ∙ c.if-starts_with.true) ∙ ap Some (sym c.without_query.ensures)
 
 pub returns-then-starts_with-2 : goal.returns-then-starts_with-2
 returns-then-starts_with-2 c =

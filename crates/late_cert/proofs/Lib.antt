@@ -2,6 +2,7 @@ pub mod Exchange
 pub mod Least
 pub mod Sound
 pub mod Tables
+pub mod Rooms
 pub mod Worst
 pub mod Order
 pub mod Sorted

@@ -1,6 +1,6 @@
 -- Counts of rows, while one row changes.
 use Rattle.std.proofs.Common.{◌≡◌, ℕ, ◌+◌, ◌≤◌, ◌==◌, Bool, true, false, List, Option, None, Some, slice_get, slice_index_or}
-use Rattle.std.proofs.Common.{replicate, length, option_map, count_by, refl, ap, sym, ◌∙◌, subst, arith, zero, suc}
+use Rattle.std.proofs.Common.{replicate, length, option_map, count_by, refl, ap, sym, ◌∙◌, subst, arith}
 use Rattle.std.proofs.Math.ListN.{set, length-set, length-replicate}
 use Rattle.std.proofs.lemmas.List.{map-set, length-map}
 use Rattle.std.proofs.lemmas.List.Sums.{count_by-le-length}

@@ -1,5 +1,5 @@
 -- A ledger's places stay kept when one of them is written.
-use Rattle.std.proofs.Common.{◌≡◌, ◌≢◌, ℕ, zero, suc, ◌+◌, ◌<◌, List, [], ◌∷◌, ◌++◌, Option, None, Some, is_some}
+use Rattle.std.proofs.Common.{◌≡◌, ◌≢◌, ℕ, ◌+◌, ◌<◌, List, [], ◌∷◌, ◌++◌, Option, None, Some, is_some}
 use Rattle.std.proofs.Common.{length, count_by, slice_get, Contains, refl, ap, sym, ◌∙◌, subst, arith, ◌⊎◌, inl, inr, length-append}
 use Rattle.std.proofs.Math.ListN.{set, length-set}
 use Rattle.std.proofs.lemmas.Option.{same_Some, slice_get_within}
@@ -45,6 +45,15 @@ module _ (ticket : ℕ) (old new : List (ℕ × ℕ)) where
 module _ {H : Type 0} where
   free_not_taken : {P : Type 0} (slots : List (Option (Slot H))) (p : ℕ) (s : Slot H) → slice_get slots p ≡ Some None → StandsIn slots p s → P
   free_not_taken slots p s free stands = let e : Some None ≡ Some (Some s) = sym free ∙ stands in none_some (same_Some None (Some s) e)
+
+  -- while a row stands somewhere, the list of free places has room for its place
+  pub vacant_room : (slots : List (Option (Slot H))) (vacant : List ℕ) (capacity : ℕ) (index : Indexed) (p : ℕ) (s : Slot H)
+      → IsKept slots vacant capacity index → StandsIn slots p s → length vacant < capacity
+  vacant_room slots vacant capacity index p s is stands =
+      let count : count_by is_some (set slots p None) + 1 ≡ count_by is_some slots + 0 = count-set is_some slots p (Some s) None stands in
+      let all = is.all in
+      let room = is.room in
+      omega arith
 
   -- another row under the same ticket
   pub kept_change : (slots : List (Option (Slot H))) (vacant : List ℕ) (capacity : ℕ) (index : Indexed) (p : ℕ) (s t : Slot H)

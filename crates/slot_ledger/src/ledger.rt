@@ -57,8 +57,7 @@ impl<H: Drop> Ledger<H> {
     {
         let places = Places::new(alloc, setup.places)?;
         let counts = Counts::new(alloc, setup.servers.len())?;
-        let ups = vec![in alloc; true; setup.servers.len()]?;
-        let limits = setup.opening_limits(alloc)?;
+        let (ups, limits) = opening_servers(alloc, &setup)?;
         Ok(Ledger {
             setup,
             ups,
@@ -279,4 +278,14 @@ impl<H: Drop> Ledger<H> {
         self.counts.pass(from, Phase::Loose);
         self.places.end(place);
     }
+}
+
+/// All servers of a setup up, and what each may serve at first.
+fn opening_servers(alloc: Global, setup: &Setup) -> Result<(Vec<bool>, Vec<Allowance>), AllocError>
+    ensures ups { IfOk result (λ it. it.0.items ≡ replicate (length setup.now.servers) true) }
+    ensures limits { IfOk result (λ it. it.1.items ≡ opening_limits setup.now.servers) }
+{
+    let ups = vec![in alloc; true; setup.servers.len()]?;
+    let limits = setup.opening_limits(alloc)?;
+    Ok((ups, limits))
 }

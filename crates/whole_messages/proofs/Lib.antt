@@ -1,2 +1,3 @@
+mod Heads
 mod Lefts
 mod Telling

@@ -6,7 +6,7 @@ use Rattle.relay_http.specs.declared.fault.Fault.{Fault}
 use Rattle.relay_http.specs.declared.fault.Fault.TheVariants as fault
 use Rattle.whole_messages.specs.declared.progress.Progress.{Progress}
 use Rattle.whole_messages.specs.declared.progress.Progress.TheVariants.{Whole, More, Refused}
-use Rattle.whole_messages.specs.Outcomes.{OnMore, IfRefused, Refuses, Begins, told_by}
+use Rattle.whole_messages.specs.Outcomes.{IfWhole, OnMore, IfRefused, OnOthers, Refuses, Begins, told_by}
 
 lacks : {T : Type 0} (told : Progress T) (ended : Bool) (why : Fault) (a b : Ends) (Why : Fault → List ℕ → Type 0) (input : List ℕ)
     → told ≡ told_by ended why → (b.source.failures ≡ a.source.failures + 1 → ⊥) → Blames a b Why input why → OnMore told (Why fault.Read input)
@@ -44,6 +44,23 @@ pub refused_by : {T : Type 0} (told : Progress T) (ended : Bool) (why : Fault) (
     → IfRefused told (Refuses Why ended b.pipe.turns whole)
 refused_by told ended why a b Why input whole all e fine blame =
     subst (λ (l : List ℕ). IfRefused told (Refuses Why ended b.pipe.turns l)) all (refused told ended why a b Why input e fine blame)
+
+-- no fault tells that a message is whole
+pub never_whole : {T : Type 0} (told : Progress T) (ended : Bool) (why : Fault) (P : T → Type 0) → told ≡ told_by ended why → IfWhole told P
+never_whole told true fault.Read P e = rw e tt
+never_whole told false fault.Read P e = rw e tt
+never_whole told ended fault.NoMemory P e = rw e tt
+never_whole told ended fault.Head P e = rw e tt
+never_whole told ended fault.Framing P e = rw e tt
+never_whole told ended fault.Write P e = rw e tt
+never_whole told ended fault.Turns P e = rw e tt
+never_whole told ended fault.Closed P e = rw e tt
+
+-- what holds anyway
+pub anyway : {T : Type 0} (told : Progress T) (P : Type 0) → P → OnOthers told P
+anyway (Whole found) P holds = tt
+anyway More P holds = holds
+anyway (Refused why) P holds = holds
 
 more : {T : Type 0} (told : Progress T) (P Q : Fault → Type 0) → ((why : Fault) → P why → Q why) → IfRefused told P → IfRefused told Q
 more (Whole found) P Q step x = tt

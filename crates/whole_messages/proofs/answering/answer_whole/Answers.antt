@@ -1,9 +1,9 @@
 -- What was used is what was taken, but for what the exchange holds; what it didn't take is left.
-use Rattle.std.proofs.Common.{rules, ◌∙◌, sym, ap, ◌++◌, append_assoc}
+use Rattle.std.proofs.Common.{rules, ◌∙◌, inl, sym, ap, ◌++◌, append_assoc}
 use Rattle.relay_http.proofs.Failing.{passes_of}
 use Rattle.relay_http.specs.Messages.{LacksAnswer}
 use Rattle.whole_messages.proofs.Lefts.{same_end, all_of, none_left, never_fails}
-use Rattle.whole_messages.proofs.Telling.{refused_early}
+use Rattle.whole_messages.proofs.Telling.{refused_early, never_whole}
 use Rattle.whole_messages.proofs.answering.answer_whole.Goals as goal
 
 pub returns-in-Ok-clause-whole : goal.returns-in-Ok-clause-whole
@@ -35,3 +35,18 @@ returns-in-Err-clause-refused c =
     fails.taken source.bytes.now came.bytes.now
     (all_of came.bytes.now source.bytes.now fails.taken came.ended source.ended same fails.reads.bytes) (c.ended.ensures ∙ same) c.told_by.ensures
     (λ is. never_fails source.bytes.now came.ended source.ended source.misses came.misses source.honest same is) fails.blames
+
+pub answer_between-requires-clause-ready : goal.answer_between-requires-clause-ready
+answer_between-requires-clause-ready c = inl (c.resume.ensures.stage ∙ c.requires.same_pass)
+
+pub answer_between-requires-clause-serves : goal.answer_between-requires-clause-serves
+answer_between-requires-clause-serves c = c.requires.serves
+
+pub returns-in-Ok-clause-most : goal.returns-in-Ok-clause-most
+returns-in-Ok-clause-most c = c.in-Ok.ensures.most ∙ c.resume.ensures.most ∙ c.renew.ensures.most_is
+
+pub returns-in-Err-clause-whole : goal.returns-in-Err-clause-whole
+returns-in-Err-clause-whole c = never_whole c.told_by.result _ _ _ c.told_by.ensures
+
+pub returns-in-Err-clause-most : goal.returns-in-Err-clause-most
+returns-in-Err-clause-most c = c.in-Err.ensures.most ∙ c.resume.ensures.most ∙ c.renew.ensures.most_is

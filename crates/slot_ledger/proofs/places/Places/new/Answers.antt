@@ -1,4 +1,5 @@
 use Rattle.std.proofs.Common.{rules, ◌≡◌, ◌-◌, [], ◌∷◌, ◌++◌, None, length, ap, ◌∙◌, replicate, slice_get, arith, length-append}
+use Rattle.std.proofs.Math.ListN.{length-replicate}
 use Rattle.std.proofs.lemmas.List.{replicate_more}
 use Rattle.list_facts.proofs.Pushed.{each_push}
 use Rattle.slot_ledger.proofs.Indexing.{kept_new}
@@ -26,3 +27,28 @@ invariant_of-result g c =
 
 pub returns : goal.returns
 returns g c = let all : c.loop-place.place ≡ c.args.places = omega arith in c.loop-place.invariant.slots ∙ ap (λ n. replicate n None) all
+
+pub loop-place-init : goal.loop-place-init
+loop-place-init g c = record {
+  slots = c.in_ok-slots.ensures.items;
+  room = c.in_ok-slots.ensures.exact;
+  vacant = ap length c.in_ok-vacant.ensures.items;
+  each = λ at h. absurd (omega arith);
+  vacant_room = c.in_ok-vacant.ensures.exact;
+}
+
+pub push_reserved-requires : goal.push_reserved-requires
+push_reserved-requires g c =
+    let before = c.loop-place.invariant in
+    let long : length c.loop-place.slots.items ≡ c.loop-place.place = ap length before.slots ∙ length-replicate c.loop-place.place None in
+    let room = before.room in
+    omega arith
+
+pub push_reserved-requires-in-loop-place : goal.push_reserved-requires-in-loop-place
+push_reserved-requires-in-loop-place g c = let long = c.loop-place.invariant.vacant in let room = c.loop-place.invariant.vacant_room in omega arith
+
+pub overflow_sub-places : goal.overflow_sub-places
+overflow_sub-places g c = let below = c.loop-place-test.true in omega arith
+
+pub overflow_sub-places-in-loop-place : goal.overflow_sub-places-in-loop-place
+overflow_sub-places-in-loop-place g c = let below = c.loop-place-test.true in omega arith

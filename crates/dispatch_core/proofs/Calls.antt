@@ -15,12 +15,12 @@ use Rattle.dispatch_log.specs.declared.row.Phase.TheVariants.{Loose, Waiting, Se
 use Rattle.dispatch_log.specs.declared.row.Row.{Row}
 use Rattle.dispatch_log.specs.declared.setup.Setup.{Setup}
 use Rattle.dispatch_log.specs.Dispatch.{IsDispatched}
-use Rattle.dispatch_log.specs.Histories.{History, first_window, state_of, begins_event, refuses_done}
+use Rattle.dispatch_log.specs.Histories.{History, first_window, state_of, begins_event, refuses_done, start_of, end_of}
 use Rattle.dispatch_log.specs.Legal.{IsLegal, AddsEvent}
 use Rattle.dispatch_log.specs.Judgement.{Stage, returning, ending, granting, MayCome, next_stage, HasSlot, IsTold}
 use Rattle.dispatch_log.specs.Refusals.{first_of, is_waiting, lacks_room}
 use Rattle.dispatch_log.specs.Rows.{Rows, StandsAt, row_of, server_in, has_ticket, phase_is_served_by, phase_is_told}
-use Rattle.dispatch_log.specs.States.{State, after}
+use Rattle.dispatch_log.specs.States.{State, after, point_of}
 use Rattle.dispatch_log.proofs.Accepted.{none_refuses}
 use Rattle.dispatch_log.proofs.Consistency.{IsConsistent}
 use Rattle.dispatch_log.proofs.Dispatched.{dispatched, base_consistent}
@@ -36,11 +36,11 @@ use Rattle.dispatch_trace.specs.declared.position.Ticketed.{Ticketed}
 
 -- an entry may come after another
 pub may_next : (h : History) (e next : Entry) (t : Stage) → next_stage (stage_of h) e ≡ t
-    → MayCome h.setup (after h.setup (state_of h) e) (length (h.log ++ e ∷ [])) t next → MayComeNext (with_entry h e) next
+    → MayCome (point_of h.setup (after h.setup (state_of h) e) (length (h.log ++ e ∷ []))) t next → MayComeNext (with_entry h e) next
 may_next h e next t stage may =
-    subst (λ (s : State). MayCome h.setup s (length (h.log ++ e ∷ [])) (stage_of (with_entry h e)) next)
+    subst (λ (s : State). MayCome (point_of h.setup s (length (h.log ++ e ∷ []))) (stage_of (with_entry h e)) next)
     (sym (after_all-push h.setup h.base h.log e))
-    (subst (λ (x : Stage). MayCome h.setup (after h.setup (state_of h) e) (length (h.log ++ e ∷ [])) x next)
+    (subst (λ (x : Stage). MayCome (point_of h.setup (after h.setup (state_of h) e) (length (h.log ++ e ∷ []))) x next)
     (sym (stage_after-push granting h.log e ∙ stage)) may)
 
 -- what is accepted has room, and nothing else refuses it
@@ -53,7 +53,7 @@ done_tests a b c accepted =
 
 -- the states of a legal log are consistent
 pub legal_consistent : (h : History) → IsLegal h → IsConsistent (state_of h).rows (state_of h).ticket (stage_of h)
-legal_consistent h legal = consistent_all h.setup h.base 0 granting h.log (base_consistent h.setup h.base legal.begins) legal.lawful.judged
+legal_consistent h legal = consistent_all (start_of h) granting h.log (base_consistent h.setup h.base legal.begins) legal.lawful.judged
 
 -- no row of a legal log is in no place
 pub none_loose : (h : History) (row : Row) (p : ℕ) → IsLegal h → StandsAt (state_of h).rows p row → row.phase ≡ Loose → ⊥
@@ -116,10 +116,10 @@ begun_stage h one m t begun = ap stage_of begun ∙ stage_after-push granting h.
 
 -- a slot may be given back, and then its request ends
 pub may_free : (h : History) (t server : ℕ) → stage_of h ≡ returning t → HasSlot (state_of h).rows t server → MayComeNext h (Freed t server)
-may_free h t server stage has = subst (λ (x : Stage). MayCome h.setup (state_of h) (length h.log) x (Freed t server)) (sym stage) (refl, has)
+may_free h t server stage has = subst (λ (x : Stage). MayCome (end_of h) x (Freed t server)) (sym stage) (refl, has)
 
 pub may_end_told : (h : History) (t : ℕ) → stage_of h ≡ returning t → IsTold (state_of h).rows t → MayComeNext h (Ended t)
-may_end_told h t stage told = subst (λ (x : Stage). MayCome h.setup (state_of h) (length h.log) x (Ended t)) (sym stage) (refl, told)
+may_end_told h t stage told = subst (λ (x : Stage). MayCome (end_of h) x (Ended t)) (sym stage) (refl, told)
 
 pub freed_ends : (one two : History) (t server : ℕ) → stage_of one ≡ returning t → two ≡ with_entry one (Freed t server) → MayComeNext two (Ended t)
 freed_ends one two t server stage freed =

@@ -10,7 +10,7 @@ use Rattle.dispatch_log.specs.declared.entry.Entry.TheVariants.{Arrive, Direct, 
 use Rattle.dispatch_log.specs.declared.queue.Queue.TheVariants.{Backend, Server}
 use Rattle.dispatch_log.specs.declared.refusal.Refusal.TheVariants.{PlacesFull, LogFull, NoSuchServer, TicketsSpent}
 use Rattle.dispatch_log.specs.declared.setup.Setup.{Setup}
-use Rattle.dispatch_log.specs.Histories.{History, state_of, refuses_arrival}
+use Rattle.dispatch_log.specs.Histories.{History, state_of, refuses_arrival, end_of}
 use Rattle.dispatch_log.specs.Judgement.{Stage, placing, granting, IsOver, MayGrant, IsPut, MayCome, next_stage}
 use Rattle.dispatch_log.specs.Refusals.{first_of, lacks_room}
 use Rattle.dispatch_log.specs.Rows.{pin_of}
@@ -85,11 +85,11 @@ arrival_places h one m a begun = ap stage_of begun ∙ stage_after-push granting
 -- where its pin lets it
 pub newcomer_put : (h : History) (t : ℕ) (pin : Option ℕ) → stage_of h ≡ placing t → pin_of t (state_of h).rows ≡ pin → MayPut h pin None t
 newcomer_put h t pin stage its e put =
-    subst (λ (x : Stage). MayCome h.setup (state_of h) (length h.log) x e × (next_stage x e ≡ granting)) (sym stage)
+    subst (λ (x : Stage). MayCome (end_of h) x e × (next_stage x e ≡ granting)) (sym stage)
     (placed e (subst (λ (p : Option ℕ). IsPut (scene_of h) (state_of h).cursor p None t e) (sym its) put))
   where
     placed : (e : Entry) → IsPut (scene_of h) (state_of h).cursor (pin_of t (state_of h).rows) None t e
-        → MayCome h.setup (state_of h) (length h.log) (placing t) e × (next_stage (placing t) e ≡ granting)
+        → MayCome (end_of h) (placing t) e × (next_stage (placing t) e ≡ granting)
     placed (Direct u v) may = (may, refl)
     placed (Joined u q) may = (may, refl)
     placed (Left u NoServer) may = (may, refl)

@@ -8,7 +8,7 @@ use Rattle.dispatch_log.specs.declared.queue.Queue.TheVariants.{Server}
 use Rattle.dispatch_log.specs.declared.refusal.Refusal.{Refusal}
 use Rattle.dispatch_log.specs.Histories.{History, state_of, effective, start_of, end_of}
 use Rattle.dispatch_log.specs.declared.row.Row.{Row}
-use Rattle.dispatch_log.specs.Refusals.{is_waiting}
+use Rattle.dispatch_log.specs.Refusals.{entry_room, is_waiting}
 use Rattle.dispatch_log.specs.Rows.{Rows, IsRow, StandsAt, phase_waits_in, queued}
 use Rattle.dispatch_log.specs.Judgement.{Stage, granting, next_stage, stage_after, IsPut, IsOver, MayGrant, MayCome, AllMayCome, MayBegin}
 use Rattle.dispatch_log.specs.Grants.{IsSettled}
@@ -54,7 +54,7 @@ MayGrantNext history = MayGrant history.setup (state_of history) (stage_of histo
 
 -- the log has room for the longest event
 abbrev pub HasEntryRoom : History → Type 0
-HasEntryRoom history = 2 * history.setup.places + 8 ≤ history.setup.log - length history.log
+HasEntryRoom history = entry_room history.setup ≤ history.setup.log - length history.log
 
 -- whether a place's row waits, and how many do
 abbrev pub waits : Option Row → Bool

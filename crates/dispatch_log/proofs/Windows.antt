@@ -12,7 +12,6 @@ use Rattle.dispatch_log.specs.declared.entry.Entry.TheVariants.{Arrive, Done, Fa
 use Rattle.dispatch_log.specs.declared.entry.Entry.TheVariants.{Joined, Granted, Moved, Freed, Retried, Left, Health, Ended}
 use Rattle.dispatch_log.specs.declared.setup.ServerSet.{ServerSet}
 use Rattle.dispatch_log.specs.declared.setup.Setup.{Setup}
-use Rattle.dispatch_log.specs.declared.refusal.Refusal.TheVariants.{LogFull, NoSuchServer, TicketsSpent, PlacesFull}
 use Rattle.dispatch_log.specs.Dispatch.{given_between}
 use Rattle.dispatch_log.specs.Refusals.{lacks_room, pins_to_none, tickets_are_spent, is_full, arrival_refusal}
 use Rattle.dispatch_log.specs.Setups.{IsSound, is_within, has_rise_and_fall}
@@ -23,7 +22,7 @@ use Rattle.dispatch_log.specs.Judgement.{AreLawful, Stage, MayCome, AllMayCome, 
 use Rattle.dispatch_log.specs.Legal.{IsBase, IsLegal}
 use Rattle.dispatch_log.specs.Rows.{has_ticket, rows_of, is_served_by, served}
 use Rattle.dispatch_log.specs.States.{State, after, after_all, opening_state, Point, next_point}
-use Rattle.dispatch_log.proofs.Accepted.{none_refuses}
+use Rattle.dispatch_log.proofs.Accepted.{arrival_tests}
 use Rattle.dispatch_log.proofs.Dispatched.{dispatched, base_consistent}
 use Rattle.dispatch_log.proofs.Judged.{places_all, limits_all}
 use Rattle.dispatch_log.proofs.Standing.{AreRowsBy, standing_all}
@@ -61,12 +60,8 @@ opening_base setup = record {
 -- tickets and moments stay in their ranges
 accepted_ticket : (setup : Setup) (s : State) (n : ℕ) (pin : Option ℕ) → arrival_refusal setup s n pin ≡ None → s.ticket + 1 < 2 ^ 40
 accepted_ticket setup s n pin e =
-    let room = none_refuses (lacks_room setup n) LogFull
-    ((pins_to_none setup pin, NoSuchServer) ∷ (tickets_are_spent s.ticket, TicketsSpent) ∷ (is_full setup s.rows, PlacesFull) ∷ []) e in
-    let pinned = none_refuses (pins_to_none setup pin) NoSuchServer
-    ((tickets_are_spent s.ticket, TicketsSpent) ∷ (is_full setup s.rows, PlacesFull) ∷ []) room.1 in
-    let ticket = none_refuses (tickets_are_spent s.ticket) TicketsSpent ((is_full setup s.rows, PlacesFull) ∷ []) pinned.1 in
-    let more = ticket.0 in
+    let tests = arrival_tests (lacks_room setup n) (pins_to_none setup pin) (tickets_are_spent s.ticket) (is_full setup s.rows) e in
+    let more = tests.2 in
     grind (arith, nat_tests)
 
 pub record IsInRange (s : State) : Type 0 where

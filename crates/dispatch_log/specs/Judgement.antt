@@ -19,7 +19,7 @@ use Rattle.dispatch_log.specs.declared.refusal.Refusal.{Refusal}
 use Rattle.dispatch_log.specs.Health.{is_up_by, results_of, without_last}
 use Rattle.dispatch_log.specs.Refusals.{arrival_refusal, done_refusal, failure_refusal, abort_refusal, tick_refusal, check_refusal, limit_refusal, is_waiting}
 use Rattle.dispatch_log.specs.Retries.{are_spent, are_redispatched, are_retried}
-use Rattle.dispatch_log.specs.Rows.{Rows, IsRow, IsVacant, phase_is_served_by, phase_is_told, phase_waits_in, pin_of, failures_of}
+use Rattle.dispatch_log.specs.Rows.{Rows, IsRow, IsVacant, IsEmptyQueue, phase_is_served_by, phase_is_told, phase_waits_in, pin_of, failures_of}
 use Rattle.dispatch_log.specs.States.{State, scene, after_all, Point, next_point}
 use Rattle.dispatch_log.specs.Scenes.{Scene, is_up}
 use Rattle.dispatch_log.specs.Placement.{IsDirect, IsJoining, IsTurnedAway}
@@ -108,8 +108,7 @@ abbrev pub IsOver : Setup → State → Stage → Type 0
 IsOver setup state granting = Unit {0}
 IsOver setup state telling = (row : Row) → IsExpired setup state row → ⊥
 IsOver setup state (checking server) = was_up setup state server ≡ is_up (scene setup state) server
-IsOver setup state (falling server) =
-    IsTrue setup.redispatch → (row : Row) → IsRow state.rows row → IsTrue (phase_waits_in (Server server) row.phase) → ⊥
+IsOver setup state (falling server) = IsTrue setup.redispatch → IsEmptyQueue (Server server) state.rows
 IsOver setup state stage = ⊥
 
 -- grants may come: the event owes nothing else, or a request is redispatched, whose slot goes to another one first

@@ -9,7 +9,7 @@ use Rattle.dispatch_log.specs.declared.refusal.Refusal.{Refusal}
 use Rattle.dispatch_log.specs.Histories.{History, state_of, effective, start_of, end_of}
 use Rattle.dispatch_log.specs.declared.row.Row.{Row}
 use Rattle.dispatch_log.specs.Refusals.{entry_room, is_waiting}
-use Rattle.dispatch_log.specs.Rows.{Rows, IsRow, StandsAt, phase_waits_in, queued}
+use Rattle.dispatch_log.specs.Rows.{Rows, StandsAt, IsEmptyQueue, queued}
 use Rattle.dispatch_log.specs.Judgement.{Stage, granting, next_stage, stage_after, IsPut, IsOver, MayGrant, MayCome, AllMayCome, MayBegin}
 use Rattle.dispatch_log.specs.Grants.{IsSettled}
 use Rattle.dispatch_log.specs.Legal.{IsBase}
@@ -108,4 +108,4 @@ pub record IsMove (server : ℕ) (old new : History) : Type 0 where
 
 -- nobody waits in a server's queue
 abbrev pub IsEmptied : ℕ → History → Type 0
-IsEmptied server history = (row : Row) → IsRow (state_of history).rows row → IsTrue (phase_waits_in (Server server) row.phase) → ⊥
+IsEmptied server history = IsEmptyQueue (Server server) (state_of history).rows

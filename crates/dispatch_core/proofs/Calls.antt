@@ -1,27 +1,25 @@
 -- The calls of a core as compositions of entries.
-use Rattle.std.proofs.Common.{◌≡◌, ℕ, suc, ◌+◌, ◌≤◌, Bool, true, false, [], ◌∷◌, ◌++◌, Option, None, Some, is_none, option_map}
+use Rattle.std.proofs.Common.{◌≡◌, ℕ, ◌+◌, ◌≤◌, true, false, [], ◌∷◌, ◌++◌, Option, None, Some, is_none, option_map}
 use Rattle.std.proofs.Common.{length, refl, ap, sym, ◌∙◌, subst, arith}
 use Rattle.std.specs.Option.{option_map_or, option_and_then}
 use Rattle.std.proofs.lemmas.Bool.Decides.{Decides-eqb}
-use Rattle.std.proofs.lemmas.Option.{same_Some}
 use Rattle.dispatch_log.specs.declared.entry.Entry.{Entry}
 use Rattle.dispatch_log.specs.declared.entry.Entry.TheVariants.{Done, Freed, Ended}
 use Rattle.server_pick.specs.declared.placement.Placement.{Placement}
 use Rattle.server_pick.specs.declared.placement.Placement.TheVariants.{Slot, OwnQueue, BackendQueue, Nowhere}
 use Rattle.server_pick.specs.Picked.{IsPlacement}
-use Rattle.dispatch_log.specs.declared.refusal.Refusal.TheVariants.{LogFull, NoSuchTicket, WrongPhase}
 use Rattle.dispatch_log.specs.declared.row.Phase.{Phase}
 use Rattle.dispatch_log.specs.declared.row.Phase.TheVariants.{Loose, Waiting, Serving, Told}
 use Rattle.dispatch_log.specs.declared.row.Row.{Row}
 use Rattle.dispatch_log.specs.declared.setup.Setup.{Setup}
 use Rattle.dispatch_log.specs.Dispatch.{IsDispatched}
-use Rattle.dispatch_log.specs.Histories.{History, first_window, state_of, begins_event, refuses_done}
+use Rattle.dispatch_log.specs.Histories.{History, first_window, state_of, begins_event, refuses_done, start_of, end_of}
 use Rattle.dispatch_log.specs.Legal.{IsLegal, AddsEvent}
 use Rattle.dispatch_log.specs.Judgement.{Stage, returning, ending, granting, MayCome, next_stage, HasSlot, IsTold}
-use Rattle.dispatch_log.specs.Refusals.{first_of, is_waiting, lacks_room}
-use Rattle.dispatch_log.specs.Rows.{Rows, StandsAt, row_of, server_in, has_ticket, phase_is_served_by, phase_is_told}
-use Rattle.dispatch_log.specs.States.{State, after}
-use Rattle.dispatch_log.proofs.Accepted.{none_refuses}
+use Rattle.dispatch_log.specs.Refusals.{is_waiting, lacks_room}
+use Rattle.dispatch_log.specs.Rows.{StandsAt, row_of, server_in, phase_is_served_by, phase_is_told}
+use Rattle.dispatch_log.specs.States.{State, after, point_of}
+use Rattle.dispatch_log.proofs.Accepted.{row_of_found, ticket_tests}
 use Rattle.dispatch_log.proofs.Consistency.{IsConsistent}
 use Rattle.dispatch_log.proofs.Dispatched.{dispatched, base_consistent}
 use Rattle.dispatch_log.proofs.Runs.{first_legal, adds_legally}
@@ -36,24 +34,16 @@ use Rattle.dispatch_trace.specs.declared.position.Ticketed.{Ticketed}
 
 -- an entry may come after another
 pub may_next : (h : History) (e next : Entry) (t : Stage) → next_stage (stage_of h) e ≡ t
-    → MayCome h.setup (after h.setup (state_of h) e) (length (h.log ++ e ∷ [])) t next → MayComeNext (with_entry h e) next
+    → MayCome (point_of h.setup (after h.setup (state_of h) e) (length (h.log ++ e ∷ []))) t next → MayComeNext (with_entry h e) next
 may_next h e next t stage may =
-    subst (λ (s : State). MayCome h.setup s (length (h.log ++ e ∷ [])) (stage_of (with_entry h e)) next)
+    subst (λ (s : State). MayCome (point_of h.setup s (length (h.log ++ e ∷ []))) (stage_of (with_entry h e)) next)
     (sym (after_all-push h.setup h.base h.log e))
-    (subst (λ (x : Stage). MayCome h.setup (after h.setup (state_of h) e) (length (h.log ++ e ∷ [])) x next)
+    (subst (λ (x : Stage). MayCome (point_of h.setup (after h.setup (state_of h) e) (length (h.log ++ e ∷ []))) x next)
     (sym (stage_after-push granting h.log e ∙ stage)) may)
-
--- what is accepted has room, and nothing else refuses it
-done_tests : (a b c : Bool) → first_of ((a, LogFull) ∷ (b, NoSuchTicket) ∷ (c, WrongPhase) ∷ []) ≡ None
-    → (a ≡ false) × (b ≡ false) × (c ≡ false)
-done_tests a b c accepted =
-    let first = none_refuses a LogFull ((b, NoSuchTicket) ∷ (c, WrongPhase) ∷ []) accepted in
-    let second = none_refuses b NoSuchTicket ((c, WrongPhase) ∷ []) first.1 in
-    (first.0, second.0, (none_refuses c WrongPhase [] second.1).0)
 
 -- the states of a legal log are consistent
 pub legal_consistent : (h : History) → IsLegal h → IsConsistent (state_of h).rows (state_of h).ticket (stage_of h)
-legal_consistent h legal = consistent_all h.setup h.base 0 granting h.log (base_consistent h.setup h.base legal.begins) legal.lawful.judged
+legal_consistent h legal = consistent_all (start_of h) granting h.log (base_consistent h.setup h.base legal.begins) legal.lawful.judged
 
 -- no row of a legal log is in no place
 pub none_loose : (h : History) (row : Row) (p : ℕ) → IsLegal h → StandsAt (state_of h).rows p row → row.phase ≡ Loose → ⊥
@@ -62,41 +52,23 @@ none_loose h row p legal stands loose =
     ∙ (legal_consistent h legal).loose p row stands loose in
     cc
 
-further : (cell : Option Row) (rows : Rows) (t : ℕ) (r : Row) → (p : ℕ) × StandsAt rows p r × (r.key.ticket ≡ t)
-    → (p : ℕ) × StandsAt (cell ∷ rows) p r × (r.key.ticket ≡ t)
-further cell rows t r s = (suc s.0, s.1, s.2)
-
--- the row of a ticket stands somewhere
-row_of_stands : (rows : Rows) (t : ℕ) (r : Row) → row_of t rows ≡ Some r → (p : ℕ) × StandsAt rows p r × (r.key.ticket ≡ t)
-row_of_stands [] t r e = cc
-row_of_stands (None ∷ rows) t r e = further None rows t r (row_of_stands rows t r e)
-row_of_stands (Some u ∷ rows) t r e = by_test (has_ticket t (Some u)) refl (λ h. row_of_stands rows t r h)
-  where
-    by_test : (b : Bool) → has_ticket t (Some u) ≡ b → (row_of t rows ≡ Some r → (p : ℕ) × StandsAt rows p r × (r.key.ticket ≡ t))
-        → (p : ℕ) × StandsAt (Some u ∷ rows) p r × (r.key.ticket ≡ t)
-    by_test true test later =
-        let same : Some u ≡ Some r = sym (rw test refl) ∙ e in
-        let one : u ≡ r = same_Some u r same in
-        (0, ap (λ (x : Row). Some (Some x)) one, sym (ap (λ (x : Row). x.key.ticket) one) ∙ (Decides-eqb (u.key.ticket) t).0 test)
-    by_test false test later = further (Some u) rows t r (later (sym (rw test refl) ∙ e))
-
 -- a ticket that may be done has a slot, or was told that it isn't served
 return_of : (h : History) (t : ℕ) (row : Row) → IsLegal h → row_of t (state_of h).rows ≡ Some row → is_waiting row.phase ≡ false → (phase : Phase)
     → row.phase ≡ phase → IsReturn (state_of h).rows t (server_in phase)
 return_of h t row legal at rests Loose e =
-    let s = row_of_stands (state_of h).rows t row at in
-    absurd (none_loose h row s.0 legal s.1 e)
+    let s = row_of_found (state_of h).rows t row at in
+    absurd (none_loose h row s.place legal s.stands e)
 return_of h t row legal at rests (Waiting queue since) e = let no : true ≡ false = ap is_waiting (sym e) ∙ rests in cc
 return_of h t row legal at rests (Serving server) e =
-    let s = row_of_stands (state_of h).rows t row at in
-    record { row = row; live = (s.0, s.1); named = s.2; phase = ap (phase_is_served_by server) e ∙ (Decides-eqb server server).1 refl }
+    let s = row_of_found (state_of h).rows t row at in
+    record { row = row; live = (s.place, s.stands); named = s.named; phase = ap (phase_is_served_by server) e ∙ (Decides-eqb server server).1 refl }
 return_of h t row legal at rests (Told cause) e =
-    let s = row_of_stands (state_of h).rows t row at in
-    record { row = row; live = (s.0, s.1); named = s.2; phase = ap phase_is_told e }
+    let s = row_of_found (state_of h).rows t row at in
+    record { row = row; live = (s.place, s.stands); named = s.named; phase = ap phase_is_told e }
 
 pub done_returns : (h : History) (t : ℕ) → IsLegal h → refuses_done h t ≡ None
     → IsReturn (state_of h).rows t (option_and_then server_in (option_map (λ row. row.phase) (row_of t (state_of h).rows)))
-done_returns h t legal accepted = by_row (row_of t (state_of h).rows) refl (done_tests _ _ _ accepted)
+done_returns h t legal accepted = by_row (row_of t (state_of h).rows) refl (ticket_tests _ _ _ accepted)
   where
     by_row : (r : Option Row) → row_of t (state_of h).rows ≡ r → (lacks_room h.setup (length h.log) ≡ false) × (is_none r ≡ false)
         × (option_map_or (λ it. is_waiting it.phase) r false ≡ false)
@@ -116,10 +88,10 @@ begun_stage h one m t begun = ap stage_of begun ∙ stage_after-push granting h.
 
 -- a slot may be given back, and then its request ends
 pub may_free : (h : History) (t server : ℕ) → stage_of h ≡ returning t → HasSlot (state_of h).rows t server → MayComeNext h (Freed t server)
-may_free h t server stage has = subst (λ (x : Stage). MayCome h.setup (state_of h) (length h.log) x (Freed t server)) (sym stage) (refl, has)
+may_free h t server stage has = subst (λ (x : Stage). MayCome (end_of h) x (Freed t server)) (sym stage) (refl, has)
 
 pub may_end_told : (h : History) (t : ℕ) → stage_of h ≡ returning t → IsTold (state_of h).rows t → MayComeNext h (Ended t)
-may_end_told h t stage told = subst (λ (x : Stage). MayCome h.setup (state_of h) (length h.log) x (Ended t)) (sym stage) (refl, told)
+may_end_told h t stage told = subst (λ (x : Stage). MayCome (end_of h) x (Ended t)) (sym stage) (refl, told)
 
 pub freed_ends : (one two : History) (t server : ℕ) → stage_of one ≡ returning t → two ≡ with_entry one (Freed t server) → MayComeNext two (Ended t)
 freed_ends one two t server stage freed =
@@ -151,7 +123,7 @@ module _ (h one two : History) (m t : ℕ) (it : Ticketed) (found : IsFound (sta
   pub done_settles : IsLegal h → refuses_done h t ≡ None → one ≡ with_entry h (Done m it.ticket) → Leaves one two
       → length two.log + waiting_of two ≤ two.setup.log
   done_settles legal accepted begun is =
-      let begun_with = begun_room h one (Done m it.ticket) (has_room h (done_tests _ _ _ accepted).0) (legal_places h legal) begun in
+      let begun_with = begun_room h one (Done m it.ticket) (has_room h (ticket_tests _ _ _ accepted).0) (legal_places h legal) begun in
       let room = begun_with.room in
       room_left one two is.goes 2 is.few (omega arith) begun_with.places
 

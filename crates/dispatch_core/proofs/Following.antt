@@ -5,7 +5,7 @@ use Rattle.check_state.specs.declared.health.Change.TheVariants.{Stay, WentDown,
 use Rattle.check_state.specs.Standing.{change_between}
 use Rattle.dispatch_log.specs.declared.entry.Entry.TheVariants.{Health}
 use Rattle.dispatch_log.specs.declared.setup.Setup.{Setup}
-use Rattle.dispatch_log.specs.Histories.{History, state_of}
+use Rattle.dispatch_log.specs.Histories.{History, state_of, end_of}
 use Rattle.dispatch_log.specs.Judgement.{Stage, checking, falling, granting, IsOver, MayGrant, MayCome, was_up}
 use Rattle.dispatch_log.specs.Scenes.{is_up}
 use Rattle.dispatch_log.proofs.Judged.{stage_after-push}
@@ -55,7 +55,7 @@ module _ (h : History) (server : ℕ) (stage : stage_of h ≡ checking server) w
   pub may_tell_up : (change : Change) → change ≡ change_between was now → change ≡ WentUp → MayComeNext h (Health server true)
   may_tell_up change is goes =
       let both = up_both was now (sym goes ∙ is) in
-      subst (λ (t : Stage). MayCome h.setup (state_of h) (length h.log) t (Health server true)) (sym stage)
+      subst (λ (t : Stage). MayCome (end_of h) t (Health server true)) (sym stage)
       (refl, both.1, λ (e : was ≡ true). let no : false ≡ true = sym both.0 ∙ e in cc)
 
   pub carries_up : (one : History) → one ≡ with_entry h (Health server true) → HasEventRoom h → CarriesOn h one
@@ -69,7 +69,7 @@ module _ (h : History) (server : ℕ) (stage : stage_of h ≡ checking server) w
 
   pub may_tell_down : was ≡ true → now ≡ false → MayComeNext h (Health server false)
   may_tell_down before down =
-      subst (λ (t : Stage). MayCome h.setup (state_of h) (length h.log) t (Health server false)) (sym stage)
+      subst (λ (t : Stage). MayCome (end_of h) t (Health server false)) (sym stage)
       (refl, down, λ (e : was ≡ false). let no : true ≡ false = sym before ∙ e in cc)
 
   module _ (one : History) (goes : one ≡ with_entry h (Health server false)) where

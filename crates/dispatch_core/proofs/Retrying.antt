@@ -11,7 +11,7 @@ use Rattle.dispatch_log.specs.declared.row.Phase.{Phase}
 use Rattle.dispatch_log.specs.declared.row.Phase.TheVariants.{Loose, Waiting, Serving, Told}
 use Rattle.dispatch_log.specs.declared.row.Row.{Row}
 use Rattle.dispatch_log.specs.declared.setup.Setup.{Setup}
-use Rattle.dispatch_log.specs.Histories.{History, state_of, refuses_failure}
+use Rattle.dispatch_log.specs.Histories.{History, state_of, refuses_failure, end_of}
 use Rattle.dispatch_log.specs.Legal.{IsLegal}
 use Rattle.dispatch_log.specs.Judgement.{IsPut, Stage, failing, freed_by_failure, granting, MayGrant, MayCome, next_stage, HasSlot}
 use Rattle.dispatch_log.specs.Refusals.{has_a_slot}
@@ -60,7 +60,7 @@ module _ (one two : History) (t server : ℕ) (stage : stage_of one ≡ failing 
   -- its retries are spent
   pub may_tell_spent : are_spent one.setup (failures_of t (state_of one).rows) ≡ true → MayComeNext two (Left t Retries)
   may_tell_spent spent =
-      subst (λ (x : Stage). MayCome two.setup (state_of two) (length two.log) x (Left t Retries)) (sym freed_stage) (
+      subst (λ (x : Stage). MayCome (end_of two) x (Left t Retries)) (sym freed_stage) (
         refl,
         subst (λ (s : Setup). are_spent s (failures_of t (state_of two).rows) ≡ true) (sym freed_setup)
             (subst (λ n. are_spent one.setup n ≡ true) (sym freed_failures) spent),
@@ -92,11 +92,11 @@ module _ (one two : History) (t server : ℕ) (stage : stage_of one ≡ failing 
     -- and once all is settled it may be put anew
     pub redispatch_put : MayPut three None (Some server) t
     redispatch_put e put =
-        subst (λ (x : Stage). MayCome three.setup (state_of three) (length three.log) x e × (next_stage x e ≡ granting)) (sym settled_stage)
+        subst (λ (x : Stage). MayCome (end_of three) x e × (next_stage x e ≡ granting)) (sym settled_stage)
         (placed e put)
       where
         placed : (e : Entry) → IsPut (scene_of three) (state_of three).cursor None (Some server) t e
-            → MayCome three.setup (state_of three) (length three.log) (freed_by_failure t server) e × (next_stage (freed_by_failure t server) e ≡ granting)
+            → MayCome (end_of three) (freed_by_failure t server) e × (next_stage (freed_by_failure t server) e ≡ granting)
         placed (Direct u v) put = (record { redispatched = again; settled = settled.settled; put = put }, refl)
         placed (Joined u q) put = (record { redispatched = again; settled = settled.settled; put = put }, refl)
         placed (Left u NoServer) put = (record { redispatched = again; settled = settled.settled; put = put }, refl)

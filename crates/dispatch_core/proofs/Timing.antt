@@ -13,7 +13,7 @@ use Rattle.dispatch_log.specs.declared.row.Phase.{Phase}
 use Rattle.dispatch_log.specs.declared.row.Phase.TheVariants.{Told}
 use Rattle.dispatch_log.specs.declared.row.Row.{Row}
 use Rattle.dispatch_log.specs.declared.setup.Setup.{Setup}
-use Rattle.dispatch_log.specs.Histories.{History, SomeExpires, state_of, effective}
+use Rattle.dispatch_log.specs.Histories.{History, SomeExpires, state_of, effective, end_of}
 use Rattle.dispatch_log.specs.Legal.{IsLegal, AddsEvent}
 use Rattle.dispatch_log.specs.Judgement.{Stage, telling, granting, HasExpired, IsExpired, IsFirstExpired, IsInPhase, IsOver, MayGrant, MayCome, next_stage}
 use Rattle.dispatch_log.specs.Refusals.{is_waiting}
@@ -137,7 +137,7 @@ module _ (old now : History) (tickets : List (ℕ × ℕ)) (t u : ℕ) (since : 
   }
 
   pub may_time_out : MayComeNext now (Left t Timeout)
-  may_time_out = subst (λ (x : Stage). MayCome now.setup (state_of now) (length now.log) x (Left t Timeout)) (sym since.stage) is_first
+  may_time_out = subst (λ (x : Stage). MayCome (end_of now) x (Left t Timeout)) (sym since.stage) is_first
 
   pub expired_waits : IsInPhase is_waiting (state_of now).rows t
   expired_waits = record {

@@ -1,15 +1,13 @@
 -- What the parts of an event leave.
-use Rattle.std.specs.Prelude.{◌≡◌, ℕ, ◌+◌, ◌*◌, ◌≤◌, List, ◌++◌, Option, None, Some, IsTrue, length, All, false}
+use Rattle.std.specs.Prelude.{◌≡◌, ℕ, ◌+◌, ◌*◌, ◌≤◌, List, ◌++◌, Option, None, Some, length, All, false}
 use Rattle.dispatch_log.specs.declared.entry.Entry.{Entry}
-use Rattle.dispatch_log.specs.declared.queue.Queue.TheVariants.{Server}
-use Rattle.dispatch_log.specs.declared.row.Row.{Row}
 use Rattle.dispatch_log.specs.declared.setup.Setup.{Setup}
 use Rattle.dispatch_log.specs.Grants.{IsSettled}
 use Rattle.dispatch_log.specs.Histories.{History, state_of, begins_event}
 use Rattle.dispatch_log.specs.Judgement.{HasSlot, IsTold, granting, freed_by_failure, falling}
-use Rattle.dispatch_log.specs.Rows.{Rows, IsRow, pin_of, phase_waits_in}
+use Rattle.dispatch_log.specs.Rows.{Rows, pin_of}
 use Rattle.dispatch_trace.specs.declared.position.Ticketed.{Ticketed}
-use Rattle.dispatch_trace.specs.Histories.{with_entry, stage_of, scene_of, waiting_of, HasPlaces, IsAt, IsJudged, IsOverNext, MayGrantNext}
+use Rattle.dispatch_trace.specs.Histories.{with_entry, stage_of, scene_of, waiting_of, HasPlaces, IsAt, IsEmptied, IsJudged, IsOverNext, MayGrantNext}
 
 -- room enough for all that follows the first entry of an event: each place's request moves or is granted once and is granted
 -- once more, and three entries for the request or server that the event is about
@@ -71,4 +69,4 @@ pub record MovesAll (server : ℕ) (old new : History) : Type 0 where
   pub goes : GoesOn old new
   pub stage : stage_of new ≡ falling server
   pub few : length goes.entries ≤ waiting_of old
-  pub none : (row : Row) → IsRow (state_of new).rows row → IsTrue (phase_waits_in (Server server) row.phase) → ⊥
+  pub none : IsEmptied server new

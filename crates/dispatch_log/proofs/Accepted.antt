@@ -4,7 +4,7 @@ use Rattle.std.specs.Option.{option_map_or}
 use Rattle.std.proofs.lemmas.Bool.Decides.{Decides-eqb}
 use Rattle.std.proofs.lemmas.Option.{same_Some}
 use Rattle.dispatch_log.specs.declared.refusal.Refusal.{Refusal}
-use Rattle.dispatch_log.specs.declared.refusal.Refusal.TheVariants.{LogFull, NoSuchTicket, WrongPhase}
+use Rattle.dispatch_log.specs.declared.refusal.Refusal.TheVariants.{PlacesFull, LogFull, NoSuchTicket, WrongPhase, NoSuchServer, TicketsSpent}
 use Rattle.dispatch_log.specs.declared.row.Phase.{Phase}
 use Rattle.dispatch_log.specs.declared.row.Row.{Row}
 use Rattle.dispatch_log.specs.declared.setup.Setup.{Setup}
@@ -16,6 +16,23 @@ use Rattle.dispatch_log.specs.States.{State}
 pub none_refuses : (b : Bool) (r : Refusal) (rest : List (Bool × Refusal)) → first_of ((b, r) ∷ rest) ≡ None → (b ≡ false) × (first_of rest ≡ None)
 none_refuses true r rest e = cc
 none_refuses false r rest e = (refl, e)
+
+-- no test of an arrival holds that nothing refuses, and none of a ticket's event
+pub arrival_tests : (full unknown spent crowded : Bool)
+    → first_of ((full, LogFull) ∷ (unknown, NoSuchServer) ∷ (spent, TicketsSpent) ∷ (crowded, PlacesFull) ∷ []) ≡ None
+    → (full ≡ false) × (unknown ≡ false) × (spent ≡ false) × (crowded ≡ false)
+arrival_tests full unknown spent crowded accepted =
+    let first = none_refuses full LogFull ((unknown, NoSuchServer) ∷ (spent, TicketsSpent) ∷ (crowded, PlacesFull) ∷ []) accepted in
+    let second = none_refuses unknown NoSuchServer ((spent, TicketsSpent) ∷ (crowded, PlacesFull) ∷ []) first.1 in
+    let third = none_refuses spent TicketsSpent ((crowded, PlacesFull) ∷ []) second.1 in
+    (first.0, second.0, third.0, (none_refuses crowded PlacesFull [] third.1).0)
+
+pub ticket_tests : (full unknown wrong : Bool) → first_of ((full, LogFull) ∷ (unknown, NoSuchTicket) ∷ (wrong, WrongPhase) ∷ []) ≡ None
+    → (full ≡ false) × (unknown ≡ false) × (wrong ≡ false)
+ticket_tests full unknown wrong accepted =
+    let first = none_refuses full LogFull ((unknown, NoSuchTicket) ∷ (wrong, WrongPhase) ∷ []) accepted in
+    let second = none_refuses unknown NoSuchTicket ((wrong, WrongPhase) ∷ []) first.1 in
+    (first.0, second.0, (none_refuses wrong WrongPhase [] second.1).0)
 
 -- a ticket's row, where it stands
 pub record Stands (rows : Rows) (ticket : ℕ) (row : Row) : Type 0 where
@@ -51,11 +68,8 @@ pub record Accepted (wrong : Phase → Bool) (rows : Rows) (ticket : ℕ) : Type
 
 pub row_of_accepted : (wrong : Phase → Bool) (setup : Setup) (s : State) (n u : ℕ) → ticket_refusal wrong setup s n u ≡ None → Accepted wrong s.rows u
 row_of_accepted wrong setup s n u e =
-    let wrongly = option_map_or (λ (it : Row). wrong it.phase) (row_of u s.rows) false in
-    let room = none_refuses (lacks_room setup n) LogFull ((is_none (row_of u s.rows), NoSuchTicket) ∷ (wrongly, WrongPhase) ∷ []) e in
-    let there = none_refuses (is_none (row_of u s.rows)) NoSuchTicket ((wrongly, WrongPhase) ∷ []) room.1 in
-    let right = none_refuses wrongly WrongPhase [] there.1 in
-    by_row (row_of u s.rows) refl there.0 right.0
+    let tests = ticket_tests (lacks_room setup n) (is_none (row_of u s.rows)) (option_map_or (λ (it : Row). wrong it.phase) (row_of u s.rows) false) e in
+    by_row (row_of u s.rows) refl tests.1 tests.2
   where
     by_row : (row : Option Row) → row_of u s.rows ≡ row → is_none row ≡ false → option_map_or (λ (it : Row). wrong it.phase) row false ≡ false
         → Accepted wrong s.rows u
@@ -67,5 +81,4 @@ row_of_accepted wrong setup s n u e =
 -- the log has room for an event that nothing refuses
 pub accepted_room : (wrong : Phase → Bool) (setup : Setup) (s : State) (n u : ℕ) → ticket_refusal wrong setup s n u ≡ None → lacks_room setup n ≡ false
 accepted_room wrong setup s n u e =
-    (none_refuses (lacks_room setup n) LogFull
-    ((is_none (row_of u s.rows), NoSuchTicket) ∷ (option_map_or (λ (it : Row). wrong it.phase) (row_of u s.rows) false, WrongPhase) ∷ []) e).0
+    (ticket_tests (lacks_room setup n) (is_none (row_of u s.rows)) (option_map_or (λ (it : Row). wrong it.phase) (row_of u s.rows) false) e).0

@@ -12,7 +12,7 @@ use Rattle.dispatch_log.specs.Histories.{History, state_of, begins_event}
 use Rattle.dispatch_log.specs.Judgement.{Stage, granting, IsOver, MayCome, AllMayCome, next_stage, stage_after}
 use Rattle.dispatch_log.specs.Legal.{IsLegal}
 use Rattle.dispatch_log.specs.Rows.{IsVacant}
-use Rattle.dispatch_log.specs.States.{State, scene, after, after_all}
+use Rattle.dispatch_log.specs.States.{State, scene, after, after_all, Point, point_of, next_point}
 use Rattle.dispatch_log.proofs.Consistency.{IsConsistent}
 use Rattle.dispatch_log.proofs.Dispatched.{base_consistent}
 use Rattle.dispatch_log.proofs.Judged.{consistent_after}
@@ -73,9 +73,10 @@ pub record IsLeft (setup : Setup) (s : State) (t : Stage) : Type 0 where
   pub consistent : IsConsistent s.rows s.ticket t
   pub keeps : KeepsTo (length setup.servers) s
 
-left_after : (setup : Setup) (s : State) (n : ℕ) (t : Stage) (e : Entry) → IsLeft setup s t → MayCome setup s n t e
-    → IsLeft setup (after setup s e) (next_stage t e)
-left_after setup s n t e is may = record { consistent = consistent_after setup s n t e is.consistent may; keeps = keeps_after setup s n t e is.keeps may }
+left_after : (here : Point) (t : Stage) (e : Entry) → IsLeft here.setup here.state t → MayCome here t e
+    → IsLeft here.setup (after here.setup here.state e) (next_stage t e)
+left_after here t e is may =
+    record { consistent = consistent_after here t e is.consistent may; keeps = keeps_after here.setup here.state here.used t e is.keeps may }
 
 module _ (setup : Setup) (s other : State) (n : ℕ) (t : Stage) (is : IsLeft setup s t) (its : IsLeft setup other t) (same : IsSameButForPlaces s other) where
   quiet_back : (e : Entry) → IsNext setup other t e → IsNext setup s t e
@@ -83,10 +84,11 @@ module _ (setup : Setup) (s other : State) (n : ℕ) (t : Stage) (is : IsLeft se
       (subst (λ (x : State). IsNext setup x t e) same.rest next)
 
   -- the same entry, but for its place, leaves the same, but for places
-  vacant_at : (state : State) (e : Entry) (m : ℕ) (a : Arrival) → e ≡ Arrive m a → MayCome setup state n t e → IsVacant state.rows a.place
-  vacant_at state e m a is_arrival may = let it : MayCome setup state n t (Arrive m a) = subst (MayCome setup state n t) is_arrival may in it.1.vacant
+  vacant_at : (state : State) (e : Entry) (m : ℕ) (a : Arrival) → e ≡ Arrive m a → MayCome (point_of setup state n) t e → IsVacant state.rows a.place
+  vacant_at state e m a is_arrival may =
+      let it : MayCome (point_of setup state n) t (Arrive m a) = subst (MayCome (point_of setup state n) t) is_arrival may in it.1.vacant
 
-  arrivals_leave : (e f : Entry) → AreArrivals e f → MayCome setup s n t e → MayCome setup other n t f
+  arrivals_leave : (e f : Entry) → AreArrivals e f → MayCome (point_of setup s n) t e → MayCome (point_of setup other n) t f
       → IsSameButForPlaces (after setup s e) (after setup other f)
   arrivals_leave e f it may might =
       subst (λ x. IsSameButForPlaces (after setup s x) (after setup other f)) (sym it.is_first)
@@ -95,7 +97,8 @@ module _ (setup : Setup) (s other : State) (n : ℕ) (t : Stage) (is : IsLeft se
       (arrived-same setup s other.rows same.rows is.consistent.tickets its.consistent.tickets it.moment it.first it.second
       (vacant_at s e it.moment it.first it.is_first may) (vacant_at other f it.moment it.second it.is_second might) it.alike)))
 
-  same_leaves : (e : Entry) → MayCome setup s n t e → MayCome setup other n t e → IsSameButForPlaces (after setup s e) (after setup other e)
+  same_leaves : (e : Entry) → MayCome (point_of setup s n) t e → MayCome (point_of setup other n) t e
+      → IsSameButForPlaces (after setup s e) (after setup other e)
   same_leaves e may might =
       elim (arrival_or_not e) [
         | inl a ↦ arrivals_leave e e (record { moment = a.0; first = a.1; second = a.1; is_first = a.2; is_second = a.2; alike = refl }) may might
@@ -103,13 +106,13 @@ module _ (setup : Setup) (s other : State) (n : ℕ) (t : Stage) (is : IsLeft se
             (after-same setup s other.rows same.rows is.consistent.tickets its.consistent.tickets e a.1)
       ]
 
-  leaves : (e f : Entry) → unplaced e ≡ unplaced f → MayCome setup s n t e → MayCome setup other n t f
+  leaves : (e f : Entry) → unplaced e ≡ unplaced f → MayCome (point_of setup s n) t e → MayCome (point_of setup other n) t f
       → IsSameButForPlaces (after setup s e) (after setup other f)
   leaves e f alike may might =
       elim (same_or_arrivals e f alike) [
         | inl it ↦ arrivals_leave e f it may might
         | inr it ↦ subst (λ x. IsSameButForPlaces (after setup s e) (after setup other x)) it
-            (same_leaves e may (subst (MayCome setup other n t) (sym it) might))
+            (same_leaves e may (subst (MayCome (point_of setup other n) t) (sym it) might))
       ]
 
   next_same : (e f : Entry) → unplaced e ≡ unplaced f → next_stage t f ≡ next_stage t e
@@ -136,7 +139,7 @@ module _ (setup : Setup) where
 
   -- an entry more at the end of one of them
   none_more : (s other : State) (n : ℕ) (t : Stage) (f : Entry) (fs : List Entry) → IsLeft setup s t → IsLeft setup other t → IsSameButForPlaces s other
-      → MayEnd setup s t → MayCome setup other n t f → [] ≡ map unplaced (events (f ∷ fs)) → ⊥
+      → MayEnd setup s t → MayCome (point_of setup other n) t f → [] ≡ map unplaced (events (f ∷ fs)) → ⊥
   none_more s other n t f fs is its same ends may none = by_kind (begins_event f) refl
     where
       by_kind : (b : Bool) → begins_event f ≡ b → ⊥
@@ -145,7 +148,7 @@ module _ (setup : Setup) where
           (quiet_back setup s other n t is its same f (granted_or_owed setup other n t f quiet may))
 
   pub determined : (es fs : List Entry) (s other : State) (n : ℕ) (t : Stage) → IsLeft setup s t → IsLeft setup other t → IsSameButForPlaces s other
-      → AllMayCome setup s n t es → AllMayCome setup other n t fs
+      → AllMayCome (point_of setup s n) t es → AllMayCome (point_of setup other n) t fs
       → MayEnd setup (after_all setup s es) (stage_after t es) → MayEnd setup (after_all setup other fs) (stage_after t fs)
       → AreSameButForPlaces (events es) (events fs) → AreOne s other es fs
   determined [] [] s other n t is its same all each ends too events = (refl, same)
@@ -156,10 +159,10 @@ module _ (setup : Setup) where
       by_kinds (begins_event e) (begins_event f) refl refl
       (λ one tails.
       let stage : next_stage t f ≡ next_stage t e = next_same setup s other n t is its same e f one in
-      determined es fs (after setup s e) (after setup other f) (n + 1) (next_stage t e) (left_after setup s n t e is all.0)
-      (subst (IsLeft setup (after setup other f)) stage (left_after setup other n t f its each.0))
+      determined es fs (after setup s e) (after setup other f) (n + 1) (next_stage t e) (left_after (point_of setup s n) t e is all.0)
+      (subst (IsLeft setup (after setup other f)) stage (left_after (point_of setup other n) t f its each.0))
       (leaves setup s other n t is its same e f one all.0 each.0) all.1
-      (subst (λ x. AllMayCome setup (after setup other f) (n + 1) x fs) stage each.1) ends
+      (subst (λ x. AllMayCome (next_point (point_of setup other n) f) x fs) stage each.1) ends
       (subst (λ x. MayEnd setup (after_all setup (after setup other f) fs) (stage_after x fs)) stage too) tails)
     where
       with_heads : unplaced e ≡ unplaced f → AreOne (after setup s e) (after setup other f) es fs → AreOne s other (e ∷ es) (f ∷ fs)
@@ -175,11 +178,11 @@ module _ (setup : Setup) where
           let tails : map unplaced (events es) ≡ map unplaced (events fs) = cc in
           with_heads one (later one tails)
       by_kinds true false begins quiet later =
-          let may = event_begins setup s n t e begins all.0 in
+          let may = event_begins (point_of setup s n) t e begins all.0 in
           absurd (event_alone setup s is.consistent.tickets is.keeps.cursor t f may.0 may.1
           (quiet_back setup s other n t is its same f (granted_or_owed setup other n t f quiet each.0)))
       by_kinds false true quiet starts later =
-          let may = event_begins setup other n t f starts each.0 in
+          let may = event_begins (point_of setup other n) t f starts each.0 in
           absurd (event_alone setup other its.consistent.tickets its.keeps.cursor t e may.0 may.1
           (quiet_back setup other s n t its is (same_state-flip s other same) e (granted_or_owed setup s n t e quiet all.0)))
       by_kinds false false quiet still later =

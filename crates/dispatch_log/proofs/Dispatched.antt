@@ -16,14 +16,14 @@ use Rattle.dispatch_log.specs.declared.row.Row.{Row}
 use Rattle.dispatch_log.specs.declared.setup.ServerSet.{ServerSet}
 use Rattle.dispatch_log.specs.declared.setup.Setup.{Setup}
 use Rattle.dispatch_log.specs.Dispatch.{bound_by, bound_of, KeepsLimits, given_between, is_arrival_of, is_end_of, arrivals_of, ends_of, is_placed, IsDispatched}
-use Rattle.dispatch_log.specs.Histories.{History, state_of}
+use Rattle.dispatch_log.specs.Histories.{History, state_of, start_of}
 use Rattle.dispatch_log.specs.Legal.{IsBase, IsLegal}
 use Rattle.dispatch_log.specs.Judgement.{Stage, placing, returning, ending, failing, freed_by_failure, aborting, telling}
 use Rattle.dispatch_log.specs.Judgement.{checking, falling, granting, IsPut, MayCome, next_stage, stage_after, AllMayCome}
 use Rattle.dispatch_log.specs.Refusals.{has_a_slot}
 use Rattle.dispatch_log.specs.Retries.{failed}
 use Rattle.dispatch_log.specs.Rows.{Rows, StandsAt, IsRow, changed, in_phase, in_backend_since, gone, pin_of, has_ticket, is_served_by, served, rows_of}
-use Rattle.dispatch_log.specs.States.{State, scene, after, after_all, arrived}
+use Rattle.dispatch_log.specs.States.{State, scene, after, after_all, arrived, Point, point_of, next_point}
 use Rattle.dispatch_log.specs.Scenes.{Scene, is_free}
 use Rattle.dispatch_log.proofs.Accepted.{row_of_accepted}
 use Rattle.dispatch_log.proofs.Consistency.{IsConsistent, loose_ticket}
@@ -127,8 +127,8 @@ put_writes setup s t old (Left u NoServer) cursor ups pin avoid is one put =
 put_writes setup s t old e cursor ups pin avoid is one put = absurd put
 
 -- what every entry does that is judged
-writes_of : (setup : Setup) (s : State) (n : ℕ) (t : Stage) (e : Entry) → IsConsistent s.rows s.ticket t → MayCome setup s n t e → Does setup s e
-writes_of setup s n t (Arrive m a) is may = inl (record {
+writes_of : (here : Point) (t : Stage) (e : Entry) → IsConsistent here.state.rows here.state.ticket t → MayCome here t e → Does here.setup here.state e
+writes_of here t (Arrive m a) is may = inl (record {
   place = a.place;
   old = None;
   cell = Some (arrived a);
@@ -138,64 +138,67 @@ writes_of setup s n t (Arrive m a) is may = inl (record {
   takes = λ server e. false_true e;
   balanced = λ ticket. omega arith;
 })
-writes_of setup s n t (Done m u) is may = left setup s (Done m u) refl (λ keeps. keeps) (λ ticket. refl) (λ ticket. refl)
-writes_of setup s n t (Fail m u) is may =
-    let it = row_of_accepted (λ phase. not (has_a_slot phase)) setup s n u may.accepted in
-    named setup s (Fail m u) u it.place it.row (failed setup) is.tickets it.stands it.named refl refl (λ server same. inr same) (λ ticket. refl)
-writes_of setup s n t (Abort m u) is may = left setup s (Abort m u) refl (λ keeps. keeps) (λ ticket. refl) (λ ticket. refl)
-writes_of setup s n t (Tick m) is may = left setup s (Tick m) refl (λ keeps. keeps) (λ ticket. refl) (λ ticket. refl)
-writes_of setup s n t (Check m v ok) is may = left setup s (Check m v ok) refl (λ keeps. keeps) (λ ticket. refl) (λ ticket. refl)
-writes_of setup s n t (Limit m v k) is may =
-    left setup s (Limit m v k) refl
-    (λ keeps server some. limit_kept s.limits v server k (served v s.rows) (served server s.rows)
-    (λ same. subst (λ w. served server s.rows ≤ served w s.rows) (sym same) (omega arith)) (keeps server) some)
+writes_of here t (Done m u) is may = left here.setup here.state (Done m u) refl (λ keeps. keeps) (λ ticket. refl) (λ ticket. refl)
+writes_of here t (Fail m u) is may =
+    let it = row_of_accepted (λ phase. not (has_a_slot phase)) here.setup here.state here.used u may.accepted in
+    named here.setup here.state (Fail m u) u it.place it.row (failed here.setup) is.tickets it.stands it.named refl refl
+    (λ server same. inr same) (λ ticket. refl)
+writes_of here t (Abort m u) is may = left here.setup here.state (Abort m u) refl (λ keeps. keeps) (λ ticket. refl) (λ ticket. refl)
+writes_of here t (Tick m) is may = left here.setup here.state (Tick m) refl (λ keeps. keeps) (λ ticket. refl) (λ ticket. refl)
+writes_of here t (Check m v ok) is may = left here.setup here.state (Check m v ok) refl (λ keeps. keeps) (λ ticket. refl) (λ ticket. refl)
+writes_of here t (Limit m v k) is may =
+    left here.setup here.state (Limit m v k) refl
+    (λ keeps server some. limit_kept here.state.limits v server k (served v here.state.rows) (served server here.state.rows)
+    (λ same. subst (λ w. served server here.state.rows ≤ served w here.state.rows) (sym same) (omega arith)) (keeps server) some)
     (λ ticket. refl) (λ ticket. refl)
-writes_of setup s n t (Granted u q v) is may =
+writes_of here t (Granted u q v) is may =
     let it = may.1 in
-    named setup s (Granted u q v) u it.live.0 it.row (in_phase (Serving v)) is.tickets it.live.1 it.named refl refl
-    (λ server same. inl (slot_was_free setup s v server it.next.takes.0 same)) (λ ticket. refl)
-writes_of setup s n (placing t) e is may = put_writes setup s t (placing t) e s.cursor (scene setup s).ups (pin_of t s.rows) None is refl may
-writes_of setup s n (freed_by_failure t w) (Left u Retries) is may =
+    named here.setup here.state (Granted u q v) u it.live.0 it.row (in_phase (Serving v)) is.tickets it.live.1 it.named refl refl
+    (λ server same. inl (slot_was_free here.setup here.state v server it.next.takes.0 same)) (λ ticket. refl)
+writes_of here (placing t) e is may =
+    put_writes here.setup here.state t (placing t) e here.state.cursor (scene here.setup here.state).ups (pin_of t here.state.rows) None is refl may
+writes_of here (freed_by_failure t w) (Left u Retries) is may =
     let it = is.owed t refl in
-    named setup s (Left u Retries) u it.place it.row (in_phase (Told Retries)) is.tickets it.stands (it.named ∙ sym may.0) refl refl
+    named here.setup here.state (Left u Retries) u it.place it.row (in_phase (Told Retries)) is.tickets it.stands (it.named ∙ sym may.0) refl refl
     (λ server e. false_true e) (λ ticket. refl)
-writes_of setup s n (freed_by_failure t w) (Direct u v) is may =
-    put_writes setup s t (freed_by_failure t w) (Direct u v) s.cursor (scene setup s).ups None (Some w) is refl may.put
-writes_of setup s n (freed_by_failure t w) (Joined u q) is may =
-    put_writes setup s t (freed_by_failure t w) (Joined u q) s.cursor (scene setup s).ups None (Some w) is refl may.put
-writes_of setup s n (freed_by_failure t w) (Left u NoServer) is may =
-    put_writes setup s t (freed_by_failure t w) (Left u NoServer) s.cursor (scene setup s).ups None (Some w) is refl may.put
-writes_of setup s n (freed_by_failure t w) e is may = absurd may.put
-writes_of setup s n (returning t) (Freed u v) is may =
+writes_of here (freed_by_failure t w) (Direct u v) is may =
+    put_writes here.setup here.state t (freed_by_failure t w) (Direct u v) here.state.cursor (scene here.setup here.state).ups None (Some w) is refl may.put
+writes_of here (freed_by_failure t w) (Joined u q) is may =
+    put_writes here.setup here.state t (freed_by_failure t w) (Joined u q) here.state.cursor (scene here.setup here.state).ups None (Some w) is refl may.put
+writes_of here (freed_by_failure t w) (Left u NoServer) is may =
+    put_writes here.setup here.state t (freed_by_failure t w) (Left u NoServer)
+    here.state.cursor (scene here.setup here.state).ups None (Some w) is refl may.put
+writes_of here (freed_by_failure t w) e is may = absurd may.put
+writes_of here (returning t) (Freed u v) is may =
     let slot = may.1 in
-    named setup s (Freed u v) u slot.live.0 slot.row (in_phase Loose) is.tickets slot.live.1 slot.named refl refl
+    named here.setup here.state (Freed u v) u slot.live.0 slot.row (in_phase Loose) is.tickets slot.live.1 slot.named refl refl
     (λ server e. false_true e) (λ ticket. refl)
-writes_of setup s n (failing t) (Freed u v) is may =
+writes_of here (failing t) (Freed u v) is may =
     let slot = may.1 in
-    named setup s (Freed u v) u slot.live.0 slot.row (in_phase Loose) is.tickets slot.live.1 slot.named refl refl
+    named here.setup here.state (Freed u v) u slot.live.0 slot.row (in_phase Loose) is.tickets slot.live.1 slot.named refl refl
     (λ server e. false_true e) (λ ticket. refl)
-writes_of setup s n (failing t) (Retried u v k) is may = left setup s (Retried u v k) refl (λ keeps. keeps) (λ ticket. refl) (λ ticket. refl)
-writes_of setup s n (ending t) (Ended u) is may =
+writes_of here (failing t) (Retried u v k) is may = left here.setup here.state (Retried u v k) refl (λ keeps. keeps) (λ ticket. refl) (λ ticket. refl)
+writes_of here (ending t) (Ended u) is may =
     let it = is.owed t refl in
-    named setup s (Ended u) u it.place it.row gone is.tickets it.stands (it.named ∙ sym may) refl refl
+    named here.setup here.state (Ended u) u it.place it.row gone is.tickets it.stands (it.named ∙ sym may) refl refl
     (λ server e. false_true e) (λ ticket. ended ticket it.row.key.ticket u (it.named ∙ sym may))
-writes_of setup s n (returning t) (Ended u) is may =
+writes_of here (returning t) (Ended u) is may =
     let told = may.1 in
-    named setup s (Ended u) u told.live.0 told.row gone is.tickets told.live.1 told.named refl refl
+    named here.setup here.state (Ended u) u told.live.0 told.row gone is.tickets told.live.1 told.named refl refl
     (λ server e. false_true e) (λ ticket. ended ticket told.row.key.ticket u told.named)
-writes_of setup s n (aborting t) (Left u Aborted) is may =
+writes_of here (aborting t) (Left u Aborted) is may =
     let it = may.1 in
-    named setup s (Left u Aborted) u it.live.0 it.row (in_phase (Told Aborted)) is.tickets it.live.1 it.named refl refl
+    named here.setup here.state (Left u Aborted) u it.live.0 it.row (in_phase (Told Aborted)) is.tickets it.live.1 it.named refl refl
     (λ server e. false_true e) (λ ticket. refl)
-writes_of setup s n telling (Left u Timeout) is may =
-    named setup s (Left u Timeout) u may.expired.0.0 may.row (in_phase (Told Timeout)) is.tickets may.expired.0.1 may.named refl refl
+writes_of here telling (Left u Timeout) is may =
+    named here.setup here.state (Left u Timeout) u may.expired.0.0 may.row (in_phase (Told Timeout)) is.tickets may.expired.0.1 may.named refl refl
     (λ server e. false_true e) (λ ticket. refl)
-writes_of setup s n (checking w) (Health v up) is may = left setup s (Health v up) refl (λ keeps. keeps) (λ ticket. refl) (λ ticket. refl)
-writes_of setup s n (falling w) (Moved u v) is may =
+writes_of here (checking w) (Health v up) is may = left here.setup here.state (Health v up) refl (λ keeps. keeps) (λ ticket. refl) (λ ticket. refl)
+writes_of here (falling w) (Moved u v) is may =
     let it = may.2 in
-    named setup s (Moved u v) u it.live.0 it.row (in_backend_since s.moment) is.tickets it.live.1 it.named refl refl
+    named here.setup here.state (Moved u v) u it.live.0 it.row (in_backend_since here.state.moment) is.tickets it.live.1 it.named refl refl
     (λ server e. false_true e) (λ ticket. refl)
-writes_of setup s n t e is may = absurd may
+writes_of here t e is may = absurd may
 
 -- a free server serves fewer than its bound
 free_below : (setup : Setup) (s : State) (server : ℕ) → is_free (slots setup s) server ≡ true → 0 < bound_of s server → served server s.rows < bound_of s server
@@ -240,101 +243,104 @@ limits_written setup s next e w keeps server some = subst (λ n. served server n
     by_test false e = let none : tally (is_served_by server w.cell) ≡ 0 = ap tally e in omega (arith, count, kept)
 
 -- limits are kept by every entry
-limits_after : (setup : Setup) (s : State) (n : ℕ) (t : Stage) (e : Entry) → IsConsistent s.rows s.ticket t → MayCome setup s n t e → KeepsLimits s
-    → KeepsLimits (after setup s e)
-limits_after setup s n t e is may keeps =
-    elim (writes_of setup s n t e is may) [ inl w ↦ limits_written setup s (after setup s e) e w keeps | inr w ↦ w.keeps keeps ]
+limits_after : (here : Point) (t : Stage) (e : Entry) → IsConsistent here.state.rows here.state.ticket t → MayCome here t e → KeepsLimits here.state
+    → KeepsLimits (after here.setup here.state e)
+limits_after here t e is may keeps =
+    elim (writes_of here t e is may) [ inl w ↦ limits_written here.setup here.state (after here.setup here.state e) e w keeps | inr w ↦ w.keeps keeps ]
 
-pub limits_all : (setup : Setup) (s : State) (n : ℕ) (t : Stage) (es : List Entry) → IsConsistent s.rows s.ticket t → AllMayCome setup s n t es → KeepsLimits s
-    → KeepsLimits (after_all setup s es)
-limits_all setup s n t [] is all keeps = keeps
-limits_all setup s n t (e ∷ es) is all keeps =
-    limits_all setup (after setup s e) (n + 1) (next_stage t e) es (consistent_after setup s n t e is all.0) all.1 (limits_after setup s n t e is all.0 keeps)
+pub limits_all : (here : Point) (t : Stage) (es : List Entry) → IsConsistent here.state.rows here.state.ticket t → AllMayCome here t es → KeepsLimits here.state
+    → KeepsLimits (after_all here.setup here.state es)
+limits_all here t [] is all keeps = keeps
+limits_all here t (e ∷ es) is all keeps =
+    limits_all (next_point here e) (next_stage t e) es (consistent_after here t e is all.0) all.1 (limits_after here t e is all.0 keeps)
 
 -- the rows of a ticket and its ends after an entry are those before and its arrivals
-balance_after : (setup : Setup) (s : State) (n : ℕ) (t : Stage) (e : Entry) (ticket : ℕ) → IsConsistent s.rows s.ticket t → MayCome setup s n t e
-    → rows_of ticket (after setup s e).rows + tally (is_end_of ticket e) ≡ rows_of ticket s.rows + tally (is_arrival_of ticket e)
-balance_after setup s n t e ticket is may =
-    elim (writes_of setup s n t e is may) [
+balance_after : (here : Point) (t : Stage) (e : Entry) (ticket : ℕ) → IsConsistent here.state.rows here.state.ticket t → MayCome here t e
+    → rows_of ticket (after here.setup here.state e).rows + tally (is_end_of ticket e) ≡ rows_of ticket here.state.rows + tally (is_arrival_of ticket e)
+balance_after here t e ticket is may =
+    elim (writes_of here t e is may) [
       | inl w ↦
-          let count : rows_of ticket (set s.rows w.place w.cell) + tally (has_ticket ticket w.old) ≡ rows_of ticket s.rows + tally (has_ticket ticket w.cell) =
-          count-set (has_ticket ticket) s.rows w.place w.old w.cell w.stood in
+          let count : rows_of ticket (set here.state.rows w.place w.cell) + tally (has_ticket ticket w.old)
+          ≡ rows_of ticket here.state.rows + tally (has_ticket ticket w.cell) =
+          count-set (has_ticket ticket) here.state.rows w.place w.old w.cell w.stood in
           let even : tally (has_ticket ticket w.old) + tally (is_arrival_of ticket e) ≡ tally (has_ticket ticket w.cell) + tally (is_end_of ticket e) =
           w.balanced ticket in
-          subst (λ rows. rows_of ticket rows + tally (is_end_of ticket e) ≡ rows_of ticket s.rows + tally (is_arrival_of ticket e)) (sym w.written)
+          subst (λ rows. rows_of ticket rows + tally (is_end_of ticket e) ≡ rows_of ticket here.state.rows + tally (is_arrival_of ticket e)) (sym w.written)
           (omega arith)
       | inr w ↦
           let arrival : tally (is_arrival_of ticket e) ≡ 0 = ap tally (w.no_arrival ticket) in
           let end : tally (is_end_of ticket e) ≡ 0 = ap tally (w.no_end ticket) in
-          let same : rows_of ticket (after setup s e).rows ≡ rows_of ticket s.rows = ap (rows_of ticket) w.same in
+          let same : rows_of ticket (after here.setup here.state e).rows ≡ rows_of ticket here.state.rows = ap (rows_of ticket) w.same in
           omega arith
     ]
 
-balance_all : (setup : Setup) (s : State) (n : ℕ) (t : Stage) (es : List Entry) (ticket : ℕ) → IsConsistent s.rows s.ticket t → AllMayCome setup s n t es
-    → rows_of ticket (after_all setup s es).rows + ends_of ticket es ≡ rows_of ticket s.rows + arrivals_of ticket es
-balance_all setup s n t [] ticket is all = refl
-balance_all setup s n t (e ∷ es) ticket is all =
-    let one = balance_after setup s n t e ticket is all.0 in
-    let rest : rows_of ticket (after_all setup (after setup s e) es).rows + ends_of ticket es ≡ rows_of ticket (after setup s e).rows + arrivals_of ticket es =
-    balance_all setup (after setup s e) (n + 1) (next_stage t e) es ticket (consistent_after setup s n t e is all.0) all.1 in
+balance_all : (here : Point) (t : Stage) (es : List Entry) (ticket : ℕ) → IsConsistent here.state.rows here.state.ticket t → AllMayCome here t es
+    → rows_of ticket (after_all here.setup here.state es).rows + ends_of ticket es ≡ rows_of ticket here.state.rows + arrivals_of ticket es
+balance_all here t [] ticket is all = refl
+balance_all here t (e ∷ es) ticket is all =
+    let one = balance_after here t e ticket is all.0 in
+    let rest : rows_of ticket (after_all here.setup (after here.setup here.state e) es).rows + ends_of ticket es
+    ≡ rows_of ticket (after here.setup here.state e).rows + arrivals_of ticket es =
+    balance_all (next_point here e) (next_stage t e) es ticket (consistent_after here t e is all.0) all.1 in
     let ends : ends_of ticket (e ∷ es) ≡ tally (is_end_of ticket e) + ends_of ticket es = sum_by-cons (λ x. tally (is_end_of ticket x)) e es in
     let arrivals : arrivals_of ticket (e ∷ es) ≡ tally (is_arrival_of ticket e) + arrivals_of ticket es =
     sum_by-cons (λ x. tally (is_arrival_of ticket x)) e es in
     omega arith
 
 -- tickets rise
-pub last_after : (setup : Setup) (s : State) (n : ℕ) (t : Stage) (e : Entry) → MayCome setup s n t e → s.ticket ≤ (after setup s e).ticket
-last_after setup s n t (Arrive m a) may = let next : a.ticket ≡ s.ticket + 1 = may.1.numbered in omega arith
-last_after setup s n t (Done m u) may = omega arith
-last_after setup s n t (Fail m u) may = omega arith
-last_after setup s n t (Abort m u) may = omega arith
-last_after setup s n t (Tick m) may = omega arith
-last_after setup s n t (Check m v ok) may = omega arith
-last_after setup s n t (Limit m v k) may = omega arith
-last_after setup s n t (Direct u v) may = omega arith
-last_after setup s n t (Joined u q) may = omega arith
-last_after setup s n t (Granted u q v) may = omega arith
-last_after setup s n t (Moved u v) may = omega arith
-last_after setup s n t (Freed u v) may = omega arith
-last_after setup s n t (Retried u v k) may = omega arith
-last_after setup s n t (Left u c) may = omega arith
-last_after setup s n t (Health v up) may = omega arith
-last_after setup s n t (Ended u) may = omega arith
+pub last_after : (here : Point) (t : Stage) (e : Entry) → MayCome here t e → here.state.ticket ≤ (after here.setup here.state e).ticket
+last_after here t (Arrive m a) may = let next : a.ticket ≡ here.state.ticket + 1 = may.1.numbered in omega arith
+last_after here t (Done m u) may = omega arith
+last_after here t (Fail m u) may = omega arith
+last_after here t (Abort m u) may = omega arith
+last_after here t (Tick m) may = omega arith
+last_after here t (Check m v ok) may = omega arith
+last_after here t (Limit m v k) may = omega arith
+last_after here t (Direct u v) may = omega arith
+last_after here t (Joined u q) may = omega arith
+last_after here t (Granted u q v) may = omega arith
+last_after here t (Moved u v) may = omega arith
+last_after here t (Freed u v) may = omega arith
+last_after here t (Retried u v k) may = omega arith
+last_after here t (Left u c) may = omega arith
+last_after here t (Health v up) may = omega arith
+last_after here t (Ended u) may = omega arith
 
-last_all : (setup : Setup) (s : State) (n : ℕ) (t : Stage) (es : List Entry) → AllMayCome setup s n t es → s.ticket ≤ (after_all setup s es).ticket
-last_all setup s n t [] all = omega arith
-last_all setup s n t (e ∷ es) all =
-    let one : s.ticket ≤ (after setup s e).ticket = last_after setup s n t e all.0 in
-    let rest : (after setup s e).ticket ≤ (after_all setup (after setup s e) es).ticket = last_all setup (after setup s e) (n + 1) (next_stage t e) es all.1 in
+last_all : (here : Point) (t : Stage) (es : List Entry) → AllMayCome here t es → here.state.ticket ≤ (after_all here.setup here.state es).ticket
+last_all here t [] all = omega arith
+last_all here t (e ∷ es) all =
+    let one : here.state.ticket ≤ (after here.setup here.state e).ticket = last_after here t e all.0 in
+    let rest : (after here.setup here.state e).ticket ≤ (after_all here.setup (after here.setup here.state e) es).ticket =
+    last_all (next_point here e) (next_stage t e) es all.1 in
     omega arith
 
 -- a ticket arrives as it is given
-given_after : (setup : Setup) (first : ℕ) (s : State) (n : ℕ) (t : Stage) (e : Entry) (ticket : ℕ) → first ≤ s.ticket → MayCome setup s n t e
-    → given_between first s.ticket ticket + tally (is_arrival_of ticket e) ≡ given_between first (after setup s e).ticket ticket
-given_after setup first s n t (Arrive m a) ticket past may = let next : a.ticket ≡ s.ticket + 1 = may.1.numbered in grind (arith, nat_tests)
-given_after setup first s n t (Done m u) ticket past may = omega arith
-given_after setup first s n t (Fail m u) ticket past may = omega arith
-given_after setup first s n t (Abort m u) ticket past may = omega arith
-given_after setup first s n t (Tick m) ticket past may = omega arith
-given_after setup first s n t (Check m v ok) ticket past may = omega arith
-given_after setup first s n t (Limit m v k) ticket past may = omega arith
-given_after setup first s n t (Direct u v) ticket past may = omega arith
-given_after setup first s n t (Joined u q) ticket past may = omega arith
-given_after setup first s n t (Granted u q v) ticket past may = omega arith
-given_after setup first s n t (Moved u v) ticket past may = omega arith
-given_after setup first s n t (Freed u v) ticket past may = omega arith
-given_after setup first s n t (Retried u v k) ticket past may = omega arith
-given_after setup first s n t (Left u c) ticket past may = omega arith
-given_after setup first s n t (Health v up) ticket past may = omega arith
-given_after setup first s n t (Ended u) ticket past may = omega arith
+given_after : (here : Point) (first : ℕ) (t : Stage) (e : Entry) (ticket : ℕ) → first ≤ here.state.ticket → MayCome here t e
+    → given_between first here.state.ticket ticket + tally (is_arrival_of ticket e) ≡ given_between first (after here.setup here.state e).ticket ticket
+given_after here first t (Arrive m a) ticket past may = let next : a.ticket ≡ here.state.ticket + 1 = may.1.numbered in grind (arith, nat_tests)
+given_after here first t (Done m u) ticket past may = omega arith
+given_after here first t (Fail m u) ticket past may = omega arith
+given_after here first t (Abort m u) ticket past may = omega arith
+given_after here first t (Tick m) ticket past may = omega arith
+given_after here first t (Check m v ok) ticket past may = omega arith
+given_after here first t (Limit m v k) ticket past may = omega arith
+given_after here first t (Direct u v) ticket past may = omega arith
+given_after here first t (Joined u q) ticket past may = omega arith
+given_after here first t (Granted u q v) ticket past may = omega arith
+given_after here first t (Moved u v) ticket past may = omega arith
+given_after here first t (Freed u v) ticket past may = omega arith
+given_after here first t (Retried u v k) ticket past may = omega arith
+given_after here first t (Left u c) ticket past may = omega arith
+given_after here first t (Health v up) ticket past may = omega arith
+given_after here first t (Ended u) ticket past may = omega arith
 
-given_all : (setup : Setup) (first : ℕ) (s : State) (n : ℕ) (t : Stage) (es : List Entry) (ticket : ℕ) → first ≤ s.ticket → AllMayCome setup s n t es
-    → given_between first s.ticket ticket + arrivals_of ticket es ≡ given_between first (after_all setup s es).ticket ticket
-given_all setup first s n t [] ticket past all = omega arith
-given_all setup first s n t (e ∷ es) ticket past all =
-    let one = given_after setup first s n t e ticket past all.0 in
-    let later : s.ticket ≤ (after setup s e).ticket = last_after setup s n t e all.0 in
-    let rest = given_all setup first (after setup s e) (n + 1) (next_stage t e) es ticket (omega arith) all.1 in
+given_all : (here : Point) (first : ℕ) (t : Stage) (es : List Entry) (ticket : ℕ) → first ≤ here.state.ticket → AllMayCome here t es
+    → given_between first here.state.ticket ticket + arrivals_of ticket es ≡ given_between first (after_all here.setup here.state es).ticket ticket
+given_all here first t [] ticket past all = omega arith
+given_all here first t (e ∷ es) ticket past all =
+    let one = given_after here first t e ticket past all.0 in
+    let later : here.state.ticket ≤ (after here.setup here.state e).ticket = last_after here t e all.0 in
+    let rest = given_all (next_point here e) first (next_stage t e) es ticket (omega arith) all.1 in
     let arrivals : arrivals_of ticket (e ∷ es) ≡ tally (is_arrival_of ticket e) + arrivals_of ticket es =
     sum_by-cons (λ x. tally (is_arrival_of ticket x)) e es in
     omega arith
@@ -368,7 +374,7 @@ base_consistent setup base is = record {
     by_count p r a some one = grind (arith, nat_tests)
 
 pub legal_consistent : (h : History) → IsLegal h → IsConsistent (state_of h).rows (state_of h).ticket (stage_after granting h.log)
-legal_consistent h legal = consistent_all h.setup h.base 0 granting h.log (base_consistent h.setup h.base legal.begins) legal.lawful.judged
+legal_consistent h legal = consistent_all (start_of h) granting h.log (base_consistent h.setup h.base legal.begins) legal.lawful.judged
 
 -- the rows that a ticket has at a window's end
 one_row : (first last ticket rows now ends arrivals : ℕ) → first ≤ last → rows ≤ given_between 0 first ticket → arrivals ≡ given_between first last ticket
@@ -386,18 +392,18 @@ dispatched h legal =
     let arrived_once = λ (ticket : ℕ).
     let none : given_between base.ticket base.ticket ticket ≡ 0 = grind (arith, nat_tests) in
     let all : given_between base.ticket base.ticket ticket + arrivals_of ticket h.log ≡ given_between base.ticket (state_of h).ticket ticket =
-    given_all h.setup base.ticket base 0 granting h.log ticket (omega arith) judged in
+    given_all (point_of h.setup base 0) base.ticket granting h.log ticket (omega arith) judged in
     (let it : arrivals_of ticket h.log ≡ given_between base.ticket (state_of h).ticket ticket = omega arith in it)
     in
     record {
-      limits = limits_all h.setup base 0 granting h.log opened judged legal.begins.dispatched.limits;
+      limits = limits_all (point_of h.setup base 0) granting h.log opened judged legal.begins.dispatched.limits;
       one_place = λ ticket. record {
         arrives_once = arrived_once ticket;
-        until_its_end = balance_all h.setup base 0 granting h.log ticket opened judged;
+        until_its_end = balance_all (point_of h.setup base 0) granting h.log ticket opened judged;
         one_row = one_row base.ticket (state_of h).ticket ticket (rows_of ticket base.rows) (rows_of ticket (state_of h).rows) (ends_of ticket h.log)
             (arrivals_of ticket h.log)
-            (last_all h.setup base 0 granting h.log judged) (legal.begins.dispatched.one_place ticket).one_row (arrived_once ticket)
-            (balance_all h.setup base 0 granting h.log ticket opened judged);
+            (last_all (point_of h.setup base 0) granting h.log judged) (legal.begins.dispatched.one_place ticket).one_row (arrived_once ticket)
+            (balance_all (point_of h.setup base 0) granting h.log ticket opened judged);
       };
       placed = λ row live. placed_row (state_of h).rows (state_of h).ticket stage row end
           (over_none h.setup (state_of h) stage legal.lawful.whole) live row.phase refl;

@@ -20,7 +20,7 @@ use Rattle.dispatch_log.specs.Health.{results_of}
 use Rattle.dispatch_log.specs.Refusals.{is_waiting, has_a_slot, failure_refusal}
 use Rattle.dispatch_log.specs.Retries.{failed}
 use Rattle.dispatch_log.specs.Rows.{Rows, StandsAt, with_change, changed, in_phase, in_backend_since, gone, phase_waits_in, pin_of, served}
-use Rattle.dispatch_log.specs.States.{State, scene, after, after_all, arrived}
+use Rattle.dispatch_log.specs.States.{State, scene, after, after_all, arrived, Point, point_of, next_point, point_after}
 use Rattle.dispatch_log.specs.Scenes.{Scene}
 use Rattle.dispatch_log.proofs.Accepted.{row_of_accepted}
 use Rattle.dispatch_log.proofs.Consistency.{IsConsistent, IsLoose, loose_ticket, at_stage, placed, moved, loosened, removed, dismissed, admitted}
@@ -36,14 +36,14 @@ stage_after-push t [] e = refl
 stage_after-push t (x ∷ es) e = stage_after-push (next_stage t x) es e
 
 -- an entry that may come at the end
-pub judged_push : (setup : Setup) (s : State) (n : ℕ) (t : Stage) (es : List Entry) (e : Entry) → AllMayCome setup s n t es
-    → MayCome setup (after_all setup s es) (n + length es) (stage_after t es) e → AllMayCome setup s n t (es ++ e ∷ [])
-judged_push setup s n t [] e all may = (subst (λ k. MayCome setup s k t e) (omega arith) may, tt)
-judged_push setup s n t (x ∷ es) e all may = (
+pub judged_push : (here : Point) (t : Stage) (es : List Entry) (e : Entry) → AllMayCome here t es
+    → MayCome (point_after here es) (stage_after t es) e → AllMayCome here t (es ++ e ∷ [])
+judged_push here t [] e all may = (subst (λ k. MayCome (point_of here.setup here.state k) t e) (omega arith) may, tt)
+judged_push here t (x ∷ es) e all may = (
   all.0,
-  judged_push setup (after setup s x) (n + 1) (next_stage t x) es e all.1
-      (let longer : n + length (x ∷ es) ≡ (n + 1) + length es = omega arith in
-      subst (λ k. MayCome setup (after_all setup s (x ∷ es)) k (stage_after t (x ∷ es)) e) longer may),
+  judged_push (next_point here x) (next_stage t x) es e all.1
+      (let longer : here.used + length (x ∷ es) ≡ (here.used + 1) + length es = omega arith in
+      subst (λ k. MayCome (point_of here.setup (after_all here.setup here.state (x ∷ es)) k) (stage_after t (x ∷ es)) e) longer may),
 )
 
 -- an event begins where no row is in no place
@@ -133,66 +133,73 @@ failed_after setup s n m u t new is stay accepted =
     (slot_firm it.row.phase it.right)
 
 -- a judged entry keeps states consistent
-pub consistent_after : (setup : Setup) (s : State) (n : ℕ) (t : Stage) (e : Entry) → IsConsistent s.rows s.ticket t → MayCome setup s n t e
-    → IsConsistent (after setup s e).rows (after setup s e).ticket (next_stage t e)
-consistent_after setup s n t (Arrive m a) is may =
-    admitted s.rows s.ticket a.place t (arrived a) is (over_none setup s t may.0.over) may.1.vacant may.1.numbered refl
-consistent_after setup s n t (Done m u) is may = at_stage s.rows s.ticket t (returning u) is (over_none setup s t may.over)
-consistent_after setup s n t (Fail m u) is may = failed_after setup s n m u t (failing u) is (over_none setup s t may.over) may.accepted
-consistent_after setup s n t (Abort m u) is may = at_stage s.rows s.ticket t (aborting u) is (over_none setup s t may.over)
-consistent_after setup s n t (Tick m) is may = at_stage s.rows s.ticket t telling is (over_none setup s t may.over)
-consistent_after setup s n t (Check m v ok) is may = at_stage s.rows s.ticket t (checking v) is (over_none setup s t may.over)
-consistent_after setup s n t (Limit m v k) is may = at_stage s.rows s.ticket t granting is (over_none setup s t may.over)
-consistent_after setup s n t (Granted u q v) is may =
+pub consistent_after : (here : Point) (t : Stage) (e : Entry) → IsConsistent here.state.rows here.state.ticket t → MayCome here t e
+    → IsConsistent (after here.setup here.state e).rows (after here.setup here.state e).ticket (next_stage t e)
+consistent_after here t (Arrive m a) is may =
+    admitted here.state.rows here.state.ticket a.place t (arrived a) is (over_none here.setup here.state t may.0.over) may.1.vacant may.1.numbered refl
+consistent_after here t (Done m u) is may = at_stage here.state.rows here.state.ticket t (returning u) is (over_none here.setup here.state t may.over)
+consistent_after here t (Fail m u) is may =
+    failed_after here.setup here.state here.used m u t (failing u) is (over_none here.setup here.state t may.over) may.accepted
+consistent_after here t (Abort m u) is may = at_stage here.state.rows here.state.ticket t (aborting u) is (over_none here.setup here.state t may.over)
+consistent_after here t (Tick m) is may = at_stage here.state.rows here.state.ticket t telling is (over_none here.setup here.state t may.over)
+consistent_after here t (Check m v ok) is may = at_stage here.state.rows here.state.ticket t (checking v) is (over_none here.setup here.state t may.over)
+consistent_after here t (Limit m v k) is may = at_stage here.state.rows here.state.ticket t granting is (over_none here.setup here.state t may.over)
+consistent_after here t (Granted u q v) is may =
     let it = may.1 in
-    moves_on s.rows s.ticket u it.live.0 t (next_stage t (Granted u q v)) it.row (record it.row { phase = Serving v }) (in_phase (Serving v)) is
-    (grant_keeps setup s t u v q may.0)
+    moves_on here.state.rows here.state.ticket u it.live.0 t (next_stage t (Granted u q v)) it.row (record it.row { phase = Serving v })
+    (in_phase (Serving v)) is
+    (grant_keeps here.setup here.state t u v q may.0)
     it.live.1 it.named refl refl (waits_firm q it.row.phase it.waits) (λ e. cc)
-consistent_after setup s n (placing t) (Direct u v) is may =
-    put_after setup s t (placing t) (Direct u v) (scene setup s) s.cursor (pin_of t s.rows) None is refl refl may
-consistent_after setup s n (placing t) (Joined u q) is may =
-    put_after setup s t (placing t) (Joined u q) (scene setup s) s.cursor (pin_of t s.rows) None is refl refl may
-consistent_after setup s n (placing t) (Left u NoServer) is may =
-    put_after setup s t (placing t) (Left u NoServer) (scene setup s) s.cursor (pin_of t s.rows) None is refl refl may
-consistent_after setup s n (freed_by_failure t w) (Direct u v) is may =
-    put_after setup s t (freed_by_failure t w) (Direct u v) (scene setup s) s.cursor None (Some w) is refl refl may.put
-consistent_after setup s n (freed_by_failure t w) (Joined u q) is may =
-    put_after setup s t (freed_by_failure t w) (Joined u q) (scene setup s) s.cursor None (Some w) is refl refl may.put
-consistent_after setup s n (freed_by_failure t w) (Left u NoServer) is may =
-    put_after setup s t (freed_by_failure t w) (Left u NoServer) (scene setup s) s.cursor None (Some w) is refl refl may.put
-consistent_after setup s n (freed_by_failure t w) (Left u Retries) is may =
-    settled_in s t u (freed_by_failure t w) granting (Told Retries) is refl refl may.0 (λ e. cc)
-consistent_after setup s n (freed_by_failure t w) e is may = absurd may.put
-consistent_after setup s n (returning t) (Freed u v) is may = gives_back s u u v (returning t) (ending u) is refl refl refl may.1
-consistent_after setup s n (failing t) (Freed u v) is may = gives_back s u u v (failing t) (freed_by_failure u v) is refl refl refl may.1
-consistent_after setup s n (failing t) (Retried u v k) is may = at_stage s.rows s.ticket (failing t) granting is refl
-consistent_after setup s n (ending t) (Ended u) is may =
+consistent_after here (placing t) (Direct u v) is may =
+    put_after here.setup here.state t (placing t) (Direct u v) (scene here.setup here.state) here.state.cursor (pin_of t here.state.rows) None is refl refl may
+consistent_after here (placing t) (Joined u q) is may =
+    put_after here.setup here.state t (placing t) (Joined u q) (scene here.setup here.state) here.state.cursor (pin_of t here.state.rows) None is refl refl may
+consistent_after here (placing t) (Left u NoServer) is may =
+    put_after here.setup here.state t (placing t) (Left u NoServer) (scene here.setup here.state) here.state.cursor
+    (pin_of t here.state.rows) None is refl refl may
+consistent_after here (freed_by_failure t w) (Direct u v) is may =
+    put_after here.setup here.state t (freed_by_failure t w) (Direct u v) (scene here.setup here.state) here.state.cursor None (Some w) is refl refl may.put
+consistent_after here (freed_by_failure t w) (Joined u q) is may =
+    put_after here.setup here.state t (freed_by_failure t w) (Joined u q) (scene here.setup here.state) here.state.cursor None (Some w) is refl refl may.put
+consistent_after here (freed_by_failure t w) (Left u NoServer) is may =
+    put_after here.setup here.state t (freed_by_failure t w) (Left u NoServer) (scene here.setup here.state) here.state.cursor
+    None (Some w) is refl refl may.put
+consistent_after here (freed_by_failure t w) (Left u Retries) is may =
+    settled_in here.state t u (freed_by_failure t w) granting (Told Retries) is refl refl may.0 (λ e. cc)
+consistent_after here (freed_by_failure t w) e is may = absurd may.put
+consistent_after here (returning t) (Freed u v) is may = gives_back here.state u u v (returning t) (ending u) is refl refl refl may.1
+consistent_after here (failing t) (Freed u v) is may = gives_back here.state u u v (failing t) (freed_by_failure u v) is refl refl refl may.1
+consistent_after here (failing t) (Retried u v k) is may = at_stage here.state.rows here.state.ticket (failing t) granting is refl
+consistent_after here (ending t) (Ended u) is may =
     let it = is.owed t refl in
-    subst (λ rows. IsConsistent rows s.ticket granting) (sym (changed_at s.rows u it.place it.row gone is.tickets it.stands (it.named ∙ sym may)))
-    (removed s.rows s.ticket t it.place (ending t) granting it.row is refl refl it.stands it.named)
-consistent_after setup s n (returning t) (Ended u) is may =
+    subst (λ rows. IsConsistent rows here.state.ticket granting)
+    (sym (changed_at here.state.rows u it.place it.row gone is.tickets it.stands (it.named ∙ sym may)))
+    (removed here.state.rows here.state.ticket t it.place (ending t) granting it.row is refl refl it.stands it.named)
+consistent_after here (returning t) (Ended u) is may =
     let told = may.1 in
-    subst (λ rows. IsConsistent rows s.ticket granting) (sym (changed_at s.rows u told.live.0 told.row gone is.tickets told.live.1 told.named))
-    (dismissed s.rows s.ticket told.live.0 (returning t) granting told.row is refl refl told.live.1)
-consistent_after setup s n (aborting t) (Left u Aborted) is may =
+    subst (λ rows. IsConsistent rows here.state.ticket granting)
+    (sym (changed_at here.state.rows u told.live.0 told.row gone is.tickets told.live.1 told.named))
+    (dismissed here.state.rows here.state.ticket told.live.0 (returning t) granting told.row is refl refl told.live.1)
+consistent_after here (aborting t) (Left u Aborted) is may =
     let it = may.1 in
-    moves_on s.rows s.ticket u it.live.0 (aborting t) granting it.row (record it.row { phase = Told Aborted })
+    moves_on here.state.rows here.state.ticket u it.live.0 (aborting t) granting it.row (record it.row { phase = Told Aborted })
     (in_phase (Told Aborted)) is refl it.live.1 it.named refl refl (waiting_firm it.row.phase it.phase) (λ e. cc)
-consistent_after setup s n telling (Left u Timeout) is may =
-    moves_on s.rows s.ticket u may.expired.0.0 telling telling may.row (record may.row { phase = Told Timeout })
-    (in_phase (Told Timeout)) is refl may.expired.0.1 may.named refl refl (expired_firm setup s.moment may.row.phase may.expired.1) (λ e. cc)
-consistent_after setup s n (checking w) (Health v true) is may = at_stage s.rows s.ticket (checking w) granting is refl
-consistent_after setup s n (checking w) (Health v false) is may = at_stage s.rows s.ticket (checking w) (falling v) is refl
-consistent_after setup s n (falling w) (Moved u v) is may =
+consistent_after here telling (Left u Timeout) is may =
+    moves_on here.state.rows here.state.ticket u may.expired.0.0 telling telling may.row (record may.row { phase = Told Timeout })
+    (in_phase (Told Timeout)) is refl may.expired.0.1 may.named refl refl (expired_firm here.setup here.state.moment may.row.phase may.expired.1) (λ e. cc)
+consistent_after here (checking w) (Health v true) is may = at_stage here.state.rows here.state.ticket (checking w) granting is refl
+consistent_after here (checking w) (Health v false) is may = at_stage here.state.rows here.state.ticket (checking w) (falling v) is refl
+consistent_after here (falling w) (Moved u v) is may =
     let it = may.2 in
-    moves_on s.rows s.ticket u it.live.0 (falling w) (falling v) it.row (record it.row { pin = None; phase = Waiting Backend s.moment })
-    (in_backend_since s.moment) is refl it.live.1 it.named refl refl (waits_firm (Server v) it.row.phase it.waits) (λ e. cc)
-consistent_after setup s n t e is may = absurd may
+    moves_on here.state.rows here.state.ticket u it.live.0 (falling w) (falling v) it.row
+    (record it.row { pin = None; phase = Waiting Backend here.state.moment })
+    (in_backend_since here.state.moment) is refl it.live.1 it.named refl refl (waits_firm (Server v) it.row.phase it.waits) (λ e. cc)
+consistent_after here t e is may = absurd may
 
-pub consistent_all : (setup : Setup) (s : State) (n : ℕ) (t : Stage) (es : List Entry) → IsConsistent s.rows s.ticket t → AllMayCome setup s n t es
-    → IsConsistent (after_all setup s es).rows (after_all setup s es).ticket (stage_after t es)
-consistent_all setup s n t [] is all = is
-consistent_all setup s n t (e ∷ es) is all = consistent_all setup (after setup s e) (n + 1) (next_stage t e) es (consistent_after setup s n t e is all.0) all.1
+pub consistent_all : (here : Point) (t : Stage) (es : List Entry) → IsConsistent here.state.rows here.state.ticket t → AllMayCome here t es
+    → IsConsistent (after_all here.setup here.state es).rows (after_all here.setup here.state es).ticket (stage_after t es)
+consistent_all here t [] is all = is
+consistent_all here t (e ∷ es) is all = consistent_all (next_point here e) (next_stage t e) es (consistent_after here t e is all.0) all.1
 
 -- the same row under an equal ticket
 renamed : (rows : Rows) (t u : ℕ) → IsLoose rows t → u ≡ t → IsLoose rows u
@@ -268,63 +275,63 @@ limits_all setup s [] = refl
 limits_all setup s (e ∷ es) = limits_all setup (after setup s e) es ∙ limits_after setup s e
 
 -- the row that a placement names is in no place yet
-pub direct_row : (setup : Setup) (s : State) (n : ℕ) (t : Stage) (u v : ℕ) → IsConsistent s.rows s.ticket t → MayCome setup s n t (Direct u v)
-    → IsLoose s.rows u
-direct_row setup s n (placing t) u v is may = renamed s.rows t u (is.owed t refl) may.0
-direct_row setup s n (freed_by_failure t w) u v is may = renamed s.rows t u (is.owed t refl) may.put.0
-direct_row setup s n t u v is may = absurd may
+pub direct_row : (here : Point) (t : Stage) (u v : ℕ) → IsConsistent here.state.rows here.state.ticket t → MayCome here t (Direct u v)
+    → IsLoose here.state.rows u
+direct_row here (placing t) u v is may = renamed here.state.rows t u (is.owed t refl) may.0
+direct_row here (freed_by_failure t w) u v is may = renamed here.state.rows t u (is.owed t refl) may.put.0
+direct_row here t u v is may = absurd may
 
-pub joined_row : (setup : Setup) (s : State) (n : ℕ) (t : Stage) (u : ℕ) (q : Queue) → IsConsistent s.rows s.ticket t → MayCome setup s n t (Joined u q)
-    → IsLoose s.rows u
-joined_row setup s n (placing t) u q is may = renamed s.rows t u (is.owed t refl) may.0
-joined_row setup s n (freed_by_failure t w) u q is may = renamed s.rows t u (is.owed t refl) may.put.0
-joined_row setup s n t u q is may = absurd may
+pub joined_row : (here : Point) (t : Stage) (u : ℕ) (q : Queue) → IsConsistent here.state.rows here.state.ticket t → MayCome here t (Joined u q)
+    → IsLoose here.state.rows u
+joined_row here (placing t) u q is may = renamed here.state.rows t u (is.owed t refl) may.0
+joined_row here (freed_by_failure t w) u q is may = renamed here.state.rows t u (is.owed t refl) may.put.0
+joined_row here t u q is may = absurd may
 
 -- the row that is told is in no place yet, or waits
-pub left_row : (setup : Setup) (s : State) (n : ℕ) (t : Stage) (u : ℕ) (c : Cause) → IsConsistent s.rows s.ticket t → MayCome setup s n t (Left u c)
-    → IsLoose s.rows u ⊎ IsInPhase is_waiting s.rows u
-left_row setup s n (placing t) u NoServer is may = inl (renamed s.rows t u (is.owed t refl) may.0)
-left_row setup s n (freed_by_failure t w) u NoServer is may = inl (renamed s.rows t u (is.owed t refl) may.put.0)
-left_row setup s n (freed_by_failure t w) u Retries is may = inl (renamed s.rows t u (is.owed t refl) may.0)
-left_row setup s n (freed_by_failure t w) u c is may = absurd may.put
-left_row setup s n (aborting t) u Aborted is may = inr may.1
-left_row setup s n telling u Timeout is may = inr (record { row = may.row; live = may.expired.0; named = may.named; phase = waits may.row.phase may.expired.1 })
+pub left_row : (here : Point) (t : Stage) (u : ℕ) (c : Cause) → IsConsistent here.state.rows here.state.ticket t → MayCome here t (Left u c)
+    → IsLoose here.state.rows u ⊎ IsInPhase is_waiting here.state.rows u
+left_row here (placing t) u NoServer is may = inl (renamed here.state.rows t u (is.owed t refl) may.0)
+left_row here (freed_by_failure t w) u NoServer is may = inl (renamed here.state.rows t u (is.owed t refl) may.put.0)
+left_row here (freed_by_failure t w) u Retries is may = inl (renamed here.state.rows t u (is.owed t refl) may.0)
+left_row here (freed_by_failure t w) u c is may = absurd may.put
+left_row here (aborting t) u Aborted is may = inr may.1
+left_row here telling u Timeout is may = inr (record { row = may.row; live = may.expired.0; named = may.named; phase = waits may.row.phase may.expired.1 })
   where
-    waits : (phase : Phase) → HasExpired setup s.moment phase → IsTrue (is_waiting phase)
+    waits : (phase : Phase) → HasExpired here.setup here.state.moment phase → IsTrue (is_waiting phase)
     waits (Waiting q m) expired = refl
     waits Loose expired = absurd expired
     waits (Serving v) expired = absurd expired
     waits (Told c) expired = absurd expired
-left_row setup s n t u c is may = absurd may
+left_row here t u c is may = absurd may
 
 -- where neither an abort nor a timeout is told, it is in no place
-pub loose_left : (setup : Setup) (s : State) (n : ℕ) (t : Stage) (u : ℕ) (c : Cause) → IsConsistent s.rows s.ticket t → c ≢ Aborted → c ≢ Timeout
-    → MayCome setup s n t (Left u c) → IsLoose s.rows u
-loose_left setup s n (placing t) u NoServer is first second may = renamed s.rows t u (is.owed t refl) may.0
-loose_left setup s n (freed_by_failure t w) u NoServer is first second may = renamed s.rows t u (is.owed t refl) may.put.0
-loose_left setup s n (freed_by_failure t w) u Retries is first second may = renamed s.rows t u (is.owed t refl) may.0
-loose_left setup s n (freed_by_failure t w) u c is first second may = absurd may.put
-loose_left setup s n (aborting t) u Aborted is first second may = absurd (first refl)
-loose_left setup s n telling u Timeout is first second may = absurd (second refl)
-loose_left setup s n t u c is first second may = absurd may
+pub loose_left : (here : Point) (t : Stage) (u : ℕ) (c : Cause) → IsConsistent here.state.rows here.state.ticket t → c ≢ Aborted → c ≢ Timeout
+    → MayCome here t (Left u c) → IsLoose here.state.rows u
+loose_left here (placing t) u NoServer is first second may = renamed here.state.rows t u (is.owed t refl) may.0
+loose_left here (freed_by_failure t w) u NoServer is first second may = renamed here.state.rows t u (is.owed t refl) may.put.0
+loose_left here (freed_by_failure t w) u Retries is first second may = renamed here.state.rows t u (is.owed t refl) may.0
+loose_left here (freed_by_failure t w) u c is first second may = absurd may.put
+loose_left here (aborting t) u Aborted is first second may = absurd (first refl)
+loose_left here telling u Timeout is first second may = absurd (second refl)
+loose_left here t u c is first second may = absurd may
 
 -- the row that ends is in no place, or told
-pub ended_row : (setup : Setup) (s : State) (n : ℕ) (t : Stage) (u : ℕ) → IsConsistent s.rows s.ticket t → MayCome setup s n t (Ended u)
-    → IsLoose s.rows u ⊎ IsTold s.rows u
-ended_row setup s n (ending t) u is may = inl (renamed s.rows t u (is.owed t refl) may)
-ended_row setup s n (returning t) u is may = inr may.1
-ended_row setup s n (freed_by_failure t w) u is may = absurd may.put
-ended_row setup s n t u is may = absurd may
+pub ended_row : (here : Point) (t : Stage) (u : ℕ) → IsConsistent here.state.rows here.state.ticket t → MayCome here t (Ended u)
+    → IsLoose here.state.rows u ⊎ IsTold here.state.rows u
+ended_row here (ending t) u is may = inl (renamed here.state.rows t u (is.owed t refl) may)
+ended_row here (returning t) u is may = inr may.1
+ended_row here (freed_by_failure t w) u is may = absurd may.put
+ended_row here t u is may = absurd may
 
 -- a slot that is given back was the ticket's
-pub freed_slot : (setup : Setup) (s : State) (n : ℕ) (t : Stage) (u v : ℕ) → MayCome setup s n t (Freed u v) → HasSlot s.rows u v
-freed_slot setup s n (returning t) u v may = may.1
-freed_slot setup s n (failing t) u v may = may.1
-freed_slot setup s n (freed_by_failure t w) u v may = absurd may.put
-freed_slot setup s n t u v may = absurd may
+pub freed_slot : (here : Point) (t : Stage) (u v : ℕ) → MayCome here t (Freed u v) → HasSlot here.state.rows u v
+freed_slot here (returning t) u v may = may.1
+freed_slot here (failing t) u v may = may.1
+freed_slot here (freed_by_failure t w) u v may = absurd may.put
+freed_slot here t u v may = absurd may
 
 -- a stay that is moved is the first of its server's queue
-pub moved_row : (setup : Setup) (s : State) (n : ℕ) (t : Stage) (u v : ℕ) → MayCome setup s n t (Moved u v) → IsFirstIn (Server v) s.rows u
-moved_row setup s n (falling w) u v may = may.2
-moved_row setup s n (freed_by_failure t w) u v may = absurd may.put
-moved_row setup s n t u v may = absurd may
+pub moved_row : (here : Point) (t : Stage) (u v : ℕ) → MayCome here t (Moved u v) → IsFirstIn (Server v) here.state.rows u
+moved_row here (falling w) u v may = may.2
+moved_row here (freed_by_failure t w) u v may = absurd may.put
+moved_row here t u v may = absurd may

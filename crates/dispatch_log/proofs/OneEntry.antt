@@ -21,7 +21,7 @@ use Rattle.dispatch_log.specs.Judgement.{freed_by_failure, aborting, telling, ch
 use Rattle.dispatch_log.specs.Refusals.{is_waiting}
 use Rattle.dispatch_log.specs.Retries.{are_spent, are_redispatched, are_retried}
 use Rattle.dispatch_log.specs.Rows.{Rows, phase_is_served_by, phase_is_told, phase_waits_in, pin_of, failures_of}
-use Rattle.dispatch_log.specs.States.{State, scene}
+use Rattle.dispatch_log.specs.States.{State, scene, Point, point_of}
 use Rattle.dispatch_log.specs.Scenes.{Scene, is_up, is_free, may_go_to}
 use Rattle.dispatch_log.proofs.Choices.{key_same, row_same, waits_same, goes, taker_same, chosen_same, chosen_not_backend, chosen_not_away}
 use Rattle.dispatch_log.proofs.RowLemmas.{HaveOwnTickets}
@@ -57,7 +57,7 @@ module _ (setup : Setup) (s : State) where
   abbrev pub IsNext : Stage → Entry → Type 0
   IsNext stage entry = MayBeGranted stage entry ⊎ Owed stage entry
 
-  pub granted_or_owed : (n : ℕ) (t : Stage) (e : Entry) → begins_event e ≡ false → MayCome setup s n t e → IsNext t e
+  pub granted_or_owed : (n : ℕ) (t : Stage) (e : Entry) → begins_event e ≡ false → MayCome (point_of setup s n) t e → IsNext t e
   granted_or_owed n t (Arrive m a) none may = false_true (sym none)
   granted_or_owed n t (Done m u) none may = false_true (sym none)
   granted_or_owed n t (Fail m u) none may = false_true (sym none)
@@ -326,13 +326,13 @@ module _ (setup : Setup) (s : State) (own : HaveOwnTickets s.rows) (within : 0 <
   event_alone t e over settled (inr owed) = over_owes_none t e over owed
 
 -- an event may come where the one before is over and all is settled
-pub event_begins : (setup : Setup) (s : State) (n : ℕ) (t : Stage) (e : Entry) → begins_event e ≡ true → MayCome setup s n t e
-    → IsOver setup s t × IsSettled (scene setup s)
-event_begins setup s n t (Arrive m a) begins may = (may.0.over, may.0.settled)
-event_begins setup s n t (Done m u) begins may = (may.over, may.settled)
-event_begins setup s n t (Fail m u) begins may = (may.over, may.settled)
-event_begins setup s n t (Abort m u) begins may = (may.over, may.settled)
-event_begins setup s n t (Tick m) begins may = (may.over, may.settled)
-event_begins setup s n t (Check m v ok) begins may = (may.over, may.settled)
-event_begins setup s n t (Limit m v k) begins may = (may.over, may.settled)
-event_begins setup s n t e begins may = false_true begins
+pub event_begins : (here : Point) (t : Stage) (e : Entry) → begins_event e ≡ true → MayCome here t e
+    → IsOver here.setup here.state t × IsSettled (scene here.setup here.state)
+event_begins here t (Arrive m a) begins may = (may.0.over, may.0.settled)
+event_begins here t (Done m u) begins may = (may.over, may.settled)
+event_begins here t (Fail m u) begins may = (may.over, may.settled)
+event_begins here t (Abort m u) begins may = (may.over, may.settled)
+event_begins here t (Tick m) begins may = (may.over, may.settled)
+event_begins here t (Check m v ok) begins may = (may.over, may.settled)
+event_begins here t (Limit m v k) begins may = (may.over, may.settled)
+event_begins here t e begins may = false_true begins

@@ -25,6 +25,7 @@ use Rattle.dispatch_log.specs.Worked.{plain_server}
 use Rattle.dispatch_log.specs.WorkedChanges.{checked_server, worked_with_checks, worked_in_time}
 use Rattle.dispatch_log.proofs.FourPlaces.{for_no_row, for_one_row, for_two_rows, for_three_rows, first_row, second_row, third_row}
 use Rattle.dispatch_log.specs.WorkedRight.{redispatch_to_the_other_server, told_by_rising_ticket, fall_moves_its_queue}
+use Rattle.dispatch_log.specs.Histories.{start_of}
 
 pub up_by : (m n : ℕ) → m ≤ m + n
 up_by m n = omega arith
@@ -57,7 +58,7 @@ settled_alone servers limits ups a none server can =
     for_one_row (λ r. IsTrue (may_go_to (record { servers = servers; limits = limits; ups = ups; rows = Some a ∷ None ∷ None ∷ None ∷ [] }) server r.phase)
     → ⊥) a (λ goes. false_true (sym (none server) ∙ goes)) can.1.0 can.1.1 can.1.2
 
-redispatch_is_lawful : AreLawful (worked_with_checks []).setup (worked_with_checks []).base 0 redispatch_to_the_other_server
+redispatch_is_lawful : AreLawful (start_of (worked_with_checks [])) redispatch_to_the_other_server
 redispatch_is_lawful = record {
   judged = (
     (
@@ -106,7 +107,7 @@ redispatch_is_lawful = record {
       (first_row None 1 (Serving 1)) (λ server. refl);
 }
 
-rising_is_lawful : AreLawful (worked_in_time []).setup (worked_in_time []).base 0 told_by_rising_ticket
+rising_is_lawful : AreLawful (start_of (worked_in_time [])) told_by_rising_ticket
 rising_is_lawful = record {
   judged = (
     (
@@ -214,7 +215,7 @@ once_moved = record {
   rows = Some (first_row (Some 0) 0 (Serving 0)) ∷ Some (second_row None (Waiting Backend 2)) ∷ None ∷ None ∷ [];
 }
 
-fall_is_lawful : AreLawful (worked_with_checks []).setup (worked_with_checks []).base 0 fall_moves_its_queue
+fall_is_lawful : AreLawful (start_of (worked_with_checks [])) fall_moves_its_queue
 fall_is_lawful = record {
   judged = (
     (

@@ -14,7 +14,7 @@ use Rattle.dispatch_log.specs.Histories.{next_window}
 use Rattle.dispatch_log.specs.Judgement.{AreLawful, AllMayCome, granting}
 use Rattle.dispatch_log.specs.Legal.{IsLegal}
 use Rattle.dispatch_log.specs.Setups.{IsSound, is_within}
-use Rattle.dispatch_log.specs.States.{State, after_all, opening_limits}
+use Rattle.dispatch_log.specs.States.{State, after_all, opening_limits, point_of}
 use Rattle.dispatch_log.specs.Scenes.{Scene, may_go_to}
 use Rattle.dispatch_log.specs.Worked.{plain_server, worked, worked_setup, two_wait}
 use Rattle.dispatch_log.specs.WorkedWindows.{pair_server, worked_by_pairs, two_are_served}
@@ -38,8 +38,8 @@ abbrev pairs_start : State
 pairs_start = (worked_by_pairs []).base
 
 -- tickets 1 and 2 are served and 3 waits, and so a log may go on that may come after that
-pairs_served : (rest : List Entry) → AllMayCome by_pairs (after_all by_pairs pairs_start two_are_served) 6 granting rest
-    → AllMayCome by_pairs pairs_start 0 granting (two_are_served ++ rest)
+pairs_served : (rest : List Entry) → AllMayCome (point_of by_pairs (after_all by_pairs pairs_start two_are_served) 6) granting rest
+    → AllMayCome (point_of by_pairs pairs_start 0) granting (two_are_served ++ rest)
 pairs_served rest follows = (
   (
     record { over = tt; settled = λ server can. for_no_row can.1.0 can.1.1; accepted = refl; later = up_by 0 0; within = omega arith },
@@ -111,7 +111,7 @@ once_raised = record {
   rows = Some (first_row None 0 (Serving 0)) ∷ Some (pair_row (Serving 0)) ∷ Some last_row ∷ None ∷ [];
 }
 
-raised_is_lawful : AreLawful by_pairs pairs_start 0 raised_limit_grants
+raised_is_lawful : AreLawful (point_of by_pairs pairs_start 0) raised_limit_grants
 raised_is_lawful = record {
   judged = pairs_served (Limit 3 0 3 ∷ Granted 3 Backend 0 ∷ []) (
     record {
@@ -152,7 +152,7 @@ raised_is_lawful = record {
   settled = for_one_server _ (λ can. false_true can.0) (λ n can. false_true can.0);
 }
 
-lowered_is_lawful : AreLawful by_pairs pairs_start 0 lowered_limit_is_reached
+lowered_is_lawful : AreLawful (point_of by_pairs pairs_start 0) lowered_limit_is_reached
 lowered_is_lawful = record {
   judged = pairs_served (Limit 3 0 1 ∷ Done 4 1 ∷ Freed 1 0 ∷ Ended 1 ∷ []) (
     record {
@@ -187,7 +187,7 @@ pub lowered_is_legal : IsLegal (worked_by_pairs lowered_limit_is_reached)
 lowered_is_legal = record { begins = opening_base by_pairs; lawful = lowered_is_lawful }
 
 -- the window before, whose log is legal
-two_wait_is_lawful : AreLawful worked_setup (worked []).base 0 two_wait
+two_wait_is_lawful : AreLawful (point_of worked_setup (worked []).base 0) two_wait
 two_wait_is_lawful = record {
   judged = (
     (
@@ -266,7 +266,7 @@ once_ended = record {
   rows = None ∷ Some (second_row None (Waiting Backend 1)) ∷ Some (third_row None (Waiting Backend 2)) ∷ None ∷ [];
 }
 
-waits_are_lawful : AreLawful worked_setup (next_window (worked two_wait)).base 0 waits_of_the_base_are_served.log
+waits_are_lawful : AreLawful (point_of worked_setup (next_window (worked two_wait)).base 0) waits_of_the_base_are_served.log
 waits_are_lawful = record {
   judged = (
     record {

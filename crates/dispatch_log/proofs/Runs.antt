@@ -3,44 +3,44 @@ use Rattle.std.proofs.Common.{◌≡◌, ℕ, ◌+◌, true, Option, List, [], �
 use Rattle.dispatch_log.specs.declared.entry.Entry.{Entry}
 use Rattle.dispatch_log.specs.declared.entry.Entry.TheVariants.{Arrive, Done, Fail, Abort, Tick, Check, Limit, Granted}
 use Rattle.dispatch_log.specs.declared.setup.Setup.{Setup}
-use Rattle.dispatch_log.specs.Histories.{History, state_of, begins_event, first_window}
+use Rattle.dispatch_log.specs.Histories.{History, state_of, begins_event, first_window, start_of, end_of}
 use Rattle.dispatch_log.specs.Judgement.{Stage, granting, IsOver, MayBegin, MayCome, AllMayCome, AreLawful, next_stage, stage_after}
 use Rattle.dispatch_log.specs.Legal.{IsLegal, AddsEvent}
 use Rattle.dispatch_log.specs.Runs.{Call, event, roll, GoesOnBy, GoesBy, IsRun}
 use Rattle.dispatch_log.specs.Grants.{IsSettled}
 use Rattle.dispatch_log.specs.Setups.{IsSound}
 use Rattle.list_facts.proofs.Never.{false_true}
-use Rattle.dispatch_log.specs.States.{State, scene, after, after_all}
+use Rattle.dispatch_log.specs.States.{State, scene, after, after_all, Point, point_of, next_point, point_after}
 use Rattle.dispatch_log.specs.declared.refusal.Refusal.{Refusal}
 use Rattle.dispatch_log.proofs.Windows.{opening_base, empty_legal, next_legal}
 
 -- where all is settled an event alone may come
-pub is_event : (setup : Setup) (s : State) (n : ℕ) (e : Entry) → IsSettled (scene setup s) → MayCome setup s n granting e → begins_event e ≡ true
-is_event setup s n (Arrive m a) settled may = refl
-is_event setup s n (Done m u) settled may = refl
-is_event setup s n (Fail m u) settled may = refl
-is_event setup s n (Abort m u) settled may = refl
-is_event setup s n (Tick m) settled may = refl
-is_event setup s n (Check m v ok) settled may = refl
-is_event setup s n (Limit m v k) settled may = refl
-is_event setup s n (Granted u q v) settled may = absurd (settled v may.1.next.takes)
-is_event setup s n e settled may = absurd may
+pub is_event : (here : Point) (e : Entry) → IsSettled (scene here.setup here.state) → MayCome here granting e → begins_event e ≡ true
+is_event here (Arrive m a) settled may = refl
+is_event here (Done m u) settled may = refl
+is_event here (Fail m u) settled may = refl
+is_event here (Abort m u) settled may = refl
+is_event here (Tick m) settled may = refl
+is_event here (Check m v ok) settled may = refl
+is_event here (Limit m v k) settled may = refl
+is_event here (Granted u q v) settled may = absurd (settled v may.1.next.takes)
+is_event here e settled may = absurd may
 
-at_stage : {setup : Setup} {s : State} {before t : Stage} {m : ℕ} {refused : Option Refusal} → MayBegin setup s before m refused → IsOver setup s t
-    → MayBegin setup s t m refused
+at_stage : {here : Point} {before t : Stage} {m : ℕ} {refused : Option Refusal} → MayBegin here before m refused → IsOver here.setup here.state t
+    → MayBegin here t m refused
 at_stage may over = record { over = over; settled = may.settled; accepted = may.accepted; later = may.later; within = may.within }
 
 -- an event may come at another stage where the one before is over
-comes_at : (setup : Setup) (s : State) (n : ℕ) (t : Stage) (e : Entry) → begins_event e ≡ true → IsOver setup s t → MayCome setup s n granting e
-    → MayCome setup s n t e
-comes_at setup s n t (Arrive m a) begins over may = (at_stage may.0 over, may.1)
-comes_at setup s n t (Done m u) begins over may = at_stage may over
-comes_at setup s n t (Fail m u) begins over may = at_stage may over
-comes_at setup s n t (Abort m u) begins over may = at_stage may over
-comes_at setup s n t (Tick m) begins over may = at_stage may over
-comes_at setup s n t (Check m v ok) begins over may = at_stage may over
-comes_at setup s n t (Limit m v k) begins over may = at_stage may over
-comes_at setup s n t e begins over may = false_true begins
+comes_at : (here : Point) (t : Stage) (e : Entry) → begins_event e ≡ true → IsOver here.setup here.state t → MayCome here granting e
+    → MayCome here t e
+comes_at here t (Arrive m a) begins over may = (at_stage may.0 over, may.1)
+comes_at here t (Done m u) begins over may = at_stage may over
+comes_at here t (Fail m u) begins over may = at_stage may over
+comes_at here t (Abort m u) begins over may = at_stage may over
+comes_at here t (Tick m) begins over may = at_stage may over
+comes_at here t (Check m v ok) begins over may = at_stage may over
+comes_at here t (Limit m v k) begins over may = at_stage may over
+comes_at here t e begins over may = false_true begins
 
 -- and what comes after it is as before
 same_stage : (t : Stage) (e : Entry) → begins_event e ≡ true → next_stage granting e ≡ next_stage t e
@@ -54,14 +54,14 @@ same_stage t (Limit m v k) begins = refl
 same_stage t e begins = false_true begins
 
 -- what is lawful goes on lawfully
-pub judged_on : (setup : Setup) (s : State) (n : ℕ) (t : Stage) (es fs : List Entry) → AllMayCome setup s n t es
-    → AllMayCome setup (after_all setup s es) (n + length es) (stage_after t es) fs → AllMayCome setup s n t (es ++ fs)
-judged_on setup s n t [] fs all later = subst (λ k. AllMayCome setup s k t fs) (omega arith) later
-judged_on setup s n t (e ∷ es) fs all later = (
+pub judged_on : (here : Point) (t : Stage) (es fs : List Entry) → AllMayCome here t es
+    → AllMayCome (point_after here es) (stage_after t es) fs → AllMayCome here t (es ++ fs)
+judged_on here t [] fs all later = subst (λ k. AllMayCome (point_of here.setup here.state k) t fs) (omega arith) later
+judged_on here t (e ∷ es) fs all later = (
   all.0,
-  judged_on setup (after setup s e) (n + 1) (next_stage t e) es fs all.1
-      (let longer : n + length (e ∷ es) ≡ (n + 1) + length es = omega arith in
-      subst (λ k. AllMayCome setup (after_all setup s (e ∷ es)) k (stage_after t (e ∷ es)) fs) longer later),
+  judged_on (next_point here e) (next_stage t e) es fs all.1
+      (let longer : here.used + length (e ∷ es) ≡ (here.used + 1) + length es = omega arith in
+      subst (λ k. AllMayCome (point_of here.setup (after_all here.setup here.state (e ∷ es)) k) (stage_after t (e ∷ es)) fs) longer later),
 )
 
 pub after_on : (setup : Setup) (s : State) (es fs : List Entry) → after_all setup s (es ++ fs) ≡ after_all setup (after_all setup s es) fs
@@ -73,40 +73,40 @@ stage_on t [] fs = refl
 stage_on t (e ∷ es) fs = stage_on (next_stage t e) es fs
 
 -- what is lawful at the end of entries is lawful from there on
-pub judged_off : (setup : Setup) (s : State) (n : ℕ) (t : Stage) (es fs : List Entry) → AllMayCome setup s n t (es ++ fs)
-    → AllMayCome setup (after_all setup s es) (n + length es) (stage_after t es) fs
-judged_off setup s n t [] fs all = subst (λ k. AllMayCome setup s k t fs) (omega arith) all
-judged_off setup s n t (e ∷ es) fs all =
-    let longer : (n + 1) + length es ≡ n + length (e ∷ es) = omega arith in
-    subst (λ k. AllMayCome setup (after_all setup s (e ∷ es)) k (stage_after t (e ∷ es)) fs) longer
-    (judged_off setup (after setup s e) (n + 1) (next_stage t e) es fs all.1)
+pub judged_off : (here : Point) (t : Stage) (es fs : List Entry) → AllMayCome here t (es ++ fs)
+    → AllMayCome (point_after here es) (stage_after t es) fs
+judged_off here t [] fs all = subst (λ k. AllMayCome (point_of here.setup here.state k) t fs) (omega arith) all
+judged_off here t (e ∷ es) fs all =
+    let longer : (here.used + 1) + length es ≡ here.used + length (e ∷ es) = omega arith in
+    subst (λ k. AllMayCome (point_of here.setup (after_all here.setup here.state (e ∷ es)) k) (stage_after t (e ∷ es)) fs) longer
+    (judged_off (next_point here e) (next_stage t e) es fs all.1)
 
 -- an event that may come may come where nothing is owed
-comes_anew : (setup : Setup) (s : State) (n : ℕ) (t : Stage) (e : Entry) → begins_event e ≡ true → MayCome setup s n t e → MayCome setup s n granting e
-comes_anew setup s n t (Arrive m a) begins may = (at_stage may.0 tt, may.1)
-comes_anew setup s n t (Done m u) begins may = at_stage may tt
-comes_anew setup s n t (Fail m u) begins may = at_stage may tt
-comes_anew setup s n t (Abort m u) begins may = at_stage may tt
-comes_anew setup s n t (Tick m) begins may = at_stage may tt
-comes_anew setup s n t (Check m v ok) begins may = at_stage may tt
-comes_anew setup s n t (Limit m v k) begins may = at_stage may tt
-comes_anew setup s n t e begins may = false_true begins
+comes_anew : (here : Point) (t : Stage) (e : Entry) → begins_event e ≡ true → MayCome here t e → MayCome here granting e
+comes_anew here t (Arrive m a) begins may = (at_stage may.0 tt, may.1)
+comes_anew here t (Done m u) begins may = at_stage may tt
+comes_anew here t (Fail m u) begins may = at_stage may tt
+comes_anew here t (Abort m u) begins may = at_stage may tt
+comes_anew here t (Tick m) begins may = at_stage may tt
+comes_anew here t (Check m v ok) begins may = at_stage may tt
+comes_anew here t (Limit m v k) begins may = at_stage may tt
+comes_anew here t e begins may = false_true begins
 
 -- a history's entries are judged, its last event is over, and all is settled
 pub record IsWhole (h : History) : Type 0 where
-  pub judged : AllMayCome h.setup h.base 0 granting h.log
+  pub judged : AllMayCome (start_of h) granting h.log
   pub whole : IsOver h.setup (state_of h) (stage_after granting h.log)
   pub settled : IsSettled (scene h.setup (state_of h))
 
 -- the piece that an event and what it brings are, where the whole is lawful
 pub adds_piece : (old new : History) (e : Entry) (brought : List Entry) → begins_event e ≡ true → new.setup ≡ old.setup → new.base ≡ old.base
     → new.log ≡ old.log ++ e ∷ brought → IsWhole new
-    → AreLawful old.setup (state_of old) (length old.log) (e ∷ brought)
+    → AreLawful (end_of old) (e ∷ brought)
 adds_piece old new e brought begins same_setup same_base same_log is =
     record {
       judged = (
-        comes_anew setup (state_of old) (length old.log) t e begins later.0,
-        subst (λ stage. AllMayCome setup (after setup (state_of old) e) (length old.log + 1) stage brought) (sym (same_stage t e begins)) later.1,
+        comes_anew (end_of old) t e begins later.0,
+        subst (λ stage. AllMayCome (next_point (end_of old) e) stage brought) (sym (same_stage t e begins)) later.1,
       );
       whole = subst (IsOver setup (after_all setup (state_of old) piece)) (sym same_end)
           (subst (λ (s : State). IsOver setup s (stage_after granting (old.log ++ piece))) (after_on setup old.base old.log piece) there.whole);
@@ -128,8 +128,8 @@ adds_piece old new e brought begins same_setup same_base same_log is =
         (subst (λ x. IsWhole (record { setup = setup; base = x; log = new.log })) same_base
         (subst (λ x. IsWhole (record { setup = x; base = new.base; log = new.log })) same_setup is))
 
-    later : AllMayCome setup (state_of old) (length old.log) t piece
-    later = subst (λ k. AllMayCome setup (state_of old) k t piece) (omega arith) (judged_off setup old.base 0 granting old.log piece there.judged)
+    later : AllMayCome (end_of old) t piece
+    later = subst (λ k. AllMayCome (point_of setup (state_of old) k) t piece) (omega arith) (judged_off (start_of old) granting old.log piece there.judged)
 
     same_end : stage_after granting piece ≡ stage_after granting (old.log ++ piece)
     same_end = ap (λ stage. stage_after stage brought) (same_stage t e begins) ∙ sym (stage_on granting old.log piece)
@@ -148,14 +148,14 @@ adds_legally old new e legal adds = rebuilt new adds.setup adds.base adds.log
     t = stage_after granting old.log
 
     begins : begins_event e ≡ true
-    begins = is_event setup (state_of old) (length old.log) e legal.lawful.settled adds.lawful.judged.0
+    begins = is_event (end_of old) e legal.lawful.settled adds.lawful.judged.0
 
-    later : AllMayCome setup (state_of old) (0 + length old.log) t piece
+    later : AllMayCome (point_of setup (state_of old) (0 + length old.log)) t piece
     later =
-        let first = comes_at setup (state_of old) (length old.log) t e begins legal.lawful.whole adds.lawful.judged.0 in
-        let rest = subst (λ stage. AllMayCome setup (after setup (state_of old) e) (length old.log + 1) stage adds.brought)
+        let first = comes_at (end_of old) t e begins legal.lawful.whole adds.lawful.judged.0 in
+        let rest = subst (λ stage. AllMayCome (next_point (end_of old) e) stage adds.brought)
         (same_stage t e begins) adds.lawful.judged.1 in
-        subst (λ k. AllMayCome setup (state_of old) k t piece) (omega arith) (first, rest)
+        subst (λ k. AllMayCome (point_of setup (state_of old) k) t piece) (omega arith) (first, rest)
 
     same_end : stage_after granting piece ≡ stage_after granting (old.log ++ piece)
     same_end = ap (λ stage. stage_after stage adds.brought) (same_stage t e begins) ∙ sym (stage_on granting old.log piece)
@@ -164,9 +164,9 @@ adds_legally old new e legal adds = rebuilt new adds.setup adds.base adds.log
     whole = subst (IsOver setup (after_all setup old.base (old.log ++ piece))) same_end
         (subst (λ (s : State). IsOver setup s (stage_after granting piece)) (sym (after_on setup old.base old.log piece)) adds.lawful.whole)
 
-    lawful : AreLawful setup old.base 0 (old.log ++ piece)
+    lawful : AreLawful (start_of old) (old.log ++ piece)
     lawful = record {
-      judged = judged_on setup old.base 0 granting old.log piece legal.lawful.judged later;
+      judged = judged_on (start_of old) granting old.log piece legal.lawful.judged later;
       whole = whole;
       settled = subst (λ (s : State). IsSettled (scene setup s)) (sym (after_on setup old.base old.log piece)) adds.lawful.settled;
     }

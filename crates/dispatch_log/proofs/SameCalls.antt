@@ -14,7 +14,7 @@ use Rattle.dispatch_log.specs.Judgement.{AllMayCome, AreLawful, granting, stage_
 use Rattle.dispatch_log.specs.Legal.{IsLegal, AddsEvent}
 use Rattle.dispatch_log.specs.Refusals.{first_of, lacks_room, pins_to_none, tickets_are_spent, ticket_refusal}
 use Rattle.dispatch_log.specs.Refusals.{arrival_refusal, tick_refusal, check_refusal, limit_refusal}
-use Rattle.dispatch_log.specs.States.{State, after_all}
+use Rattle.dispatch_log.specs.States.{State, after_all, point_of}
 use Rattle.dispatch_log.proofs.Consistency.{at_stage}
 use Rattle.dispatch_log.proofs.Determined.{IsLeft, determined, head_begins, head_goes_on}
 use Rattle.dispatch_log.proofs.Dispatched.{legal_consistent}
@@ -90,20 +90,20 @@ module _ (setup : Setup) (base obase : State) (log olog : List Entry) (e f : Ent
   abbrev its : History
   its = record { setup = setup; base = obase; log = olog }
 
-  brought_alike : IsLegal mine → IsLegal its → AreSameHistories mine its → AreLawful setup (state_of mine) (length log) (e ∷ b)
-      → AreLawful setup (state_of its) (length olog) (f ∷ c)
+  brought_alike : IsLegal mine → IsLegal its → AreSameHistories mine its → AreLawful (point_of setup (state_of mine) (length log)) (e ∷ b)
+      → AreLawful (point_of setup (state_of its) (length olog)) (f ∷ c)
       → All (λ entry. begins_event entry ≡ false) b → All (λ entry. begins_event entry ≡ false) c → unplaced e ≡ unplaced f
       → AreSameButForPlaces (e ∷ b) (f ∷ c) × IsSameButForPlaces (after_all setup (state_of mine) (e ∷ b)) (after_all setup (state_of its) (f ∷ c))
   brought_alike legal too same all each one other alike =
-      let begins = is_event setup (state_of mine) (length log) e legal.lawful.settled all.judged.0 in
-      let starts = is_event setup (state_of its) (length olog) f too.lawful.settled each.judged.0 in
+      let begins = is_event (point_of setup (state_of mine) (length log)) e legal.lawful.settled all.judged.0 in
+      let starts = is_event (point_of setup (state_of its) (length olog)) f too.lawful.settled each.judged.0 in
       determined setup (e ∷ b) (f ∷ c) (state_of mine) (state_of its) (length log) granting (rests mine legal) (rests its too) same.state all.judged
-      (subst (λ (n : ℕ). AllMayCome setup (state_of its) n granting (f ∷ c)) (sym (same_length log olog same.log)) each.judged)
+      (subst (λ (n : ℕ). AllMayCome (point_of setup (state_of its) n) granting (f ∷ c)) (sym (same_length log olog same.log)) each.judged)
       (record { over = all.whole; settled = all.settled }) (record { over = each.whole; settled = each.settled })
       (one_begins e b begins one ∙ ap (λ x. x ∷ []) alike ∙ sym (one_begins f c starts other))
 
-  grown_alike : IsLegal mine → IsLegal its → AreSameHistories mine its → AreLawful setup (state_of mine) (length log) (e ∷ b)
-      → AreLawful setup (state_of its) (length olog) (f ∷ c)
+  grown_alike : IsLegal mine → IsLegal its → AreSameHistories mine its → AreLawful (point_of setup (state_of mine) (length log)) (e ∷ b)
+      → AreLawful (point_of setup (state_of its) (length olog)) (f ∷ c)
       → All (λ entry. begins_event entry ≡ false) b → All (λ entry. begins_event entry ≡ false) c → unplaced e ≡ unplaced f
       → AreSameHistories (record mine { log = log ++ e ∷ b }) (record its { log = olog ++ f ∷ c })
   grown_alike legal too same all each one other alike =
@@ -137,12 +137,12 @@ added_alike h other next theirs e f legal its same adds too alike =
     (at_setup other.setup (sym same.setup) its same too.lawful))
   where
     at_setup : (x : Setup) → h.setup ≡ x → IsLegal (record other { setup = x }) → AreSameHistories h (record other { setup = x })
-        → AreLawful x (after_all x other.base other.log) (length other.log) (f ∷ too.brought)
+        → AreLawful (point_of x (after_all x other.base other.log) (length other.log)) (f ∷ too.brought)
         → AreSameHistories (record h { log = h.log ++ e ∷ adds.brought }) (record { setup = x; base = other.base; log = other.log ++ f ∷ too.brought })
     at_setup x is =
         subst
         (λ (y : Setup). IsLegal (record other { setup = y }) → AreSameHistories h (record other { setup = y })
-        → AreLawful y (after_all y other.base other.log) (length other.log) (f ∷ too.brought)
+        → AreLawful (point_of y (after_all y other.base other.log) (length other.log)) (f ∷ too.brought)
         → AreSameHistories (record h { log = h.log ++ e ∷ adds.brought }) (record { setup = y; base = other.base; log = other.log ++ f ∷ too.brought }))
         is
         (λ theirs_legal theirs_same lawful. grown_alike h.setup h.base other.base h.log other.log e f adds.brought too.brought legal theirs_legal theirs_same

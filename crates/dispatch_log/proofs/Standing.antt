@@ -1,5 +1,5 @@
 -- What every state of a log that is judged keeps of its requests: each may stand as it does by the state's moment.
-use Rattle.std.proofs.Common.{ℕ, ◌+◌, ◌≤◌, List, [], ◌∷◌, subst, arith}
+use Rattle.std.proofs.Common.{ℕ, ◌≤◌, List, [], ◌∷◌, subst, arith}
 use Rattle.std.proofs.lemmas.Option.{same_Some}
 use Rattle.list_facts.proofs.Never.{none_some}
 use Rattle.dispatch_log.specs.declared.entry.Entry.{Entry}
@@ -13,7 +13,7 @@ use Rattle.dispatch_log.specs.Bounds.{IsSinceBy, IsRowBy}
 use Rattle.dispatch_log.specs.Judgement.{Stage, MayCome, AllMayCome, next_stage}
 use Rattle.dispatch_log.specs.Retries.{failed}
 use Rattle.dispatch_log.specs.Rows.{Rows, IsRow, changed, in_phase, in_backend_since, gone}
-use Rattle.dispatch_log.specs.States.{State, after, after_all, arrived}
+use Rattle.dispatch_log.specs.States.{State, after, after_all, arrived, Point, point_of, next_point}
 use Rattle.dispatch_log.proofs.Staying.{changed_keeps, admitted_keeps}
 
 abbrev pub AreRowsBy : ℕ → Rows → Type 0
@@ -40,7 +40,7 @@ module _ (setup : Setup) (s : State) (by : AreRowsBy s.moment s.rows) where
       changed_keeps (IsRowBy s.moment) s.rows u (in_phase phase)
       (λ r w is made. subst (IsRowBy s.moment) (same_Some _ w made) (record { class = is.class; due = is.due; since = since })) by
 
-  pub standing_after : (n : ℕ) (t : Stage) (e : Entry) → MayCome setup s n t e → AreRowsBy (after setup s e).moment (after setup s e).rows
+  pub standing_after : (n : ℕ) (t : Stage) (e : Entry) → MayCome (point_of setup s n) t e → AreRowsBy (after setup s e).moment (after setup s e).rows
   standing_after n t (Arrive m a) may =
       admitted_keeps (IsRowBy m) s.rows a.place (arrived a) may.1.vacant
       (record { class = may.1.class; due = (m, omega arith, may.1.due); since = tt })
@@ -66,8 +66,8 @@ module _ (setup : Setup) (s : State) (by : AreRowsBy s.moment s.rows) where
   standing_after n t (Health v up) may = by
   standing_after n t (Ended u) may = changed_keeps (IsRowBy s.moment) s.rows u gone (λ r w is made. none_some made) by
 
-pub standing_all : (setup : Setup) (s : State) (n : ℕ) (t : Stage) (es : List Entry) → AreRowsBy s.moment s.rows → AllMayCome setup s n t es
-    → AreRowsBy (after_all setup s es).moment (after_all setup s es).rows
-standing_all setup s n t [] by all = by
-standing_all setup s n t (e ∷ es) by all =
-    standing_all setup (after setup s e) (n + 1) (next_stage t e) es (standing_after setup s by n t e all.0) all.1
+pub standing_all : (here : Point) (t : Stage) (es : List Entry) → AreRowsBy here.state.moment here.state.rows → AllMayCome here t es
+    → AreRowsBy (after_all here.setup here.state es).moment (after_all here.setup here.state es).rows
+standing_all here t [] by all = by
+standing_all here t (e ∷ es) by all =
+    standing_all (next_point here e) (next_stage t e) es (standing_after here.setup here.state by here.used t e all.0) all.1

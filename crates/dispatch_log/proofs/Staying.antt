@@ -1,6 +1,6 @@
 -- What every state of a log that is judged keeps within its setup: rows are at servers that are there, and one of them was picked
 -- last.
-use Rattle.std.proofs.Common.{◌≡◌, ℕ, ◌+◌, ◌<◌, ◌==◌, Bool, true, false, cond, List, [], ◌∷◌, Option, None, Some, length, slice_get, subst, inl, inr}
+use Rattle.std.proofs.Common.{◌≡◌, ℕ, ◌<◌, ◌==◌, Bool, true, false, cond, List, [], ◌∷◌, Option, None, Some, length, slice_get, subst, inl, inr}
 use Rattle.std.specs.Option.{option_map_or}
 use Rattle.std.proofs.lemmas.Option.{same_Some}
 use Rattle.std.proofs.Math.ListN.{set}
@@ -21,7 +21,7 @@ use Rattle.dispatch_log.specs.Bounds.{IsAtOneOf}
 use Rattle.dispatch_log.specs.Judgement.{Stage, placing, freed_by_failure, IsPut, MayCome, AllMayCome, next_stage}
 use Rattle.dispatch_log.specs.Retries.{failed}
 use Rattle.dispatch_log.specs.Rows.{Rows, IsRow, IsVacant, changed, in_phase, in_backend_since, gone, pin_of}
-use Rattle.dispatch_log.specs.States.{State, scene, after, after_all, arrived, cursor_after_placing, cursor_after_granting}
+use Rattle.dispatch_log.specs.States.{State, scene, after, after_all, arrived, cursor_after_placing, cursor_after_granting, Point, point_of, next_point}
 use Rattle.dispatch_log.proofs.Choices.{free_there, chosen_there}
 use Rattle.dispatch_log.proofs.SameRows.{changed_row}
 
@@ -114,7 +114,7 @@ module _ (setup : Setup) (s : State) where
     cursor = keeps.cursor;
   }
 
-  pub keeps_after : (n : ℕ) (t : Stage) (e : Entry) → KeepsTo (length setup.servers) s → MayCome setup s n t e
+  pub keeps_after : (n : ℕ) (t : Stage) (e : Entry) → KeepsTo (length setup.servers) s → MayCome (point_of setup s n) t e
       → KeepsTo (length setup.servers) (after setup s e)
   keeps_after n t (Arrive m a) keeps may = record {
     rows = admitted_keeps (λ row. IsAtOneOf (length setup.servers) row.phase) s.rows a.place (arrived a) may.1.vacant tt keeps.rows;
@@ -160,7 +160,7 @@ module _ (setup : Setup) (s : State) where
   keeps_after n t (Ended u) keeps may =
       record { rows = changed_at_servers (length setup.servers) s.rows u gone (λ r w at made. none_some made) keeps.rows; cursor = keeps.cursor }
 
-pub keeps_all : (setup : Setup) (s : State) (n : ℕ) (t : Stage) (es : List Entry) → KeepsTo (length setup.servers) s → AllMayCome setup s n t es
-    → KeepsTo (length setup.servers) (after_all setup s es)
-keeps_all setup s n t [] keeps all = keeps
-keeps_all setup s n t (e ∷ es) keeps all = keeps_all setup (after setup s e) (n + 1) (next_stage t e) es (keeps_after setup s n t e keeps all.0) all.1
+pub keeps_all : (here : Point) (t : Stage) (es : List Entry) → KeepsTo (length here.setup.servers) here.state → AllMayCome here t es
+    → KeepsTo (length here.setup.servers) (after_all here.setup here.state es)
+keeps_all here t [] keeps all = keeps
+keeps_all here t (e ∷ es) keeps all = keeps_all (next_point here e) (next_stage t e) es (keeps_after here.setup here.state here.used t e keeps all.0) all.1

@@ -1,5 +1,5 @@
 -- How often connections failed for a request: no more often than it is tried again, but for one that is told so.
-use Rattle.std.proofs.Common.{◌≡◌, ◌≢◌, ℕ, ◌+◌, ◌==◌, ◌≤◌, true, false, Bool, not, ◌||◌, IsTrue, List}
+use Rattle.std.proofs.Common.{◌≡◌, ◌≢◌, ℕ, ◌==◌, ◌≤◌, true, false, Bool, not, ◌||◌, IsTrue, List}
 use Rattle.std.proofs.Common.{[], ◌∷◌, Option, None, Some, refl, ap, sym, ◌∙◌, subst, arith, inl, inr}
 use Rattle.std.proofs.Math.ListN.{set}
 use Rattle.std.specs.Option.{option_map_or}
@@ -23,7 +23,7 @@ use Rattle.dispatch_log.specs.Refusals.{is_waiting, has_a_slot}
 use Rattle.dispatch_log.specs.Retries.{are_redispatched, are_retried, are_spent, failed}
 use Rattle.dispatch_log.specs.Rows.{Rows, StandsAt, IsRow, IsVacant, changed, in_phase, in_backend_since}
 use Rattle.dispatch_log.specs.Rows.{gone, pin_of, phase_is_told, phase_is_served_by, phase_waits_in, failures_of}
-use Rattle.dispatch_log.specs.States.{State, scene, after, after_all, arrived}
+use Rattle.dispatch_log.specs.States.{State, scene, after, after_all, arrived, Point, point_of, next_point}
 use Rattle.dispatch_log.specs.Scenes.{Scene}
 use Rattle.dispatch_log.proofs.Accepted.{row_of_accepted}
 use Rattle.dispatch_log.proofs.Consistency.{IsConsistent, IsLoose}
@@ -225,7 +225,7 @@ module _ (setup : Setup) (s : State) where
       by_ticket false e = tried row live untold
           (λ at. let it : (row.key.ticket == t) ≡ true = (Decides-eqb row.key.ticket t).1 (sym (same_Some t row.key.ticket at)) in cc)
 
-  tried_after : (n : ℕ) (t : Stage) (e : Entry) → IsConsistent s.rows s.ticket t → MayCome setup s n t e → AreTried setup t s.rows
+  tried_after : (n : ℕ) (t : Stage) (e : Entry) → IsConsistent s.rows s.ticket t → MayCome (point_of setup s n) t e → AreTried setup t s.rows
       → AreTried setup (next_stage t e) (after setup s e).rows
   tried_after n t (Arrive m a) is may tried = arrived_tried t a may.1.vacant tried (over_excuses_none setup s t may.0.over)
   tried_after n t (Done m u) is may tried =
@@ -298,11 +298,12 @@ module _ (setup : Setup) (s : State) where
       (λ ticket other e. none_some e)
   tried_after n t e is may tried = absurd may
 
-pub tried_all : (setup : Setup) (s : State) (n : ℕ) (t : Stage) (es : List Entry) → IsConsistent s.rows s.ticket t → AllMayCome setup s n t es
-    → AreTried setup t s.rows → AreTried setup (stage_after t es) (after_all setup s es).rows
-tried_all setup s n t [] is all tried = tried
-tried_all setup s n t (e ∷ es) is all tried =
-    tried_all setup (after setup s e) (n + 1) (next_stage t e) es (consistent_after setup s n t e is all.0) all.1 (tried_after setup s n t e is all.0 tried)
+pub tried_all : (here : Point) (t : Stage) (es : List Entry) → IsConsistent here.state.rows here.state.ticket t → AllMayCome here t es
+    → AreTried here.setup t here.state.rows → AreTried here.setup (stage_after t es) (after_all here.setup here.state es).rows
+tried_all here t [] is all tried = tried
+tried_all here t (e ∷ es) is all tried =
+    tried_all (next_point here e) (next_stage t e) es (consistent_after here t e is all.0) all.1
+    (tried_after here.setup here.state here.used t e is all.0 tried)
 
 -- where an event may begin nothing is excused
 pub tried_over : (setup : Setup) (s : State) (t : Stage) → AreTried setup t s.rows → IsOver setup s t → (row : Row) → IsRow s.rows row

@@ -12,18 +12,17 @@ use Rattle.dispatch_log.specs.declared.entry.Entry.TheVariants.{Arrive, Done, Fa
 use Rattle.dispatch_log.specs.declared.entry.Entry.TheVariants.{Joined, Granted, Moved, Freed, Retried, Left, Health, Ended}
 use Rattle.dispatch_log.specs.declared.setup.ServerSet.{ServerSet}
 use Rattle.dispatch_log.specs.declared.setup.Setup.{Setup}
-use Rattle.dispatch_log.specs.declared.refusal.Refusal.TheVariants.{LogFull, NoSuchServer, TicketsSpent, PlacesFull}
 use Rattle.dispatch_log.specs.Dispatch.{given_between}
 use Rattle.dispatch_log.specs.Refusals.{lacks_room, pins_to_none, tickets_are_spent, is_full, arrival_refusal}
 use Rattle.dispatch_log.specs.Setups.{IsSound, is_within, has_rise_and_fall}
 use Rattle.dispatch_log.specs.Grants.{IsSettled}
 use Rattle.dispatch_log.specs.Health.{is_up_by, ups_of, shortened_by, shortened_all}
-use Rattle.dispatch_log.specs.Histories.{History, state_of, rolled, next_window}
+use Rattle.dispatch_log.specs.Histories.{History, state_of, rolled, next_window, start_of}
 use Rattle.dispatch_log.specs.Judgement.{AreLawful, Stage, MayCome, AllMayCome, granting, next_stage, stage_after}
 use Rattle.dispatch_log.specs.Legal.{IsBase, IsLegal}
 use Rattle.dispatch_log.specs.Rows.{has_ticket, rows_of, is_served_by, served}
-use Rattle.dispatch_log.specs.States.{State, after, after_all, opening_state}
-use Rattle.dispatch_log.proofs.Accepted.{none_refuses}
+use Rattle.dispatch_log.specs.States.{State, after, after_all, opening_state, Point, next_point}
+use Rattle.dispatch_log.proofs.Accepted.{arrival_tests}
 use Rattle.dispatch_log.proofs.Dispatched.{dispatched, base_consistent}
 use Rattle.dispatch_log.proofs.Judged.{places_all, limits_all}
 use Rattle.dispatch_log.proofs.Standing.{AreRowsBy, standing_all}
@@ -61,12 +60,8 @@ opening_base setup = record {
 -- tickets and moments stay in their ranges
 accepted_ticket : (setup : Setup) (s : State) (n : ℕ) (pin : Option ℕ) → arrival_refusal setup s n pin ≡ None → s.ticket + 1 < 2 ^ 40
 accepted_ticket setup s n pin e =
-    let room = none_refuses (lacks_room setup n) LogFull
-    ((pins_to_none setup pin, NoSuchServer) ∷ (tickets_are_spent s.ticket, TicketsSpent) ∷ (is_full setup s.rows, PlacesFull) ∷ []) e in
-    let pinned = none_refuses (pins_to_none setup pin) NoSuchServer
-    ((tickets_are_spent s.ticket, TicketsSpent) ∷ (is_full setup s.rows, PlacesFull) ∷ []) room.1 in
-    let ticket = none_refuses (tickets_are_spent s.ticket) TicketsSpent ((is_full setup s.rows, PlacesFull) ∷ []) pinned.1 in
-    let more = ticket.0 in
+    let tests = arrival_tests (lacks_room setup n) (pins_to_none setup pin) (tickets_are_spent s.ticket) (is_full setup s.rows) e in
+    let more = tests.2 in
     grind (arith, nat_tests)
 
 pub record IsInRange (s : State) : Type 0 where
@@ -82,39 +77,42 @@ at_moment s m is within next ticket moment = record {
 as_before : (s next : State) → IsInRange s → next.ticket ≡ s.ticket → next.moment ≡ s.moment → IsInRange next
 as_before s next is ticket moment = at_moment s s.moment is is.timed next ticket moment
 
-range_after : (setup : Setup) (s : State) (n : ℕ) (t : Stage) (e : Entry) → MayCome setup s n t e → IsInRange s → IsInRange (after setup s e)
-range_after setup s n t (Arrive m a) may is =
-    record { numbered = subst (λ k. k < 2 ^ 40) (sym may.1.numbered) (accepted_ticket setup s n a.pin may.0.accepted); timed = may.0.within }
-range_after setup s n t (Done m u) may is = at_moment s m is may.within (after setup s (Done m u)) refl refl
-range_after setup s n t (Fail m u) may is = at_moment s m is may.within (after setup s (Fail m u)) refl refl
-range_after setup s n t (Abort m u) may is = at_moment s m is may.within (after setup s (Abort m u)) refl refl
-range_after setup s n t (Tick m) may is = at_moment s m is may.within (after setup s (Tick m)) refl refl
-range_after setup s n t (Check m v ok) may is = at_moment s m is may.within (after setup s (Check m v ok)) refl refl
-range_after setup s n t (Limit m v k) may is = at_moment s m is may.within (after setup s (Limit m v k)) refl refl
-range_after setup s n t (Direct u v) may is = as_before s (after setup s (Direct u v)) is refl refl
-range_after setup s n t (Joined u q) may is = as_before s (after setup s (Joined u q)) is refl refl
-range_after setup s n t (Granted u q v) may is = as_before s (after setup s (Granted u q v)) is refl refl
-range_after setup s n t (Moved u v) may is = as_before s (after setup s (Moved u v)) is refl refl
-range_after setup s n t (Freed u v) may is = as_before s (after setup s (Freed u v)) is refl refl
-range_after setup s n t (Retried u v k) may is = is
-range_after setup s n t (Left u c) may is = as_before s (after setup s (Left u c)) is refl refl
-range_after setup s n t (Health v up) may is = is
-range_after setup s n t (Ended u) may is = as_before s (after setup s (Ended u)) is refl refl
+range_after : (here : Point) (t : Stage) (e : Entry) → MayCome here t e → IsInRange here.state → IsInRange (after here.setup here.state e)
+range_after here t (Arrive m a) may is =
+    record {
+      numbered = subst (λ k. k < 2 ^ 40) (sym may.1.numbered) (accepted_ticket here.setup here.state here.used a.pin may.0.accepted);
+      timed = may.0.within;
+    }
+range_after here t (Done m u) may is = at_moment here.state m is may.within (after here.setup here.state (Done m u)) refl refl
+range_after here t (Fail m u) may is = at_moment here.state m is may.within (after here.setup here.state (Fail m u)) refl refl
+range_after here t (Abort m u) may is = at_moment here.state m is may.within (after here.setup here.state (Abort m u)) refl refl
+range_after here t (Tick m) may is = at_moment here.state m is may.within (after here.setup here.state (Tick m)) refl refl
+range_after here t (Check m v ok) may is = at_moment here.state m is may.within (after here.setup here.state (Check m v ok)) refl refl
+range_after here t (Limit m v k) may is = at_moment here.state m is may.within (after here.setup here.state (Limit m v k)) refl refl
+range_after here t (Direct u v) may is = as_before here.state (after here.setup here.state (Direct u v)) is refl refl
+range_after here t (Joined u q) may is = as_before here.state (after here.setup here.state (Joined u q)) is refl refl
+range_after here t (Granted u q v) may is = as_before here.state (after here.setup here.state (Granted u q v)) is refl refl
+range_after here t (Moved u v) may is = as_before here.state (after here.setup here.state (Moved u v)) is refl refl
+range_after here t (Freed u v) may is = as_before here.state (after here.setup here.state (Freed u v)) is refl refl
+range_after here t (Retried u v k) may is = is
+range_after here t (Left u c) may is = as_before here.state (after here.setup here.state (Left u c)) is refl refl
+range_after here t (Health v up) may is = is
+range_after here t (Ended u) may is = as_before here.state (after here.setup here.state (Ended u)) is refl refl
 
-pub range_all : (setup : Setup) (s : State) (n : ℕ) (t : Stage) (es : List Entry) → AllMayCome setup s n t es → IsInRange s → IsInRange (after_all setup s es)
-range_all setup s n t [] all is = is
-range_all setup s n t (e ∷ es) all is = range_all setup (after setup s e) (n + 1) (next_stage t e) es all.1 (range_after setup s n t e all.0 is)
+pub range_all : (here : Point) (t : Stage) (es : List Entry) → AllMayCome here t es → IsInRange here.state → IsInRange (after_all here.setup here.state es)
+range_all here t [] all is = is
+range_all here t (e ∷ es) all is = range_all (next_point here e) (next_stage t e) es all.1 (range_after here t e all.0 is)
 
 pub legal_range : (h : History) → IsLegal h → IsInRange (state_of h)
-legal_range h legal = range_all h.setup h.base 0 granting h.log legal.lawful.judged (record { numbered = legal.begins.numbered; timed = legal.begins.timed })
+legal_range h legal = range_all (start_of h) granting h.log legal.lawful.judged (record { numbered = legal.begins.numbered; timed = legal.begins.timed })
 
 -- rows and the cursor keep to the servers that are there
 pub legal_keeps : (h : History) → IsLegal h → KeepsTo (length h.setup.servers) (state_of h)
-legal_keeps h legal = keeps_all h.setup h.base 0 granting h.log (record { rows = legal.begins.at_servers; cursor = legal.begins.cursor }) legal.lawful.judged
+legal_keeps h legal = keeps_all (start_of h) granting h.log (record { rows = legal.begins.at_servers; cursor = legal.begins.cursor }) legal.lawful.judged
 
 -- requests stand as they may by the moment
 pub legal_standing : (h : History) → IsLegal h → AreRowsBy (state_of h).moment (state_of h).rows
-legal_standing h legal = standing_all h.setup h.base 0 granting h.log legal.begins.timed_rows legal.lawful.judged
+legal_standing h legal = standing_all (start_of h) granting h.log legal.begins.timed_rows legal.lawful.judged
 
 -- the shortest results leave the same servers up
 shortened_up : (server : ServerSet) → IsTrue (is_within server) → (results : List Bool)
@@ -161,7 +159,7 @@ next_base h sound legal =
       at_servers = keeps.rows;
       cursor = keeps.cursor;
       tried = tried_over h.setup (state_of h) (stage_after granting h.log)
-          (tried_all h.setup h.base 0 granting h.log (base_consistent h.setup h.base legal.begins) judged
+          (tried_all (start_of h) granting h.log (base_consistent h.setup h.base legal.begins) judged
           (λ row live untold other. legal.begins.tried row live untold)) legal.lawful.whole;
       dispatched = record {
         limits = is.limits;
@@ -176,7 +174,7 @@ next_base h sound legal =
 pub empty_legal : (h : History) → IsBase h.setup h.base → h.log ≡ [] → IsLegal h
 empty_legal h begins none = record {
   begins = begins;
-  lawful = subst (λ log. AreLawful h.setup h.base 0 log) (sym none) (record { judged = tt; whole = tt; settled = begins.dispatched.settled });
+  lawful = subst (λ log. AreLawful (start_of h) log) (sym none) (record { judged = tt; whole = tt; settled = begins.dispatched.settled });
 }
 
 pub next_legal : (h : History) → IsSound h.setup → IsLegal h → IsLegal (next_window h)

@@ -1,5 +1,5 @@
 -- A legal log keeps within its setup; and the parts of entries.
-use Rattle.std.proofs.Common.{◌≡◌, ◌↔◌, ℕ, ◌+◌, ◌<◌, ◌≤◌, ◌^◌, false, List, [], ◌∷◌, ◌++◌, length, All, refl, sym, ◌∙◌, arith}
+use Rattle.std.proofs.Common.{◌≡◌, ◌↔◌, ℕ, ◌<◌, ◌≤◌, ◌^◌, false, List, [], ◌∷◌, ◌++◌, All, refl, sym, ◌∙◌, arith}
 use Rattle.std.proofs.lemmas.Bool.Decides.{nat_tests}
 use Rattle.std.proofs.lemmas.List.Elements.{All-head, All-tail}
 use Rattle.list_facts.proofs.Never.{false_true}
@@ -11,7 +11,7 @@ use Rattle.dispatch_log.specs.Dispatch.{arrivals_of, given_between}
 use Rattle.dispatch_log.specs.Histories.{History, state_of, begins_event}
 use Rattle.dispatch_log.specs.Judgement.{Stage, AllMayCome, next_stage, stage_after}
 use Rattle.dispatch_log.specs.Legal.{IsLegal}
-use Rattle.dispatch_log.specs.States.{State, after, after_all}
+use Rattle.dispatch_log.specs.States.{State, after, after_all, Point, next_point, point_after}
 use Rattle.dispatch_log.proofs.Dispatched.{dispatched, legal_consistent}
 use Rattle.dispatch_log.proofs.Judged.{places_all}
 use Rattle.dispatch_log.proofs.Runs.{judged_on, judged_off}
@@ -36,15 +36,15 @@ within h legal =
       cursor = keeps.cursor;
     }
 
-judged_front : (setup : Setup) (s : State) (n : ℕ) (t : Stage) (es fs : List Entry) → AllMayCome setup s n t (es ++ fs) → AllMayCome setup s n t es
-judged_front setup s n t [] fs all = tt
-judged_front setup s n t (e ∷ es) fs all = (all.0, judged_front setup (after setup s e) (n + 1) (next_stage t e) es fs all.1)
+judged_front : (here : Point) (t : Stage) (es fs : List Entry) → AllMayCome here t (es ++ fs) → AllMayCome here t es
+judged_front here t [] fs all = tt
+judged_front here t (e ∷ es) fs all = (all.0, judged_front (next_point here e) (next_stage t e) es fs all.1)
 
-pub judged_parts : (setup : Setup) (s : State) (n : ℕ) (t : Stage) (es fs : List Entry)
-    → AllMayCome setup s n t (es ++ fs) ↔ (AllMayCome setup s n t es × AllMayCome setup (after_all setup s es) (n + length es) (stage_after t es) fs)
-judged_parts setup s n t es fs = (
-  λ all. (judged_front setup s n t es fs all, judged_off setup s n t es fs all),
-  λ both. judged_on setup s n t es fs both.0 both.1,
+pub judged_parts : (here : Point) (t : Stage) (es fs : List Entry)
+    → AllMayCome here t (es ++ fs) ↔ (AllMayCome here t es × AllMayCome (point_after here es) (stage_after t es) fs)
+judged_parts here t es fs = (
+  λ all. (judged_front here t es fs all, judged_off here t es fs all),
+  λ both. judged_on here t es fs both.0 both.1,
 )
 
 -- none but an event changes the moment

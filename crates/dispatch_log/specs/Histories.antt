@@ -10,7 +10,7 @@ use Rattle.dispatch_log.specs.Health.{shortened_all}
 use Rattle.dispatch_log.specs.Judgement.{HasExpired}
 use Rattle.dispatch_log.specs.Refusals.{arrival_refusal, done_refusal, failure_refusal, abort_refusal, tick_refusal, check_refusal, limit_refusal}
 use Rattle.dispatch_log.specs.Rows.{IsRow}
-use Rattle.dispatch_log.specs.States.{State, opening_state, after_all}
+use Rattle.dispatch_log.specs.States.{State, opening_state, after_all, Point, point_of}
 
 -- a dispatcher's setup, the state that its present window began with, and the entries since
 pub record History : Type 0 where
@@ -25,6 +25,13 @@ first_window setup log = record { setup = setup; base = opening_state setup; log
 -- the state that the log leaves of the base
 abbrev pub state_of : History → State
 state_of history = after_all history.setup history.base history.log
+
+-- the point where its window begins, and the one at its end
+abbrev pub start_of : History → Point
+start_of history = point_of history.setup history.base 0
+
+abbrev pub end_of : History → Point
+end_of history = point_of history.setup (state_of history) (length history.log)
 
 -- the next window: it begins with the state that this one leaves, where the shortest results stand for those of the checks
 abbrev pub rolled : Setup → State → State

@@ -19,8 +19,8 @@ use Rattle.dispatch_log.specs.declared.refusal.Refusal.{Refusal}
 use Rattle.dispatch_log.specs.Health.{is_up_by, results_of, without_last}
 use Rattle.dispatch_log.specs.Refusals.{arrival_refusal, done_refusal, failure_refusal, abort_refusal, tick_refusal, check_refusal, limit_refusal, is_waiting}
 use Rattle.dispatch_log.specs.Retries.{are_spent, are_redispatched, are_retried}
-use Rattle.dispatch_log.specs.Rows.{Rows, IsRow, IsVacant, phase_is_served_by, phase_is_told, phase_waits_in, pin_of, failures_of}
-use Rattle.dispatch_log.specs.States.{State, scene, after, after_all}
+use Rattle.dispatch_log.specs.Rows.{Rows, IsRow, IsVacant, IsEmptyQueue, phase_is_served_by, phase_is_told, phase_waits_in, pin_of, failures_of}
+use Rattle.dispatch_log.specs.States.{State, scene, after_all, Point, next_point}
 use Rattle.dispatch_log.specs.Scenes.{Scene, is_up}
 use Rattle.dispatch_log.specs.Placement.{IsDirect, IsJoining, IsTurnedAway}
 use Rattle.dispatch_log.specs.Grants.{IsLeastOf, IsSettled, IsLawfulGrant}
@@ -108,8 +108,7 @@ abbrev pub IsOver : Setup → State → Stage → Type 0
 IsOver setup state granting = Unit {0}
 IsOver setup state telling = (row : Row) → IsExpired setup state row → ⊥
 IsOver setup state (checking server) = was_up setup state server ≡ is_up (scene setup state) server
-IsOver setup state (falling server) =
-    IsTrue setup.redispatch → (row : Row) → IsRow state.rows row → IsTrue (phase_waits_in (Server server) row.phase) → ⊥
+IsOver setup state (falling server) = IsTrue setup.redispatch → IsEmptyQueue (Server server) state.rows
 IsOver setup state stage = ⊥
 
 -- grants may come: the event owes nothing else, or a request is redispatched, whose slot goes to another one first
@@ -119,11 +118,11 @@ MayGrant setup state stage = IsOver setup state stage
 
 -- an event may begin: the one before is over, all is settled, nothing refuses the call, and moments never fall and stay
 -- below 2 ^ 62
-pub record MayBegin (setup : Setup) (state : State) (stage : Stage) (moment : ℕ) (refused : Option Refusal) : Type 0 where
-  pub over : IsOver setup state stage
-  pub settled : IsSettled (scene setup state)
+pub record MayBegin (point : Point) (stage : Stage) (moment : ℕ) (refused : Option Refusal) : Type 0 where
+  pub over : IsOver point.setup point.state stage
+  pub settled : IsSettled (scene point.setup point.state)
   pub accepted : refused ≡ None
-  pub later : state.moment ≤ moment
+  pub later : point.state.moment ≤ moment
   pub within : moment < 2 ^ 62
 
 -- a request in no place takes a slot, joins a queue, or is told that no server is usable
@@ -139,37 +138,36 @@ pub record IsPutAnew (setup : Setup) (state : State) (leaver server : ℕ) (entr
   pub settled : IsSettled (scene setup state)
   pub put : IsPut (scene setup state) state.cursor None (Some server) leaver entry
 
--- an entry may come at a stage, in a state that so many entries left
-module _ (setup : Setup) (state : State) (used : ℕ) where
-  abbrev pub MayCome : Stage → Entry → Type 0
-  MayCome stage (Arrive moment arrival) =
-      MayBegin setup state stage moment (arrival_refusal setup state used arrival.pin) × IsNewcomer state moment arrival
-  MayCome stage (Done moment ticket) = MayBegin setup state stage moment (done_refusal setup state used ticket)
-  MayCome stage (Fail moment ticket) = MayBegin setup state stage moment (failure_refusal setup state used ticket)
-  MayCome stage (Abort moment ticket) = MayBegin setup state stage moment (abort_refusal setup state used ticket)
-  MayCome stage (Tick moment) = MayBegin setup state stage moment (tick_refusal setup used)
-  MayCome stage (Check moment server ok) = MayBegin setup state stage moment (check_refusal setup used server)
-  MayCome stage (Limit moment server limit) = MayBegin setup state stage moment (limit_refusal setup used server)
-  MayCome stage (Granted ticket queue server) =
-      MayGrant setup state stage × IsLawfulGrant (scene setup state) state.cursor ticket queue server
-  MayCome (placing newcomer) entry = IsPut (scene setup state) state.cursor (pin_of newcomer state.rows) None newcomer entry
-  MayCome (returning leaver) (Freed ticket server) = (ticket ≡ leaver) × HasSlot state.rows ticket server
-  MayCome (returning leaver) (Ended ticket) = (ticket ≡ leaver) × IsTold state.rows ticket
-  MayCome (ending leaver) (Ended ticket) = ticket ≡ leaver
-  MayCome (failing leaver) (Retried ticket server failures) =
-      (ticket ≡ leaver) × HasSlot state.rows ticket server × (failures_of ticket state.rows ≡ failures) × IsTrue (are_retried setup failures)
-  MayCome (failing leaver) (Freed ticket server) =
-      (ticket ≡ leaver) × HasSlot state.rows ticket server × (IsTrue (are_retried setup (failures_of ticket state.rows)) → ⊥)
-  MayCome (freed_by_failure leaver server) (Left ticket Retries) =
-      (ticket ≡ leaver) × IsTrue (are_spent setup (failures_of ticket state.rows))
-  MayCome (freed_by_failure leaver server) entry = IsPutAnew setup state leaver server entry
-  MayCome (aborting leaver) (Left ticket Aborted) = (ticket ≡ leaver) × IsInPhase is_waiting state.rows ticket
-  MayCome telling (Left ticket Timeout) = IsFirstExpired setup state ticket
-  MayCome (checking checked) (Health server up) =
-      (server ≡ checked) × (is_up (scene setup state) server ≡ up) × (was_up setup state server ≢ up)
-  MayCome (falling fallen) (Moved ticket server) =
-      (server ≡ fallen) × IsTrue setup.redispatch × IsFirstIn (Server server) state.rows ticket
-  MayCome stage entry = ⊥
+-- an entry may come at a point of a log, at a stage
+abbrev pub MayCome : Point → Stage → Entry → Type 0
+MayCome point stage (Arrive moment arrival) =
+    MayBegin point stage moment (arrival_refusal point.setup point.state point.used arrival.pin) × IsNewcomer point.state moment arrival
+MayCome point stage (Done moment ticket) = MayBegin point stage moment (done_refusal point.setup point.state point.used ticket)
+MayCome point stage (Fail moment ticket) = MayBegin point stage moment (failure_refusal point.setup point.state point.used ticket)
+MayCome point stage (Abort moment ticket) = MayBegin point stage moment (abort_refusal point.setup point.state point.used ticket)
+MayCome point stage (Tick moment) = MayBegin point stage moment (tick_refusal point.setup point.used)
+MayCome point stage (Check moment server ok) = MayBegin point stage moment (check_refusal point.setup point.used server)
+MayCome point stage (Limit moment server limit) = MayBegin point stage moment (limit_refusal point.setup point.used server)
+MayCome point stage (Granted ticket queue server) =
+    MayGrant point.setup point.state stage × IsLawfulGrant (scene point.setup point.state) point.state.cursor ticket queue server
+MayCome point (placing newcomer) entry = IsPut (scene point.setup point.state) point.state.cursor (pin_of newcomer point.state.rows) None newcomer entry
+MayCome point (returning leaver) (Freed ticket server) = (ticket ≡ leaver) × HasSlot point.state.rows ticket server
+MayCome point (returning leaver) (Ended ticket) = (ticket ≡ leaver) × IsTold point.state.rows ticket
+MayCome point (ending leaver) (Ended ticket) = ticket ≡ leaver
+MayCome point (failing leaver) (Retried ticket server failures) =
+    (ticket ≡ leaver) × HasSlot point.state.rows ticket server × (failures_of ticket point.state.rows ≡ failures) × IsTrue (are_retried point.setup failures)
+MayCome point (failing leaver) (Freed ticket server) =
+    (ticket ≡ leaver) × HasSlot point.state.rows ticket server × (IsTrue (are_retried point.setup (failures_of ticket point.state.rows)) → ⊥)
+MayCome point (freed_by_failure leaver server) (Left ticket Retries) =
+    (ticket ≡ leaver) × IsTrue (are_spent point.setup (failures_of ticket point.state.rows))
+MayCome point (freed_by_failure leaver server) entry = IsPutAnew point.setup point.state leaver server entry
+MayCome point (aborting leaver) (Left ticket Aborted) = (ticket ≡ leaver) × IsInPhase is_waiting point.state.rows ticket
+MayCome point telling (Left ticket Timeout) = IsFirstExpired point.setup point.state ticket
+MayCome point (checking checked) (Health server up) =
+    (server ≡ checked) × (is_up (scene point.setup point.state) server ≡ up) × (was_up point.setup point.state server ≢ up)
+MayCome point (falling fallen) (Moved ticket server) =
+    (server ≡ fallen) × IsTrue point.setup.redispatch × IsFirstIn (Server server) point.state.rows ticket
+MayCome point stage entry = ⊥
 
 -- the stage after an entry
 abbrev pub next_stage : Stage → Entry → Stage
@@ -194,14 +192,13 @@ stage_after stage [] = stage
 stage_after stage (entry ∷ entries) = stage_after (next_stage stage entry) entries
 
 -- each entry may come where it stands
-abbrev pub AllMayCome : Setup → State → ℕ → Stage → List Entry → Type 0
-AllMayCome setup state used stage [] = Unit {0}
-AllMayCome setup state used stage (entry ∷ entries) =
-    MayCome setup state used stage entry × AllMayCome setup (after setup state entry) (used + 1) (next_stage stage entry) entries
+abbrev pub AllMayCome : Point → Stage → List Entry → Type 0
+AllMayCome point stage [] = Unit {0}
+AllMayCome point stage (entry ∷ entries) =
+    MayCome point stage entry × AllMayCome (next_point point entry) (next_stage stage entry) entries
 
--- entries are lawful, from a state on that so many entries left: each may come where it stands, the last event is over,
--- and all is settled
-pub record AreLawful (setup : Setup) (state : State) (used : ℕ) (entries : List Entry) : Type 0 where
-  pub judged : AllMayCome setup state used granting entries
-  pub whole : IsOver setup (after_all setup state entries) (stage_after granting entries)
-  pub settled : IsSettled (scene setup (after_all setup state entries))
+-- entries are lawful, from a point on: each may come where it stands, the last event is over, and all is settled
+pub record AreLawful (point : Point) (entries : List Entry) : Type 0 where
+  pub judged : AllMayCome point granting entries
+  pub whole : IsOver point.setup (after_all point.setup point.state entries) (stage_after granting entries)
+  pub settled : IsSettled (scene point.setup (after_all point.setup point.state entries))

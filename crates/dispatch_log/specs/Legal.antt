@@ -5,7 +5,7 @@ use Rattle.dispatch_log.specs.declared.row.Row.{Row}
 use Rattle.dispatch_log.specs.declared.setup.Setup.{Setup}
 use Rattle.dispatch_log.specs.Bounds.{IsAtOneOf, IsRowBy}
 use Rattle.dispatch_log.specs.Dispatch.{IsDispatched}
-use Rattle.dispatch_log.specs.Histories.{History, state_of, begins_event}
+use Rattle.dispatch_log.specs.Histories.{History, begins_event, start_of, end_of}
 use Rattle.dispatch_log.specs.Judgement.{AreLawful}
 use Rattle.dispatch_log.specs.Rows.{IsRow, phase_is_told}
 use Rattle.dispatch_log.specs.States.{State}
@@ -28,7 +28,7 @@ pub record IsBase (setup : Setup) (base : State) : Type 0 where
 -- legal log: its window begins at a proper base, and its entries are lawful
 pub record IsLegal (history : History) : Type 0 where
   pub begins : IsBase history.setup history.base
-  pub lawful : AreLawful history.setup history.base 0 history.log
+  pub lawful : AreLawful (start_of history) history.log
 
 -- the log goes on with one event and what it brings, all lawful
 pub record AddsEvent (old new : History) (event : Entry) : Type 0 where
@@ -37,4 +37,4 @@ pub record AddsEvent (old new : History) (event : Entry) : Type 0 where
   pub one_event : All (λ entry. begins_event entry ≡ false) brought
   pub setup : new.setup ≡ old.setup
   pub base : new.base ≡ old.base
-  pub lawful : AreLawful old.setup (state_of old) (length old.log) (event ∷ brought)
+  pub lawful : AreLawful (end_of old) (event ∷ brought)

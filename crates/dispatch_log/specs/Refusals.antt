@@ -25,9 +25,13 @@ abbrev pub first_of : List (Bool × Refusal) → Option Refusal
 first_of [] = None
 first_of (refusal ∷ refusals) = if refusal.0 then Some refusal.1 else first_of refusals
 
--- fewer entries of the log are free than the longest event may need
+-- the room that the log must have where an event begins: the longest one writes no more entries
+abbrev pub entry_room : Setup → ℕ
+entry_room setup = 2 * setup.places + 8
+
+-- fewer entries of the log are free
 abbrev pub lacks_room : Setup → ℕ → Bool
-lacks_room setup used = nat_lt (setup.log - used) (2 * setup.places + 8)
+lacks_room setup used = nat_lt (setup.log - used) (entry_room setup)
 
 -- there are as many live requests as places
 abbrev pub is_full : Setup → Rows → Bool

@@ -1,5 +1,5 @@
 -- The live requests: a list of places, each empty or with a row.
-use Rattle.std.specs.Prelude.{◌≡◌, ℕ, ◌==◌, Bool, false, true, List, [], ◌∷◌, Option, None, Some, map, count_by, slice_get, if◌then◌else◌}
+use Rattle.std.specs.Prelude.{◌≡◌, ℕ, ◌==◌, Bool, false, true, IsTrue, List, [], ◌∷◌, Option, None, Some, map, count_by, slice_get, if◌then◌else◌}
 use Rattle.std.specs.Option.{option_and_then, option_map_or}
 use Rattle.std.specs.Ordering.{nat_cmp}
 use Rattle.std.specs.declared.cmp.Ordering.{Ordering}
@@ -84,6 +84,10 @@ served server rows = count_by (is_served_by server) rows
 -- how many requests wait in a queue
 abbrev pub queued : Queue → Rows → ℕ
 queued queue rows = count_by (waits_in queue) rows
+
+-- no request waits in a queue
+abbrev pub IsEmptyQueue : Queue → Rows → Type 0
+IsEmptyQueue queue rows = (row : Row) → IsRow rows row → IsTrue (phase_waits_in queue row.phase) → ⊥
 
 -- how many rows a ticket has
 abbrev pub rows_of : ℕ → Rows → ℕ

@@ -1,5 +1,5 @@
 -- What a log leaves.
-use Rattle.std.specs.Prelude.{ℕ, ◌-◌, ◌==◌, Bool, true, List, [], ◌∷◌, Option, None, Some, length, map, replicate, slice_get, slice_set, if◌then◌else◌}
+use Rattle.std.specs.Prelude.{ℕ, ◌+◌, ◌-◌, ◌==◌, Bool, true, List, [], ◌∷◌, Option, None, Some, length, map, replicate, slice_get, slice_set, if◌then◌else◌}
 use Rattle.std.specs.Option.{option_map_or}
 use Rattle.due_key.specs.declared.key.Key.{Key}
 use Rattle.dispatch_log.specs.declared.allowance.Allowance.{Allowance}
@@ -118,3 +118,19 @@ after setup state (Ended ticket) = record state { rows = changed ticket gone sta
 abbrev pub after_all : Setup → State → List Entry → State
 after_all setup state [] = state
 after_all setup state (entry ∷ entries) = after_all setup (after setup state entry) entries
+
+-- a point of a log: its setup, the state that the entries before it left, and how many those are
+pub record Point : Type 0 where
+  pub setup : Setup
+  pub state : State
+  pub used : ℕ
+
+abbrev pub point_of : Setup → State → ℕ → Point
+point_of setup state used = record { setup = setup; state = state; used = used }
+
+-- the point after an entry, and after entries
+abbrev pub next_point : Point → Entry → Point
+next_point point entry = point_of point.setup (after point.setup point.state entry) (point.used + 1)
+
+abbrev pub point_after : Point → List Entry → Point
+point_after point entries = point_of point.setup (after_all point.setup point.state entries) (point.used + length entries)

@@ -5,7 +5,7 @@ ghost use Rattle.dispatch_log.specs.Histories.{History, state_of, next_window, b
 ghost use Rattle.dispatch_log.specs.Judgement.{Stage, AllMayCome, stage_after};
 ghost use Rattle.dispatch_log.specs.Legal.{AddsEvent, IsBase, IsLegal};
 ghost use Rattle.dispatch_log.specs.Setups.{IsSound};
-ghost use Rattle.dispatch_log.specs.States.{State, opening_state, after_all};
+ghost use Rattle.dispatch_log.specs.States.{State, opening_state, after_all, Point, point_after};
 ghost use Rattle.dispatch_log.specs.declared.entry.Entry.{Entry};
 ghost use Rattle.std.specs.Prelude.{◌≡◌, ◌↔◌, ℕ, ◌+◌, ◌++◌, false, List, length, All};
 ghost use Rattle.dispatch_log.specs.declared.setup.Setup.{Setup};
@@ -33,7 +33,7 @@ pub fn legal_logs_keep_within()
 pub fn entries_go_on_from_entries()
     ensures state { (setup : Setup) (state : State) (front back : List Entry) → after_all setup state (front ++ back) ≡ after_all setup (after_all setup state front) back }
     ensures stage { (stage : Stage) (front back : List Entry) → stage_after stage (front ++ back) ≡ stage_after (stage_after stage front) back }
-    ensures judged { (setup : Setup) (state : State) (used : ℕ) (stage : Stage) (front back : List Entry) → AllMayCome setup state used stage (front ++ back) ↔ (AllMayCome setup state used stage front × AllMayCome setup (after_all setup state front) (used + length front) (stage_after stage front) back) }
+    ensures judged { (point : Point) (stage : Stage) (front back : List Entry) → AllMayCome point stage (front ++ back) ↔ (AllMayCome point stage front × AllMayCome (point_after point front) (stage_after stage front) back) }
     ensures moment { (setup : Setup) (state : State) (brought : List Entry) → All (λ entry. begins_event entry ≡ false) brought → (after_all setup state brought).moment ≡ state.moment }
 {}
 

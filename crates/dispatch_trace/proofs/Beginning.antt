@@ -50,7 +50,7 @@ use Rattle.dispatch_trace.proofs.Healthy.{opening_ups}
 use Rattle.dispatch_trace.proofs.Resting.{none_rests, rests}
 use Rattle.dispatch_trace.proofs.Stepping.{stands_row, stands_slot, nodes_set, trace_consistent, trace_places, stepped, row_less}
 use Rattle.dispatch_trace.proofs.Turns.{rows_rest}
-use Rattle.dispatch_trace.proofs.Placing.{no_refusal}
+use Rattle.dispatch_log.proofs.Accepted.{arrival_tests}
 use Rattle.dispatch_trace.proofs.Waits.{waiter_at, waiters_same, none_join}
 
 module _ {N : Type 0} (pair_of : N → Key × ℕ) where
@@ -183,7 +183,7 @@ module _ {N : Type 0} (pair_of : N → Key × ℕ) where
       → count_by is_some t.kept.slots < length t.kept.slots
   arrival_fits t pin is accepted =
       let h = history_of t in
-      let full : is_full h.setup (state_of h).rows ≡ false = (no_refusal _ _ _ _ accepted).3 in
+      let full : is_full h.setup (state_of h).rows ≡ false = (arrival_tests _ _ _ _ accepted).3 in
       let fewer : count_by is_some (state_of h).rows < h.setup.places = grind (arith, nat_tests) in
       let counted = count_rows t.kept.slots in
       let rows : count_by is_some (rows_in t.kept.slots) ≡ count_by is_some (state_of h).rows = ap (count_by is_some) is.holds.rows in
@@ -204,7 +204,7 @@ module _ {N : Type 0} (pair_of : N → Key × ℕ) where
 
   pub pin_is_small : (t : Traced N) (pin : Option ℕ) → IsTrace pair_of t → refuses_arrival (history_of t) pin ≡ None
       → IfSome pin (λ server. server < 2 ^ 8)
-  pin_is_small t pin is accepted = pin_below t.kept.setup pin is.sound (no_refusal _ _ _ _ accepted).1
+  pin_is_small t pin is accepted = pin_below t.kept.setup pin is.sound (arrival_tests _ _ _ _ accepted).1
 
   -- the next ticket is above all others
   pub next_is_highest : (t : Traced N) → IsTrace pair_of t → (p : ℕ) (s : Slot N) → StandsIn t.kept.slots p s

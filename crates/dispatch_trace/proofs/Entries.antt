@@ -9,11 +9,11 @@ use Rattle.dispatch_log.specs.declared.entry.Entry.TheVariants.{Direct, Freed, L
 use Rattle.dispatch_log.specs.declared.row.Phase.{Phase}
 use Rattle.dispatch_log.specs.declared.row.Phase.TheVariants.{Loose, Serving, Told}
 use Rattle.dispatch_log.specs.declared.row.Row.{Row}
-use Rattle.dispatch_log.specs.Histories.{History, state_of}
+use Rattle.dispatch_log.specs.Histories.{History, state_of, end_of}
 use Rattle.dispatch_log.specs.Judgement.{IsTold, MayCome, Stage, freed_by_failure, placing}
 use Rattle.dispatch_log.specs.Refusals.{is_waiting}
 use Rattle.dispatch_log.specs.Rows.{changed, in_phase, gone}
-use Rattle.dispatch_log.specs.States.{State, after, scene}
+use Rattle.dispatch_log.specs.States.{State, after, scene, point_of}
 use Rattle.dispatch_log.proofs.Consistency.{IsLoose}
 use Rattle.dispatch_log.proofs.Judged.{direct_row, loose_left, ended_row, freed_slot}
 use Rattle.dispatch_log.proofs.RowLemmas.{changed_at}
@@ -37,7 +37,7 @@ use Rattle.dispatch_trace.proofs.Waits.{idle_waiter}
 pub direct_within : (h : History) (u v : ℕ) → MayComeNext h (Direct u v) → v < length h.setup.servers
 direct_within h u v may = by_stage (stage_of h) may
   where
-    by_stage : (t : Stage) → MayCome h.setup (state_of h) (length h.log) t (Direct u v) → v < length h.setup.servers
+    by_stage : (t : Stage) → MayCome (end_of h) t (Direct u v) → v < length h.setup.servers
     by_stage (placing n) m = free_there (scene h.setup (state_of h)) v m.1.1
     by_stage (freed_by_failure n w) m = free_there (scene h.setup (state_of h)) v m.put.1.1
     by_stage t m = absurd m
@@ -105,7 +105,7 @@ module _ {N : Type 0} (pair_of : N → Key × ℕ) where
       })
   direct_kept t it v now is may at moved =
       let h = history_of t in
-      let loose = loose_at t it is at (direct_row h.setup (state_of h) (length h.log) (stage_of h) it.ticket v (trace_consistent pair_of t is) may) in
+      let loose = loose_at t it is at (direct_row (end_of h) (stage_of h) it.ticket v (trace_consistent pair_of t is) may) in
       phase_changed t (Direct it.ticket v) it (Serving v) (record {
         cursor =
             now;
@@ -128,7 +128,7 @@ module _ {N : Type 0} (pair_of : N → Key × ℕ) where
   left_kept t it cause is first second may at =
       let h = history_of t in
       let loose =
-      loose_at t it is at (loose_left h.setup (state_of h) (length h.log) (stage_of h) it.ticket cause (trace_consistent pair_of t is) first second may) in
+      loose_at t it is at (loose_left (end_of h) (stage_of h) it.ticket cause (trace_consistent pair_of t is) first second may) in
       phase_changed t (Left it.ticket cause) it (Told cause) t.position is may at refl (ap is_waiting loose) refl refl refl refl refl is.holds.position
 
   -- a slot is given back
@@ -144,7 +144,7 @@ module _ {N : Type 0} (pair_of : N → Key × ℕ) where
       })
   free_kept t it v is may at =
       let h = history_of t in
-      let slot = freed_slot h.setup (state_of h) (length h.log) (stage_of h) it.ticket v may in
+      let slot = freed_slot (end_of h) (stage_of h) it.ticket v may in
       let there = at_row (state_of h).rows it slot.live.0 slot.row (trace_consistent pair_of t is).tickets at slot.live.1 slot.named in
       let serves : at.0.phase ≡ Serving v = ap (λ (r : Row). r.phase) (same_Some at.0 slot.row (same_Some (Some at.0) (Some slot.row) (sym at.1 ∙ there)))
       ∙ served_phase v slot.row.phase slot.phase in
@@ -167,7 +167,7 @@ module _ {N : Type 0} (pair_of : N → Key × ℕ) where
       let h = history_of t in
       let s = state_of h in
       let slot = stands_slot t.kept.slots s.rows it.place at.0 is.holds.rows at.1 in
-      let idle = end_rests t it is at (ended_row h.setup s (length h.log) (stage_of h) it.ticket (trace_consistent pair_of t is) may) in
+      let idle = end_rests t it is at (ended_row (point_of h.setup s (length h.log)) (stage_of h) it.ticket (trace_consistent pair_of t is) may) in
       let there = stands_row t.kept.slots s.rows it.place slot.0 is.holds.rows slot.1 in
       idle_changed pair_of t (Ended it.ticket) it.place slot.0 None t.position is may (record {
         stands = slot.1;

@@ -22,7 +22,7 @@ use Rattle.slot_ledger.specs.Slots.{StandsIn, HasCountable, with_slot, with_fail
 use Rattle.slot_ledger.proofs.Standing.{with_slot_at}
 use Rattle.due_key.specs.declared.key.Key.{Key}
 use Rattle.std.specs.Option.{option_map_or}
-use Rattle.dispatch_log.specs.Histories.{state_of, effective, refuses_failure}
+use Rattle.dispatch_log.specs.Histories.{state_of, effective, refuses_failure, start_of}
 use Rattle.dispatch_log.specs.Refusals.{is_waiting, has_a_slot}
 use Rattle.dispatch_log.proofs.Accepted.{row_of_accepted}
 use Rattle.dispatch_log.proofs.RowLemmas.{row_of_at, changed_at}
@@ -100,7 +100,7 @@ module _ {N : Type 0} (pair_of : N → Key × ℕ) where
       let same : at.0 ≡ its.row = same_Some at.0 its.row (same_Some (Some at.0) (Some its.row) (sym at.1 ∙ there)) in
       let s = stands_slot t.kept.slots rows it.place at.0 is.holds.rows at.1 in
       let opened = base_consistent h.setup h.base is.judged.begins in
-      let tried = tried_all h.setup h.base 0 granting h.log opened is.judged.judged (λ row live untold other. is.judged.begins.tried row live untold) in
+      let tried = tried_all (start_of h) granting h.log opened is.judged.judged (λ row live untold other. is.judged.begins.tried row live untold) in
       let few : its.row.failures ≤ h.setup.retries =
       tried_over h.setup (state_of h) (stage_of h) tried begins.over its.row (its.place, its.stands)
       (slot_untold its.row.phase (not-false (has_a_slot its.row.phase) its.right)) in

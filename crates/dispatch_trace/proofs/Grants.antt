@@ -12,7 +12,7 @@ use Rattle.dispatch_log.specs.declared.row.Phase.TheVariants.{Waiting, Serving}
 use Rattle.dispatch_log.specs.Grants.{IsLawfulGrant, IsSettled}
 use Rattle.dispatch_log.specs.Histories.{History, state_of}
 use Rattle.dispatch_log.specs.Refusals.{is_waiting}
-use Rattle.dispatch_log.specs.Rows.{Rows, in_phase}
+use Rattle.dispatch_log.specs.Rows.{Rows, IsEmptyQueue, in_phase}
 use Rattle.dispatch_log.specs.declared.entry.Entry.{Entry}
 use Rattle.dispatch_log.specs.States.{scene, after_all, cursor_after_granting}
 use Rattle.dispatch_log.specs.Scenes.{Scene, is_up}
@@ -25,7 +25,7 @@ use Rattle.list_facts.proofs.Both.{and_second}
 use Rattle.slot_ledger.specs.Ledgers.{with_slots, scene_of as kept_scene}
 use Rattle.slot_ledger.specs.Slots.{rows_in, HasRow, with_phase, loosened}
 use Rattle.server_pick.specs.declared.heads.Heads.{Heads}
-use Rattle.server_pick.specs.Heads.{AreHeads, IsHead, IsLawfulTake, IsEmptyQueue, IsLeastIn}
+use Rattle.server_pick.specs.Heads.{AreHeads, IsHead, IsLawfulTake, IsLeastIn}
 use Rattle.wait_queues.specs.declared.waiters.Waiter.{Waiter}
 use Rattle.wait_queues.specs.Waitlists.{Waitlist, Waiters, NoneWaitsIn, IsFirstIn, IsFirstKey, IsHeadOf, AreFirst, without_waiter}
 use Rattle.dispatch_trace.specs.Histories.{with_entry, scene_of, waiting_of, MayComeNext, MayGrantNext, IsGrant}

@@ -6,7 +6,7 @@ use Rattle.dispatch_log.specs.declared.entry.Entry.TheVariants.{Joined, Left}
 use Rattle.dispatch_log.specs.declared.queue.Queue.{Queue}
 use Rattle.dispatch_log.specs.declared.row.Phase.TheVariants.{Told}
 use Rattle.dispatch_log.specs.declared.row.Row.{Row}
-use Rattle.dispatch_log.specs.Histories.{History, state_of}
+use Rattle.dispatch_log.specs.Histories.{History, state_of, end_of}
 use Rattle.dispatch_log.specs.Judgement.{IsInPhase}
 use Rattle.dispatch_log.specs.Refusals.{is_waiting}
 use Rattle.dispatch_log.specs.Rows.{in_phase}
@@ -45,7 +45,7 @@ module _ {N : Type 0} (pair_of : N → Key × ℕ) where
     join_idle : is_waiting calls.at.0.phase ≡ false
     join_idle =
         let h = history_of t in
-        let loose = joined_row h.setup (state_of h) (length h.log) (stage_of h) it.ticket queue (trace_consistent pair_of t calls.before) calls.may in
+        let loose = joined_row (end_of h) (stage_of h) it.ticket queue (trace_consistent pair_of t calls.before) calls.may in
         let there = at_row (state_of h).rows it loose.place loose.row (trace_consistent pair_of t calls.before).tickets calls.at loose.stands loose.named in
         ap (λ (r : Row). is_waiting r.phase) (same_Some calls.at.0 loose.row (same_Some (Some calls.at.0) (Some loose.row) (sym calls.at.1 ∙ there)))
         ∙ ap is_waiting loose.loose

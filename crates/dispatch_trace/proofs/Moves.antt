@@ -9,7 +9,7 @@ use Rattle.dispatch_log.specs.declared.queue.Queue.{Queue}
 use Rattle.dispatch_log.specs.declared.queue.Queue.TheVariants.{Backend, Server}
 use Rattle.dispatch_log.specs.declared.row.Phase.TheVariants.{Waiting}
 use Rattle.dispatch_log.specs.declared.row.Row.{Row}
-use Rattle.dispatch_log.specs.Histories.{History, state_of}
+use Rattle.dispatch_log.specs.Histories.{History, state_of, end_of}
 use Rattle.dispatch_log.specs.Judgement.{Stage, falling, MayCome, IsFirstIn}
 use Rattle.dispatch_log.specs.Rows.{waits_in, queued, in_backend_since}
 use Rattle.dispatch_log.specs.States.{State}
@@ -78,7 +78,7 @@ module _ {N : Type 0} (pair_of : N → Key × ℕ) where
               calls.first.least live.0 _ (listed pair_of t live.0 other (Server server) w.0 calls.before live.1 w.1) refl
               (subst (λ (k : Key). key_cmp k other.key ≡ Greater) its.key greater);
         } in
-        subst (λ (x : Stage). MayCome t.kept.setup (state_of (history_of t)) (length t.log.entries) x (Moved waiter.key.ticket server)) (sym calls.stage)
+        subst (λ (x : Stage). MayCome (end_of (history_of t)) x (Moved waiter.key.ticket server)) (sym calls.stage)
         (refl, calls.redispatch, first)
 
     rows_after : (state_of (with_entry (history_of t) (Moved waiter.key.ticket server))).rows ≡ set (state_of (history_of t)).rows place

@@ -1,5 +1,5 @@
 -- A history that goes on by an entry, and the entry of a request's placement.
-use Rattle.std.proofs.Common.{◌≡◌, ℕ, ◌+◌, ◌≤◌, Bool, false, [], ◌∷◌, Option, None, length}
+use Rattle.std.proofs.Common.{◌≡◌, ℕ, ◌+◌, ◌≤◌, false, [], ◌∷◌, Option, None, length}
 use Rattle.std.proofs.Common.{refl, ap, sym, ◌∙◌, subst, arith, length-append}
 use Rattle.std.proofs.lemmas.Bool.Decides.{nat_tests}
 use Rattle.std.proofs.lemmas.List.Sums.{count_by-le-length}
@@ -8,14 +8,13 @@ use Rattle.dispatch_log.specs.declared.entry.Arrival.{Arrival}
 use Rattle.dispatch_log.specs.declared.entry.Entry.{Entry}
 use Rattle.dispatch_log.specs.declared.entry.Entry.TheVariants.{Arrive, Direct, Joined, Left}
 use Rattle.dispatch_log.specs.declared.queue.Queue.TheVariants.{Backend, Server}
-use Rattle.dispatch_log.specs.declared.refusal.Refusal.TheVariants.{PlacesFull, LogFull, NoSuchServer, TicketsSpent}
 use Rattle.dispatch_log.specs.declared.setup.Setup.{Setup}
-use Rattle.dispatch_log.specs.Histories.{History, state_of, refuses_arrival}
+use Rattle.dispatch_log.specs.Histories.{History, state_of, refuses_arrival, end_of}
 use Rattle.dispatch_log.specs.Judgement.{Stage, placing, granting, IsOver, MayGrant, IsPut, MayCome, next_stage}
-use Rattle.dispatch_log.specs.Refusals.{first_of, lacks_room}
+use Rattle.dispatch_log.specs.Refusals.{lacks_room}
 use Rattle.dispatch_log.specs.Rows.{pin_of}
 use Rattle.dispatch_log.specs.States.{State}
-use Rattle.dispatch_log.proofs.Accepted.{none_refuses}
+use Rattle.dispatch_log.proofs.Accepted.{arrival_tests}
 use Rattle.dispatch_log.proofs.Judged.{stage_after-push, places_all}
 use Rattle.server_pick.specs.declared.placement.Placement.{Placement}
 use Rattle.server_pick.specs.declared.placement.Placement.TheVariants.{Slot, OwnQueue, BackendQueue, Nowhere}
@@ -56,20 +55,11 @@ may_granting h stage = subst (λ (t : Stage). MayGrant h.setup (state_of h) t) (
 pub has_room : (h : History) → lacks_room h.setup (length h.log) ≡ false → HasEntryRoom h
 has_room h fits = grind (arith, nat_tests)
 
--- no test of a newcomer holds that nothing refuses
-pub no_refusal : (a b c d : Bool) → first_of ((a, LogFull) ∷ (b, NoSuchServer) ∷ (c, TicketsSpent) ∷ (d, PlacesFull) ∷ []) ≡ None
-    → (a ≡ false) × (b ≡ false) × (c ≡ false) × (d ≡ false)
-no_refusal a b c d accepted =
-    let first = none_refuses a LogFull ((b, NoSuchServer) ∷ (c, TicketsSpent) ∷ (d, PlacesFull) ∷ []) accepted in
-    let second = none_refuses b NoSuchServer ((c, TicketsSpent) ∷ (d, PlacesFull) ∷ []) first.1 in
-    let third = none_refuses c TicketsSpent ((d, PlacesFull) ∷ []) second.1 in
-    (first.0, second.0, third.0, (none_refuses d PlacesFull [] third.1).0)
-
 -- and for a newcomer's placement and grants after it
 pub arrival_room : (h one two : History) (m : ℕ) (a : Arrival) (pin : Option ℕ) (e : Entry) → HasPlaces h → refuses_arrival h pin ≡ None
     → one ≡ with_entry h (Arrive m a) → two ≡ with_entry one e → length two.log + waiting_of two ≤ two.setup.log
 arrival_room h one two m a pin e has accepted begun placed =
-    let room = has_room h (no_refusal _ _ _ _ accepted).0 in
+    let room = has_room h (arrival_tests _ _ _ _ accepted).0 in
     let first = longer h one (Arrive m a) begun in
     let second = longer one two e placed in
     let few = few_wait two (places_next one two e placed (places_next h one (Arrive m a) begun has)) in
@@ -85,11 +75,11 @@ arrival_places h one m a begun = ap stage_of begun ∙ stage_after-push granting
 -- where its pin lets it
 pub newcomer_put : (h : History) (t : ℕ) (pin : Option ℕ) → stage_of h ≡ placing t → pin_of t (state_of h).rows ≡ pin → MayPut h pin None t
 newcomer_put h t pin stage its e put =
-    subst (λ (x : Stage). MayCome h.setup (state_of h) (length h.log) x e × (next_stage x e ≡ granting)) (sym stage)
+    subst (λ (x : Stage). MayCome (end_of h) x e × (next_stage x e ≡ granting)) (sym stage)
     (placed e (subst (λ (p : Option ℕ). IsPut (scene_of h) (state_of h).cursor p None t e) (sym its) put))
   where
     placed : (e : Entry) → IsPut (scene_of h) (state_of h).cursor (pin_of t (state_of h).rows) None t e
-        → MayCome h.setup (state_of h) (length h.log) (placing t) e × (next_stage (placing t) e ≡ granting)
+        → MayCome (end_of h) (placing t) e × (next_stage (placing t) e ≡ granting)
     placed (Direct u v) may = (may, refl)
     placed (Joined u q) may = (may, refl)
     placed (Left u NoServer) may = (may, refl)

@@ -12,14 +12,14 @@ use Rattle.dispatch_log.specs.declared.row.Phase.TheVariants.{Loose, Waiting, Se
 use Rattle.dispatch_log.specs.declared.row.Row.{Row}
 use Rattle.dispatch_log.specs.Health.{ups_of}
 use Rattle.dispatch_log.specs.declared.refusal.Refusal.{Refusal}
-use Rattle.dispatch_log.specs.Histories.{History, state_of, effective}
+use Rattle.dispatch_log.specs.Histories.{History, state_of, effective, start_of}
 use Rattle.dispatch_log.specs.Judgement.{granting, MayCome}
 use Rattle.dispatch_log.specs.Logs.{Recorded}
 use Rattle.dispatch_log.specs.Refusals.{is_waiting}
 use Rattle.dispatch_log.specs.Rows.{Rows, StandsAt}
 use Rattle.dispatch_log.specs.declared.allowance.Allowance.{Allowance}
 use Rattle.dispatch_log.specs.declared.setup.Setup.{Setup}
-use Rattle.dispatch_log.specs.States.{State, after}
+use Rattle.dispatch_log.specs.States.{State, after, point_of}
 use Rattle.dispatch_log.proofs.Consistency.{IsConsistent}
 use Rattle.dispatch_log.proofs.Dispatched.{base_consistent}
 use Rattle.dispatch_log.proofs.Judged.{after_all-push, judged_push, consistent_all, places_all}
@@ -117,7 +117,7 @@ module _ {N : Type 0} (pair_of : N → Key × ℕ) where
   pub trace_consistent : (t : Traced N) → IsTrace pair_of t
       → IsConsistent (state_of (history_of t)).rows (state_of (history_of t)).ticket (stage_of (history_of t))
   trace_consistent t is =
-      consistent_all t.kept.setup t.log.base 0 granting t.log.entries (base_consistent t.kept.setup t.log.base is.judged.begins) is.judged.judged
+      consistent_all (start_of (history_of t)) granting t.log.entries (base_consistent t.kept.setup t.log.base is.judged.begins) is.judged.judged
 
   -- there are as many places as the setup says
   pub trace_places : (t : Traced N) → IsTrace pair_of t → length (state_of (history_of t)).rows ≡ t.kept.setup.places
@@ -148,9 +148,9 @@ module _ {N : Type 0} (pair_of : N → Key × ℕ) where
     sound = is.sound;
     judged = record {
       begins = is.judged.begins;
-      judged = judged_push t.kept.setup t.log.base 0 granting t.log.entries e is.judged.judged
+      judged = judged_push (start_of (history_of t)) granting t.log.entries e is.judged.judged
           (let count : 0 + length t.log.entries ≡ length t.log.entries = omega arith in
-          subst (λ n. MayCome t.kept.setup (state_of (history_of t)) n (stage_of (history_of t)) e) (sym count) may);
+          subst (λ n. MayCome (point_of t.kept.setup (state_of (history_of t)) n) (stage_of (history_of t)) e) (sym count) may);
     };
     holds = subst (Holds pair_of (record {
       kept =

@@ -5,7 +5,7 @@ use Rattle.std.proofs.lemmas.Bool.Decides.{Decides-eqb}
 use Rattle.dispatch_log.specs.declared.entry.Entry.TheVariants.{Joined}
 use Rattle.dispatch_log.specs.declared.queue.Queue.{Queue}
 use Rattle.dispatch_log.specs.declared.queue.Queue.TheVariants.{Backend, Server}
-use Rattle.dispatch_log.specs.Histories.{History, state_of}
+use Rattle.dispatch_log.specs.Histories.{History, state_of, end_of}
 use Rattle.dispatch_log.specs.Judgement.{Stage, placing, freed_by_failure, MayCome}
 use Rattle.dispatch_log.specs.Picks.{IsPick}
 use Rattle.dispatch_log.specs.Placement.{IsCandidate, IsChosen}
@@ -33,7 +33,7 @@ pub joined_within : (h : History) (u : ℕ) (queue : Queue) → MayComeNext h (J
 joined_within h u Backend may = tt
 joined_within h u (Server v) may = by_stage (stage_of h) may
   where
-    by_stage : (t : Stage) → MayCome h.setup (state_of h) (length h.log) t (Joined u (Server v)) → v < length h.setup.servers
+    by_stage : (t : Stage) → MayCome (end_of h) t (Joined u (Server v)) → v < length h.setup.servers
     by_stage (placing n) m = chosen_within (scene h.setup (state_of h)) (state_of h).cursor (pin_of n (state_of h).rows) None v m.1.0
     by_stage (freed_by_failure n w) m = chosen_within (scene h.setup (state_of h)) (state_of h).cursor None (Some w) v m.put.1.0
     by_stage t m = absurd m

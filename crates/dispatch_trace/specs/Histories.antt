@@ -6,10 +6,10 @@ use Rattle.dispatch_log.specs.declared.entry.Entry.TheVariants.{Granted, Moved}
 use Rattle.dispatch_log.specs.declared.queue.Queue.{Queue}
 use Rattle.dispatch_log.specs.declared.queue.Queue.TheVariants.{Server}
 use Rattle.dispatch_log.specs.declared.refusal.Refusal.{Refusal}
-use Rattle.dispatch_log.specs.Histories.{History, state_of, effective}
+use Rattle.dispatch_log.specs.Histories.{History, state_of, effective, start_of, end_of}
 use Rattle.dispatch_log.specs.declared.row.Row.{Row}
-use Rattle.dispatch_log.specs.Refusals.{is_waiting}
-use Rattle.dispatch_log.specs.Rows.{Rows, IsRow, StandsAt, phase_waits_in, queued}
+use Rattle.dispatch_log.specs.Refusals.{entry_room, is_waiting}
+use Rattle.dispatch_log.specs.Rows.{Rows, StandsAt, IsEmptyQueue, queued}
 use Rattle.dispatch_log.specs.Judgement.{Stage, granting, next_stage, stage_after, IsPut, IsOver, MayGrant, MayCome, AllMayCome, MayBegin}
 use Rattle.dispatch_log.specs.Grants.{IsSettled}
 use Rattle.dispatch_log.specs.Legal.{IsBase}
@@ -27,7 +27,7 @@ stage_of history = stage_after granting history.log
 
 -- an entry may come at a history's end
 abbrev pub MayComeNext : History → Entry → Type 0
-MayComeNext history entry = MayCome history.setup (state_of history) (length history.log) (stage_of history) entry
+MayComeNext history entry = MayCome (end_of history) (stage_of history) entry
 
 -- a request in no place may be put anywhere that its pin and the server to avoid let it, and its event owes nothing then
 abbrev pub MayPut : History → Option ℕ → Option ℕ → ℕ → Type 0
@@ -43,7 +43,7 @@ pub record MayAccept (history : History) (refused : Option Refusal) : Type 0 whe
 
 -- an event may begin there, no earlier than at a moment
 abbrev pub MayBeginNext : History → ℕ → Option Refusal → Type 0
-MayBeginNext history moment refused = MayBegin history.setup (state_of history) (stage_of history) (effective history moment) refused
+MayBeginNext history moment refused = MayBegin (end_of history) (stage_of history) (effective history moment) refused
 
 -- the last event owes nothing but grants at a history's end, and grants may come there
 abbrev pub IsOverNext : History → Type 0
@@ -54,7 +54,7 @@ MayGrantNext history = MayGrant history.setup (state_of history) (stage_of histo
 
 -- the log has room for the longest event
 abbrev pub HasEntryRoom : History → Type 0
-HasEntryRoom history = 2 * history.setup.places + 8 ≤ history.setup.log - length history.log
+HasEntryRoom history = entry_room history.setup ≤ history.setup.log - length history.log
 
 -- whether a place's row waits, and how many do
 abbrev pub waits : Option Row → Bool
@@ -88,7 +88,7 @@ pub record IsGrant (old new : History) : Type 0 where
 -- a history's window begins at a proper base, and each of its entries may come where it stands
 pub record IsJudged (history : History) : Type 0 where
   pub begins : IsBase history.setup history.base
-  pub judged : AllMayCome history.setup history.base 0 granting history.log
+  pub judged : AllMayCome (start_of history) granting history.log
 
 -- a live request is at its place
 abbrev pub IsAt : Rows → Ticketed → Type 0
@@ -108,4 +108,4 @@ pub record IsMove (server : ℕ) (old new : History) : Type 0 where
 
 -- nobody waits in a server's queue
 abbrev pub IsEmptied : ℕ → History → Type 0
-IsEmptied server history = (row : Row) → IsRow (state_of history).rows row → IsTrue (phase_waits_in (Server server) row.phase) → ⊥
+IsEmptied server history = IsEmptyQueue (Server server) (state_of history).rows

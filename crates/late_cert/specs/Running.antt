@@ -1,5 +1,5 @@
 -- The worst so far of each queue and class.
-use Rattle.std.specs.Prelude.{◌≡◌, ◌&&◌, Bool, ℤ, ◌≤ℤ◌, List, [], ◌∷◌, map, Option, Some, None, Contains, if◌then◌else◌, is_some, IsTrue}
+use Rattle.std.specs.Prelude.{◌≡◌, ◌&&◌, Bool, ℤ, ◌≤ℤ◌, List, [], map, Option, Some, None, Contains, if◌then◌else◌, is_some, IsTrue}
 use Rattle.std.specs.Int.{int_max}
 use Rattle.std.specs.Option.{option_map_or}
 use Rattle.std.specs.Ordering.{int_eq}

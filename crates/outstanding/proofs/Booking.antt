@@ -23,7 +23,7 @@ use Rattle.dispatch_log.specs.Judgement.{Stage, placing, returning, ending, fail
 use Rattle.dispatch_log.specs.Judgement.{granting, MayGrant, IsPut, MayCome, IsOver, HasExpired, next_stage}
 use Rattle.dispatch_log.specs.Refusals.{is_waiting}
 use Rattle.dispatch_log.specs.Rows.{Rows, StandsAt, changed, in_phase, in_backend_since, gone, phase_waits_in, phase_is_served_by}
-use Rattle.dispatch_log.specs.States.{State, scene, after}
+use Rattle.dispatch_log.specs.States.{State, scene, after, point_of}
 use Rattle.dispatch_log.specs.Scenes.{Scene}
 use Rattle.dispatch_log.proofs.Consistency.{IsConsistent, loose_ticket}
 use Rattle.dispatch_log.proofs.Judged.{consistent_after}
@@ -159,12 +159,12 @@ module _ (weight : Grant → ℕ) (setup : Setup) (s : State) where
   put_books t old e at cursor pin avoid is then one put = absurd put
 
   -- every entry that may come and is no event
-  pub books : (n : ℕ) (t : Stage) (e : Entry) → begins_event e ≡ false → IsConsistent s.rows s.ticket t → MayCome setup s n t e
+  pub books : (n : ℕ) (t : Stage) (e : Entry) → begins_event e ≡ false → IsConsistent s.rows s.ticket t → MayCome (point_of setup s n) t e
       → whole (after setup s e).rows + kept weight t s.rows
       ≡ whole s.rows + kept weight (next_stage t e) (after setup s e).rows + given weight (after setup s e).rows e
-  books n t e none is may = by_entry t e none is may (consistent_after setup s n t e is may).tickets
+  books n t e none is may = by_entry t e none is may (consistent_after (point_of setup s n) t e is may).tickets
     where
-      by_entry : (t : Stage) (e : Entry) → begins_event e ≡ false → IsConsistent s.rows s.ticket t → MayCome setup s n t e
+      by_entry : (t : Stage) (e : Entry) → begins_event e ≡ false → IsConsistent s.rows s.ticket t → MayCome (point_of setup s n) t e
           → HaveOwnTickets (after setup s e).rows
           → whole (after setup s e).rows + kept weight t s.rows
           ≡ whole s.rows + kept weight (next_stage t e) (after setup s e).rows + given weight (after setup s e).rows e

@@ -25,7 +25,7 @@ use Rattle.dispatch_log.specs.declared.row.Row.{Row}
 use Rattle.dispatch_log.specs.declared.setup.Setup.{Setup}
 use Rattle.dispatch_log.specs.Bounds.{IsAtOneOf, IsWithin}
 use Rattle.dispatch_log.specs.Dispatch.{bound_by, bound_of}
-use Rattle.dispatch_log.specs.Histories.{History, state_of, begins_event}
+use Rattle.dispatch_log.specs.Histories.{History, state_of, begins_event, end_of}
 use Rattle.dispatch_log.specs.Judgement.{granting}
 use Rattle.dispatch_log.specs.Legal.{IsLegal, AddsEvent}
 use Rattle.dispatch_log.specs.Rows.{Rows, StandsAt, served}
@@ -58,7 +58,7 @@ pub weighs_on : (weight : Grant → ℕ) (h new : History) (e : Entry) → IsLeg
     ≡ total weight (outstanding (state_of h).rows) + total weight (grants_of (state_of new).rows (verdicts (e ∷ adds.brought)))
 weighs_on weight h new e legal event adds =
     let calm = at_stage (state_of h).rows (state_of h).ticket _ granting (legal_consistent h legal) (over_none h.setup (state_of h) _ legal.lawful.whole) in
-    let it = turned weight h.setup (state_of h) (length h.log) granting e adds.brought event adds.one_event calm adds.lawful.judged adds.lawful.whole in
+    let it = turned weight (end_of h) granting e adds.brought event adds.one_event calm adds.lawful.judged adds.lawful.whole in
     subst (λ (s : State). total weight (outstanding s.rows) + back weight e (state_of h).rows
     ≡ total weight (outstanding (state_of h).rows) + total weight (grants_of s.rows (verdicts (e ∷ adds.brought))))
     (sym (state_on h new e adds)) it

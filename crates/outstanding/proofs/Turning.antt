@@ -15,13 +15,12 @@ use Rattle.dispatch_log.specs.declared.entry.Entry.TheVariants.{Joined, Granted,
 use Rattle.dispatch_log.specs.declared.row.Phase.TheVariants.{Loose, Waiting, Serving, Told}
 use Rattle.dispatch_log.specs.declared.queue.Queue.TheVariants.{Backend}
 use Rattle.dispatch_log.specs.declared.row.Row.{Row}
-use Rattle.dispatch_log.specs.declared.setup.Setup.{Setup}
 use Rattle.dispatch_log.specs.Histories.{begins_event}
 use Rattle.dispatch_log.specs.Judgement.{Stage, placing, returning, ending, failing, freed_by_failure, aborting, telling, checking}
 use Rattle.dispatch_log.specs.Judgement.{falling, granting, MayCome, AllMayCome, IsOver, next_stage, stage_after}
 use Rattle.dispatch_log.specs.Retries.{failed}
 use Rattle.dispatch_log.specs.Rows.{Rows, with_change, changed, in_phase, in_backend_since, has_ticket}
-use Rattle.dispatch_log.specs.States.{State, after, after_all, arrived}
+use Rattle.dispatch_log.specs.States.{after, after_all, arrived, Point, next_point}
 use Rattle.dispatch_log.proofs.Consistency.{IsConsistent}
 use Rattle.dispatch_log.proofs.Judged.{consistent_after}
 use Rattle.outstanding.specs.Outstanding.{grants_at, outstanding_from, outstanding, place_in, grants_of}
@@ -61,110 +60,111 @@ place_kept t u f (cell ∷ rows) keeps =
     ∙ ap {B = ℕ} (λ n. cond (has_ticket t cell) 0 (suc n)) (place_kept t u f rows keeps)
 
 -- where no request may end, an entry that is no event keeps the places of all
-places_after : (setup : Setup) (s : State) (n : ℕ) (t : Stage) (e : Entry) (ticket : ℕ) → may_end t ≡ false → begins_event e ≡ false → MayCome setup s n t e
-    → place_in ticket (after setup s e).rows ≡ place_in ticket s.rows
-places_after setup s n t (Arrive m a) ticket quiet none may = false_true (sym none)
-places_after setup s n t (Done m u) ticket quiet none may = false_true (sym none)
-places_after setup s n t (Fail m u) ticket quiet none may = false_true (sym none)
-places_after setup s n t (Abort m u) ticket quiet none may = false_true (sym none)
-places_after setup s n t (Tick m) ticket quiet none may = false_true (sym none)
-places_after setup s n t (Check m v ok) ticket quiet none may = false_true (sym none)
-places_after setup s n t (Limit m v k) ticket quiet none may = false_true (sym none)
-places_after setup s n t (Direct u v) ticket quiet none may =
-    place_kept ticket u (in_phase (Serving v)) s.rows (λ r. (record r { phase = Serving v }, refl, refl))
-places_after setup s n t (Joined u q) ticket quiet none may =
-    place_kept ticket u (in_phase (Waiting q s.moment)) s.rows (λ r. (record r { phase = Waiting q s.moment }, refl, refl))
-places_after setup s n t (Granted u q v) ticket quiet none may =
-    place_kept ticket u (in_phase (Serving v)) s.rows (λ r. (record r { phase = Serving v }, refl, refl))
-places_after setup s n t (Moved u v) ticket quiet none may =
-    place_kept ticket u (in_backend_since s.moment) s.rows (λ r. (record r { pin = None; phase = Waiting Backend s.moment }, refl, refl))
-places_after setup s n t (Freed u v) ticket quiet none may = place_kept ticket u (in_phase Loose) s.rows (λ r. (record r { phase = Loose }, refl, refl))
-places_after setup s n t (Retried u v k) ticket quiet none may = refl
-places_after setup s n t (Left u c) ticket quiet none may = place_kept ticket u (in_phase (Told c)) s.rows (λ r. (record r { phase = Told c }, refl, refl))
-places_after setup s n t (Health v up) ticket quiet none may = refl
-places_after setup s n (returning t) (Ended u) ticket quiet none may = false_true (sym quiet)
-places_after setup s n (ending t) (Ended u) ticket quiet none may = false_true (sym quiet)
-places_after setup s n (freed_by_failure t w) (Ended u) ticket quiet none may = absurd may.put
-places_after setup s n t (Ended u) ticket quiet none may = absurd may
+places_after : (here : Point) (t : Stage) (e : Entry) (ticket : ℕ) → may_end t ≡ false → begins_event e ≡ false → MayCome here t e
+    → place_in ticket (after here.setup here.state e).rows ≡ place_in ticket here.state.rows
+places_after here t (Arrive m a) ticket quiet none may = false_true (sym none)
+places_after here t (Done m u) ticket quiet none may = false_true (sym none)
+places_after here t (Fail m u) ticket quiet none may = false_true (sym none)
+places_after here t (Abort m u) ticket quiet none may = false_true (sym none)
+places_after here t (Tick m) ticket quiet none may = false_true (sym none)
+places_after here t (Check m v ok) ticket quiet none may = false_true (sym none)
+places_after here t (Limit m v k) ticket quiet none may = false_true (sym none)
+places_after here t (Direct u v) ticket quiet none may =
+    place_kept ticket u (in_phase (Serving v)) here.state.rows (λ r. (record r { phase = Serving v }, refl, refl))
+places_after here t (Joined u q) ticket quiet none may =
+    place_kept ticket u (in_phase (Waiting q here.state.moment)) here.state.rows (λ r. (record r { phase = Waiting q here.state.moment }, refl, refl))
+places_after here t (Granted u q v) ticket quiet none may =
+    place_kept ticket u (in_phase (Serving v)) here.state.rows (λ r. (record r { phase = Serving v }, refl, refl))
+places_after here t (Moved u v) ticket quiet none may =
+    place_kept ticket u (in_backend_since here.state.moment) here.state.rows
+    (λ r. (record r { pin = None; phase = Waiting Backend here.state.moment }, refl, refl))
+places_after here t (Freed u v) ticket quiet none may = place_kept ticket u (in_phase Loose) here.state.rows (λ r. (record r { phase = Loose }, refl, refl))
+places_after here t (Retried u v k) ticket quiet none may = refl
+places_after here t (Left u c) ticket quiet none may = place_kept ticket u (in_phase (Told c)) here.state.rows (λ r. (record r { phase = Told c }, refl, refl))
+places_after here t (Health v up) ticket quiet none may = refl
+places_after here (returning t) (Ended u) ticket quiet none may = false_true (sym quiet)
+places_after here (ending t) (Ended u) ticket quiet none may = false_true (sym quiet)
+places_after here (freed_by_failure t w) (Ended u) ticket quiet none may = absurd may.put
+places_after here t (Ended u) ticket quiet none may = absurd may
 
 -- and leads where none may end
-quiet_next : (setup : Setup) (s : State) (n : ℕ) (t : Stage) (e : Entry) → may_end t ≡ false → begins_event e ≡ false → MayCome setup s n t e
+quiet_next : (here : Point) (t : Stage) (e : Entry) → may_end t ≡ false → begins_event e ≡ false → MayCome here t e
     → may_end (next_stage t e) ≡ false
-quiet_next setup s n t (Arrive m a) quiet none may = false_true (sym none)
-quiet_next setup s n t (Done m u) quiet none may = false_true (sym none)
-quiet_next setup s n t (Fail m u) quiet none may = false_true (sym none)
-quiet_next setup s n t (Abort m u) quiet none may = false_true (sym none)
-quiet_next setup s n t (Tick m) quiet none may = false_true (sym none)
-quiet_next setup s n t (Check m v ok) quiet none may = false_true (sym none)
-quiet_next setup s n t (Limit m v k) quiet none may = false_true (sym none)
-quiet_next setup s n (placing t) (Direct u v) quiet none may = refl
-quiet_next setup s n (placing t) (Joined u q) quiet none may = refl
-quiet_next setup s n (placing t) (Left u NoServer) quiet none may = refl
-quiet_next setup s n (freed_by_failure t w) (Direct u v) quiet none may = refl
-quiet_next setup s n (freed_by_failure t w) (Joined u q) quiet none may = refl
-quiet_next setup s n (freed_by_failure t w) (Left u NoServer) quiet none may = refl
-quiet_next setup s n (freed_by_failure t w) (Left u Retries) quiet none may = refl
-quiet_next setup s n (freed_by_failure t w) (Granted u q v) quiet none may = refl
-quiet_next setup s n (freed_by_failure t w) e quiet none may = absurd may.put
-quiet_next setup s n granting (Granted u q v) quiet none may = refl
-quiet_next setup s n telling (Granted u q v) quiet none may = refl
-quiet_next setup s n (checking w) (Granted u q v) quiet none may = refl
-quiet_next setup s n (falling w) (Granted u q v) quiet none may = refl
-quiet_next setup s n (failing t) (Freed u v) quiet none may = refl
-quiet_next setup s n (failing t) (Retried u v k) quiet none may = refl
-quiet_next setup s n (aborting t) (Left u Aborted) quiet none may = refl
-quiet_next setup s n telling (Left u Timeout) quiet none may = refl
-quiet_next setup s n (checking w) (Health v true) quiet none may = refl
-quiet_next setup s n (checking w) (Health v false) quiet none may = refl
-quiet_next setup s n (falling w) (Moved u v) quiet none may = refl
-quiet_next setup s n (returning t) e quiet none may = false_true (sym quiet)
-quiet_next setup s n (ending t) e quiet none may = false_true (sym quiet)
-quiet_next setup s n t (Granted u q v) quiet none may = absurd may.0
-quiet_next setup s n t e quiet none may = absurd may
+quiet_next here t (Arrive m a) quiet none may = false_true (sym none)
+quiet_next here t (Done m u) quiet none may = false_true (sym none)
+quiet_next here t (Fail m u) quiet none may = false_true (sym none)
+quiet_next here t (Abort m u) quiet none may = false_true (sym none)
+quiet_next here t (Tick m) quiet none may = false_true (sym none)
+quiet_next here t (Check m v ok) quiet none may = false_true (sym none)
+quiet_next here t (Limit m v k) quiet none may = false_true (sym none)
+quiet_next here (placing t) (Direct u v) quiet none may = refl
+quiet_next here (placing t) (Joined u q) quiet none may = refl
+quiet_next here (placing t) (Left u NoServer) quiet none may = refl
+quiet_next here (freed_by_failure t w) (Direct u v) quiet none may = refl
+quiet_next here (freed_by_failure t w) (Joined u q) quiet none may = refl
+quiet_next here (freed_by_failure t w) (Left u NoServer) quiet none may = refl
+quiet_next here (freed_by_failure t w) (Left u Retries) quiet none may = refl
+quiet_next here (freed_by_failure t w) (Granted u q v) quiet none may = refl
+quiet_next here (freed_by_failure t w) e quiet none may = absurd may.put
+quiet_next here granting (Granted u q v) quiet none may = refl
+quiet_next here telling (Granted u q v) quiet none may = refl
+quiet_next here (checking w) (Granted u q v) quiet none may = refl
+quiet_next here (falling w) (Granted u q v) quiet none may = refl
+quiet_next here (failing t) (Freed u v) quiet none may = refl
+quiet_next here (failing t) (Retried u v k) quiet none may = refl
+quiet_next here (aborting t) (Left u Aborted) quiet none may = refl
+quiet_next here telling (Left u Timeout) quiet none may = refl
+quiet_next here (checking w) (Health v true) quiet none may = refl
+quiet_next here (checking w) (Health v false) quiet none may = refl
+quiet_next here (falling w) (Moved u v) quiet none may = refl
+quiet_next here (returning t) e quiet none may = false_true (sym quiet)
+quiet_next here (ending t) e quiet none may = false_true (sym quiet)
+quiet_next here t (Granted u q v) quiet none may = absurd may.0
+quiet_next here t e quiet none may = absurd may
 
-places_on : (setup : Setup) (s : State) (n : ℕ) (t : Stage) (es : List Entry) (ticket : ℕ) → may_end t ≡ false → All (λ e. begins_event e ≡ false) es
-    → AllMayCome setup s n t es
-    → place_in ticket (after_all setup s es).rows ≡ place_in ticket s.rows
-places_on setup s n t [] ticket quiet none all = refl
-places_on setup s n t (e ∷ es) ticket quiet none all =
-    let here = All-head (λ x. begins_event x ≡ false) e es none in
-    places_on setup (after setup s e) (n + 1) (next_stage t e) es ticket (quiet_next setup s n t e quiet here all.0)
+places_on : (here : Point) (t : Stage) (es : List Entry) (ticket : ℕ) → may_end t ≡ false → All (λ e. begins_event e ≡ false) es
+    → AllMayCome here t es
+    → place_in ticket (after_all here.setup here.state es).rows ≡ place_in ticket here.state.rows
+places_on here t [] ticket quiet none all = refl
+places_on here t (e ∷ es) ticket quiet none all =
+    let first = All-head (λ x. begins_event x ≡ false) e es none in
+    places_on (next_point here e) (next_stage t e) es ticket (quiet_next here t e quiet first all.0)
     (All-tail (λ x. begins_event x ≡ false) e es none) all.1
-    ∙ places_after setup s n t e ticket quiet here all.0
+    ∙ places_after here t e ticket quiet first all.0
 
 -- a verdict leads where no request may end
-verdict_quiet : (setup : Setup) (s : State) (n : ℕ) (t : Stage) (e : Entry) (it : ℕ × Verdict) → verdict_in e ≡ Some it → MayCome setup s n t e
+verdict_quiet : (here : Point) (t : Stage) (e : Entry) (it : ℕ × Verdict) → verdict_in e ≡ Some it → MayCome here t e
     → may_end (next_stage t e) ≡ false
-verdict_quiet setup s n (returning t) (Direct u v) it is may = absurd may
-verdict_quiet setup s n (returning t) (Granted u q v) it is may = absurd may.0
-verdict_quiet setup s n (returning t) (Retried u v k) it is may = absurd may
-verdict_quiet setup s n (returning t) (Left u c) it is may = absurd may
-verdict_quiet setup s n (ending t) (Direct u v) it is may = absurd may
-verdict_quiet setup s n (ending t) (Granted u q v) it is may = absurd may.0
-verdict_quiet setup s n (ending t) (Retried u v k) it is may = absurd may
-verdict_quiet setup s n (ending t) (Left u c) it is may = absurd may
-verdict_quiet setup s n (placing t) (Direct u v) it is may = quiet_next setup s n (placing t) (Direct u v) refl refl may
-verdict_quiet setup s n t (Direct u v) it is may = by_quiet (may_end t) refl
+verdict_quiet here (returning t) (Direct u v) it is may = absurd may
+verdict_quiet here (returning t) (Granted u q v) it is may = absurd may.0
+verdict_quiet here (returning t) (Retried u v k) it is may = absurd may
+verdict_quiet here (returning t) (Left u c) it is may = absurd may
+verdict_quiet here (ending t) (Direct u v) it is may = absurd may
+verdict_quiet here (ending t) (Granted u q v) it is may = absurd may.0
+verdict_quiet here (ending t) (Retried u v k) it is may = absurd may
+verdict_quiet here (ending t) (Left u c) it is may = absurd may
+verdict_quiet here (placing t) (Direct u v) it is may = quiet_next here (placing t) (Direct u v) refl refl may
+verdict_quiet here t (Direct u v) it is may = by_quiet (may_end t) refl
   where
     by_quiet : (b : Bool) → may_end t ≡ b → may_end (next_stage t (Direct u v)) ≡ false
     by_quiet true e = refl
-    by_quiet false e = quiet_next setup s n t (Direct u v) e refl may
-verdict_quiet setup s n t (Granted u q v) it is may = by_quiet (may_end t) refl
+    by_quiet false e = quiet_next here t (Direct u v) e refl may
+verdict_quiet here t (Granted u q v) it is may = by_quiet (may_end t) refl
   where
     by_quiet : (b : Bool) → may_end t ≡ b → may_end (next_stage t (Granted u q v)) ≡ false
     by_quiet true e = cc
-    by_quiet false e = quiet_next setup s n t (Granted u q v) e refl may
-verdict_quiet setup s n t (Retried u v k) it is may = by_quiet (may_end t) refl
+    by_quiet false e = quiet_next here t (Granted u q v) e refl may
+verdict_quiet here t (Retried u v k) it is may = by_quiet (may_end t) refl
   where
     by_quiet : (b : Bool) → may_end t ≡ b → may_end (next_stage t (Retried u v k)) ≡ false
     by_quiet true e = cc
-    by_quiet false e = quiet_next setup s n t (Retried u v k) e refl may
-verdict_quiet setup s n t (Left u c) it is may = by_quiet (may_end t) refl
+    by_quiet false e = quiet_next here t (Retried u v k) e refl may
+verdict_quiet here t (Left u c) it is may = by_quiet (may_end t) refl
   where
     by_quiet : (b : Bool) → may_end t ≡ b → may_end (next_stage t (Left u c)) ≡ false
     by_quiet true e = cc
-    by_quiet false e = quiet_next setup s n t (Left u c) e refl may
-verdict_quiet setup s n t e it is may = cc
+    by_quiet false e = quiet_next here t (Left u c) e refl may
+verdict_quiet here t e it is may = cc
 
 -- what an entry adds is added where its ticket stands in the end
 filtered : (rows : Rows) (weight : Grant → ℕ) (e : Entry) (es : List Entry)
@@ -185,21 +185,21 @@ same_given one two weight e same = by_verdict (verdict_in e) refl
     by_verdict (Some it) is = rw is (ap (λ p. weight (grant p it.0 it.1) + 0) (sym (same it is)))
 
 -- entries that are no events
-booked : (weight : Grant → ℕ) (setup : Setup) (s : State) (n : ℕ) (t : Stage) (es : List Entry) → All (λ e. begins_event e ≡ false) es
-    → IsConsistent s.rows s.ticket t → AllMayCome setup s n t es
-    → total weight (outstanding (after_all setup s es).rows) + kept weight t s.rows
-    ≡ total weight (outstanding s.rows) + kept weight (stage_after t es) (after_all setup s es).rows + total weight
-    (grants_of (after_all setup s es).rows (verdicts es))
-booked weight setup s n t [] none is all = omega arith
-booked weight setup s n t (e ∷ es) none is all =
-    let here = All-head (λ x. begins_event x ≡ false) e es none in
+booked : (weight : Grant → ℕ) (here : Point) (t : Stage) (es : List Entry) → All (λ e. begins_event e ≡ false) es
+    → IsConsistent here.state.rows here.state.ticket t → AllMayCome here t es
+    → total weight (outstanding (after_all here.setup here.state es).rows) + kept weight t here.state.rows
+    ≡ total weight (outstanding here.state.rows) + kept weight (stage_after t es) (after_all here.setup here.state es).rows + total weight
+    (grants_of (after_all here.setup here.state es).rows (verdicts es))
+booked weight here t [] none is all = omega arith
+booked weight here t (e ∷ es) none is all =
+    let first = All-head (λ x. begins_event x ≡ false) e es none in
     let later = All-tail (λ x. begins_event x ≡ false) e es none in
-    let now = consistent_after setup s n t e is all.0 in
-    let end = (after_all setup (after setup s e) es).rows in
-    let one = books weight setup s n t e here is all.0 in
-    let rest = booked weight setup (after setup s e) (n + 1) (next_stage t e) es later now all.1 in
-    let same = same_given (after setup s e).rows end weight e
-    (λ it told. places_on setup (after setup s e) (n + 1) (next_stage t e) es it.0 (verdict_quiet setup s n t e it told all.0) later all.1) in
+    let now = consistent_after here t e is all.0 in
+    let end = (after_all here.setup (after here.setup here.state e) es).rows in
+    let one = books weight here.setup here.state here.used t e first is all.0 in
+    let rest = booked weight (next_point here e) (next_stage t e) es later now all.1 in
+    let same = same_given (after here.setup here.state e).rows end weight e
+    (λ it told. places_on (next_point here e) (next_stage t e) es it.0 (verdict_quiet here t e it told all.0) later all.1) in
     omega (arith, one, rest, same, filtered end weight e es)
 
 -- what an event takes away
@@ -230,34 +230,35 @@ outs_kept weight u i f (cell ∷ rows) keeps =
         by_test false = refl
 
 -- an event itself leaves all that is outstanding, and owes what it is about
-begins : (weight : Grant → ℕ) (setup : Setup) (s : State) (n : ℕ) (t : Stage) (e : Entry) → begins_event e ≡ true → MayCome setup s n t e
-    → (total weight (outstanding (after setup s e).rows) ≡ total weight (outstanding s.rows))
-    × (kept weight (next_stage t e) (after setup s e).rows ≡ back weight e s.rows)
-begins weight setup s n t (Arrive m a) is may =
-    let even = put weight 0 a.place a.place s.rows None (Some (arrived a)) (omega arith) may.1.vacant in
+begins : (weight : Grant → ℕ) (here : Point) (t : Stage) (e : Entry) → begins_event e ≡ true → MayCome here t e
+    → (total weight (outstanding (after here.setup here.state e).rows) ≡ total weight (outstanding here.state.rows))
+    × (kept weight (next_stage t e) (after here.setup here.state e).rows ≡ back weight e here.state.rows)
+begins weight here t (Arrive m a) is may =
+    let even = put weight 0 a.place a.place here.state.rows None (Some (arrived a)) (omega arith) may.1.vacant in
     (omega (arith, even), refl)
-begins weight setup s n t (Done m u) is may = (refl, refl)
-begins weight setup s n t (Fail m u) is may =
-    let kept_out = λ (w : Grant → ℕ). outs_kept w u 0 (failed setup) s.rows (λ r p. refl) in
+begins weight here t (Done m u) is may = (refl, refl)
+begins weight here t (Fail m u) is may =
+    let kept_out = λ (w : Grant → ℕ). outs_kept w u 0 (failed here.setup) here.state.rows (λ r p. refl) in
     (kept_out weight, kept_out (only u weight))
-begins weight setup s n t (Abort m u) is may = (refl, refl)
-begins weight setup s n t (Tick m) is may = (refl, refl)
-begins weight setup s n t (Check m v ok) is may = (refl, refl)
-begins weight setup s n t (Limit m v k) is may = (refl, refl)
-begins weight setup s n t e is may = cc
+begins weight here t (Abort m u) is may = (refl, refl)
+begins weight here t (Tick m) is may = (refl, refl)
+begins weight here t (Check m v ok) is may = (refl, refl)
+begins weight here t (Limit m v k) is may = (refl, refl)
+begins weight here t e is may = cc
 
 -- a whole event
-pub turned : (weight : Grant → ℕ) (setup : Setup) (s : State) (n : ℕ) (t : Stage) (e : Entry) (brought : List Entry) → begins_event e ≡ true
-    → All (λ x. begins_event x ≡ false) brought → IsConsistent s.rows s.ticket t
-    → AllMayCome setup s n t (e ∷ brought) → IsOver setup (after_all setup s (e ∷ brought)) (stage_after t (e ∷ brought))
-    → total weight (outstanding (after_all setup s (e ∷ brought)).rows) + back weight e s.rows
-    ≡ total weight (outstanding s.rows) + total weight (grants_of (after_all setup s (e ∷ brought)).rows (verdicts (e ∷ brought)))
-turned weight setup s n t e brought event none is all over =
-    let begun = begins weight setup s n t e event all.0 in
-    let rest = booked weight setup (after setup s e) (n + 1) (next_stage t e) brought none (consistent_after setup s n t e is all.0) all.1 in
-    let end = kept_over weight setup (after_all setup s (e ∷ brought)) (stage_after t (e ∷ brought)) (after_all setup s (e ∷ brought)).rows over in
+pub turned : (weight : Grant → ℕ) (here : Point) (t : Stage) (e : Entry) (brought : List Entry) → begins_event e ≡ true
+    → All (λ x. begins_event x ≡ false) brought → IsConsistent here.state.rows here.state.ticket t
+    → AllMayCome here t (e ∷ brought) → IsOver here.setup (after_all here.setup here.state (e ∷ brought)) (stage_after t (e ∷ brought))
+    → total weight (outstanding (after_all here.setup here.state (e ∷ brought)).rows) + back weight e here.state.rows
+    ≡ total weight (outstanding here.state.rows) + total weight (grants_of (after_all here.setup here.state (e ∷ brought)).rows (verdicts (e ∷ brought)))
+turned weight here t e brought event none is all over =
+    let begun = begins weight here t e event all.0 in
+    let rest = booked weight (next_point here e) (next_stage t e) brought none (consistent_after here t e is all.0) all.1 in
+    let end = kept_over weight here.setup (after_all here.setup here.state (e ∷ brought)) (stage_after t (e ∷ brought))
+    (after_all here.setup here.state (e ∷ brought)).rows over in
     let told = no_verdict e event in
-    let added = filtered (after_all setup s (e ∷ brought)).rows weight e brought in
+    let added = filtered (after_all here.setup here.state (e ∷ brought)).rows weight e brought in
     omega (
       arith,
       begun.0,
@@ -265,7 +266,7 @@ turned weight setup s n t e brought event none is all over =
       rest,
       end,
       added,
-      ap (λ (o : Option (ℕ × Verdict)). total weight (grants_of (after_all setup s (e ∷ brought)).rows (cons_option o []))) told,
+      ap (λ (o : Option (ℕ × Verdict)). total weight (grants_of (after_all here.setup here.state (e ∷ brought)).rows (cons_option o []))) told,
     )
   where
     no_verdict : (x : Entry) → begins_event x ≡ true → verdict_in x ≡ None

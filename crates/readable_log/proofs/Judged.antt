@@ -20,7 +20,7 @@ use Rattle.dispatch_log.specs.Judgement.{Stage, granting, MayCome, next_stage, A
 use Rattle.dispatch_log.specs.Grants.{IsSettled, IsLawfulGrant}
 use Rattle.dispatch_log.specs.Rows.{IsRow, phase_waits_in}
 use Rattle.dispatch_log.specs.Legal.{IsBase}
-use Rattle.dispatch_log.specs.States.{State, scene, after}
+use Rattle.dispatch_log.specs.States.{State, scene, after, Point, point_of, next_point}
 use Rattle.dispatch_log.specs.Scenes.{Scene, may_take, may_go_to}
 use Rattle.dispatch_log.proofs.Dispatched.{base_consistent, last_after}
 use Rattle.readable_log.specs.Grants.{Wait, arrival_in, moment_in, grant_in, moment_of, key_known, has_joined}
@@ -41,13 +41,13 @@ arrived_ticket : (setup : Setup) (s : State) (e : Entry) (a : Arrival) → arriv
 arrived_ticket setup s (Arrive m b) a is = ap (λ (x : Arrival). x.ticket) (same_Some b a is)
 arrived_ticket setup s e a is = cc
 
-below_after : (setup : Setup) (s : State) (n : ℕ) (t : Stage) (e : Entry) → AreBelow s → MayCome setup s n t e → AreBelow (after setup s e)
-below_after setup s n t e below may row live =
-    elim (origin setup s e live.0 row live.1) [
+below_after : (here : Point) (t : Stage) (e : Entry) → AreBelow here.state → MayCome here t e → AreBelow (after here.setup here.state e)
+below_after here t e below may row live =
+    elim (origin here.setup here.state e live.0 row live.1) [
       | inl came ↦ let h : row.key.ticket ≡ came.arrival.ticket = ap (λ (r : Row). r.key.ticket) came.row in
-          let k : (after setup s e).ticket ≡ came.arrival.ticket = arrived_ticket setup s e came.arrival came.is in omega arith
-      | inr was ↦ let h : was.row.key.ticket ≤ s.ticket = below was.row (live.0, was.stands) in
-          let k : s.ticket ≤ (after setup s e).ticket = last_after setup s n t e may in
+          let k : (after here.setup here.state e).ticket ≡ came.arrival.ticket = arrived_ticket here.setup here.state e came.arrival came.is in omega arith
+      | inr was ↦ let h : was.row.key.ticket ≤ here.state.ticket = below was.row (live.0, was.stands) in
+          let k : here.state.ticket ≤ (after here.setup here.state e).ticket = last_after here t e may in
           let same : was.row.key.ticket ≡ row.key.ticket = ap (λ (x : Key). x.ticket) was.key in omega arith
     ]
 
@@ -72,25 +72,27 @@ takes_least here cursor u q v grant = record {
 }
 
 -- what is judged keeps the order of the queues
-keeps : (setup : Setup) (s : State) (n : ℕ) (t : Stage) (e : Entry) → AreBelow s → MayCome setup s n t e → KeepsOrder s.rows e
-keeps setup s n t (Arrive m a) below may = record {
-  fresh = λ row live same. let h : row.key.ticket ≤ s.ticket = below row live in let next : a.ticket ≡ s.ticket + 1 = may.1.numbered in absurd (omega arith);
+keeps : (here : Point) (t : Stage) (e : Entry) → AreBelow here.state → MayCome here t e → KeepsOrder here.state.rows e
+keeps here t (Arrive m a) below may = record {
+  fresh =
+      λ row live same. let h : row.key.ticket ≤ here.state.ticket =
+      below row live in let next : a.ticket ≡ here.state.ticket + 1 = may.1.numbered in absurd (omega arith);
   least = tt;
 }
-keeps setup s n t (Granted u q v) below may = record { fresh = tt; least = takes_least (scene setup s) s.cursor u q v may.1 }
-keeps setup s n t e below may = record { fresh = tt; least = tt }
+keeps here t (Granted u q v) below may = record { fresh = tt; least = takes_least (scene here.setup here.state) here.state.cursor u q v may.1 }
+keeps here t e below may = record { fresh = tt; least = tt }
 
-all_keep : (setup : Setup) (s : State) (n : ℕ) (t : Stage) (es : List Entry) → AreBelow s → AllMayCome setup s n t es → AllKeepOrder setup s es
-all_keep setup s n t [] below all = tt
-all_keep setup s n t (e ∷ es) below all =
-    (keeps setup s n t e below all.0, all_keep setup (after setup s e) (n + 1) (next_stage t e) es (below_after setup s n t e below all.0) all.1)
+all_keep : (here : Point) (t : Stage) (es : List Entry) → AreBelow here.state → AllMayCome here t es → AllKeepOrder here.setup here.state es
+all_keep here t [] below all = tt
+all_keep here t (e ∷ es) below all =
+    (keeps here t e below all.0, all_keep (next_point here e) (next_stage t e) es (below_after here t e below all.0) all.1)
 
 base_below : (setup : Setup) (base : State) → IsBase setup base → AreBelow base
 base_below setup base is row live = (base_consistent setup base is).below live.0 row live.1
 
-pub judged_keep_order : (setup : Setup) (base : State) (log : List Entry) → IsBase setup base → AllMayCome setup base 0 granting log
+pub judged_keep_order : (setup : Setup) (base : State) (log : List Entry) → IsBase setup base → AllMayCome (point_of setup base 0) granting log
     → AllKeepOrder setup base log
-judged_keep_order setup base log is all = all_keep setup base 0 granting log (base_below setup base is) all
+judged_keep_order setup base log is all = all_keep (point_of setup base 0) granting log (base_below setup base is) all
 
 -- ---- readable
 
@@ -134,7 +136,8 @@ module _ (base : List BaseRow) (setup : Setup) where
     joined = subst (λ o. IfSome o (λ (wait : Wait). IsTrue (has_joined base wait.ticket wait.queue past))) (sym none) tt;
   }
 
-  may_follow : (past : List Entry) (s : State) (n : ℕ) (t : Stage) (e : Entry) → IsRead base setup past s t → MayCome setup s n t e → MayFollow base past e
+  may_follow : (past : List Entry) (s : State) (n : ℕ) (t : Stage) (e : Entry) → IsRead base setup past s t → MayCome (point_of setup s n) t e
+      → MayFollow base past e
   may_follow past s n t (Arrive m a) is may = begins past s t (Arrive m a) m is may.0.later refl refl
   may_follow past s n t (Done m u) is may = begins past s t (Done m u) m is may.later refl refl
   may_follow past s n t (Fail m u) is may = begins past s t (Fail m u) m is may.later refl refl
@@ -153,17 +156,17 @@ module _ (base : List BaseRow) (setup : Setup) where
   may_follow past s n granting e is may = absurd may
   may_follow past s n t e is may = record { begins = λ h. (let b = (is.begun h).0 in cc); later = tt; arrived = tt; joined = tt }
 
-  read_after : (past : List Entry) (s : State) (n : ℕ) (t : Stage) (e : Entry) → IsRead base setup past s t → MayCome setup s n t e
+  read_after : (past : List Entry) (s : State) (n : ℕ) (t : Stage) (e : Entry) → IsRead base setup past s t → MayCome (point_of setup s n) t e
       → IsRead base setup (past ++ e ∷ []) (after setup s e) (next_stage t e)
   read_after past s n t e is may = record {
-    below = below_after setup s n t e is.below may;
-    arrived = have_arrived_after base setup past s e is.arrived (keeps setup s n t e is.below may);
+    below = below_after (point_of setup s n) t e is.below may;
+    arrived = have_arrived_after base setup past s e is.arrived (keeps (point_of setup s n) t e is.below may);
     joined = have_joined_after base setup past s e is.joined;
     moment = moment_after setup past s e is.moment;
     begun = λ h. absurd (omega (arith, h, length-append past (e ∷ [])));
   }
 
-  all_follow : (past : List Entry) (s : State) (n : ℕ) (t : Stage) (es : List Entry) → IsRead base setup past s t → AllMayCome setup s n t es
+  all_follow : (past : List Entry) (s : State) (n : ℕ) (t : Stage) (es : List Entry) → IsRead base setup past s t → AllMayCome (point_of setup s n) t es
       → AllFollow base past es
   all_follow past s n t [] is all = tt
   all_follow past s n t (e ∷ es) is all = (
@@ -171,7 +174,7 @@ module _ (base : List BaseRow) (setup : Setup) where
     all_follow (past ++ e ∷ []) (after setup s e) (n + 1) (next_stage t e) es (read_after past s n t e is all.0) all.1,
   )
 
-pub judged_readable : (setup : Setup) (base : State) (log : List Entry) → IsBase setup base → AllMayCome setup base 0 granting log
+pub judged_readable : (setup : Setup) (base : State) (log : List Entry) → IsBase setup base → AllMayCome (point_of setup base 0) granting log
     → IsReadable (record { base = base_rows base.rows; entries = log })
 judged_readable setup base log is all = all_follow (base_rows base.rows) setup [] base 0 granting log opened all
   where
@@ -191,6 +194,7 @@ last_follows base past [] e all = subst (λ l. MayFollow base l e) (sym (append-
 last_follows base past (x ∷ es) e all = subst (λ l. MayFollow base l e) (append_assoc past (x ∷ []) es) (last_follows base (past ++ x ∷ []) es e all.1)
 
 -- the last entry of a judged log may follow those before it
-pub judged_follows : (setup : Setup) (base : State) (log : List Entry) (e : Entry) → IsBase setup base → AllMayCome setup base 0 granting (log ++ e ∷ [])
+pub judged_follows : (setup : Setup) (base : State) (log : List Entry) (e : Entry) → IsBase setup base
+    → AllMayCome (point_of setup base 0) granting (log ++ e ∷ [])
     → MayFollow (base_rows base.rows) log e
 judged_follows setup base log e is all = last_follows (base_rows base.rows) [] log e (judged_readable setup base (log ++ e ∷ []) is all)

@@ -4,7 +4,7 @@ ghost use Rattle.dispatch_log.specs.declared.entry.Entry.{Entry};
 ghost use Rattle.dispatch_log.specs.declared.queue.Queue.{Queue};
 ghost use Rattle.dispatch_log.specs.declared.setup.Setup.{Setup};
 ghost use Rattle.dispatch_log.specs.Judgement.{AllMayCome, granting};
-ghost use Rattle.dispatch_log.specs.States.{State, after_all};
+ghost use Rattle.dispatch_log.specs.States.{State, after_all, point_of};
 ghost use Rattle.dispatch_log.specs.Determined.{AreSameHistories};
 ghost use Rattle.dispatch_log.specs.Histories.{History};
 ghost use Rattle.dispatch_log.specs.Legal.{IsBase, IsLegal};
@@ -40,8 +40,8 @@ pub fn rows_have_arrived()
 /// The law of judged logs: where a window begins at a proper base and each of its entries may come
 /// where it stands, it keeps the order of its queues and is readable.
 pub fn judged_logs_are_readable()
-    ensures order { (setup : Setup) (base : State) (log : List Entry) → IsBase setup base → AllMayCome setup base 0 granting log → AllKeepOrder setup base log }
-    ensures readable { (setup : Setup) (base : State) (log : List Entry) → IsBase setup base → AllMayCome setup base 0 granting log → IsReadable (record { base = base_rows base.rows; entries = log }) }
+    ensures order { (setup : Setup) (base : State) (log : List Entry) → IsBase setup base → AllMayCome (point_of setup base 0) granting log → AllKeepOrder setup base log }
+    ensures readable { (setup : Setup) (base : State) (log : List Entry) → IsBase setup base → AllMayCome (point_of setup base 0) granting log → IsReadable (record { base = base_rows base.rows; entries = log }) }
 {}
 
 /// The law of places: windows of legal histories that are the same but for places have the same grants,

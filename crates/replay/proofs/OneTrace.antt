@@ -9,7 +9,7 @@ use Rattle.dispatch_log.specs.declared.entry.Arrival.{Arrival}
 use Rattle.dispatch_log.specs.declared.entry.Entry.{Entry}
 use Rattle.dispatch_log.specs.declared.entry.Entry.TheVariants as entries
 use Rattle.dispatch_log.specs.Determined.{unplaced, AreSameButForPlaces, AreSameHistories, AreRefusedAlike}
-use Rattle.dispatch_log.specs.Histories.{History, state_of, next_window, effective, refuses_arrival}
+use Rattle.dispatch_log.specs.Histories.{History, state_of, next_window, effective, refuses_arrival, end_of}
 use Rattle.dispatch_log.specs.Histories.{refuses_done, refuses_failure, refuses_abort, refuses_check, refuses_limit}
 use Rattle.dispatch_log.specs.Judgement.{MayCome, granting}
 use Rattle.dispatch_log.specs.Legal.{IsBase, IsLegal}
@@ -55,7 +55,7 @@ refused_same names h other same Roll = refl
 
 -- nothing refuses a step whose event may come
 accepted_none : (names : List (List ℕ)) (h : History) (step : Step) (e : Entry) → IsEventOf names h step e
-    → MayCome h.setup (state_of h) (length h.log) granting e → refuses names h step ≡ None
+    → MayCome (end_of h) granting e → refuses names h step ≡ None
 accepted_none names h (Arrive moment class offset pin) (entries.Arrive at arrival) asked may = ap (refuses_arrival h) (sym asked.3) ∙ may.0.accepted
 accepted_none names h (Done moment ticket) (entries.Done at leaver) asked may = ap (refuses_done h) (sym asked.1) ∙ may.accepted
 accepted_none names h (Fail moment ticket) (entries.Fail at leaver) asked may = ap (refuses_failure h) (sym asked.1) ∙ may.accepted
@@ -82,8 +82,8 @@ module _ (names : List (List ℕ)) (h other : History) (same : AreSameHistories 
       ∙ ap (λ x. entries.Arrive there (record a { place = 0; ticket = b.ticket; class = b.class; due = x })) due
       ∙ ap (λ x. entries.Arrive there (record b { place = 0; pin = x })) pin
 
-  same_event : (step : Step) (e f : Entry) → IsEventOf names h step e → IsEventOf names other step f → MayCome h.setup (state_of h) (length h.log) granting e
-      → MayCome other.setup (state_of other) (length other.log) granting f
+  same_event : (step : Step) (e f : Entry) → IsEventOf names h step e → IsEventOf names other step f → MayCome (end_of h) granting e
+      → MayCome (end_of other) granting f
       → unplaced e ≡ unplaced f
   same_event (Arrive moment class offset pin) (entries.Arrive at a) (entries.Arrive there b) asked wanted may might =
       let now : at ≡ there = at_once moment at there asked.0 wanted.0 in

@@ -1,5 +1,5 @@
 -- What an event adds to the grants of a window, and what is known of each of them.
-use Rattle.std.proofs.Common.{◌≡◌, ℕ, zero, suc, ◌+◌, ◌<◌, ◌≤◌, ◌==◌, Bool, true, false, cond, ℤ, List, [], ◌∷◌, ◌++◌, length, take, drop, All}
+use Rattle.std.proofs.Common.{◌≡◌, ℕ, zero, suc, ◌<◌, ◌≤◌, ◌==◌, Bool, true, false, cond, ℤ, List, [], ◌∷◌, ◌++◌, length, take, drop, All}
 use Rattle.std.proofs.Common.{Option, Some, None, IsTrue, replicate, refl, sym, ap, subst, ◌∙◌, arith}
 use Rattle.std.specs.List.{AllByRecursion, fold}
 use Rattle.std.specs.Option.{IfSome, IsSomeAnd, option_map_or}
@@ -20,11 +20,11 @@ use Rattle.dispatch_log.specs.declared.entry.Entry.TheVariants.{Arrive, Granted}
 use Rattle.dispatch_log.specs.declared.queue.Queue.{Queue}
 use Rattle.dispatch_log.specs.declared.queue.Queue.TheVariants.{Backend, Server}
 use Rattle.dispatch_log.specs.declared.setup.Setup.{Setup}
-use Rattle.dispatch_log.specs.Histories.{History, first_window, next_window, rolled, state_of, begins_event}
+use Rattle.dispatch_log.specs.Histories.{History, first_window, next_window, rolled, state_of, begins_event, end_of}
 use Rattle.dispatch_log.specs.Judgement.{Stage, AllMayCome, MayCome, next_stage, granting}
 use Rattle.dispatch_log.specs.Legal.{AddsEvent, IsLegal}
 use Rattle.dispatch_log.specs.Logs.{Recorded}
-use Rattle.dispatch_log.specs.States.{State, opening_state, scene, after, key_of}
+use Rattle.dispatch_log.specs.States.{State, opening_state, scene, key_of, Point, next_point}
 use Rattle.dispatch_log.specs.Scenes.{may_take, is_free, is_up}
 use Rattle.dispatch_log.specs.Rows.{Rows, IsRow}
 use Rattle.dispatch_log.specs.declared.row.Row.{Row}
@@ -142,28 +142,28 @@ queue_there setup s (Server own) server takes free =
     subst (λ n. n < length setup.servers) (sym ((Decides-eqb own server).0 (and_second (is_up (scene setup s) server) (own == server) takes)))
     (free_there (scene setup s) server free)
 
-pub granted_queues : (setup : Setup) (s : State) (used : ℕ) (stage : Stage) (base : List BaseRow) (past es : List Entry)
-    → AllMayCome setup s used stage es → AllByRecursion (λ grant. IsQueueOf (length setup.servers) grant.queue) (grants_after base past es)
-granted_queues setup s used stage base past [] all = tt
-granted_queues setup s used stage base past (e ∷ es) all =
-    all_append (λ grant. IsQueueOf (length setup.servers) grant.queue)
+pub granted_queues : (here : Point) (stage : Stage) (base : List BaseRow) (past es : List Entry)
+    → AllMayCome here stage es → AllByRecursion (λ grant. IsQueueOf (length here.setup.servers) grant.queue) (grants_after base past es)
+granted_queues here stage base past [] all = tt
+granted_queues here stage base past (e ∷ es) all =
+    all_append (λ grant. IsQueueOf (length here.setup.servers) grant.queue)
     (option_map_or (λ grant. grant ∷ []) (grant_after base past e) []) (grants_after base (past ++ e ∷ []) es)
     (by_grant (grant_after base past e) refl)
-    (granted_queues setup (after setup s e) (used + 1) (next_stage stage e) base (past ++ e ∷ []) es all.1)
+    (granted_queues (next_point here e) (next_stage stage e) base (past ++ e ∷ []) es all.1)
   where
-    by_entry : (x : Entry) (wait : Wait) → MayCome setup s used stage x → grant_in x ≡ Some wait → IsQueueOf (length setup.servers) wait.queue
+    by_entry : (x : Entry) (wait : Wait) → MayCome here stage x → grant_in x ≡ Some wait → IsQueueOf (length here.setup.servers) wait.queue
     by_entry (Granted ticket queue server) wait may is =
         let lawful = may.1 in
-        subst (λ (w : Wait). IsQueueOf (length setup.servers) w.queue) (same_Some _ _ is)
-        (queue_there setup s queue server lawful.taken lawful.next.takes.0)
+        subst (λ (w : Wait). IsQueueOf (length here.setup.servers) w.queue) (same_Some _ _ is)
+        (queue_there here.setup here.state queue server lawful.taken lawful.next.takes.0)
     by_entry x wait may is = cc
 
     by_grant : (o : Option SlotGrant) → grant_after base past e ≡ o
-        → AllByRecursion (λ grant. IsQueueOf (length setup.servers) grant.queue) (option_map_or (λ grant. grant ∷ []) o [])
+        → AllByRecursion (λ grant. IsQueueOf (length here.setup.servers) grant.queue) (option_map_or (λ grant. grant ∷ []) o [])
     by_grant None made = tt
     by_grant (Some g) made =
         let f = follows base past e g made in
-        (subst (IsQueueOf (length setup.servers)) (sym (ap (λ (x : SlotGrant). x.queue) f.made)) (by_entry e f.wait all.0 f.is), tt)
+        (subst (IsQueueOf (length here.setup.servers)) (sym (ap (λ (x : SlotGrant). x.queue) f.made)) (by_entry e f.wait all.0 f.is), tt)
 
 -- ---- an event
 
@@ -205,7 +205,7 @@ module _ (h new : History) (e : Entry) (running : Running) (queues : running.ser
     room = subst (AllByRecursion (HasRoomFor running)) (sym (ap (drop (length old)) parts ∙ drop-append_seam old added))
         (all_both (λ grant. IsQueueOf running.servers grant.queue) (λ grant. IsTrue (has_room running grant.class)) added
         (subst (λ n. AllByRecursion (λ grant. IsQueueOf n grant.queue) added) (sym queues)
-        (granted_queues h.setup (state_of h) (length h.log) granting base h.log (e ∷ adds.brought) adds.lawful.judged))
+        (granted_queues (end_of h) granting base h.log (e ∷ adds.brought) adds.lawful.judged))
         (granted_classes P base h.log (e ∷ adds.brought) have came));
     kept = subst (λ b. HaveClasses P b new.log) (sym same_base) (subst (HaveClasses P base) (sym adds.log)
         (record {

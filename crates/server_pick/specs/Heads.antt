@@ -7,7 +7,7 @@ use Rattle.dispatch_log.specs.declared.queue.Queue.{Queue}
 use Rattle.dispatch_log.specs.declared.queue.Queue.TheVariants.{Backend, Server}
 use Rattle.dispatch_log.specs.declared.row.Row.{Row}
 use Rattle.dispatch_log.specs.Grants.{IsLeastOf, IsLawfulGrant}
-use Rattle.dispatch_log.specs.Rows.{Rows, IsRow, phase_waits_in, queued}
+use Rattle.dispatch_log.specs.Rows.{Rows, IsRow, IsEmptyQueue, phase_waits_in, queued}
 use Rattle.dispatch_log.specs.Scenes.{Scene, is_up, is_usable}
 use Rattle.server_pick.specs.declared.heads.Heads.{Heads}
 
@@ -23,10 +23,6 @@ pub record IsLeastIn (queue : Queue) (rows : Rows) (key : Key) : Type 0 where
   pub waits : IsTrue (phase_waits_in queue row.phase)
   pub own : row.key ≡ key
   pub least : IsLeastOf (phase_waits_in queue) rows key
-
--- no request waits in a queue
-abbrev pub IsEmptyQueue : Queue → Rows → Type 0
-IsEmptyQueue queue rows = (row : Row) → IsRow rows row → IsTrue (phase_waits_in queue row.phase) → ⊥
 
 -- a queue's head: the least key that waits in it, or none where nobody does
 abbrev pub IsHead : Option Key → Queue → Rows → Type 0

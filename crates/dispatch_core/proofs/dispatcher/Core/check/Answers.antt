@@ -7,7 +7,14 @@ use Rattle.dispatch_log.proofs.Dispatched.{dispatched}
 use Rattle.dispatch_core.proofs.Calls.{added_dispatched}
 use Rattle.dispatch_core.proofs.Checking.{has_health, check_stage, check_change, check_within, check_room, core_goes}
 use Rattle.dispatch_core.proofs.Going.{carried_adds}
+use Rattle.dispatch_core.proofs.dispatcher.Core.check.Given as given
+use Rattle.dispatch_core.proofs.dispatcher.Core.check.Goals.{After-settle}
 use Rattle.dispatch_core.proofs.dispatcher.Core.check.Goals as goal
+
+-- a check with all that follows, as one event
+added : (g : given.Over) (c : After-settle g)
+    → AddsEvent c.self.inside.events.trace c.settle.new.self.trace (Check (effective c.self.inside.events.trace c.args.moment) c.args.server c.args.ok)
+added g c = carried_adds c.self.inside.events.trace _ _ _ _ refl c.check.ensures c.follow.ensures c.settle.ensures
 
 pub returns-in-Some-clause-dispatched : goal.returns-in-Some-clause-dispatched
 returns-in-Some-clause-dispatched g c = subst IsDispatched c.self.view_is (dispatched _ c.self.invariant.legal)
@@ -45,14 +52,14 @@ follow-requires-clause-room g c =
 pub invariant_of-self : goal.invariant_of-self
 invariant_of-self g c =
     core_goes _ _ _ c.self.inside.healths c.result-change.new.self _ c.self.inside.expiring c.self.invariant
-    (carried_adds c.self.inside.events.trace _ _ _ _ refl c.check.ensures c.follow.ensures c.settle.ensures)
+    (added g (goal.at.invariant_of-self g c).After-settle)
     (c.result-change.ensures.healths _ _ c.self.invariant.healthy) c.self.invariant.none refl
 
 pub returns-clause-ok : goal.returns-clause-ok
 returns-clause-ok g c =
     subst (λ (h : History). AddsEvent h c.settle.new.self.trace (Check (effective h c.args.moment) c.args.server c.args.ok)) c.self.view_is
-    (carried_adds c.self.inside.events.trace _ _ _ _ refl c.check.ensures c.follow.ensures c.settle.ensures)
+    (added g (goal.at.returns-clause-ok g c).After-settle)
 
 pub returns-clause-dispatched : goal.returns-clause-dispatched
 returns-clause-dispatched g c =
-    added_dispatched _ _ _ c.self.invariant.legal (carried_adds c.self.inside.events.trace _ _ _ _ refl c.check.ensures c.follow.ensures c.settle.ensures)
+    added_dispatched _ _ _ c.self.invariant.legal (added g (goal.at.returns-clause-dispatched g c).After-settle)

@@ -11,7 +11,14 @@ use Rattle.dispatch_core.proofs.Going.{carried_adds}
 use Rattle.dispatch_core.proofs.Retrying.{failure_stage, failure_slot, failure_pin, failure_room}
 use Rattle.dispatch_core.proofs.Standing.{at_fail, of_ticket}
 use Rattle.dispatch_core.proofs.Checking.{core_kept}
+use Rattle.dispatch_core.proofs.dispatcher.Core.failed.Given as given
+use Rattle.dispatch_core.proofs.dispatcher.Core.failed.Goals.{After-settle}
 use Rattle.dispatch_core.proofs.dispatcher.Core.failed.Goals as goal
+
+-- a failure with all that becomes of it, as one event
+added : (g : given.Over) (c : After-settle g)
+    → AddsEvent c.self.inside.events.trace c.settle.new.self.trace (Fail (effective c.self.inside.events.trace c.args.moment) c.in-Ok.it.ticket)
+added g c = carried_adds c.self.inside.events.trace _ _ _ _ refl c.fail-failures.ensures.fails c.carry_on.ensures c.settle.ensures
 
 pub returns-in-Err-clause-dispatched : goal.returns-in-Err-clause-dispatched
 returns-in-Err-clause-dispatched g c = subst IsDispatched c.self.view_is (dispatched _ c.self.invariant.legal)
@@ -52,9 +59,8 @@ returns-clause-ok g c =
 pub returns-clause-dispatched : goal.returns-clause-dispatched
 returns-clause-dispatched g c =
     added_dispatched _ _ _ c.self.invariant.legal
-    (carried_adds c.self.inside.events.trace _ _ _ _ refl c.fail-failures.ensures.fails c.carry_on.ensures c.settle.ensures)
+    (added g (goal.at.returns-clause-dispatched g c).After-settle)
 
 pub invariant_of-self : goal.invariant_of-self
 invariant_of-self g c =
-    let added = carried_adds c.self.inside.events.trace _ _ _ _ refl c.fail-failures.ensures.fails c.carry_on.ensures c.settle.ensures in
-    core_kept _ _ _ _ _ _ c.self.invariant added refl c.self.invariant.none refl
+    core_kept _ _ _ _ _ _ c.self.invariant (added g (goal.at.invariant_of-self g c).After-settle) refl c.self.invariant.none refl

@@ -68,6 +68,15 @@ module _ (g : given.Over) (c : After-arrival_of g) where
       → now ≡ noted c.self.inside.log (Arrive c.later-now.result arrival)
   logged now noted_is = subst (λ (a : Arrival). now ≡ noted c.self.inside.log (Arrive c.later-now.result a)) c.arrival_of.ensures noted_is
 
+  -- and as its fields have it
+  left : (now : Recorded) → now ≡ noted c.self.inside.log (Arrive c.later-now.result c.arrival_of.result) → IsTrace g.Q.PendQueue.pair_of (record {
+    kept = c.admit.new.ledger;
+    log = now;
+    waits = c.self.inside.waiting;
+    position = record { cursor = c.self.inside.position.cursor; last = c.later-now.result; ticket = arrival.ticket };
+  })
+  left now noted_is = closed _ _ _ _ _ _ _ _ admitted.2 (logged now noted_is) refl kept
+
 pub admit-requires-clause-room : goal.admit-requires-clause-room
 admit-requires-clause-room g c =
     arrival_fits _ _ c.args.pin c.self.invariant (begins g (goal.at.admit-requires-clause-room g c).After-later-now).accepted
@@ -90,16 +99,14 @@ note-requires-clause-follows g c =
 pub invariant_of-self-2 : goal.invariant_of-self-2
 invariant_of-self-2 g c =
     let a = (goal.at.invariant_of-self-2 g c).After-arrival_of in
-    closed _ _ _ _ _ _ _ _ (admitted g a).2 (logged g a _ c.note.ensures) refl (kept g a)
+    left g a _ c.note.ensures
 
 pub returns-clause-pin : goal.returns-clause-pin
 returns-clause-pin g c =
     let a = (goal.at.returns-clause-pin g c).After-arrival_of in
-    let left = closed _ _ _ _ _ _ _ _ (admitted g a).2 (logged g a _ c.note.ensures) refl (kept g a) in
-    (newcomer_at _ _ _ c.in_ok-place.place _ left (admitted g a).2 c.in_ok-place.ensures.vacant).1
+    (newcomer_at _ _ _ c.in_ok-place.place _ (left g a _ c.note.ensures) (admitted g a).2 c.in_ok-place.ensures.vacant).1
 
 pub returns-clause-at : goal.returns-clause-at
 returns-clause-at g c =
     let a = (goal.at.returns-clause-at g c).After-arrival_of in
-    let left = closed _ _ _ _ _ _ _ _ (admitted g a).2 (logged g a _ c.note.ensures) refl (kept g a) in
-    (newcomer_at _ _ _ c.in_ok-place.place _ left (admitted g a).2 c.in_ok-place.ensures.vacant).0
+    (newcomer_at _ _ _ c.in_ok-place.place _ (left g a _ c.note.ensures) (admitted g a).2 c.in_ok-place.ensures.vacant).0

@@ -1,11 +1,11 @@
-use Rattle.std.proofs.Common.{◌+◌, ◌<◌, ◌≤◌, length, ap, sym, ◌∙◌, subst}
+use Rattle.std.proofs.Common.{◌≡◌, ◌+◌, ◌<◌, ◌≤◌, length, ap, sym, ◌∙◌, subst}
 use Rattle.dispatch_log.specs.declared.row.Phase.TheVariants.{Serving}
 use Rattle.dispatch_log.specs.declared.setup.Setup.{Setup}
 use Rattle.dispatch_log.specs.Histories.{History}
 use Rattle.dispatch_log.specs.Logs.{Recorded}
 use Rattle.slot_ledger.specs.Counts.{IsQueueOf}
 use Rattle.slot_ledger.specs.Ledgers.{Kept, with_slots, scene_of as kept_scene}
-use Rattle.slot_ledger.specs.Slots.{with_phase}
+use Rattle.slot_ledger.specs.Slots.{with_phase, loosened}
 use Rattle.slot_ledger.proofs.Standing.{still_stands}
 use Rattle.wait_queues.specs.Waitlists.{Waitlist, AreFirst, without_waiter}
 use Rattle.dispatch_trace.specs.Histories.{waiting_of, IsGrant}
@@ -15,7 +15,7 @@ use Rattle.dispatch_trace.proofs.Stepping.{closed}
 use Rattle.dispatch_trace.proofs.Within.{take_within}
 use Rattle.dispatch_trace.proofs.Grants.{GrantCalls, grant_calls}
 use Rattle.dispatch_trace.proofs.trace.Trace.grant.Given as given
-use Rattle.dispatch_trace.proofs.trace.Trace.grant.Goals.{In-Some-take}
+use Rattle.dispatch_trace.proofs.trace.Trace.grant.Goals.{In-Some-take, After-serve}
 use Rattle.dispatch_trace.proofs.trace.Trace.grant.Goals as goal
 
 pub next_queue-queue-requires : goal.next_queue-queue-requires
@@ -87,35 +87,39 @@ note_grant-requires-clause-waits g c =
     let known = calls g (goal.at.note_grant-requires-clause-waits g c).In-Some-take in
     grant_waits _ _ _ _ _ _ _ known
 
+-- the rows that it leaves, and who waits then
+served : (g : given.Over) (c : After-serve g)
+    → c.serve.new.self ≡ with_slots c.self.inside.ledger
+    (with_phase (Serving c.in-Some.server) (loosened c.in-Some-take.taken.node c.self.inside.ledger.slots c.in-Some-take.taken.place)
+    c.in-Some-take.taken.place)
+served g c =
+    c.serve.ensures ∙ ap (λ (k : Kept _). with_slots k (with_phase (Serving c.in-Some.server) k.slots c.in-Some-take.taken.place)) c.loosen.ensures
+
+left : (g : given.Over) (c : In-Some-take g) → c.take.new.self ≡ without_waiter c.self.inside.waiting c.in-Some-take.taken.place
+left g c = c.in-Some-take.ensures.left ∙ ap (λ (l : Waitlist). without_waiter l c.in-Some-take.taken.place) c.heads-heads.ensures.same
+
 pub invariant_of-self : goal.invariant_of-self
 invariant_of-self g c =
-    let known = calls g (goal.at.invariant_of-self g c).In-Some-take in
-    closed _ _ _ _ _ _ _ _
-    (c.serve.ensures ∙ ap (λ (k : Kept _). with_slots k (with_phase (Serving c.in-Some.server) k.slots c.in-Some-take.taken.place)) c.loosen.ensures)
-    c.note_grant.ensures
-    (c.in-Some-take.ensures.left ∙ ap (λ (l : Waitlist). without_waiter l c.in-Some-take.taken.place) c.heads-heads.ensures.same)
-    (grant_kept _ _ _ _ _ _ _ known c.in-Some-take.taken.node _ c.in-Some-take.ensures.pair c.in-Some.ensures.cursor)
+    let at = goal.at.invariant_of-self g c in
+    closed _ _ _ _ _ _ _ _ (served g at.After-serve) c.note_grant.ensures (left g at.In-Some-take)
+    (grant_kept _ _ _ _ _ _ _ (calls g at.In-Some-take) c.in-Some-take.taken.node _ c.in-Some-take.ensures.pair c.in-Some.ensures.cursor)
 
 pub returns-clause-granted : goal.returns-clause-granted
 returns-clause-granted g c =
-    let known = calls g (goal.at.returns-clause-granted g c).In-Some-take in
-    let setup =
-    ap (λ (k : Kept _). k.setup)
-    (c.serve.ensures ∙ ap (λ (k : Kept _). with_slots k (with_phase (Serving c.in-Some.server) k.slots c.in-Some-take.taken.place)) c.loosen.ensures) in
+    let at = goal.at.returns-clause-granted g c in
+    let setup = ap (λ (k : Kept _). k.setup) (served g at.After-serve) in
     subst (λ (h : History). IsGrant h (record {
       setup = c.serve.new.self.setup;
       base = c.note_grant.new.self.base;
       log = c.note_grant.new.self.entries;
     })) c.self.view_is
-    (is_grant _ _ _ _ _ _ _ known (record { setup = c.serve.new.self.setup; base = c.note_grant.new.self.base; log = c.note_grant.new.self.entries })
+    (is_grant _ _ _ _ _ _ _ (calls g at.In-Some-take)
+    (record { setup = c.serve.new.self.setup; base = c.note_grant.new.self.base; log = c.note_grant.new.self.entries })
     (ap (λ (s : Setup). record { setup = s; base = c.note_grant.new.self.base; log = c.note_grant.new.self.entries }) setup
     ∙ ap (λ (r : Recorded). record { setup = c.self.inside.ledger.setup; base = r.base; log = r.entries }) c.note_grant.ensures))
 
 pub returns-clause-judged : goal.returns-clause-judged
 returns-clause-judged g c =
-    let known = calls g (goal.at.returns-clause-judged g c).In-Some-take in
-    (closed _ _ _ _ _ _ _ _
-    (c.serve.ensures ∙ ap (λ (k : Kept _). with_slots k (with_phase (Serving c.in-Some.server) k.slots c.in-Some-take.taken.place)) c.loosen.ensures)
-    c.note_grant.ensures
-    (c.in-Some-take.ensures.left ∙ ap (λ (l : Waitlist). without_waiter l c.in-Some-take.taken.place) c.heads-heads.ensures.same)
-    (grant_kept _ _ _ _ _ _ _ known c.in-Some-take.taken.node _ c.in-Some-take.ensures.pair c.in-Some.ensures.cursor)).judged
+    let at = goal.at.returns-clause-judged g c in
+    (closed _ _ _ _ _ _ _ _ (served g at.After-serve) c.note_grant.ensures (left g at.In-Some-take)
+    (grant_kept _ _ _ _ _ _ _ (calls g at.In-Some-take) c.in-Some-take.taken.node _ c.in-Some-take.ensures.pair c.in-Some.ensures.cursor)).judged

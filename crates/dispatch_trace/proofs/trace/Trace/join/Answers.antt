@@ -1,9 +1,10 @@
-use Rattle.std.proofs.Common.{◌+◌, length, ap, sym, ◌∙◌, subst}
+use Rattle.std.proofs.Common.{◌≡◌, ◌+◌, length, ap, sym, ◌∙◌, subst}
 use Rattle.dispatch_log.specs.declared.entry.Entry.TheVariants.{Joined}
 use Rattle.dispatch_log.specs.Histories.{History}
 use Rattle.dispatch_trace.proofs.Stepping.{follows_on}
 use Rattle.slot_ledger.specs.Counts.{IsQueueOf}
 use Rattle.dispatch_trace.specs.Histories.{cursor_after}
+use Rattle.dispatch_trace.specs.Traces.{history_of}
 use Rattle.dispatch_trace.proofs.Joining.{join_node, join_vacant, join_key, join_pair, join_kept}
 use Rattle.dispatch_trace.proofs.Stepping.{has_row, closed}
 use Rattle.dispatch_trace.proofs.Within.{joined_within}
@@ -22,6 +23,15 @@ calls : (g : given.Over) (c : After-row g)
     (record { kept = c.self.inside.ledger; log = c.self.inside.log; waits = c.self.inside.waiting; position = c.self.inside.position }) c.args.it
     c.args.queue
 calls g c = join_calls _ _ _ c.args.it c.args.queue c.self.invariant c.self.view_is c.requires.lawful c.requires.at
+
+-- the cursor that it leaves, by the history that the trace holds
+moved : (g : given.Over) (c : After-row g) → c.args.cursor ≡ cursor_after (history_of (record {
+  kept = c.self.inside.ledger;
+  log = c.self.inside.log;
+  waits = c.self.inside.waiting;
+  position = c.self.inside.position;
+})) (Joined c.args.it.ticket c.args.queue)
+moved g c = c.requires.cursor ∙ ap (λ (h : History). cursor_after h (Joined c.args.it.ticket c.args.queue)) (sym c.self.view_is)
 
 pub wait-node-requires-clause-row : goal.wait-node-requires-clause-row
 wait-node-requires-clause-row g c =
@@ -56,14 +66,14 @@ join-requires-clause-pair g c =
 
 pub note-requires-clause-follows : goal.note-requires-clause-follows
 note-requires-clause-follows g c =
-    let known = calls g (goal.at.note-requires-clause-follows g c).After-row in
-    let moved = c.requires.cursor ∙ ap (λ (h : History). cursor_after h (Joined c.args.it.ticket c.args.queue)) (sym c.self.view_is) in
+    let at = (goal.at.note-requires-clause-follows g c).After-row in
     follows_on _ _ _ _
-    (join_kept _ _ c.args.it c.args.queue known c.row.result c.row.ensures (c.len.result + 1) c.args.cursor (ap (λ n. n + 1) c.len.ensures) moved).judged
+    (join_kept _ _ c.args.it c.args.queue (calls g at) c.row.result c.row.ensures (c.len.result + 1) c.args.cursor
+    (ap (λ n. n + 1) c.len.ensures) (moved g at)).judged
 
 pub invariant_of-self : goal.invariant_of-self
 invariant_of-self g c =
-    let known = calls g (goal.at.invariant_of-self g c).After-row in
-    let moved = c.requires.cursor ∙ ap (λ (h : History). cursor_after h (Joined c.args.it.ticket c.args.queue)) (sym c.self.view_is) in
+    let at = (goal.at.invariant_of-self g c).After-row in
     closed _ _ _ _ _ _ _ _ c.wait-node.ensures.waiting c.note.ensures c.join.ensures
-    (join_kept _ _ c.args.it c.args.queue known c.row.result c.row.ensures (c.len.result + 1) c.args.cursor (ap (λ n. n + 1) c.len.ensures) moved)
+    (join_kept _ _ c.args.it c.args.queue (calls g at) c.row.result c.row.ensures (c.len.result + 1) c.args.cursor
+    (ap (λ n. n + 1) c.len.ensures) (moved g at))

@@ -1,4 +1,4 @@
-use Rattle.std.proofs.Common.{◌≡◌, ℕ, ◌<◌, Some, None, cond, length, subst, sym, ap, ◌∙◌, w64}
+use Rattle.std.proofs.Common.{◌≡◌, ◌<◌, Some, None, cond, length, subst, sym, ap, ◌∙◌, w64}
 use Rattle.std.specs.Int.{int_max}
 use Rattle.std.specs.Option.{option_map_or, unwrap_or}
 use Rattle.std.proofs.lemmas.Int.{to_z-of_z}

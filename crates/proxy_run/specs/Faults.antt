@@ -6,8 +6,8 @@ use Rattle.proxy_run.specs.declared.fault.RunFault.{RunFault}
 use Rattle.proxy_run.specs.declared.fault.RunFault.TheVariants as faults
 use Rattle.proxy_run.specs.declared.fault.ServeFault.{ServeFault}
 use Rattle.proxy_run.specs.declared.fault.ServeFault.TheVariants.{NoMemory, Write, Turns}
-use Rattle.relay_workers.specs.declared.working.Stopped.{Stopped}
-use Rattle.relay_workers.specs.declared.working.Stopped.TheVariants as stops
+use Rattle.relay_workers.specs.declared.stopping.Stopped.{Stopped}
+use Rattle.relay_workers.specs.declared.stopping.Stopped.TheVariants as stops
 use Rattle.socket_gate.specs.declared.telling.TellFault.{TellFault}
 use Rattle.socket_gate.specs.declared.telling.TellFault.TheVariants as tells
 

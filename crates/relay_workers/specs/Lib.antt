@@ -1,5 +1,4 @@
 pub mod Admissions
 pub mod Outcomes
 pub mod Seats
-pub mod Tallies
 pub mod Windows

@@ -1,6 +1,6 @@
-//! The threads of a proxy: workers, each with one client at a time from its request to the end of its answer, and a checker of its servers.
+//! What the threads of a proxy do: with a client, from its request to the end of its answer, and with its servers, which they check.
 //!
-//! A worker is made of three parts: `admit`, from a client to a place and a ticket; `wait`, from there to a pass; `finish`, from a pass to the answer,
+//! A client is served in three parts: `admit`, from a client to a place and a ticket; `wait`, from there to a pass; `finish`, from a pass to the answer,
 //! after which the pass is posted. Where clients, connections and moments come from is a `Gate`'s matter, how long a wait may be a `Pause`'s.
 #![tactic(auto)]
 
@@ -8,20 +8,18 @@ mod admitting;
 mod checking;
 mod finishing;
 mod gate;
+mod lending;
 mod outcome;
 mod proxy;
-mod serving;
-mod tally;
+mod stopping;
 mod waiting;
-mod working;
 
 pub use admitting::{Admitted, admit, arrive};
 pub use checking::checker;
 pub use finishing::finish;
 pub use gate::{Gate, Pause};
+pub use lending::{join_all, split_off};
 pub use outcome::Outcome;
 pub use proxy::{Hand, Proxy, Runner};
-pub use serving::{join_all, serve, split_off};
-pub use tally::Tally;
+pub use stopping::{Stopped, TURNS};
 pub use waiting::{Granted, wait};
-pub use working::{Stopped, TURNS, worker};

@@ -14,7 +14,7 @@ use late_cert::Running;
 use pass_seat::Idle;
 use place_set::PlaceSet;
 use proxy_config::{Config, read};
-use relay_workers::{Gate, Pause, Proxy, Stopped, Tally, checker, worker};
+use relay_workers::{Gate, Pause, Proxy, Stopped, checker};
 use reporting_core::Window;
 use std::alloc::Global;
 use std::io::{self, Read, Write};
@@ -22,6 +22,7 @@ use std::marker::Brand;
 use std::process::Abort;
 use std::sync::Wait;
 use std::sync::atomic::{AtomicU64, Ordering};
+use worker_crew::{Tally, worker};
 
 mod checks;
 mod fakes;

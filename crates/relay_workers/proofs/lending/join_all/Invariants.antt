@@ -1,6 +1,6 @@
 use Rattle.std.proofs.Common.{◌≡◌, vec_len, length}
 use Rattle.relay_workers.specs.Seats.{IsLent}
-use Rattle.relay_workers.proofs.serving.join_all.Given as goal
+use Rattle.relay_workers.proofs.lending.join_all.Given as goal
 
 abbrev pub invariant-loop-idle : goal.invariant-loop-idle
 invariant-loop-idle g l =

@@ -1,6 +1,6 @@
 use Rattle.std.proofs.Common.{◌≡◌, ◌+◌, vec_len}
 use Rattle.relay_workers.specs.Seats.{IsLent}
-use Rattle.relay_workers.proofs.serving.split_off.Given as goal
+use Rattle.relay_workers.proofs.lending.split_off.Given as goal
 
 abbrev pub invariant-loop : goal.invariant-loop
 invariant-loop g l =

@@ -1,5 +1,5 @@
 use Rattle.std.proofs.Common.{length}
-use Rattle.relay_workers.proofs.serving.+run_crew.Given as goal
+use Rattle.worker_crew.proofs.crew.+run_crew.Given as goal
 
 -- a seat fewer in each call
 abbrev pub decreases-run_crew : goal.decreases-run_crew

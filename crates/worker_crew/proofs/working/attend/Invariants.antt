@@ -1,7 +1,7 @@
 use Rattle.std.proofs.Common.{◌≡◌, ◌<◌, [], false}
 use Rattle.relay_http.specs.declared.exchange.Stage.TheVariants.{Asked}
 use Rattle.grant_desk.specs.Seats.{IsSameSeat}
-use Rattle.relay_workers.proofs.working.attend.Given as goal
+use Rattle.worker_crew.proofs.working.attend.Given as goal
 
 -- the request has its place, and is still to be handed on
 abbrev pub invariant-loop : goal.invariant-loop

@@ -1,15 +1,11 @@
 ghost use Rattle.std.specs.Prelude.{◌≡◌, ◌+◌, true, [], vec_len, IfOk};
-ghost use Rattle.std.specs.Bool.{OnTrue};
-ghost use Rattle.relay_workers.specs.Seats.{IsLent};
-ghost use Rattle.relay_workers.specs.Tallies.{of_both};
+ghost use Rattle.worker_crew.specs.Tallies.{of_both};
 
-use crate::checking::checker;
-use crate::gate::{Gate, Pause};
-use crate::proxy::Proxy;
 use crate::tally::Tally;
-use crate::working::{Stopped, worker};
+use crate::working::worker;
 use grant_board::{BoardName, RelaySeat};
 use pass_seat::Idle;
+use relay_workers::{Gate, Pause, Proxy, Stopped, checker, join_all, split_off};
 use std::sync::Wait;
 use std::sync::atomic::{AtomicBool, Ordering};
 use std::thread::{Scope, Threads};
@@ -49,42 +45,6 @@ pub fn serve<
     };
     join_all(proxy, &mut first, seats);
     (first, all)
-}
-
-/// So many seats more. False where the list finds no memory for one.
-pub fn split_off<N: BoardName>(
-    proxy: &Proxy<N>,
-    first: &mut RelaySeat,
-    seats: &mut Vec<Idle<N>>,
-    count: usize,
-) -> bool
-    requires named { (first.old.board ≡ N.board) × (first.old.view.terms ≡ N.terms) }
-    requires first { first.old.view.first ≡ true }
-    ensures lent { IsLent first.old first.new (vec_len seats.old) (vec_len seats.new) }
-    ensures all { OnTrue result (first.new.view.split ≡ first.old.view.split + count) }
-{
-    for _ in 0..count {
-        let seat = Idle::new(first.split(proxy.desk.board()));
-        if let Err(refused) = seats.push(seat) {
-            first.join(proxy.desk.board(), refused.value.seat());
-            return false;
-        }
-    }
-    true
-}
-
-/// All seats come back.
-pub fn join_all<N: BoardName>(proxy: &Proxy<N>, first: &mut RelaySeat, seats: Vec<Idle<N>>)
-    requires named { (first.old.board ≡ N.board) × (first.old.view.terms ≡ N.terms) }
-    requires first { first.old.view.first ≡ true }
-    ensures lent { IsLent first.old first.new (vec_len seats) 0 }
-    ensures split { first.new.view.split ≡ first.old.view.split }
-{
-    let mut seats = seats;
-    while let Some(idle) = seats.pop() {
-        first.join(proxy.desk.board(), idle.seat());
-    }
-    seats.destroy_empty();
 }
 
 // A scope with all threads in it.

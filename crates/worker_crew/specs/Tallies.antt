@@ -3,8 +3,8 @@ use Rattle.std.specs.Prelude.{ℕ, ◌+◌, ◌-◌, ◌^◌, min, Result, Ok, E
 use Rattle.relay_http.specs.declared.refusing.Code.TheVariants.{BadRequest, BadGateway, Unavailable}
 use Rattle.relay_workers.specs.declared.outcome.Outcome.{Outcome}
 use Rattle.relay_workers.specs.declared.outcome.Outcome.TheVariants.{Answered, Refused, Cut}
-use Rattle.relay_workers.specs.declared.tally.Tally.{Tally}
-use Rattle.relay_workers.specs.declared.working.Stopped.{Stopped}
+use Rattle.worker_crew.specs.declared.tally.Tally.{Tally}
+use Rattle.relay_workers.specs.declared.stopping.Stopped.{Stopped}
 
 abbrev pub plus : ℕ → ℕ → ℕ
 plus a b = min (a + b) (2 ^ 64 - 1)

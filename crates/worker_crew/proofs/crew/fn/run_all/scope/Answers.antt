@@ -1,6 +1,6 @@
 use Rattle.std.proofs.Common.{rules}
 use denote.Param.Send.{IsSend, IsSync, sendable}
-use Rattle.relay_workers.proofs.serving.fn.run_all.scope.Goals as goal
+use Rattle.worker_crew.proofs.crew.fn.run_all.scope.Goals as goal
 
 pub run_crew-all-requires-send-N : goal.run_crew-all-requires-send-N
 run_crew-all-requires-send-N g c κs within = let s : IsSend g.row.N = search (rules, c.requires) parts 30 in search (s, sendable)

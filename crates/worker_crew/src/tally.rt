@@ -1,8 +1,8 @@
 ghost use Rattle.std.specs.Prelude.{◌≡◌};
-ghost use Rattle.relay_workers.specs.Tallies.{noted, together};
+ghost use Rattle.worker_crew.specs.Tallies.{noted, together};
 
-use crate::outcome::Outcome;
 use relay_http::Code;
+use relay_workers::Outcome;
 
 /// What a thread's clients got. Each number stays at its greatest value once it has it.
 #[derive(Clone, Copy, Debug, PartialEq, Eq)]

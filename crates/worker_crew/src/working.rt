@@ -2,32 +2,14 @@ ghost use Rattle.std.specs.Prelude.{◌≡◌, []};
 ghost use Rattle.relay_http.specs.States.{IsFresh};
 ghost use Rattle.grant_desk.specs.Seats.{IsSameSeat};
 
-use crate::admitting::admit;
-use crate::finishing::finish;
-use crate::gate::{Gate, Pause};
-use crate::outcome::Outcome;
-use crate::proxy::{Hand, Proxy, Runner};
 use crate::tally::Tally;
-use crate::waiting::wait;
 use grant_board::{BoardName, RelaySeat};
 use pass_seat::Idle;
 use relay_http::Exchange;
+use relay_workers::{
+    Gate, Hand, Outcome, Pause, Proxy, Runner, Stopped, TURNS, admit, finish, wait,
+};
 use std::sync::Wait;
-use thiserror::Error;
-
-/// Reads and writes that one exchange may make.
-pub const TURNS: u64 = 1_000_000_000;
-
-/// Why a worker ended while clients still came.
-#[derive(Clone, Copy, Debug, PartialEq, Eq, Error)]
-pub enum Stopped {
-    /// Its exchange found no memory, or there was none to start a thread with.
-    #[error("no memory")]
-    NoMemory,
-    /// All pauses of a wait were made, and no pass came even then.
-    #[error("turns spent")]
-    PausesSpent,
-}
 
 /// Serves one client after the other, until no more come. It takes 80 KiB for an exchange, once, beside what each request's head takes.
 pub fn worker<R: Wait, N: BoardName, G: Gate + Drop, P: Pause + Drop>(

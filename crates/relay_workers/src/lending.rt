@@ -1,0 +1,45 @@
+//! The first seat of a board, and those that it lends to threads.
+
+ghost use Rattle.std.specs.Prelude.{◌≡◌, ◌+◌, true, vec_len};
+ghost use Rattle.std.specs.Bool.{OnTrue};
+ghost use Rattle.relay_workers.specs.Seats.{IsLent};
+
+use crate::proxy::Proxy;
+use grant_board::{BoardName, RelaySeat};
+use pass_seat::Idle;
+
+/// So many seats more. False where the list finds no memory for one.
+pub fn split_off<N: BoardName>(
+    proxy: &Proxy<N>,
+    first: &mut RelaySeat,
+    seats: &mut Vec<Idle<N>>,
+    count: usize,
+) -> bool
+    requires named { (first.old.board ≡ N.board) × (first.old.view.terms ≡ N.terms) }
+    requires first { first.old.view.first ≡ true }
+    ensures lent { IsLent first.old first.new (vec_len seats.old) (vec_len seats.new) }
+    ensures all { OnTrue result (first.new.view.split ≡ first.old.view.split + count) }
+{
+    for _ in 0..count {
+        let seat = Idle::new(first.split(proxy.desk.board()));
+        if let Err(refused) = seats.push(seat) {
+            first.join(proxy.desk.board(), refused.value.seat());
+            return false;
+        }
+    }
+    true
+}
+
+/// All seats come back.
+pub fn join_all<N: BoardName>(proxy: &Proxy<N>, first: &mut RelaySeat, seats: Vec<Idle<N>>)
+    requires named { (first.old.board ≡ N.board) × (first.old.view.terms ≡ N.terms) }
+    requires first { first.old.view.first ≡ true }
+    ensures lent { IsLent first.old first.new (vec_len seats) 0 }
+    ensures split { first.new.view.split ≡ first.old.view.split }
+{
+    let mut seats = seats;
+    while let Some(idle) = seats.pop() {
+        first.join(proxy.desk.board(), idle.seat());
+    }
+    seats.destroy_empty();
+}

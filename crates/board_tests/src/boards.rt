@@ -1,31 +1,34 @@
 ghost use Rattle.std.specs.Prelude.{◌≡◌, ◌<◌};
 
+use crate::assertions::{holds, same};
 use grant_board::laws::{Word, decode, decode_encode, encode};
 use grant_board::*;
 use std::marker::Brand;
-use std::test::*;
 use verdict::{Cause, Ending, Verdict};
 
 mod meetings;
 mod threads;
 
+const SERVE: Verdict = Verdict::Serve(0);
+
+static WORDS: [(Word, u64); 5] = [
+    (Word::Offered(7, SERVE), 7169),
+    (Word::Taken(7, SERVE), 7170),
+    (Word::Posted(7, SERVE, Ending::Done), 7171),
+    (Word::Posted(7, SERVE, Ending::Failed), 7683),
+    (Word::Empty, 0),
+];
+
 #[test]
 fn numbers_of_words(rt: HostRuntime) {
-    let serve = Verdict::Serve(0);
-    for (word, number) in [
-        (Word::Offered(7, serve), 7169),
-        (Word::Taken(7, serve), 7170),
-        (Word::Posted(7, serve, Ending::Done), 7171),
-        (Word::Posted(7, serve, Ending::Failed), 7683),
-        (Word::Empty, 0),
-    ] {
-        assert_eq!(rt; decode(number), Some(word), "at {number}");
+    for (word, number) in &WORDS {
+        assert_eq!(rt; decode(*number), Some(*word), "at {number}");
     }
-    assert_eq!(rt; encode(Word::Taken(7, serve)), 7170);
-    assert_eq!(rt; decode(4), None);
-    assert_eq!(rt; decode(513), None);
+    same(&rt, encode(Word::Taken(7, SERVE)), 7170);
+    same(&rt, decode(4), None);
+    same(&rt, decode(513), None);
     let last = Word::Posted((1 << 40) - 1, Verdict::Told(Cause::NoServer), Ending::Done);
-    assert_eq!(rt; decode_encode(last), Some(last));
+    same(&rt, decode_encode(last), Some(last));
 }
 
 // Takes the ticket where it is offered, and posts that it is done.
@@ -56,24 +59,26 @@ fn serve_named<N: BoardName>(board: &Board, seat: &mut RelaySeat, place: usize, 
 }
 
 #[test]
-fn one_place(rt: HostRuntime) -> Result<(), Fail> {
-    let (board, mut keeper, mut seat) = Board::open(rt.alloc(), 2, &[1])?;
-    keeper.offer(&board, 0, 7, Verdict::Serve(0));
-    assert!(rt; !serve_named::<Brand>(&board, &mut seat, 0, 6));
+fn one_place(rt: HostRuntime) {
+    let (board, mut keeper, mut seat) = Board::open(rt.alloc(), 2, &[1]).expect(&rt, "memory");
+    keeper.offer(&board, 0, 7, SERVE);
+    holds(&rt, !serve_named::<Brand>(&board, &mut seat, 0, 6));
     let pass = match seat.try_take(&board, 0, 7) {
         Taking::Taken(pass) => pass,
-        Taking::NotYet => return Err("offered".into()),
+        Taking::NotYet => panic!(rt; "not offered"),
     };
-    assert!(rt; seat.first() && pass.place() == 0 && pass.ticket() == 7);
-    assert_eq!(rt; pass.verdict(), Verdict::Serve(0));
-    assert_eq!(rt; keeper.collect(&board, 0), None);
+    holds(&rt, seat.first() && pass.place() == 0 && pass.ticket() == 7);
+    same(&rt, pass.verdict(), SERVE);
+    same(&rt, keeper.collect(&board, 0), None);
     seat.post(&board, pass, Ending::Done);
     let back = Return {
         place: 0,
         ticket: 7,
         ending: Ending::Done,
     };
-    assert_eq!(rt; keeper.collect(&board, 0), Some(back));
-    assert_eq!(rt; keeper.collect(&board, 0), None);
-    Ok(())
+    same(&rt, keeper.collect(&board, 0), Some(back));
+    same(&rt, keeper.collect(&board, 0), None);
+    drop(board);
+    drop(keeper);
+    drop(seat);
 }

@@ -1,12 +1,13 @@
-ghost use Rattle.std.specs.Prelude.{◌≡◌, ◌<◌, ◌≤◌, [], IfOk};
+ghost use Rattle.std.specs.Prelude.{◌≡◌, ◌<◌, ◌≤◌, []};
 
+use crate::assertions::{holds, same};
 use grant_board::{Board, BoardName, RelaySeat, Return};
 use pass_seat::*;
 use std::alloc::Global;
 use std::collections::VecDeque;
 use std::marker::Brand;
+use std::process::Abort;
 use std::sync::{Mutex, Wait};
-use std::test::Fail;
 use std::thread::{Threads, join};
 use verdict::{Ending, Verdict};
 
@@ -18,6 +19,10 @@ type Mail<N> = Mutex<VecDeque<Held<N>>>;
 
 /// What a pass was of that a thread posted.
 type Seen = (usize, u64, Verdict);
+
+const OF_THE_FIRST: Seen = (0, TICKET, SERVE);
+
+const OF_THE_SECOND: Seen = (1, TICKET, SERVE);
 
 // A seat takes a pass and goes with it into the mail. It comes back without one.
 fn take_into<R: Wait, N: BoardName>(
@@ -101,43 +106,48 @@ fn post_rest<N: BoardName>(board: &Board, held: VecDeque<Held<N>>)
 }
 
 // The passes that the two threads posted.
-fn posted<R: Threads + Wait + Sync, N: BoardName + Send + Sync>(
+fn posted<R: Abort + Threads + Wait + Sync, N: BoardName + Send + Sync>(
     rt: &R,
     alloc: Global,
     board: &Board,
     first: RelaySeat,
     second: RelaySeat,
-) -> Result<(RelaySeat, RelaySeat, (Seen, Seen)), Fail>
+) -> (RelaySeat, RelaySeat, (Seen, Seen))
     requires board { (board.now ≡ N.board) × (2 ≤ N.terms.places) }
     requires first { (first.board ≡ N.board) × (first.view.terms ≡ N.terms) × (first.view.passes ≡ []) }
     requires second { (second.board ≡ N.board) × (second.view.terms ≡ N.terms) × (second.view.passes ≡ []) }
-    ensures { IfOk result (λ it. (it.0.board ≡ N.board) × (it.1.board ≡ N.board)) }
+    ensures { (result.0.board ≡ N.board) × (result.1.board ≡ N.board) }
 {
     let mail = Mutex::new(VecDeque::new(alloc));
     let (one, two) = exchange_passes::<R, N>(rt, board, &mail, Idle::new(first), Idle::new(second));
     post_rest(board, mail.into_inner());
     let Some((one, first)) = one else {
-        return Err(Fail::from("no first pass"));
+        panic!(rt; "no first pass");
     };
     let Some((two, second)) = two else {
-        return Err(Fail::from("no second pass"));
+        panic!(rt; "no second pass");
     };
-    Ok((one.seat(), two.seat(), (first, second)))
+    (one.seat(), two.seat(), (first, second))
 }
 
 #[test]
-fn passes_are_posted_by_other_threads(rt: HostRuntime) -> Result<(), Fail> {
-    let (board, mut keeper, mut first) = Board::open(rt.alloc(), 2, &[2])?;
+fn passes_are_posted_by_other_threads(rt: HostRuntime) {
+    let (board, mut keeper, mut first) = Board::open(rt.alloc(), 2, &[2]).expect(&rt, "memory");
     keeper.offer(&board, 0, TICKET, SERVE);
     keeper.offer(&board, 1, TICKET, SERVE);
     let second = first.split(&board);
-    let (one, two, seen) = posted::<HostRuntime, Brand>(&rt, rt.alloc(), &board, first, second)?;
-    assert!(rt; one.first() != two.first());
-    let (first, second) = ((0, TICKET, SERVE), (1, TICKET, SERVE));
-    assert!(rt; seen == (first, second) || seen == (second, first));
-    assert_eq!(rt; keeper.collect(&board, 0), Some(done_at(0)));
-    assert_eq!(rt; keeper.collect(&board, 1), Some(done_at(1)));
-    Ok(())
+    let (one, two, seen) = posted::<HostRuntime, Brand>(&rt, rt.alloc(), &board, first, second);
+    holds(&rt, one.first() != two.first());
+    holds(
+        &rt,
+        seen == (OF_THE_FIRST, OF_THE_SECOND) || seen == (OF_THE_SECOND, OF_THE_FIRST),
+    );
+    same(&rt, keeper.collect(&board, 0), Some(done_at(0)));
+    same(&rt, keeper.collect(&board, 1), Some(done_at(1)));
+    drop(board);
+    drop(keeper);
+    drop(one);
+    drop(two);
 }
 
 fn done_at(place: usize) -> Return {

@@ -1,4 +1,5 @@
 use crate::assertions::holds;
+use crate::texts::reads;
 use config_advice::explain;
 use config_check::{Checked, status_of};
 use proxy_config::{ConfigFault, FaultCause};
@@ -22,12 +23,17 @@ static ENDS: [EndRow; 4] = [
     (Checked::Unread, "read fault", 1),
 ];
 
+fn has_line_and_status(rt: &impl Abort, alloc: Global, row: &EndRow) {
+    let (checked, line, status) = row;
+    let text = format!(in alloc; "{checked}").expect(rt, "memory");
+    reads(rt, text, "line", line);
+    holds(rt, status_of(*checked) == *status, "status", line);
+}
+
 #[test]
 fn each_end_has_its_line_and_status(rt: HostRuntime) {
-    for (checked, line, status) in &ENDS {
-        let text = format!(in rt.alloc(); "{checked}").expect(&rt, "memory");
-        holds(&rt, text.as_str() == *line, "line", line);
-        holds(&rt, status_of(*checked) == *status, "status", line);
+    for row in &ENDS {
+        has_line_and_status(&rt, rt.alloc(), row);
     }
 }
 

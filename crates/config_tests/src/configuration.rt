@@ -43,3 +43,11 @@ fn is_each_faulty(rt: &impl Abort, alloc: Global, table: &FaultTable) {
         is_faulty(rt, alloc, table, row);
     }
 }
+
+// Whether a configuration is read from it.
+fn is_read(alloc: Global, file: &[u8]) -> bool {
+    let found = read(alloc, file);
+    let is_read = found.is_ok();
+    drop(found);
+    is_read
+}

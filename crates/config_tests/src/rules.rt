@@ -256,23 +256,29 @@ server a 127.0.0.1:1\nserver b 127.0.0.1:2\nserver c 127.0.0.1:3\n";
 
 fn wishes(rt: &impl Abort, alloc: Global, name: &str, config: &Config, row: &Expected) {
     let pieces = [row.line, " HTTP/1.1\r\nHost: h\r\n", row.fields, "\r\n"];
-    let Viewed::Whole(head, _) = view(alloc, &joined(rt, alloc, &pieces)) else {
+    let text = joined(rt, alloc, &pieces);
+    let Viewed::Whole(head, _) = view(alloc, &text) else {
         panic!(rt; "not a head");
     };
+    drop(text);
     let wish = Wish {
         class: Class::clamp(row.class),
         offset: Offset::clamp(row.offset),
         pin: row.pin,
     };
-    holds(rt, decide(config, &head) == wish, name, row.line);
+    let so = decide(config, &head) == wish;
+    drop(head);
+    holds(rt, so, name, row.line);
 }
 
 fn wishes_each(rt: &impl Abort, alloc: Global, case: &Case) {
     let text = joined(rt, alloc, &[SERVERS, case.lines]);
     let config = read(alloc, &text).expect(rt, case.name);
+    drop(text);
     for row in case.rows {
         wishes(rt, alloc, case.name, &config, row);
     }
+    drop(config);
 }
 
 #[test]

@@ -1,6 +1,6 @@
 //! How causes, faults and refusals read.
 
-use crate::assertions::holds;
+use crate::texts::reads;
 use proxy_config::{ConfigFault, FaultCause, ReadError};
 use req_view::HeadRefusal;
 use std::alloc::Global;
@@ -29,9 +29,9 @@ fn is_cause_shown(rt: &impl Abort, alloc: Global, row: &CauseRow) {
     let (cause, text, line, whole) = *row;
     let fault = ConfigFault { line, cause };
     let alone = format!(in alloc; "{cause}").expect(rt, "memory");
+    reads(rt, alone, "cause", text);
     let with_line = format!(in alloc; "{fault}").expect(rt, "memory");
-    holds(rt, alone.as_str() == text, "cause", text);
-    holds(rt, with_line.as_str() == whole, "fault", whole);
+    reads(rt, with_line, "fault", whole);
 }
 
 #[test]
@@ -71,6 +71,6 @@ fn text_of(rt: &impl Abort, alloc: Global, refused: &Refused) -> String {
 fn each_refusal_to_read_has_its_text(rt: HostRuntime) {
     for (refused, text) in &REFUSALS {
         let shown = text_of(&rt, rt.alloc(), refused);
-        holds(&rt, shown.as_str() == *text, "refusal", text);
+        reads(&rt, shown, "refusal", text);
     }
 }

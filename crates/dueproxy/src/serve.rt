@@ -2,7 +2,9 @@
 
 use command_words::{Numbers, RANGES};
 use config_check::read_file;
-use proxy_run::{RunFault, ServeFault, Sizes, run, status_of};
+use proxy_run::{RunFault, run, status_of};
+use proxy_service::ServeFault;
+use run_sizes::Sizes;
 use std::io::ErrorKind;
 use std::net::{Net, TcpListener, TcpStream};
 use std::rt::Files;

@@ -173,7 +173,7 @@ fn run_loop<
     hall.close(rt);
 }
 
-// What lends the hall to threads. Of a type parameter it is known by a bound alone that it may be shared, so that it is shown of `Hall` once.
+/// What lends the hall to threads. Of a type parameter it is known by a bound alone that it may be shared, so that it is shown of `Hall` once.
 pub trait Lends<N: BoardName> {
     fn hall(&self) -> &Hall<'_, N>;
 }

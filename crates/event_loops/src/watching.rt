@@ -11,7 +11,7 @@ use std::os::fd::RawFd;
 const PLACES: usize = 4096;
 
 /// What an event is about. A key may be another's by the time of the event, and a ticket may wait no more: whoever attends to it looks.
-#[derive(Clone, Copy, Debug, PartialEq, Eq)]
+#[derive(Clone, Copy)]
 pub(crate) enum Subject {
     /// A client comes.
     Listener,

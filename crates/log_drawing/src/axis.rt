@@ -1,5 +1,5 @@
 use crate::drawing::Scene;
-use crate::sheet::{Band, LEFT, LINE, PLOT, RIGHT};
+use crate::sheet::{Band, LEFT, LINE, PLOT, RIGHT, Sheet};
 use dispatch_log::Queue;
 use log_stretches::Lane;
 use markup_text::push_escaped;
@@ -26,16 +26,19 @@ pub(crate) fn push_axis(text: &mut String, scene: &Scene) -> Result<(), AllocErr
 
 fn push_rolls(text: &mut String, scene: &Scene) -> Result<(), AllocError> {
     for roll in scene.subject.rolls {
-        let x = scene
-            .sheet
-            .pixel(scene.sheet.since(scene.course.moment(*roll)));
-        let height = scene.sheet.height.saturating_sub(NUMBERS);
-        writeln!(
-            text,
-            "<path class=\"o\" d=\"M{x} {NUMBERS}v{height}\"><title>the next window</title></path>"
-        )?;
+        push_roll(text, scene, *roll)?;
     }
     Ok(())
+}
+
+fn push_roll(text: &mut String, scene: &Scene, roll: usize) -> Result<(), AllocError> {
+    let sheet = scene.sheet;
+    let x = sheet.pixel(sheet.since(scene.course.moment(roll)));
+    let height = sheet.height.saturating_sub(NUMBERS);
+    writeln!(
+        text,
+        "<path class=\"o\" d=\"M{x} {NUMBERS}v{height}\"><title>the next window</title></path>"
+    )
 }
 
 fn push_band(text: &mut String, scene: &Scene, band: &Band) -> Result<(), AllocError> {
@@ -71,22 +74,27 @@ fn push_grid(text: &mut String, scene: &Scene) -> Result<(), AllocError> {
     let step = step_for(sheet.span);
     let over = sheet.first % step.max(1);
     let mut after = if over == 0 { 0 } else { step - over };
-    let height = sheet.height.saturating_sub(NUMBERS);
     for _ in 0..=MOST_LINES {
         if sheet.span < after {
             return Ok(());
         }
-        let x = sheet.pixel(after);
-        let moment = sheet.first.saturating_add(after);
-        writeln!(text, "<path class=\"g\" d=\"M{x} {NUMBERS}v{height}\"/>")?;
-        let y = NUMBERS - 5;
-        writeln!(
-            text,
-            "<text class=\"i m\" x=\"{x}\" y=\"{y}\">{moment}</text>"
-        )?;
+        push_grid_line(text, sheet, after)?;
         after = after.saturating_add(step);
     }
     Ok(())
+}
+
+// So long after the first moment, with its moment above it.
+fn push_grid_line(text: &mut String, sheet: &Sheet, after: u64) -> Result<(), AllocError> {
+    let x = sheet.pixel(after);
+    let height = sheet.height.saturating_sub(NUMBERS);
+    writeln!(text, "<path class=\"g\" d=\"M{x} {NUMBERS}v{height}\"/>")?;
+    let y = NUMBERS - 5;
+    let moment = sheet.first.saturating_add(after);
+    writeln!(
+        text,
+        "<text class=\"i m\" x=\"{x}\" y=\"{y}\">{moment}</text>"
+    )
 }
 
 // The least of 1, 2, 5, 10, 20, .. milliseconds with which few lines are enough.

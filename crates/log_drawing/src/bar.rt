@@ -6,7 +6,7 @@ use log_stretches::{Course, Lane, Stretch};
 use std::alloc::{AllocError, Global};
 
 /// A stretch of a request that is drawn.
-#[derive(Clone, Copy, Debug, PartialEq, Eq)]
+#[derive(Clone, Copy)]
 pub(crate) struct Bar {
     pub(crate) stretch: Stretch,
     /// The colour of its class, as its number in the palette.

@@ -31,17 +31,26 @@ fn empty_groups(alloc: Global) -> Result<Vec<String>, AllocError> {
 fn push_groups(text: &mut String, thick: usize, groups: &[String]) -> Result<(), AllocError> {
     for (number, group) in groups.iter().enumerate() {
         if !group.is_empty() {
-            let kind = if number % 2 == 0 { "p" } else { "q" };
-            let colour = number / 2;
-            write!(
-                text,
-                "<path class=\"k{colour} {kind}\" stroke-width=\"{thick}\" d=\""
-            )?;
-            text.push_str(group.as_str())?;
-            text.push_str("\"/>\n")?;
+            push_group(text, thick, number, group.as_str())?;
         }
     }
     Ok(())
+}
+
+fn push_group(
+    text: &mut String,
+    thick: usize,
+    number: usize,
+    group: &str,
+) -> Result<(), AllocError> {
+    let kind = if number % 2 == 0 { "p" } else { "q" };
+    let colour = number / 2;
+    write!(
+        text,
+        "<path class=\"k{colour} {kind}\" stroke-width=\"{thick}\" d=\""
+    )?;
+    text.push_str(group)?;
+    text.push_str("\"/>\n")
 }
 
 // The number of a bar's group.

@@ -29,7 +29,7 @@ const LEAST_FOR_LINES: usize = 5;
 pub(crate) const LINE: usize = 17;
 
 /// The rows of a lane on the picture.
-#[derive(Clone, Copy, Debug, PartialEq, Eq)]
+#[derive(Clone, Copy)]
 pub(crate) struct Band {
     pub(crate) lane: Lane,
     pub(crate) top: usize,

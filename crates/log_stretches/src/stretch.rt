@@ -30,7 +30,7 @@ pub struct Stretch {
 }
 
 /// What an entry says of where a request is.
-#[derive(Clone, Copy, Debug, PartialEq, Eq)]
+#[derive(Clone, Copy)]
 pub(crate) struct Placing {
     pub(crate) ticket: u64,
     /// Where it is from then on; None where that is nowhere.

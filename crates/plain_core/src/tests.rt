@@ -11,7 +11,7 @@ use self::events::Stage;
 use self::state::Plain;
 use crate::assertions::{holds, same};
 use binom_queue::BinomQueue;
-use dispatch_core::Core;
+use dispatch_core::{Core, Log};
 use dispatch_log::{Entry, Queue, ServerSet, Servers, Setup};
 use due_key::{Key, Moment};
 use pend_queue::{ListQueue, PendQueue};
@@ -113,16 +113,21 @@ fn agree<Q: PendQueue<Key, usize>>(
 }
 
 // Whether the log's base has the requests that are there.
-fn has_base<Q: PendQueue<Key, usize>>(core: &Core<Q>, plain: &Plain) -> bool {
-    let base = core.log().base();
-    let rows = plain.rows.iter().flatten();
-    let alike = plain.rows.iter().flatten().zip(base).all(|(row, it)| {
-        row.key.ticket == it.ticket
-            && row.key.class == it.class
-            && row.key.due == it.due
-            && row.phase.queue() == it.queue
-    });
-    alike && rows.count() == base.len()
+fn has_base(log: &Log, plain: &Plain) -> bool {
+    let mut base = log.base().iter();
+    for place in &plain.rows {
+        if let Some(row) = place {
+            match base.next() {
+                Some(it)
+                    if row.key.ticket == it.ticket
+                        && row.key.class == it.class
+                        && row.key.due == it.due
+                        && row.phase.queue() == it.queue => {}
+                _ => return false,
+            }
+        }
+    }
+    base.next().is_none()
 }
 
 // The windows that have ended: their entries, and how many of them were full.
@@ -149,7 +154,7 @@ impl Course {
         }
         core.roll();
         plain.roll(rt);
-        holds(rt, core.log().is_empty() && has_base(core, plain));
+        holds(rt, core.log().is_empty() && has_base(core.log(), plain));
     }
 }
 
@@ -195,34 +200,54 @@ fn both_agree<Q: PendQueue<Key, usize>>(
     course
 }
 
-// The log has decisions of every kind.
-fn has_every_kind(rt: &impl Abort, log: &[Entry]) {
-    let of_server = |it: &Entry| matches!(it, Entry::Joined(_, Queue::Server(_)));
-    let of_backend = |it: &Entry| matches!(it, Entry::Joined(_, Queue::Backend));
-    let from_server = |it: &Entry| matches!(it, Entry::Granted(_, Queue::Server(_), _));
-    let from_backend = |it: &Entry| matches!(it, Entry::Granted(_, Queue::Backend, _));
-    holds(rt, log.iter().any(|it| matches!(it, Entry::Direct(_, _))));
-    holds(rt, log.iter().any(of_server));
-    holds(rt, log.iter().any(of_backend));
-    holds(rt, log.iter().any(from_server));
-    holds(rt, log.iter().any(from_backend));
-    holds(rt, log.iter().any(|it| matches!(it, Entry::Moved(_, _))));
-    holds(
-        rt,
-        log.iter().any(|it| matches!(it, Entry::Retried(_, _, _))),
-    );
-    holds(
-        rt,
-        log.iter().any(|it| matches!(it, Entry::Health(_, true))),
-    );
+// A kind of decision.
+#[derive(Clone, Copy)]
+enum Kind {
+    Direct,
+    JoinedServer,
+    JoinedBackend,
+    GrantedFromServer,
+    GrantedFromBackend,
+    Moved,
+    Retried,
+    Risen,
+    Left(Cause),
 }
 
-// Requests left for this cause.
-fn has_left_for(rt: &impl Abort, log: &[Entry], cause: Cause) {
-    holds(
-        rt,
-        log.iter().any(|it| matches!(it, Entry::Left(_, of_it) if *of_it == cause)),
-    );
+fn is_of(entry: &Entry, kind: Kind) -> bool {
+    match (entry, kind) {
+        (Entry::Direct(_, _), Kind::Direct)
+        | (Entry::Joined(_, Queue::Server(_)), Kind::JoinedServer)
+        | (Entry::Joined(_, Queue::Backend), Kind::JoinedBackend)
+        | (Entry::Granted(_, Queue::Server(_), _), Kind::GrantedFromServer)
+        | (Entry::Granted(_, Queue::Backend, _), Kind::GrantedFromBackend)
+        | (Entry::Moved(_, _), Kind::Moved)
+        | (Entry::Retried(_, _, _), Kind::Retried)
+        | (Entry::Health(_, true), Kind::Risen) => true,
+        (Entry::Left(_, cause), Kind::Left(of_it)) => *cause == of_it,
+        _ => false,
+    }
+}
+
+// A log with no decision of the kind stops the test.
+fn has_kind(rt: &impl Abort, log: &[Entry], kind: Kind) {
+    let mut found = false;
+    for entry in log {
+        found = found || is_of(entry, kind);
+    }
+    holds(rt, found);
+}
+
+// The log has decisions of every kind.
+fn has_every_kind(rt: &impl Abort, log: &[Entry]) {
+    has_kind(rt, log, Kind::Direct);
+    has_kind(rt, log, Kind::JoinedServer);
+    has_kind(rt, log, Kind::JoinedBackend);
+    has_kind(rt, log, Kind::GrantedFromServer);
+    has_kind(rt, log, Kind::GrantedFromBackend);
+    has_kind(rt, log, Kind::Moved);
+    has_kind(rt, log, Kind::Retried);
+    has_kind(rt, log, Kind::Risen);
 }
 
 // Of servers that are checked, over such queues.
@@ -237,7 +262,7 @@ fn follows_the_definitions<Q: PendQueue<Key, usize>>(rt: &impl Abort, alloc: Glo
         Cause::Retries,
         Cause::NoServer,
     ] {
-        has_left_for(rt, log, cause);
+        has_kind(rt, log, Kind::Left(cause));
     }
     holds(rt, course.windows > 8);
     holds(rt, course.full > 0 && course.full < course.windows);

@@ -4,22 +4,7 @@ use Rattle.proxy_config.specs.declared.faults.ConfigFault.{ConfigFault}
 use Rattle.proxy_config.specs.declared.parts.Config.{Config}
 use Rattle.proxy_run.specs.declared.fault.RunFault.{RunFault}
 use Rattle.proxy_run.specs.declared.fault.RunFault.TheVariants as faults
-use Rattle.proxy_run.specs.declared.fault.ServeFault.{ServeFault}
-use Rattle.proxy_run.specs.declared.fault.ServeFault.TheVariants.{NoMemory, Write, Turns}
-use Rattle.relay_workers.specs.declared.stopping.Stopped.{Stopped}
-use Rattle.relay_workers.specs.declared.stopping.Stopped.TheVariants as stops
-use Rattle.socket_gate.specs.declared.telling.TellFault.{TellFault}
-use Rattle.socket_gate.specs.declared.telling.TellFault.TheVariants as tells
-
--- of a window that wasn't printed
-abbrev pub of_telling : TellFault → ServeFault
-of_telling tells.NoMemory = NoMemory
-of_telling tells.Write = Write
-
--- of a worker that stopped
-abbrev pub of_stopping : Stopped → ServeFault
-of_stopping stops.NoMemory = NoMemory
-of_stopping stops.PausesSpent = Turns
+use Rattle.proxy_service.specs.declared.fault.ServeFault.TheVariants.{NoMemory}
 
 -- a fault of the configuration is answered only where the file has it, and where it has one, that is answered, or want of memory
 pub record IsEndOf (said : Result Config ConfigFault) (ended : Result (Unit {0}) RunFault) : Type 0 where

@@ -1,24 +1,10 @@
-ghost use Rattle.std.specs.Prelude.{◌≡◌, ◌≤◌, [], true};
 ghost use Rattle.proxy_config.specs.File.{reading};
-ghost use Rattle.proxy_config.specs.Sound.{IsSoundConfig};
 ghost use Rattle.proxy_run.specs.Faults.{IsEndOf};
-ghost use Rattle.proxy_run.specs.Parts.{AreNew};
-ghost use Rattle.outstanding.specs.Books.{terms_of};
-ghost use Rattle.dispatch_log.specs.declared.setup.Setup.{Setup};
 
-use crate::fault::{RunFault, ServeFault};
-use crate::opening::{announce, open};
-use crate::parts::{Parts, parts_of};
-use crate::sharing::front_of;
-use crate::sizes::{Crew, Sizes, crew_of};
-use crate::telling::tell_all;
-use grant_board::{BoardName, RelaySeat};
-use grant_desk::Desk;
-use proxy_config::{Config, ReadError, read};
-use relay_loops::serve;
-use relay_workers::Proxy;
-use socket_gate::Front;
-use std::marker::Brand;
+use crate::fault::RunFault;
+use proxy_config::{ReadError, read};
+use proxy_service::{ServeFault, listen_and_serve};
+use run_sizes::Sizes;
 use std::net::{Net, TcpListener, TcpStream};
 use std::sync::Wait;
 use std::thread::Threads;
@@ -42,98 +28,8 @@ pub fn run<
         Err(ReadError::Fault(fault)) => return Err(RunFault::Config(fault)),
         Err(ReadError::NoMemory) => return Err(RunFault::Serve(ServeFault::NoMemory)),
     };
-    match open_and_serve(rt, config, sizes) {
+    match listen_and_serve(rt, config, sizes) {
         Ok(()) => Ok(()),
         Err(fault) => Err(RunFault::Serve(fault)),
     }
-}
-
-fn open_and_serve<
-    R: Net<Listener = TcpListener, Stream = TcpStream>
-        + Clock
-        + Print
-        + Eprint
-        + AllocGlobal
-        + Threads
-        + Wait
-        + Sync,
->(rt: &R, config: Config, sizes: Sizes) -> Result<(), ServeFault>
-    requires config { IsSoundConfig config }
-{
-    let listener = open(rt, config.bind)?;
-    serve_at(rt, config, listener, sizes)
-}
-
-/// The same of a configuration that was read, where clients come already.
-pub fn serve_at<
-    R: Net<Listener = TcpListener, Stream = TcpStream>
-        + Clock
-        + Print
-        + Eprint
-        + AllocGlobal
-        + Threads
-        + Wait
-        + Sync,
->(rt: &R, config: Config, listener: TcpListener, sizes: Sizes) -> Result<(), ServeFault>
-    requires config { IsSoundConfig config }
-{
-    let crew = crew_of(rt, &config, sizes);
-    announce(rt, &listener, &config, crew.threads)?;
-    let parts = parts_of(rt.alloc(), &config, crew.threads.places)?;
-    serve_on::<Brand, _>(rt, config, parts, listener, crew)
-}
-
-// The same at a desk that is made of these parts.
-fn serve_on<
-    N: BoardName + Send + Sync,
-    R: Net<Listener = TcpListener, Stream = TcpStream>
-        + Clock
-        + Print
-        + AllocGlobal
-        + Threads
-        + Wait
-        + Sync,
->(rt: &R, config: Config, parts: Parts, listener: TcpListener, crew: Crew) -> Result<(), ServeFault>
-    requires named { parts.board ≡ N.board }
-    requires parts { (setup : Setup) × AreNew setup parts × (N.terms ≡ terms_of setup) × (setup.places ≡ crew.threads.places) }
-{
-    let alloc = rt.alloc();
-    let Parts {
-        core,
-        running,
-        board,
-        keeper,
-        relay,
-    } = parts;
-    let proxy: Proxy<N> = Proxy {
-        alloc,
-        desk: Desk::new(core, board, keeper, running),
-        config,
-    };
-    let front = front_of(alloc, rt, &proxy.config, listener, crew.requests)?;
-    let ended = serve_clients(rt, &proxy, &front, relay, crew.threads);
-    let Front { names, told, .. } = front;
-    tell_all(rt, &proxy, &names, told.into_inner())?;
-    ended
-}
-
-// Until no more clients come.
-fn serve_clients<
-    N: BoardName + Send + Sync,
-    R: Net<Listener = TcpListener, Stream = TcpStream> + Clock + Print + Threads + Wait + Sync,
->(
-    rt: &R,
-    proxy: &Proxy<N>,
-    front: &Front<'_>,
-    relay: RelaySeat,
-    threads: relay_loops::Sizes,
-) -> Result<(), ServeFault>
-    requires named { (relay.board ≡ N.board) × (relay.view.terms ≡ N.terms) }
-    requires first { relay.view.first ≡ true }
-    requires idle { relay.view.passes ≡ [] }
-    requires places { threads.places ≤ N.terms.places }
-{
-    let (_, served) = serve(rt, proxy, front, relay, threads);
-    served?;
-    Ok(())
 }

@@ -8,7 +8,7 @@ use proxy_words::Parts;
 use req_view::{Section, Values};
 
 /// Where a message goes.
-#[derive(Clone, Copy, Debug, PartialEq, Eq)]
+#[derive(Clone, Copy)]
 pub(crate) enum Way {
     ToServer,
     ToClient,

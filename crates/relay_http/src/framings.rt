@@ -10,7 +10,7 @@ use relay_body::Framing;
 use req_view::{Values, Version, View};
 
 /// What the values of Transfer-Encoding say.
-#[derive(Clone, Copy, Debug, PartialEq, Eq)]
+#[derive(Clone, Copy)]
 pub(crate) enum Coding {
     Absent,
     Chunked,
@@ -18,7 +18,7 @@ pub(crate) enum Coding {
 }
 
 /// What the parts of Content-Length say.
-#[derive(Clone, Copy, Debug, PartialEq, Eq)]
+#[derive(Clone, Copy)]
 pub(crate) enum Stated {
     Absent,
     Count(u64),

@@ -56,7 +56,7 @@ pub enum ScriptError {
 }
 
 // Why a line wasn't taken in.
-#[derive(Clone, Copy, Debug, PartialEq, Eq)]
+#[derive(Clone, Copy)]
 enum LineError {
     NoMemory,
     Faulty,

@@ -1,7 +1,10 @@
 use crate::assertions::same;
-use crate::samples::named;
+use crate::samples::{moment, named};
+use dispatch_log::Queue;
+use due_key::{Class, Due, Offset};
+use late_cert::{Report, Stay, Stays};
 use reporting_core::ServerLine;
-use window_lines::{Sums, push_servers, push_window};
+use window_lines::{Sums, end_text, push_servers, push_window};
 
 // What two windows gave each of two servers.
 static WINDOWS: [[ServerLine; 2]; 2] = [
@@ -44,6 +47,34 @@ fn two_windows_are_told_and_summed(rt: HostRuntime) {
     let expected = "window 2
 server a down direct 4 granted 4
 server b up direct 2 granted 18446744073709551615
+";
+    same(&rt, text.as_str(), expected);
+}
+
+#[test]
+fn the_servers_lines_stand_before_the_reports_at_the_end(rt: HostRuntime) {
+    let due = Due::of(moment(100), Offset::clamp(0));
+    let stay = Stay {
+        ticket: 2,
+        joined: 4,
+        slot: 8,
+        due,
+    };
+    let report = Report {
+        queue: Queue::Backend,
+        class: Class::clamp(0),
+        granted: 1,
+        worst: -90,
+        due,
+        after: 0,
+        to: 8,
+        critical: Stays::copied(rt.alloc(), &[stay]).expect(&rt, "memory"),
+    };
+    let names = named(&rt, rt.alloc(), &["a"]);
+    let sums = Sums::new(rt.alloc(), 1).expect(&rt, "memory");
+    let text = end_text(rt.alloc(), &names, &sums, &[report]).expect(&rt, "memory");
+    let expected = "server a up direct 0 granted 0
+queue * class 0 granted 1 worst -90 due 100 after 0 to 8 critical 2
 ";
     same(&rt, text.as_str(), expected);
 }

@@ -1,7 +1,7 @@
 use proxy_config::{Config, read};
 use relay_workers::Gate;
 use script::Names;
-use socket_gate::{Clients, Front, SocketGate, Told, has_left};
+use socket_gate::{Clients, Front, SocketGate, has_left};
 use std::alloc::Global;
 use std::io::Write;
 use std::net::{Net, SocketAddr, TcpListener, TcpStream};
@@ -10,7 +10,7 @@ use std::process::Abort;
 use std::sync::Mutex;
 use std::thread;
 use std::time::{Clock, Duration, Instant};
-use window_lines::Sums;
+use window_lines::{Sums, Told};
 
 #[test]
 fn so_many_clients_come(rt: HostRuntime) {

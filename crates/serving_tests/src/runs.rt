@@ -1,5 +1,6 @@
 use proxy_config::read;
-use proxy_run::{Sizes, serve_at};
+use proxy_service::serve_at;
+use run_sizes::Sizes;
 use std::alloc::Global;
 use std::io::{Read, Write};
 use std::net::{Net, SocketAddr, TcpListener, TcpStream};

@@ -1,4 +1,4 @@
-use proxy_run::Sizes;
+use run_sizes::Sizes;
 
 /// A name, so many workers, loops, places and clients, and whether there can be so many.
 type Row = (&'static str, Option<u32>, Option<u32>, u32, u32, bool);

@@ -1,12 +1,13 @@
 //! What is printed of faults.
 
 use proxy_config::{ConfigFault, FaultCause};
-use proxy_run::{RunFault, ServeFault};
+use proxy_run::RunFault;
+use proxy_service::ServeFault;
 use relay_workers::Stopped;
-use socket_gate::TellFault;
 use std::alloc::Global;
 use std::fmt::Display;
 use std::process::Abort;
+use window_lines::TellFault;
 
 static OF_WORKERS: [(Stopped, &str); 2] = [
     (Stopped::NoMemory, "no memory"),

@@ -1,5 +1,4 @@
 use crate::clients::Clients;
-use crate::telling::Told;
 use crate::waits::duration;
 use proxy_config::Config;
 use reporting_core::Window;
@@ -9,6 +8,7 @@ use std::net::{TcpListener, TcpStream};
 use std::sync::{Mutex, Wait};
 use std::thread;
 use std::time::{Clock, Duration, Instant};
+use window_lines::Told;
 
 const MOST_FAILURES: usize = 1000;
 

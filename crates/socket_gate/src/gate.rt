@@ -24,7 +24,7 @@ use verdict::Verdict;
 const MOST_PLACES: usize = 4096;
 
 /// A connect that failed.
-#[derive(Clone, Copy, Debug, PartialEq, Eq)]
+#[derive(Clone, Copy)]
 struct Failure {
     ticket: u64,
     server: usize,

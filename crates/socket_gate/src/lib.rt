@@ -11,7 +11,6 @@ mod gate;
 mod leaving;
 mod pauses;
 mod probing;
-mod telling;
 mod waits;
 
 pub use clients::Clients;
@@ -20,4 +19,3 @@ pub use front::{Front, within};
 pub use gate::SocketGate;
 pub use leaving::has_left;
 pub use pauses::Pauses;
-pub use telling::{TellFault, Told};

@@ -38,7 +38,7 @@ impl TraceError {
 }
 
 /// Why one line wasn't read.
-#[derive(Clone, Copy, Debug, PartialEq, Eq)]
+#[derive(Clone, Copy)]
 pub(crate) enum LineError {
     NoMemory,
     Faulty(TraceCause),

@@ -3,6 +3,8 @@
 
 mod sums;
 mod text;
+mod told;
 
 pub use sums::Sums;
-pub use text::{push_servers, push_window};
+pub use text::{end_text, push_servers, push_window};
+pub use told::{TellFault, Told};

@@ -1,10 +1,12 @@
-ghost use Rattle.std.specs.Prelude.{◌≡◌, ◌++◌, OnOk, string_bytes};
+ghost use Rattle.std.specs.Prelude.{◌≡◌, ◌++◌, IfOk, OnOk, string_bytes};
+ghost use Rattle.script.specs.Reports.{reports_text};
 ghost use Rattle.window_lines.specs.Texts.{window_text, server_text, servers_text};
 
+use crate::sums::Sums;
 use late_cert::Report;
 use reporting_core::ServerLine;
 use script::{Names, push_reports};
-use std::alloc::AllocError;
+use std::alloc::{AllocError, Global};
 
 /// Writes the line of a window and those of its reports at the end. After an `Err` a part of them may stand there.
 pub fn push_window(
@@ -44,4 +46,19 @@ fn push_server(text: &mut String, name: &str, line: &ServerLine) -> Result<(), A
         text,
         "server {name} {health} direct {direct} granted {granted}"
     )
+}
+
+/// What is printed at the end: a line for each server, summed over all windows, and the reports of the last one.
+pub fn end_text(
+    alloc: Global,
+    names: &Names,
+    sums: &Sums,
+    reports: &[Report],
+) -> Result<String, AllocError>
+    ensures { IfOk result (λ text. string_bytes text ≡ servers_text names.now 0 sums.now ++ reports_text names.now reports.now) }
+{
+    let mut text = String::new(alloc);
+    push_servers(&mut text, names, sums.lines())?;
+    push_reports(&mut text, names, reports)?;
+    Ok(text)
 }

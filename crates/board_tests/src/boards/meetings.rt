@@ -5,6 +5,16 @@ ghost use Rattle.grant_board.specs.Views.{terms, grant};
 use super::*;
 use std::process::Abort;
 
+pub const BOTH: Met = Met {
+    passes: 2,
+    bound: 2,
+};
+
+const ONE: Met = Met {
+    passes: 1,
+    bound: 1,
+};
+
 // Two seats take a pass each and meet; one pass comes back, the bound falls to 1, and they meet again.
 fn meet_twice<R: Abort>(
     rt: &R,
@@ -27,26 +37,14 @@ fn meet_twice<R: Abort>(
     match first.try_take(board, 0, 7) {
         Taking::Taken(pass) => {
             let (back, met) = first.meet(board, second, 0);
-            assert_eq!(rt;
-                met,
-                Met {
-                    passes: 2,
-                    bound: 2
-                }
-            );
+            same(rt, met, BOTH);
             first.post(board, pass, Ending::Done);
             match keeper.collect(board, 0) {
                 Some(_) => keeper.limit(board, 0, 1),
                 None => assert!(rt; false, "posted"),
             }
             let (back, met) = first.meet(board, back, 0);
-            assert_eq!(rt;
-                met,
-                Met {
-                    passes: 1,
-                    bound: 1
-                }
-            );
+            same(rt, met, ONE);
             second = back;
         }
         Taking::NotYet => assert!(rt; false, "offered"),
@@ -59,13 +57,12 @@ fn meet_twice<R: Abort>(
 }
 
 #[test]
-fn a_bound_falls(rt: HostRuntime) -> Result<(), Fail> {
-    let (board, mut keeper, mut first) = Board::open(rt.alloc(), 2, &[2])?;
+fn a_bound_falls(rt: HostRuntime) {
+    let (board, mut keeper, mut first) = Board::open(rt.alloc(), 2, &[2]).expect(&rt, "memory");
     keeper.offer(&board, 0, 7, Verdict::Serve(0));
     keeper.offer(&board, 1, 8, Verdict::Serve(0));
     let second = first.split(&board);
     let second = meet_twice(&rt, &board, &mut keeper, &mut first, second);
     first.join(&board, second);
-    assert_eq!(rt; board.close(keeper, first), Closing { left: 1 });
-    Ok(())
+    same(&rt, board.close(keeper, first), Closing { left: 1 });
 }

@@ -1,6 +1,7 @@
 ghost use Rattle.std.specs.Prelude.{◌≡◌, ◌<◌, ◌≤◌, true, [], ◌∷◌};
 ghost use Rattle.grant_board.specs.Views.{terms, count_of};
 
+use super::meetings::BOTH;
 use super::*;
 use std::process::Abort;
 use std::sync::Wait;
@@ -28,15 +29,9 @@ fn holds_one_each<R: Abort>(
     match first.try_take(board, 0, 1) {
         Taking::Taken(pass) => {
             let (back, met) = first.meet(board, second, 0);
-            assert_eq!(rt;
-                met,
-                Met {
-                    passes: 2,
-                    bound: 2
-                }
-            );
+            same(rt, met, BOTH);
             let (back, held) = keeper.vouch(board, back);
-            assert_eq!(rt; held, 1);
+            same(rt, held, 1);
             second = back;
             first.post(board, pass, Ending::Done);
         }
@@ -47,7 +42,7 @@ fn holds_one_each<R: Abort>(
         Taking::NotYet => assert!(rt; false, "offered"),
     }
     let (second, held) = keeper.vouch(board, second);
-    assert_eq!(rt; held, 0);
+    same(rt, held, 0);
     second
 }
 
@@ -111,8 +106,8 @@ fn collect_all<R: Wait>(rt: &R, board: &Board, keeper: KeeperSeat) -> KeeperSeat
 }
 
 #[test]
-fn several_threads(rt: HostRuntime) -> Result<(), Fail> {
-    let (board, mut keeper, mut first) = Board::open(rt.alloc(), 4, &[2, 0])?;
+fn several_threads(rt: HostRuntime) {
+    let (board, mut keeper, mut first) = Board::open(rt.alloc(), 4, &[2, 0]).expect(&rt, "memory");
     keeper.offer(&board, 0, 1, Verdict::Serve(0));
     keeper.offer(&board, 1, 2, Verdict::Serve(0));
     keeper.offer(&board, 2, 3, Verdict::Serve(1));
@@ -134,8 +129,7 @@ fn several_threads(rt: HostRuntime) -> Result<(), Fail> {
     );
     first.join(&board, second);
     first.join(&board, third);
-    assert_eq!(rt; board.close(keeper, first), Closing { left: 0 });
-    Ok(())
+    same(&rt, board.close(keeper, first), Closing { left: 0 });
 }
 
 // The seat tries once for the ticket at place 0, and says whether it took it.
@@ -179,8 +173,8 @@ fn race<R: Threads + Sync>(
 }
 
 #[test]
-fn two_threads_on_one_place(rt: HostRuntime) -> Result<(), Fail> {
-    let (board, mut keeper, mut first) = Board::open(rt.alloc(), 1, &[1])?;
+fn two_threads_on_one_place(rt: HostRuntime) {
+    let (board, mut keeper, mut first) = Board::open(rt.alloc(), 1, &[1]).expect(&rt, "memory");
     let mut second = first.split(&board);
     for ticket in 0..1000 {
         keeper.offer(&board, 0, ticket, Verdict::Told(Cause::Timeout));
@@ -189,11 +183,10 @@ fn two_threads_on_one_place(rt: HostRuntime) -> Result<(), Fail> {
         second = two;
         assert!(rt; one_took != two_took, "one of them took {ticket}");
         match keeper.collect(&board, 0) {
-            Some(back) => assert_eq!(rt; back.ticket, ticket),
-            None => return Err("posted".into()),
+            Some(back) => same(&rt, back.ticket, ticket),
+            None => panic!(rt; "not posted"),
         }
     }
     first.join(&board, second);
-    assert_eq!(rt; board.close(keeper, first), Closing { left: 0 });
-    Ok(())
+    same(&rt, board.close(keeper, first), Closing { left: 0 });
 }

@@ -264,7 +264,9 @@ fn text_of(rt: &impl Abort, alloc: Global, file: &LargeFile) -> Vec<u8> {
 }
 
 fn is_read_up_to_its_limit(rt: &impl Abort, alloc: Global, file: &LargeFile) {
-    let found = read(alloc, &text_of(rt, alloc, file));
+    let text = text_of(rt, alloc, file);
+    let found = read(alloc, &text);
+    drop(text);
     let so = match (&found, file.too_much) {
         (Ok(config), None) => config.pins.len() == file.pins,
         (Err(error), Some(line)) => {
@@ -273,6 +275,7 @@ fn is_read_up_to_its_limit(rt: &impl Abort, alloc: Global, file: &LargeFile) {
         }
         _ => false,
     };
+    drop(found);
     holds(rt, so, file.name, "what is read");
 }
 

@@ -200,28 +200,40 @@ fn has_settings(rt: &impl Abort, config: &Config, row: &SettingsRow) {
     holds(rt, timeouts == row.timeouts, row.name, "timeouts");
 }
 
-fn is_server(rt: &impl Abort, server: &Server, row: &ServerRow, name: &str) {
-    let address = &server.address;
-    let host = match (&address.host, &row.host) {
+fn is_host(host: &Host, row: &HostRow) -> bool {
+    match (host, row) {
         (Host::Ip(ip), HostRow::Ip(expected)) => ip == expected,
         (Host::Name(host), HostRow::Name(expected)) => host.as_slice() == *expected,
         _ => false,
-    };
-    holds(rt, host && address.port == row.port, name, "address");
+    }
+}
+
+fn is_server(rt: &impl Abort, server: &Server, row: &ServerRow, name: &str) {
+    let host = is_host(&server.address.host, &row.host);
+    holds(rt, host && server.address.port == row.port, name, "address");
     holds(rt, server.name.as_slice() == row.name, name, "name");
     let limits = server.maxconn == row.maxconn && server.maxqueue == row.maxqueue;
     holds(rt, limits && server.weight == row.weight, name, "numbers");
     holds(rt, server.check == row.check, name, "checks");
 }
 
+fn has_server(rt: &impl Abort, servers: &[Server], row: &SettingsRow) {
+    let [server] = servers else {
+        panic!(rt; "not one server: {}", row.name);
+    };
+    is_server(rt, server, &row.server, row.name);
+}
+
+fn means_what_it_says(rt: &impl Abort, alloc: Global, row: &SettingsRow) {
+    let config = read(alloc, row.file).expect(rt, row.name);
+    has_settings(rt, &config, row);
+    has_server(rt, config.servers.as_slice(), row);
+    drop(config);
+}
+
 #[test]
 fn settings_mean_what_they_say(rt: HostRuntime) {
     for row in &SETTINGS {
-        let config = read(rt.alloc(), row.file).expect(&rt, row.name);
-        let [server] = config.servers.as_slice() else {
-            panic!(rt; "not one server: {}", row.name);
-        };
-        has_settings(&rt, &config, row);
-        is_server(&rt, server, &row.server, row.name);
+        means_what_it_says(&rt, rt.alloc(), row);
     }
 }

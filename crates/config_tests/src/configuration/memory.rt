@@ -16,12 +16,17 @@ fn read_in_the_end(rt: &impl Abort, alloc: Global) -> Config {
     }
 }
 
+fn is_the_sample(rt: &impl Abort, config: &Config) {
+    holds(rt, config.servers.len() == 3, "the sample", "servers");
+    holds(rt, config.acls.len() == 2, "the sample", "ACLs");
+    holds(rt, config.rules.len() == 3, "the sample", "rules");
+    holds(rt, config.pins.len() == 1, "the sample", "pins");
+}
+
 // It goes well whichever single allocation is refused. With all memory the sample is read at once.
 #[test]
 fn a_refused_growth_is_told(rt: HostRuntime) {
     let config = read_in_the_end(&rt, rt.alloc());
-    holds(&rt, config.servers.len() == 3, "the sample", "servers");
-    holds(&rt, config.acls.len() == 2, "the sample", "ACLs");
-    holds(&rt, config.rules.len() == 3, "the sample", "rules");
-    holds(&rt, config.pins.len() == 1, "the sample", "pins");
+    is_the_sample(&rt, &config);
+    drop(config);
 }

@@ -134,16 +134,21 @@ fn pins_of_no_server_are_found_past_other_faults(rt: HostRuntime) {
     }
 }
 
+fn are_three(rt: &impl Abort, pins: &[Pin]) {
+    let [third, first, second] = pins else {
+        panic!(rt; "not three pins");
+    };
+    let servers = third.server == 2 && first.server == 0 && second.server == 1;
+    holds(rt, servers, "pins", "their servers");
+    let guards = matches!(third.guard, Guard::If(_)) && matches!(first.guard, Guard::Unless(_));
+    holds(rt, guards, "pins", "their guards");
+}
+
 #[test]
 fn a_pin_may_stand_before_its_server(rt: HostRuntime) {
     let text =
         b"listen w\nbind :80\nacl x path /\nuse-server c if x\nserver a h:80\nuse-server a unless x\nserver b h:80\nserver c h:80\nuse-server b if x";
     let config = read(rt.alloc(), text).expect(&rt, "a configuration");
-    let [third, first, second] = config.pins.as_slice() else {
-        panic!(rt; "not three pins");
-    };
-    let servers = third.server == 2 && first.server == 0 && second.server == 1;
-    holds(&rt, servers, "pins", "their servers");
-    let guards = matches!(third.guard, Guard::If(_)) && matches!(first.guard, Guard::Unless(_));
-    holds(&rt, guards, "pins", "their guards");
+    are_three(&rt, config.pins.as_slice());
+    drop(config);
 }

@@ -14,15 +14,15 @@ fn has_acls(rt: &impl Abort, acls: &[Acl]) {
     let [slow] = acls else {
         panic!(rt; "not one ACL");
     };
-    let [field, path] = slow.tests.as_slice() else {
+    let named = slow.name.as_slice() == b"slow".as_slice();
+    holds(rt, named, "the ACL", "name");
+    has_tests(rt, slow.tests.as_slice());
+}
+
+fn has_tests(rt: &impl Abort, tests: &[Test]) {
+    let [field, path] = tests else {
         panic!(rt; "not two tests");
     };
-    holds(
-        rt,
-        slow.name.as_slice() == b"slow".as_slice(),
-        "the ACL",
-        "name",
-    );
     let cases = field.ignore_case && !path.ignore_case;
     holds(rt, cases, "the ACL", "cases of letters");
     holds(rt, field.values.len() == 2, "the ACL", "values");
@@ -31,29 +31,32 @@ fn has_acls(rt: &impl Abort, acls: &[Acl]) {
 }
 
 fn has_pins(rt: &impl Abort, pins: &[Pin]) {
-    let [
-        Pin {
-            server,
-            guard: Guard::If(condition),
-        },
-    ] = pins
-    else {
-        panic!(rt; "not one pin with an if");
+    let [pin] = pins else {
+        panic!(rt; "not one pin");
     };
-    holds(rt, *server == 1, "the pin", "server");
+    holds(rt, pin.server == 1, "the pin", "server");
+    let Guard::If(condition) = &pin.guard else {
+        panic!(rt; "not an if");
+    };
+    has_alternatives(rt, condition);
+}
+
+fn has_alternatives(rt: &impl Abort, condition: &Condition) {
     let [first, second] = condition.alternatives.as_slice() else {
         panic!(rt; "not two alternatives");
     };
-    let [test, acl] = second.as_slice() else {
+    holds(rt, first.len() == 1, "the pin", "first alternative");
+    has_terms(rt, second.as_slice());
+}
+
+fn has_terms(rt: &impl Abort, terms: &[Term]) {
+    let [test, acl] = terms else {
         panic!(rt; "not two terms");
     };
-    holds(rt, first.len() == 1, "the pin", "first alternative");
     let negated = test.negated && acl.negated;
     holds(rt, negated, "the pin", "terms that are turned round");
-    let operands = matches!(
-        (&test.operand, &acl.operand),
-        (Operand::Test(_), Operand::Acl(0))
-    );
+    let operands = matches!(test.operand, Operand::Test(_))
+        && matches!(acl.operand, Operand::Acl(0));
     holds(rt, operands, "the pin", "operands");
 }
 
@@ -61,25 +64,24 @@ fn has_rules(rt: &impl Abort, rules: &[Rule]) {
     let [class, offset] = rules else {
         panic!(rt; "not two rules");
     };
-    let sets = class.action == Action::SetPriorityClass;
-    holds(
-        rt,
-        sets && class.guard.is_none(),
-        "the first rule",
-        "action",
-    );
-    let number = matches!(class.value, Expression::Int(-9999));
+    sets_class(rt, class);
+    sets_offset(rt, offset);
+}
+
+fn sets_class(rt: &impl Abort, rule: &Rule) {
+    let sets = rule.action == Action::SetPriorityClass && rule.guard.is_none();
+    holds(rt, sets, "the first rule", "action");
+    let number = matches!(rule.value, Expression::Int(-9999));
     holds(rt, number, "the first rule", "number");
-    let Expression::HeaderValue(field) = &offset.value else {
+}
+
+fn sets_offset(rt: &impl Abort, rule: &Rule) {
+    let Expression::HeaderValue(field) = &rule.value else {
         panic!(rt; "no field");
     };
-    holds(
-        rt,
-        field.as_slice() == b"x-due".as_slice(),
-        "the second rule",
-        "field",
-    );
-    let Some(Guard::Unless(condition)) = &offset.guard else {
+    let named = field.as_slice() == b"x-due".as_slice();
+    holds(rt, named, "the second rule", "field");
+    let Some(Guard::Unless(condition)) = &rule.guard else {
         panic!(rt; "not unless");
     };
     let two = condition.alternatives.len() == 2;
@@ -92,4 +94,5 @@ fn rules_name_acls_and_servers(rt: HostRuntime) {
     has_acls(&rt, config.acls.as_slice());
     has_pins(&rt, config.pins.as_slice());
     has_rules(&rt, config.rules.as_slice());
+    drop(config);
 }

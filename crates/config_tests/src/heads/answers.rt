@@ -1,10 +1,8 @@
-use super::fields::are;
+use super::fields::{Named, are, is_field};
 use crate::assertions::holds;
 use req_view::{AnswerHead, HeadRefusal, Version, Viewed, answer_head};
+use std::alloc::Global;
 use std::process::Abort;
-
-/// A field's name and its value.
-type Named = (&'static [u8], &'static [u8]);
 
 /// An answer's bytes, and the length and the parts of its head.
 struct Answer {
@@ -54,31 +52,41 @@ fn has_parts(rt: &impl Abort, head: &AnswerHead, row: &Answer) {
     holds(rt, head.version() == row.version, "version", row.text);
     let count = row.fields.len();
     holds(rt, head.field_count() == count, "fields", row.text);
-    for (i, (name, value)) in row.fields.iter().enumerate() {
-        let field = head.field(i).expect(rt, "a field");
-        let same = field.name == *name && field.value == *value;
-        holds(rt, same, "field", row.text);
+    for (i, named) in row.fields.iter().enumerate() {
+        is_field(rt, head.field(i), named, row.text);
     }
+}
+
+fn tells_its_parts(rt: &impl Abort, alloc: Global, row: &Answer) {
+    let Viewed::Whole(head, length) = answer_head(alloc, row.text.as_bytes()) else {
+        panic!(rt; "no head: {}", row.text);
+    };
+    holds(rt, length == row.length, "length", row.text);
+    has_parts(rt, &head, row);
+    are(rt, head.values(b"A"), row.values_of_a, row.text);
+    drop(head);
 }
 
 #[test]
 fn a_whole_answer_head_tells_its_parts(rt: HostRuntime) {
     for row in &ANSWERS {
-        let Viewed::Whole(head, length) = answer_head(rt.alloc(), row.text.as_bytes()) else {
-            panic!(rt; "no head: {}", row.text);
-        };
-        holds(&rt, length == row.length, "length", row.text);
-        has_parts(&rt, &head, row);
-        are(&rt, head.values(b"A"), row.values_of_a, row.text);
+        tells_its_parts(&rt, rt.alloc(), row);
     }
+}
+
+fn waits(alloc: Global, bytes: &[u8]) -> bool {
+    let seen = answer_head(alloc, bytes);
+    let waits = matches!(seen, Viewed::More);
+    drop(seen);
+    waits
 }
 
 #[test]
 fn parts_of_an_answer_head_wait_for_more(rt: HostRuntime) {
     let whole = b"HTTP/1.1 200 OK\r\nA: b\r\n\r\n";
     for len in 0..whole.len() {
-        let seen = answer_head(rt.alloc(), &whole[..len]);
-        holds(&rt, matches!(seen, Viewed::More), "a part", "waits");
+        let waits = waits(rt.alloc(), &whole[..len]);
+        holds(&rt, waits, "a part", "waits");
     }
 }
 
@@ -88,11 +96,17 @@ static NO_ANSWERS: [&str; 3] = [
     "GET / HTTP/1.1\r\n\r\n",
 ];
 
+fn is_refused(alloc: Global, bytes: &[u8]) -> bool {
+    let seen = answer_head(alloc, bytes);
+    let refused = matches!(seen, Viewed::Refused(HeadRefusal::HeadFault));
+    drop(seen);
+    refused
+}
+
 #[test]
 fn what_is_no_answer_head(rt: HostRuntime) {
     for text in &NO_ANSWERS {
-        let seen = answer_head(rt.alloc(), text.as_bytes());
-        let refused = matches!(seen, Viewed::Refused(HeadRefusal::HeadFault));
+        let refused = is_refused(rt.alloc(), text.as_bytes());
         holds(&rt, refused, "no answer", text);
     }
 }

@@ -1,5 +1,5 @@
 use crate::assertions::holds;
-use req_view::{Values, Viewed, view};
+use req_view::{Field, Values, View, Viewed, view};
 use std::process::Abort;
 
 /// A field's name, and its values in order.
@@ -27,6 +27,17 @@ static VALUES: [ValuesRow; 4] = [
     },
 ];
 
+/// A field's name and its value.
+pub type Named = (&'static [u8], &'static [u8]);
+
+/// The field is there, with this name and this value.
+pub fn is_field(rt: &impl Abort, field: Option<Field<'_>>, named: &Named, text: &str) {
+    let field = field.expect(rt, "a field");
+    let (name, value) = *named;
+    let same = field.name == name && field.value == value;
+    holds(rt, same, "field", text);
+}
+
 /// These values come, and no more.
 pub fn are(rt: &impl Abort, values: Values<'_>, expected: &[&[u8]], name: &str) {
     let mut values = values;
@@ -36,13 +47,18 @@ pub fn are(rt: &impl Abort, values: Values<'_>, expected: &[&[u8]], name: &str) 
     holds(rt, values.next().is_none(), "no more of", name);
 }
 
+fn have_values(rt: &impl Abort, head: &View) {
+    for row in &VALUES {
+        are(rt, head.values(row.name.as_bytes()), row.values, row.name);
+    }
+}
+
 #[test]
 fn values_by_name(rt: HostRuntime) {
     let text = b"GET / HTTP/1.1\r\nHost: h\r\nX-Due: 5, 70\r\na:\r\nx-DUE: 6\r\n\r\n";
     let Viewed::Whole(head, _) = view(rt.alloc(), text) else {
         panic!(rt; "not a head");
     };
-    for row in &VALUES {
-        are(&rt, head.values(row.name.as_bytes()), row.values, row.name);
-    }
+    have_values(&rt, &head);
+    drop(head);
 }

@@ -1,7 +1,7 @@
-use super::{Seen, is_seen};
+use super::{Seen, sees};
 use crate::assertions::holds;
 use crate::texts::{joined, push_often};
-use req_view::{HEAD_BYTES, HEAD_FIELDS, view};
+use req_view::{HEAD_BYTES, HEAD_FIELDS};
 use std::alloc::Global;
 use std::process::Abort;
 
@@ -89,13 +89,11 @@ fn has_its_length(rt: &impl Abort, alloc: Global, row: &LongHead) {
     push_often(rt, &mut text, row.piece, row.times);
     push_often(rt, &mut text, row.end, 1);
     text.truncate(row.kept);
-    holds(rt, text.len() == row.kept, row.name, "its bytes");
-    holds(
-        rt,
-        is_seen(&view(alloc, &text), &row.seen),
-        row.name,
-        "what is seen",
-    );
+    let bytes = text.len();
+    let so = sees(alloc, &text, &row.seen);
+    drop(text);
+    holds(rt, bytes == row.kept, row.name, "its bytes");
+    holds(rt, so, row.name, "what is seen");
 }
 
 #[test]

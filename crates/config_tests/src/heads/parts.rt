@@ -1,9 +1,8 @@
+use super::fields::{Named, is_field};
 use crate::assertions::holds;
 use req_view::{Version, View, Viewed, view};
+use std::alloc::Global;
 use std::process::Abort;
-
-/// A field's name and its value.
-type Named = (&'static [u8], &'static [u8]);
 
 /// A request's bytes, and the length and the parts of its head.
 struct Head {
@@ -140,22 +139,25 @@ fn has_line(rt: &impl Abort, head: &View, row: &Head) {
 fn has_fields(rt: &impl Abort, head: &View, row: &Head) {
     let count = row.fields.len();
     holds(rt, head.field_count() == count, "fields", row.text);
-    for (i, (name, value)) in row.fields.iter().enumerate() {
-        let field = head.field(i).expect(rt, "a field");
-        let same = field.name == *name && field.value == *value;
-        holds(rt, same, "field", row.text);
+    for (i, named) in row.fields.iter().enumerate() {
+        is_field(rt, head.field(i), named, row.text);
     }
     holds(rt, head.field(count).is_none(), "no field", row.text);
+}
+
+fn tells_its_parts(rt: &impl Abort, alloc: Global, row: &Head) {
+    let Viewed::Whole(head, length) = view(alloc, row.text.as_bytes()) else {
+        panic!(rt; "no head: {}", row.text);
+    };
+    holds(rt, length == row.length, "length", row.text);
+    has_line(rt, &head, row);
+    has_fields(rt, &head, row);
+    drop(head);
 }
 
 #[test]
 fn a_whole_head_tells_its_parts(rt: HostRuntime) {
     for row in &HEADS {
-        let Viewed::Whole(head, length) = view(rt.alloc(), row.text.as_bytes()) else {
-            panic!(rt; "no head: {}", row.text);
-        };
-        holds(&rt, length == row.length, "length", row.text);
-        has_line(&rt, &head, row);
-        has_fields(&rt, &head, row);
+        tells_its_parts(&rt, rt.alloc(), row);
     }
 }

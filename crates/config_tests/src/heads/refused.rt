@@ -1,6 +1,6 @@
-use super::{Seen, is_seen};
+use super::{Seen, is_seen, sees};
 use crate::assertions::holds;
-use req_view::{HeadRefusal, Viewed, view};
+use req_view::{HeadRefusal, View, Viewed, view};
 use std::alloc::Global;
 use std::process::Abort;
 
@@ -29,8 +29,8 @@ static NO_HEADS: [TextRow; 9] = [
 #[test]
 fn what_is_no_head(rt: HostRuntime) {
     for (text, seen) in &NO_HEADS {
-        let viewed = view(rt.alloc(), text.as_bytes());
-        holds(&rt, is_seen(&viewed, seen), "no head", text);
+        let so = sees(rt.alloc(), text.as_bytes(), seen);
+        holds(&rt, so, "no head", text);
     }
 }
 
@@ -43,11 +43,12 @@ const PLAIN_SEEN: Seen = Seen::Whole {
 
 fn waits_for_the_rest(rt: &impl Abort, alloc: Global, front: &[u8], back: &[u8]) {
     let mut bytes = Vec::from_slice(alloc, front).expect(rt, "memory");
-    let waits = is_seen(&view(alloc, &bytes), &Seen::More);
+    let waits = sees(alloc, &bytes, &Seen::More);
     holds(rt, waits, "a prefix", "waits");
     bytes.extend_from_slice(back).expect(rt, "memory");
     bytes.extend_from_slice(b"rest").expect(rt, "memory");
-    let seen = is_seen(&view(alloc, &bytes), &PLAIN_SEEN);
+    let seen = sees(alloc, &bytes, &PLAIN_SEEN);
+    drop(bytes);
     holds(rt, seen, "two pieces", "are whole");
 }
 
@@ -65,12 +66,18 @@ const DUE_SEEN: Seen = Seen::Whole {
     fields: 4,
 };
 
+fn seen_in_the_end(alloc: Global) -> Viewed<View> {
+    match view(alloc, DUE) {
+        Viewed::Refused(HeadRefusal::NoMemory) => view(alloc, DUE),
+        seen => seen,
+    }
+}
+
 // It goes well whichever single allocation is refused.
 #[test]
 fn a_refused_growth_is_want_of_memory(rt: HostRuntime) {
-    let mut seen = view(rt.alloc(), DUE);
-    if matches!(&seen, Viewed::Refused(HeadRefusal::NoMemory)) {
-        seen = view(rt.alloc(), DUE);
-    }
-    holds(&rt, is_seen(&seen, &DUE_SEEN), "a head", "in the end");
+    let seen = seen_in_the_end(rt.alloc());
+    let so = is_seen(&seen, &DUE_SEEN);
+    drop(seen);
+    holds(&rt, so, "a head", "in the end");
 }

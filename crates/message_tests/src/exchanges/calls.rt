@@ -1,9 +1,8 @@
 use crate::assertions::{holds, same};
 use crate::exchanges::relays::{GET, Relay, Side, TURNS};
 use crate::fakes::{Feed, Log};
-use crate::passes::Held;
 use relay_http::{Code, Exchange, Fault};
-use req_view::{Viewed, view};
+use req_view::{View, Viewed, view};
 use std::alloc::Global;
 use std::process::Abort;
 
@@ -37,23 +36,24 @@ fn a_head_and_its_body_are_one_write(rt: HostRuntime) {
     );
 }
 
+// Reads the request, behind whose head its body came.
+fn read_whole(rt: &impl Abort, alloc: Global, exchange: &mut Exchange) -> View {
+    exchange.renew();
+    let view = exchange
+        .read_request(alloc, &mut Feed::of(POST))
+        .expect(rt, "a request");
+    same(rt, exchange.held(), b"abcd".as_slice(), "held");
+    view
+}
+
 // An exchange holds what came behind a head, and one that is made new takes a part of it up.
 #[test]
 fn a_request_is_taken_up(rt: HostRuntime) {
-    let mut exchange = Exchange::new(rt.alloc(), TURNS).expect(&rt, "memory");
-    let mut output = Log::new(rt.alloc());
-    exchange.renew();
-    let view = exchange
-        .read_request(rt.alloc(), &mut Feed::of(POST))
-        .expect(&rt, "a request");
-    same(&rt, exchange.held(), b"abcd".as_slice(), "held");
-    exchange.renew();
-    exchange.take_up(b"ab");
-    let held = Held::take(rt.alloc()).expect(&rt, "a pass");
-    let result = exchange.forward(&held.pass, &view, &mut Feed::of(b"cd"), &mut output);
-    held.post();
+    let mut relay = Relay::new(&rt, rt.alloc(), TURNS);
+    let view = read_whole(&rt, rt.alloc(), &mut relay.exchange);
+    let result = relay.forward(rt.alloc(), &view, b"ab", b"cd");
     same(&rt, result, Ok(()), "a request");
-    same(&rt, output.bytes.as_slice(), POST_TEXT, "a request");
+    same(&rt, relay.output.bytes.as_slice(), POST_TEXT, "a request");
 }
 
 // The leave for a request has 25 bytes or none.
@@ -130,25 +130,24 @@ fn refusals(rt: HostRuntime) {
     }
 }
 
+fn reads(alloc: Global, exchange: &mut Exchange, head: &[u8]) -> bool {
+    exchange.renew();
+    exchange.read_request(alloc, &mut Feed::of(head)).is_ok()
+}
+
 #[test]
 fn no_turn_at_all(rt: HostRuntime) {
     let Viewed::Whole(view, _) = view(rt.alloc(), WAITING) else {
         panic!(rt; "no head");
     };
-    let mut exchange = Exchange::new(rt.alloc(), 0).expect(&rt, "memory");
-    let mut output = Log::new(rt.alloc());
-    exchange.renew();
-    let read = exchange.read_request(rt.alloc(), &mut Feed::of(WAITING));
-    holds(&rt, read.is_err(), "a read");
-    exchange.renew();
-    exchange.take_up(b"abc");
-    let leave = exchange.go_on(&view, &mut output);
+    let mut relay = Relay::new(&rt, rt.alloc(), 0);
+    let is_read = reads(rt.alloc(), &mut relay.exchange, WAITING);
+    holds(&rt, !is_read, "a read");
+    relay.exchange.renew();
+    relay.exchange.take_up(b"abc");
+    let leave = relay.exchange.go_on(&view, &mut relay.output);
     same(&rt, leave, Err(Fault::Turns), "leave");
-    exchange.renew();
-    exchange.take_up(b"abc");
-    let held = Held::take(rt.alloc()).expect(&rt, "a pass");
-    let forwarded = exchange.forward(&held.pass, &view, &mut Feed::of(b""), &mut output);
-    held.post();
+    let forwarded = relay.forward(rt.alloc(), &view, b"abc", b"");
     same(&rt, forwarded, Err(Fault::Turns), "a request");
-    same(&rt, output.writes, 0, "its writes");
+    same(&rt, relay.output.writes, 0, "its writes");
 }

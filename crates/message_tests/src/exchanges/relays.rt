@@ -1,9 +1,12 @@
+ghost use Rattle.std.specs.Prelude.{◌≤◌, length};
 ghost use Rattle.relay_http.specs.States.{Serves};
 
 use crate::fakes::{Feed, Log};
 use crate::passes::Held;
 use grant_board::Pass;
+use relay_body::INBOX_BYTES;
 use relay_http::{Exchange, Fault};
+use req_view::View;
 use std::alloc::Global;
 use std::io;
 use std::process::Abort;
@@ -59,21 +62,62 @@ impl Relay {
     ) -> Result<(), Fault>
         requires { Serves pass.now.verdict }
     {
-        self.exchange.renew();
         match side {
-            Side::Request => {
-                let view = self.exchange.read_request(alloc, input)?;
-                self.exchange.forward(pass, &view, input, &mut self.output)
-            }
-            Side::AnswerTo(request) => {
-                let mut client = *request;
-                let view = self.exchange.read_request(alloc, &mut client)?;
-                self.exchange
-                    .forward(pass, &view, &mut client, &mut io::sink())?;
-                self.exchange
-                    .answer(alloc, pass, &view, input, &mut self.output)
-            }
+            Side::Request => self.hand_on_request(alloc, pass, input),
+            Side::AnswerTo(request) => self.hand_on_answer(alloc, pass, request, input),
         }
+    }
+
+    fn hand_on_request(
+        &mut self,
+        alloc: Global,
+        pass: &Pass,
+        input: &mut Feed<'_>,
+    ) -> Result<(), Fault>
+        requires { Serves pass.now.verdict }
+    {
+        self.exchange.renew();
+        let view = self.exchange.read_request(alloc, input)?;
+        self.exchange.forward(pass, &view, input, &mut self.output)
+    }
+
+    fn hand_on_answer(
+        &mut self,
+        alloc: Global,
+        pass: &Pass,
+        request: &[u8],
+        input: &mut Feed<'_>,
+    ) -> Result<(), Fault>
+        requires { Serves pass.now.verdict }
+    {
+        let mut client = request;
+        self.exchange.renew();
+        let view = self.exchange.read_request(alloc, &mut client)?;
+        self.exchange
+            .forward(pass, &view, &mut client, &mut io::sink())?;
+        self.exchange
+            .answer(alloc, pass, &view, input, &mut self.output)
+    }
+
+    /// Hands on a request that was read, by the exchange, made new: what is taken up of its body, and the rest.
+    pub(crate) fn forward(
+        &mut self,
+        alloc: Global,
+        view: &View,
+        taken_up: &[u8],
+        rest: &[u8],
+    ) -> Result<(), Fault>
+        requires { length taken_up.now ≤ INBOX_BYTES }
+    {
+        let held = Held::take(alloc)?;
+        let mut rest = Feed::of(rest);
+        self.exchange.renew();
+        self.exchange.take_up(taken_up);
+        let result = self
+            .exchange
+            .forward(&held.pass, view, &mut rest, &mut self.output);
+        held.post();
+        result
     }
 }
 

@@ -26,8 +26,8 @@ pub fn ask<Q: PendQueue<Key, usize>>(
 ) -> Result<usize, Refusal> {
     let answer = match call {
         Call::Arrive(class, offset, pin) => {
-            let arrival = core.arrive(alloc, moment, class, offset, pin);
-            return arrival.map(|it| it.place);
+            let arrival = core.arrive(alloc, moment, class, offset, pin)?;
+            return Ok(arrival.place);
         }
         Call::Done(ticket) => core.done(moment, ticket),
         Call::Fail(ticket) => core.failed(moment, ticket),
@@ -36,7 +36,8 @@ pub fn ask<Q: PendQueue<Key, usize>>(
         Call::Check(server, ok) => core.check(moment, server, ok),
         Call::Limit(server, limit) => core.limit(moment, server, limit),
     };
-    answer.map(|()| 0)
+    answer?;
+    Ok(0)
 }
 
 /// A dispatcher without a request.

@@ -1,6 +1,5 @@
 use super::calls::Call;
 use super::state::Plain;
-use dispatch_log::{Phase, Row};
 use due_key::{Class, Moment, Offset};
 
 /// A fixed sequence of moments and calls that look random.
@@ -54,11 +53,9 @@ impl Chance {
 
     /// The ticket of a request that waits, or of one that doesn't; now and then any ticket.
     fn ticket(&mut self, plain: &Plain, waits: bool) -> u64 {
-        let of_kind = |row: &&Row| matches!(row.phase, Phase::Waiting(_, _)) == waits;
-        let count = plain.rows.iter().flatten().filter(of_kind).count();
-        let nth = self.below(count as u64) as usize;
-        match plain.rows.iter().flatten().filter(of_kind).nth(nth) {
-            Some(row) if self.below(8) > 0 => row.key.ticket,
+        let nth = self.below(plain.count(waits));
+        match plain.nth_ticket(waits, nth) {
+            Some(ticket) if self.below(8) > 0 => ticket,
             _ => self.below(plain.ticket.saturating_add(2)),
         }
     }

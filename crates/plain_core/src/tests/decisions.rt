@@ -16,9 +16,10 @@ enum Among {
 impl Plain {
     /// Where a request in no place goes, which avoids a server where it can.
     pub fn placement(&self, ticket: u64, pin: Option<usize>, avoid: Option<usize>) -> Entry {
-        let chosen = self
-            .working_pin(pin)
-            .or_else(|| self.pick(Among::Candidates(avoid)));
+        let chosen = match self.working_pin(pin) {
+            Some(server) => Some(server),
+            None => self.pick(Among::Candidates(avoid)),
+        };
         match chosen {
             Some(server) if self.is_free(server) => Entry::Direct(ticket, server),
             Some(server) => Entry::Joined(ticket, Queue::Server(server)),
@@ -29,9 +30,10 @@ impl Plain {
 
     /// The grant that comes next, if one is lawful: the server that takes next takes the least key that it may.
     pub fn grant(&self) -> Option<Entry> {
-        let server = self
-            .first_weightless_taker()
-            .or_else(|| self.pick(Among::Takers))?;
+        let server = match self.first_weightless_taker() {
+            Some(server) => server,
+            None => self.pick(Among::Takers)?,
+        };
         let row = self.first_for(server)?;
         match row.phase {
             Phase::Waiting(queue, _) => Some(Entry::Granted(row.key.ticket, queue, server)),
@@ -42,8 +44,10 @@ impl Plain {
     /// The request with the least key of those that wait in a queue.
     pub fn first_in(&self, queue: Queue) -> Option<&Row> {
         let mut first = None;
-        for row in self.rows.iter().flatten() {
-            if waits_in(row.phase, queue) {
+        for place in &self.rows {
+            if let Some(row) = place
+                && waits_in(row.phase, queue)
+            {
                 first = Some(lesser(first, row));
             }
         }
@@ -52,21 +56,29 @@ impl Plain {
 
     /// The expired request with the lowest ticket.
     pub fn first_expired(&self) -> Option<u64> {
-        self.rows
-            .iter()
-            .flatten()
-            .filter(|row| self.has_expired(self.moment, row.phase))
-            .map(|row| row.key.ticket)
-            .min()
+        let mut first: Option<u64> = None;
+        for place in &self.rows {
+            if let Some(row) = place
+                && self.has_expired(self.moment, row.phase)
+            {
+                let ticket = row.key.ticket;
+                first = Some(first.unwrap_or(ticket).min(ticket));
+            }
+        }
+        first
     }
 
     /// Whether a tick at this moment would tell a timeout.
     pub fn some_expire(&self, moment: Moment) -> bool {
         let now = self.effective(moment);
-        self.rows
-            .iter()
-            .flatten()
-            .any(|row| self.has_expired(now, row.phase))
+        for place in &self.rows {
+            if let Some(row) = place
+                && self.has_expired(now, row.phase)
+            {
+                return true;
+            }
+        }
+        false
     }
 
     fn has_expired(&self, now: Moment, phase: Phase) -> bool {
@@ -80,14 +92,21 @@ impl Plain {
     }
 
     fn has_usable(&self) -> bool {
-        (0..self.servers()).any(|server| self.is_usable(server))
+        for server in 0..self.servers() {
+            if self.is_usable(server) {
+                return true;
+            }
+        }
+        false
     }
 
     // The request with the least key of those that a slot of the server may go to.
     fn first_for(&self, server: usize) -> Option<&Row> {
         let mut first = None;
-        for row in self.rows.iter().flatten() {
-            if self.may_go_to(server, row.phase) {
+        for place in &self.rows {
+            if let Some(row) = place
+                && self.may_go_to(server, row.phase)
+            {
                 first = Some(lesser(first, row));
             }
         }
@@ -99,7 +118,12 @@ impl Plain {
     }
 
     fn first_weightless_taker(&self) -> Option<usize> {
-        (0..self.servers()).find(|&server| self.weight(server) == 0 && self.can_take(server))
+        for server in 0..self.servers() {
+            if self.weight(server) == 0 && self.can_take(server) {
+                return Some(server);
+            }
+        }
+        None
     }
 
     // A server with room; the avoided one only where no other has room.
@@ -108,7 +132,12 @@ impl Plain {
     }
 
     fn another_has_room(&self, server: usize) -> bool {
-        (0..self.servers()).any(|other| other != server && self.has_room(other))
+        for other in 0..self.servers() {
+            if other != server && self.has_room(other) {
+                return true;
+            }
+        }
+        false
     }
 
     fn is_among(&self, among: Among, server: usize) -> bool {
@@ -124,20 +153,23 @@ impl Plain {
         let next = self.cursor.saturating_add(1).min(servers);
         let mut best = None;
         for server in (next..servers).chain(0..next) {
-            if self.is_among(among, server)
-                && best.is_none_or(|other| self.is_less_loaded(server, other))
-            {
+            if self.is_among(among, server) && self.is_better(server, best) {
                 best = Some(server);
             }
         }
         best
     }
 
-    fn is_less_loaded(&self, server: usize, other: usize) -> bool {
-        let share = |one: usize, two: usize| self
-            .load(one)
-            .saturating_mul(self.weight(two) as usize);
-        share(server, other) < share(other, server)
+    // Whether the server has less load than the best one so far, or is the first.
+    fn is_better(&self, server: usize, best: Option<usize>) -> bool {
+        match best {
+            Some(other) => self.share(server, other) < self.share(other, server),
+            None => true,
+        }
+    }
+
+    fn share(&self, one: usize, two: usize) -> usize {
+        self.load(one).saturating_mul(self.weight(two) as usize)
     }
 }
 

@@ -1,4 +1,5 @@
 use super::calls::Call;
+use super::servers::waits;
 use super::state::Plain;
 use dispatch_log::{Arrival, Entry, Phase, Queue, Refusal};
 use due_key::{Due, Moment};
@@ -72,14 +73,11 @@ impl Plain {
     }
 
     fn refuses_arrival(&self, pin: Option<usize>) -> Option<Refusal> {
-        if pin.is_some_and(|server| self.servers() <= server) {
-            Some(Refusal::NoSuchServer)
-        } else if self.ticket.saturating_add(1) >= 1 << 40 {
-            Some(Refusal::TicketsSpent)
-        } else if self.rows.iter().flatten().count() == self.rows.len() {
-            Some(Refusal::PlacesFull)
-        } else {
-            None
+        match pin {
+            Some(server) if self.servers() <= server => Some(Refusal::NoSuchServer),
+            _ if self.ticket.saturating_add(1) >= 1 << 40 => Some(Refusal::TicketsSpent),
+            _ if self.is_full() => Some(Refusal::PlacesFull),
+            _ => None,
         }
     }
 
@@ -100,7 +98,7 @@ impl Plain {
                     ticket: self.ticket.saturating_add(1),
                     class,
                     due: Due::of(moment, offset),
-                    pin: pin.and_then(|server| u8::try_from(server).ok()),
+                    pin: number_of(pin),
                     place: u16::try_from(place).unwrap_or(0),
                 };
                 Entry::Arrive(moment, arrival)
@@ -138,10 +136,10 @@ impl Plain {
             Stage::Leaving(ticket, _) if self.failures_of(ticket) > self.setup.retries => {
                 Some(Entry::Left(ticket, Cause::Retries))
             }
-            Stage::Leaving(ticket, server) => Some(
-                self.grant()
-                    .unwrap_or_else(|| self.placement(ticket, None, Some(server))),
-            ),
+            Stage::Leaving(ticket, server) => match self.grant() {
+                Some(grant) => Some(grant),
+                None => Some(self.placement(ticket, None, Some(server))),
+            },
             Stage::Aborting(ticket) => Some(Entry::Left(ticket, Cause::Aborted)),
             Stage::Telling => match self.first_expired() {
                 Some(ticket) => Some(Entry::Left(ticket, Cause::Timeout)),
@@ -164,7 +162,10 @@ impl Plain {
     }
 
     fn failures_of(&self, ticket: u64) -> u32 {
-        self.row_of(ticket).map_or(0, |row| row.failures)
+        match self.row_of(ticket) {
+            Some(row) => row.failures,
+            None => 0,
+        }
     }
 
     // What the failure of a connection opens with.
@@ -180,13 +181,17 @@ impl Plain {
     }
 }
 
+// The pin as an entry has it.
+fn number_of(pin: Option<usize>) -> Option<u8> {
+    u8::try_from(pin?).ok()
+}
+
 // Whether a request in this phase may be returned, fail, or be given up.
 fn suits(call: Call, phase: Phase) -> bool {
-    let waits = matches!(phase, Phase::Waiting(_, _));
     match call {
-        Call::Done(_) => !waits,
+        Call::Done(_) => !waits(phase),
         Call::Fail(_) => phase.server().is_some(),
-        Call::Abort(_) => waits,
+        Call::Abort(_) => waits(phase),
         Call::Arrive(_, _, _) | Call::Tick | Call::Check(_, _) | Call::Limit(_, _) => true,
     }
 }

@@ -17,8 +17,10 @@ impl Plain {
 
     pub fn served(&self, server: usize) -> usize {
         let mut count: usize = 0;
-        for row in self.rows.iter().flatten() {
-            if row.phase == Phase::Serving(server) {
+        for place in &self.rows {
+            if let Some(row) = place
+                && row.phase == Phase::Serving(server)
+            {
                 count = count.saturating_add(1);
             }
         }
@@ -27,8 +29,10 @@ impl Plain {
 
     pub fn queued(&self, queue: Queue) -> usize {
         let mut count: usize = 0;
-        for row in self.rows.iter().flatten() {
-            if waits_in(row.phase, queue) {
+        for place in &self.rows {
+            if let Some(row) = place
+                && waits_in(row.phase, queue)
+            {
                 count = count.saturating_add(1);
             }
         }
@@ -61,30 +65,37 @@ impl Plain {
     }
 
     pub fn is_free(&self, server: usize) -> bool {
-        self.limit(server)
-            .is_some_and(|limit| limit == 0 || self.served(server) < limit as usize)
+        match self.limit(server) {
+            Some(limit) => limit == 0 || self.served(server) < limit as usize,
+            None => false,
+        }
     }
 
     /// Whether a balanced request may be put on the server.
     pub fn has_room(&self, server: usize) -> bool {
-        self.server(server).is_some_and(|it| {
-            let limit = self.limit(server).unwrap_or(0) as usize;
-            limit == 0 || self.load(server) < limit.saturating_add(it.maxqueue as usize)
-        }) && self.is_usable(server)
+        let Some(it) = self.server(server) else {
+            return false;
+        };
+        let limit = self.limit(server).unwrap_or(0) as usize;
+        let most = limit.saturating_add(it.maxqueue as usize);
+        (limit == 0 || self.load(server) < most) && self.is_usable(server)
     }
 
     /// Whether a server takes a request that is bound to it.
     fn takes_pinned(&self, server: usize) -> bool {
-        let queued = self.queued(Queue::Server(server));
-        self.is_up(server)
-            && (self.is_free(server)
-                || self
-                    .server(server)
-                    .is_some_and(|it| it.maxqueue == 0 || queued < it.maxqueue as usize))
+        let Some(it) = self.server(server) else {
+            return false;
+        };
+        let most = it.maxqueue as usize;
+        let has_space = most == 0 || self.queued(Queue::Server(server)) < most;
+        self.is_up(server) && (self.is_free(server) || has_space)
     }
 
     pub fn working_pin(&self, pin: Option<usize>) -> Option<usize> {
-        pin.filter(|&server| self.takes_pinned(server))
+        match pin {
+            Some(server) if self.takes_pinned(server) => pin,
+            _ => None,
+        }
     }
 
     /// Whether a slot of a server may go to a request in this phase.
@@ -95,6 +106,10 @@ impl Plain {
             Phase::Loose | Phase::Serving(_) | Phase::Told(_) => false,
         }
     }
+}
+
+pub fn waits(phase: Phase) -> bool {
+    matches!(phase, Phase::Waiting(_, _))
 }
 
 pub fn waits_in(phase: Phase, queue: Queue) -> bool {
@@ -133,7 +148,13 @@ fn has_run(count: usize, which: bool, results: &[bool]) -> bool {
 }
 
 fn begins_with(count: usize, which: bool, results: &[bool]) -> bool {
-    results
-        .get(..count)
-        .is_some_and(|front| front.iter().all(|&one| one == which))
+    let Some(front) = results.get(..count) else {
+        return false;
+    };
+    for one in front {
+        if *one != which {
+            return false;
+        }
+    }
+    true
 }

@@ -1,4 +1,5 @@
-use dispatch_log::{Arrival, Entry, Phase, Queue, Row, Setup};
+use super::servers::waits;
+use dispatch_log::{Arrival, Entry, Phase, Queue, Row, ServerSet, Setup};
 use due_key::{Key, Moment};
 use std::alloc::Global;
 use std::process::Abort;
@@ -45,10 +46,52 @@ impl Plain {
     }
 
     pub fn row_of(&self, ticket: u64) -> Option<&Row> {
-        self.rows
-            .iter()
-            .flatten()
-            .find(|row| row.key.ticket == ticket)
+        for place in &self.rows {
+            if let Some(row) = place
+                && row.key.ticket == ticket
+            {
+                return Some(row);
+            }
+        }
+        None
+    }
+
+    pub fn is_full(&self) -> bool {
+        for place in &self.rows {
+            if place.is_none() {
+                return false;
+            }
+        }
+        true
+    }
+
+    /// How many requests wait, or don't.
+    pub fn count(&self, those_that_wait: bool) -> u64 {
+        let mut count: u64 = 0;
+        for place in &self.rows {
+            if let Some(row) = place
+                && waits(row.phase) == those_that_wait
+            {
+                count = count.saturating_add(1);
+            }
+        }
+        count
+    }
+
+    /// The ticket of one of those that wait, or don't, with so many of them in places before its own.
+    pub fn nth_ticket(&self, those_that_wait: bool, nth: u64) -> Option<u64> {
+        let mut before: u64 = 0;
+        for place in &self.rows {
+            if let Some(row) = place
+                && waits(row.phase) == those_that_wait
+            {
+                if before == nth {
+                    return Some(row.key.ticket);
+                }
+                before = before.saturating_add(1);
+            }
+        }
+        None
     }
 
     pub fn pin_of(&self, ticket: u64) -> Option<usize> {
@@ -114,12 +157,9 @@ impl Plain {
     // where it is down so many failures as let it fall, and the successes since the last failure.
     fn shorten(&mut self, rt: &impl Abort, server: usize) {
         let up = self.is_up(server);
-        let fall = match self.server(server).and_then(|it| it.rise_fall) {
-            Some((_, fall)) if !up => fall as usize,
-            _ => 0,
-        };
+        let fall = if up { 0 } else { self.fall(server) };
         if let Some(results) = self.results.get_mut(server) {
-            let against = results.iter().rev().take_while(|&&ok| ok != up).count();
+            let against = last_of(results, !up);
             results.clear();
             for _ in 0..fall {
                 results.push(false).expect(rt, "memory");
@@ -130,22 +170,35 @@ impl Plain {
         }
     }
 
+    // So many failures in a row let a server fall; 0 where it isn't checked.
+    fn fall(&self, server: usize) -> usize {
+        match self.server(server) {
+            Some(
+                ServerSet {
+                    rise_fall: Some((_, fall)),
+                    ..
+                },
+            ) => fall as usize,
+            _ => 0,
+        }
+    }
+
     /// The weight of a server; 0 where no server has the number.
     pub fn weight(&self, server: usize) -> u32 {
-        self.setup
-            .servers
-            .as_slice()
-            .get(server)
-            .map_or(0, |it| it.weight)
+        match self.server(server) {
+            Some(it) => it.weight,
+            None => 0,
+        }
     }
 
     fn set(&mut self, ticket: u64, row: Option<Row>) {
-        let has_it = |place: &Option<Row>| match place {
-            Some(row) => row.key.ticket == ticket,
-            None => false,
-        };
-        if let Some(place) = self.rows.iter().position(has_it) {
-            self.fill(place, row);
+        for place in 0..self.rows.len() {
+            if let Some(Some(found)) = self.rows.get(place)
+                && found.key.ticket == ticket
+            {
+                self.fill(place, row);
+                return;
+            }
         }
     }
 
@@ -221,6 +274,18 @@ impl Plain {
             self.cursor = server;
         }
     }
+}
+
+// How many results at the end are all such.
+fn last_of(results: &[bool], which: bool) -> usize {
+    let mut count: usize = 0;
+    for ok in results.iter().rev() {
+        if *ok != which {
+            break;
+        }
+        count = count.saturating_add(1);
+    }
+    count
 }
 
 fn vacant<T: Drop>(rt: &impl Abort, alloc: Global, places: usize) -> Vec<Option<T>> {

@@ -1,7 +1,8 @@
 -- What waits goes first, then the bytes.
-use Rattle.std.proofs.Common.{List, ℕ, ◌++◌, ap, refl}
+use Rattle.std.proofs.Common.{List, ℕ, ◌++◌, ap, refl, arith}
 use Rattle.relay_body.proofs.Emitting.{emits_stops, stops_more, stops_as}
 use Rattle.relay_body.proofs.Exits.{at_exit}
+use Rattle.std.proofs.lemmas.Grind.{common_steps}
 use Rattle.relay_body.proofs.text.emit.Goals as goal
 
 pub returns-in_err-flush-clause-err : goal.returns-in_err-flush-clause-err
@@ -16,3 +17,6 @@ returns-in_err-write_text-clause-err g c =
     let flushed = c.in_ok-flush.ensures in
     at_exit c.from_residual-in_err-write_text.result _ _ c.from_residual-in_err-write_text.ensures.1
     (stops_as same (emits_stops c.args.bytes.now flushed.ok (rw flushed.empty c.in_err-write_text.ensures.err)))
+
+pub returns-clause-ok : goal.returns-clause-ok
+returns-clause-ok g c = grind (arith, common_steps)

@@ -1,4 +1,4 @@
-use Rattle.std.proofs.Common.{◌≡◌, [], ap, sym, subst, ◌∙◌, string_bytes}
+use Rattle.std.proofs.Common.{◌≡◌, [], ap, sym, subst, ◌∙◌, string_bytes, arith}
 use Rattle.std.specs.Str.Lines.{lines}
 use Rattle.dispatch_log.specs.declared.setup.Setup.{Setup}
 use Rattle.dispatch_log.specs.Histories.{History, first_window}
@@ -7,6 +7,7 @@ use Rattle.script.specs.Steps.{steps_of}
 use Rattle.script.specs.ScriptTexts.{IsScriptText}
 use Rattle.script.proofs.Bodies.{settings_whole}
 use Rattle.replay.specs.Defaults.{names_of, opening}
+use Rattle.std.proofs.lemmas.Grind.{common_steps}
 use Rattle.replay.proofs.events.replay_events.Goals as goal
 
 -- what the header lines say is what all lines do
@@ -24,3 +25,6 @@ returns-in-Ok-run-clause-ok g c =
           (subst (λ (history : History). IsScriptText c.in-Ok.names history (steps_of c.args.script.now) c.run.new.core (string_bytes c.in-Ok-run.text))
           (c.in-Ok-new.ensures ∙ ap (λ (setup : Setup). first_window setup []) c.in-Ok.ensures.setup) c.in-Ok-run.ensures.ok);
     }
+
+pub run-requires : goal.run-requires
+run-requires g c = grind (arith, common_steps)

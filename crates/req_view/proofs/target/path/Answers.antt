@@ -1,7 +1,8 @@
-use Rattle.std.proofs.Common.{◌≡◌, ℕ, true, false, List, None, Some, drop, refl, sym, ap, ◌∙◌}
+use Rattle.std.proofs.Common.{◌≡◌, ℕ, true, false, List, None, Some, drop, refl, sym, ap, ◌∙◌, arith}
 use Rattle.std.specs.Prelude.{codes}
 use Rattle.std.proofs.lemmas.List.{take_rest}
 use Rattle.req_view.specs.Target.{begins, without_query, from_slash, path_of}
+use Rattle.std.proofs.lemmas.Grind.{common_steps}
 use Rattle.req_view.proofs.target.path.Goals as goal
 
 -- the path by what the target begins with
@@ -42,3 +43,6 @@ returns-else-starts_with-3 c =
     by_none c.args.target.now (sym c.starts_with.ensures.value ∙ c.if-starts_with.false)
     (sym c.starts_with-else-starts_with.ensures.value ∙ c.if-starts_with-2.false)
     (sym c.starts_with-else-starts_with-2.ensures.value ∙ c.if-starts_with-3.false)
+
+pub returns-then-starts_with : goal.returns-then-starts_with
+returns-then-starts_with c = grind (arith, common_steps)

@@ -1,10 +1,11 @@
-use Rattle.std.proofs.Common.{◌≡◌, false, is_some, sym, ap, ◌∙◌}
+use Rattle.std.proofs.Common.{◌≡◌, false, is_some, sym, ap, ◌∙◌, arith}
 use Rattle.std.specs.Str.Lines.{lines}
 use Rattle.script.specs.Faults.{is_step}
 use Rattle.script.specs.Lines.{is_step_line, is_fault}
 use Rattle.script.specs.Reading.{with_kind}
 use Rattle.script.proofs.Headers.{one_more}
 use Rattle.script.proofs.KindsOfLines.{step_is, kind_line}
+use Rattle.std.proofs.lemmas.Grind.{common_steps}
 use Rattle.script.proofs.header.read_lines.Goals as goal
 
 -- a line more is read
@@ -20,3 +21,18 @@ lines-preserved c =
           other (ap (is_fault header false) (sym kind) ∙ c.in-Ok.ensures.ok.0) (c.in-Ok.ensures.ok.1 ∙ ap (with_kind header) kind
           ∙ kind_line header line other),
     )
+
+pub returns-then-is_step-clause-header : goal.returns-then-is_step-clause-header
+returns-then-is_step-clause-header c = grind (arith, common_steps)
+
+pub returns-then-is_step-clause-settings : goal.returns-then-is_step-clause-settings
+returns-then-is_step-clause-settings c = grind (arith, common_steps)
+
+pub overflow_add-number : goal.overflow_add-number
+overflow_add-number c = grind (arith, common_steps)
+
+pub returns-clause-header : goal.returns-clause-header
+returns-clause-header c = grind (arith, common_steps)
+
+pub returns-clause-settings : goal.returns-clause-settings
+returns-clause-settings c = grind (arith, common_steps)

@@ -8,6 +8,7 @@ use Rattle.dispatch_log.proofs.Choices.{free_there}
 use Rattle.slot_ledger.specs.Ledgers.{scene_of}
 use Rattle.server_pick.specs.Sets.{IsIn}
 use Rattle.server_pick.proofs.Taking.{picked_next}
+use Rattle.std.proofs.lemmas.Grind.{common_steps}
 use Rattle.server_pick.proofs.takers.next_taker.Goals as goal
 
 -- the cursor stays where a server of weight 0 takes
@@ -40,3 +41,6 @@ returns-in-Some-clause-cursor g c = weightless_stays c.args.ledger.now.setup c.i
 pub returns-clause-next : goal.returns-clause-next
 returns-clause-next g c = picked_next (scene_of c.args.ledger.now) c.args.cursor.now
     (IsIn c.takers-takers.result) c.pick.result c.takers-takers.ensures c.in_default.ensures c.pick.ensures.picked
+
+pub returns-clause-cursor : goal.returns-clause-cursor
+returns-clause-cursor g c = grind (arith, common_steps)

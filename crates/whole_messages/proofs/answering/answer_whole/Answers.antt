@@ -1,9 +1,10 @@
 -- What was used is what was taken, but for what the exchange holds; what it didn't take is left.
-use Rattle.std.proofs.Common.{rules, ◌∙◌, inl, sym, ap, ◌++◌, append_assoc}
+use Rattle.std.proofs.Common.{rules, ◌∙◌, inl, sym, ap, ◌++◌, append_assoc, arith}
 use Rattle.relay_http.proofs.Failing.{passes_of}
 use Rattle.relay_http.specs.Messages.{LacksAnswer}
 use Rattle.whole_messages.proofs.Lefts.{same_end, all_of, none_left, never_fails}
 use Rattle.whole_messages.proofs.Telling.{refused_early, never_whole}
+use Rattle.std.proofs.lemmas.Grind.{common_steps}
 use Rattle.whole_messages.proofs.answering.answer_whole.Goals as goal
 
 pub returns-in-Ok-clause-whole : goal.returns-in-Ok-clause-whole
@@ -50,3 +51,9 @@ returns-in-Err-clause-whole c = never_whole c.told_by.result _ _ _ c.told_by.ens
 
 pub returns-in-Err-clause-most : goal.returns-in-Err-clause-most
 returns-in-Err-clause-most c = c.in-Err.ensures.most ∙ c.resume.ensures.most ∙ c.renew.ensures.most_is
+
+pub returns-in-Err-clause-more : goal.returns-in-Err-clause-more
+returns-in-Err-clause-more c = grind (arith, common_steps)
+
+pub returns-in-Err-clause-kept : goal.returns-in-Err-clause-kept
+returns-in-Err-clause-kept c = grind (arith, common_steps)

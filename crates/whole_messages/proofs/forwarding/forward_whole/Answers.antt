@@ -4,6 +4,7 @@ use Rattle.relay_http.specs.Messages.{LacksForwarded}
 use Rattle.relay_http.specs.States.{IsFresh}
 use Rattle.whole_messages.proofs.Lefts.{same_end, none_taken, never_fails}
 use Rattle.whole_messages.proofs.Telling.{lacks_end, refused_by, never_whole}
+use Rattle.std.proofs.lemmas.Grind.{common_steps}
 use Rattle.whole_messages.proofs.forwarding.forward_whole.Goals as goal
 
 pub returns-in-Err-clause-more : goal.returns-in-Err-clause-more
@@ -70,3 +71,9 @@ forward_between-requires-clause-countable c =
     let reads = c.new-source.ensures.reads in
     let writes = c.new-sink.ensures.calls in
     record { reads = omega arith; writes = omega arith }
+
+pub returns-in-Ok-clause-whole : goal.returns-in-Ok-clause-whole
+returns-in-Ok-clause-whole c = grind (arith, common_steps)
+
+pub returns-in-Err-clause-kept : goal.returns-in-Err-clause-kept
+returns-in-Err-clause-kept c = grind (arith, common_steps)

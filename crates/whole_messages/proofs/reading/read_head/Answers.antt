@@ -1,5 +1,6 @@
-use Rattle.std.proofs.Common.{◌∙◌}
+use Rattle.std.proofs.Common.{◌∙◌, arith}
 use Rattle.whole_messages.proofs.Heads.{len_within, framed_badly, whole_head}
+use Rattle.std.proofs.lemmas.Grind.{common_steps}
 use Rattle.whole_messages.proofs.reading.read_head.Goals as goal
 
 pub returns-then-is_none-clause-begun : goal.returns-then-is_none-clause-begun
@@ -65,3 +66,6 @@ returns-in-Refused-NoMemory-clause-refused c = (tt, λ e. cc)
 
 pub returns-in-Refused-NoMemory-clause-most : goal.returns-in-Refused-NoMemory-clause-most
 returns-in-Refused-NoMemory-clause-most c = c.renew.ensures.most_is
+
+pub slice_bounds-take_up-start : goal.slice_bounds-take_up-start
+slice_bounds-take_up-start c = grind (arith, common_steps)

@@ -1,7 +1,7 @@
 use Rattle.std.proofs.Common.{sym, subst, refl, ◌∙◌, arith, Contains, [], ◌∷◌}
 use Rattle.std.proofs.lemmas.List.Elements.{Contains-append_right}
 use Rattle.board_tests.proofs.boards.meetings.meet_twice.Goals as goal
-use Rattle.board_tests.proofs.boards.meetings.meet_twice.Goals.{in-Taken+else-assert_eq+else-assert_eq-2, in-NotYet+else-assert-2}
+use Rattle.board_tests.proofs.boards.meetings.meet_twice.Goals.{in-Taken, in-NotYet+else-assert-2}
 
 -- the pass that was taken is among the passes, and the meetings leave them
 pub post-requires-clause-held : goal.post-requires-clause-held
@@ -17,7 +17,7 @@ post-requires-in-Taken-taking-clause-held g c =
     subst (λ v. Contains v.passes pass) (sym c.in-Taken-taking.ensures.answer.after)
     (Contains-append_right c.args.second.view.passes (pass ∷ []) pass (0, omega arith, refl)) in
     elim c.match-try_take.branch [
-      | in-Taken+else-assert_eq+else-assert_eq-2 w ↦ subst (λ x. Contains x.view.passes pass)
+      | in-Taken w ↦ subst (λ x. Contains x.view.passes pass)
           (sym (w.second-is ∙ (w.meet-back-in-Taken.ensures.back ∙ w.meet-back.ensures.back))) has
       | in-NotYet+else-assert-2 w ↦ subst (λ x. Contains x.view.passes pass) (sym w.second-is) has
     ]

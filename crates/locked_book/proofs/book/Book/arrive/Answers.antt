@@ -1,8 +1,9 @@
-use Rattle.std.proofs.Common.{pos, ◌+ℤ◌, drop, length, refl, ap, sym, ◌∙◌, subst}
+use Rattle.std.proofs.Common.{pos, ◌+ℤ◌, drop, length, refl, ap, sym, ◌∙◌, subst, arith}
 use Rattle.dispatch_log.specs.declared.entry.Entry.TheVariants.{Arrive}
 use Rattle.dispatch_log.specs.Histories.{effective}
 use Rattle.outstanding.specs.Books.{IsOwing}
 use Rattle.locked_book.proofs.Events.{plain_owes, kept_again, carried, arrival_place}
+use Rattle.std.proofs.lemmas.Grind.{common_steps}
 use Rattle.locked_book.proofs.book.Book.arrive.Goals as goal
 
 pub offer_from-requires-clause-owing : goal.offer_from-requires-clause-owing
@@ -54,3 +55,12 @@ returns-clause-place g c =
       place = c.in_ok-it.it.place;
     }) c.log.ensures.legal c.self.invariant
     c.in_ok-it.ensures.ok
+
+pub offer_from-requires-clause-from : goal.offer_from-requires-clause-from
+offer_from-requires-clause-from g c = grind (arith, common_steps)
+
+pub returns-in_err-it-clause-err : goal.returns-in_err-it-clause-err
+returns-in_err-it-clause-err g c = grind (arith, common_steps)
+
+pub returns-clause-ok : goal.returns-clause-ok
+returns-clause-ok g c = grind (arith, common_steps)

@@ -8,6 +8,7 @@ use Rattle.outstanding.specs.Books.{IsOwing}
 use Rattle.outstanding.specs.Calls.{Booked, SetsBound}
 use Rattle.locked_book.proofs.Events.{kept_again}
 use Rattle.locked_book.proofs.Ends.{may_limit, limit_owes, sets_bound, served_within}
+use Rattle.std.proofs.lemmas.Grind.{common_steps}
 use Rattle.locked_book.proofs.book.Book.limit.Goals as goal
 
 -- what the server served
@@ -67,3 +68,6 @@ returns-clause-bound g c =
     (sets_bound c.args.self.now c.self.inside.core c.limit.new.self c.self.inside.keeping c.limit-2.new.self c.offer_from.new.keeping c.args.server
     c.bound_of.result c.args.woken.now c.offer_from.new.woken c.len-from.result
     c.self.view_is (c.len-from.ensures ∙ ap length c.log.ensures.entries) c.limit-2.ensures c.offer_from.ensures.offered c.offer_from.ensures.woken)
+
+pub offer_from-requires-clause-from : goal.offer_from-requires-clause-from
+offer_from-requires-clause-from g c = grind (arith, common_steps)

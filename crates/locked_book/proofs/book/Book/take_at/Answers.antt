@@ -1,4 +1,4 @@
-use Rattle.std.proofs.Common.{drop, length, ap, sym, ◌∙◌, subst}
+use Rattle.std.proofs.Common.{drop, length, ap, sym, ◌∙◌, subst, arith}
 use Rattle.grant_board.specs.Views.{KeeperView}
 use Rattle.dispatch_log.specs.Histories.{effective}
 use Rattle.dispatch_trace.specs.Histories.{HasEntryRoom}
@@ -6,6 +6,7 @@ use Rattle.outstanding.specs.Books.{IsOwing}
 use Rattle.outstanding.specs.Calls.{Booked, TakesBack}
 use Rattle.locked_book.proofs.Events.{kept_again}
 use Rattle.locked_book.proofs.Ends.{acceptable, end_owes, takes_back}
+use Rattle.std.proofs.lemmas.Grind.{common_steps}
 use Rattle.locked_book.proofs.book.Book.take_at.Goals as goal
 
 pub note_end-requires : goal.note_end-requires
@@ -39,3 +40,6 @@ returns-clause-some g c =
     (effective c.self.inside.core c.args.moment) c.in_ok-back.back c.args.woken.now
     c.offer_from.new.woken c.len-from.result c.self.view_is (c.len-from.ensures
     ∙ ap length c.log.ensures.entries) c.in_ok-back.ensures.some c.note_end.ensures c.offer_from.ensures.offered c.offer_from.ensures.woken)
+
+pub offer_from-requires-clause-from : goal.offer_from-requires-clause-from
+offer_from-requires-clause-from g c = grind (arith, common_steps)

@@ -1,8 +1,9 @@
-use Rattle.std.proofs.Common.{drop, length, refl, ap, sym, ◌∙◌, subst}
+use Rattle.std.proofs.Common.{drop, length, refl, ap, sym, ◌∙◌, subst, arith}
 use Rattle.dispatch_log.specs.declared.entry.Entry.TheVariants.{Tick}
 use Rattle.dispatch_log.specs.Histories.{effective}
 use Rattle.outstanding.specs.Books.{IsOwing}
 use Rattle.locked_book.proofs.Events.{plain_owes, kept_again, carried}
+use Rattle.std.proofs.lemmas.Grind.{common_steps}
 use Rattle.locked_book.proofs.book.Book.tick.Goals as goal
 
 pub offer_from-requires-clause-owing : goal.offer_from-requires-clause-owing
@@ -25,3 +26,6 @@ returns-clause-carried g c =
     carried c.args.self.now c.self.inside.core c.tick.new.self c.self.inside.keeping c.offer_from.new.keeping c.args.woken.now c.offer_from.new.woken
     c.len-from.result c.self.view_is
     (c.len-from.ensures ∙ ap length c.log.ensures.entries) c.offer_from.ensures.offered c.offer_from.ensures.woken
+
+pub offer_from-requires-clause-from : goal.offer_from-requires-clause-from
+offer_from-requires-clause-from g c = grind (arith, common_steps)

@@ -2,6 +2,7 @@ use Rattle.std.proofs.Common.{Result, Ok, Err, ◌+◌, ◌*◌, ◌≡◌, subs
 use Rattle.std.specs.Result.{OnErr}
 use Rattle.outstanding.specs.Turns.{Walks}
 use Rattle.outstanding.proofs.Turns.{walks_after, stopped}
+use Rattle.std.proofs.lemmas.Grind.{common_steps}
 use Rattle.locked_book.proofs.book.Book.turn.Goals as goal
 
 -- whatever the answer is
@@ -21,3 +22,6 @@ loop-number-preserved g c =
     subst (λ high. Walks c.args.moment 0 high c.args.self.now c.args.woken.now c.turn_block.new.self c.turn_block.new.woken) next
     (walks_after c.args.moment 0 (64 * c.loop-number.number) (64 * c.loop-number.number + 64) c.args.self.now c.args.woken.now c.loop-number.self
     c.loop-number.woken c.turn_block.new.self c.turn_block.new.woken (omega arith) (omega arith) c.loop-number.invariant c.in_ok-turn_block.ensures.ok)
+
+pub loop-number-init : goal.loop-number-init
+loop-number-init g c = grind (arith, common_steps)

@@ -1,10 +1,11 @@
-use Rattle.std.proofs.Common.{ℕ, ◌<◌, ◌≤◌, ◌++◌, ◌∷◌, [], List, length, subst, sym, ap, ◌∙◌}
+use Rattle.std.proofs.Common.{ℕ, ◌<◌, ◌≤◌, ◌++◌, ◌∷◌, [], List, length, subst, sym, ap, ◌∙◌, arith}
 use Rattle.std.specs.Option.{unwrap_or}
 use Rattle.dispatch_log.specs.Logs.{Recorded}
 use Rattle.dispatch_log.specs.declared.entry.Entry.{Entry}
 use Rattle.readable_log.specs.LogParts.{IsKept}
 use Rattle.readable_log.specs.Readable.{MayFollow}
 use Rattle.readable_log.specs.Windows.{base_rows}
+use Rattle.std.proofs.lemmas.Grind.{common_steps}
 use Rattle.readable_log.proofs.Pushes.{kept_push}
 use Rattle.readable_log.proofs.log.Log.note.Goals as goal
 
@@ -23,3 +24,6 @@ invariant_of-self c =
       subst (λ (n : ℕ). s.most ≤ n) (sym c.put.ensures.room) c.self.invariant.2,
       c.self.invariant.3,
     )
+
+pub returns : goal.returns
+returns c = grind (arith, common_steps)

@@ -1,6 +1,7 @@
 -- Each turn hands on some of what comes.
 use Rattle.std.proofs.Common.{[], ◌++◌, arith}
 use Rattle.relay_body.specs.Steps.{LacksNothing}
+use Rattle.std.proofs.lemmas.Grind.{common_steps}
 use Rattle.relay_body.proofs.Exits.{at_exit}
 use Rattle.relay_body.proofs.Stepping.{moves_none, moves_trans, moves_breaks, moves_smaller}
 use Rattle.relay_body.proofs.pipe.Pipe.pass_to_end.Goals as goal
@@ -29,3 +30,9 @@ passing-preserved g c =
 
 pub passing-smaller : goal.passing-smaller
 passing-smaller g c = let more = c.in_ok-passed.ensures.ok in omega (arith, moves_smaller more.2, more.1, c.if-passed-eq0.false)
+
+pub returns-then-passed-eq0-clause-end : goal.returns-then-passed-eq0-clause-end
+returns-then-passed-eq0-clause-end g c = grind (arith, common_steps)
+
+pub returns-then-passed-eq0-clause-all : goal.returns-then-passed-eq0-clause-all
+returns-then-passed-eq0-clause-all g c = grind (arith, common_steps)

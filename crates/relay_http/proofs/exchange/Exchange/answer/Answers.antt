@@ -1,6 +1,7 @@
-use Rattle.std.proofs.Common.{rules}
+use Rattle.std.proofs.Common.{rules, arith}
 use Rattle.relay_http.specs.Messages.{PartOfAnswered, LacksAnswer}
 use Rattle.relay_http.specs.Texts.{framed_for}
+use Rattle.std.proofs.lemmas.Grind.{common_steps}
 use Rattle.relay_http.proofs.Thinning.{thin_answer, thin_both_fault, thin_same}
 use Rattle.relay_http.proofs.exchange.Exchange.answer.Goals as goal
 
@@ -22,3 +23,9 @@ returns-clause-untouched g c = λ failed. (
   thin_same _ _ _ _ (search rules) (search rules) (c.answer_between.ensures.untouched failed).1,
   thin_same _ _ _ _ (search rules) (search rules) (c.answer_between.ensures.untouched failed).2,
 )
+
+pub answer_between-requires-clause-ready : goal.answer_between-requires-clause-ready
+answer_between-requires-clause-ready g c = grind (arith, common_steps)
+
+pub returns-clause-closed : goal.returns-clause-closed
+returns-clause-closed g c = grind (arith, common_steps)

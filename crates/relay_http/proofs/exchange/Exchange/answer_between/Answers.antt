@@ -1,6 +1,7 @@
 -- The answer is handed on by a pipe that holds nothing, and what was written is known by how many writes succeeded.
 use Rattle.std.proofs.Common.{◌<◌, ℕ, length, arith, ap, length-append}
 use Rattle.relay_http.specs.Messages.{LacksAnswer}
+use Rattle.std.proofs.lemmas.Grind.{common_steps}
 use Rattle.relay_http.proofs.Failing.{fails_after}
 use Rattle.relay_http.proofs.Marking.{marks, begun_by, pipe_emptied, answered_some}
 use Rattle.relay_http.proofs.Turning.{moves_turns, fails_turns, fails_spent}
@@ -79,3 +80,6 @@ pub returns-in-Err-clause-spent : goal.returns-in-Err-clause-spent
 returns-in-Err-clause-spent g c = λ is.
     let after = fails_after (LacksAnswer c.args.view.now.method) c.forget_waiting.new.self c.forget_waiting.ensures.turns c.in-Err.ensures.err.3 in
     fails_spent c.in-Err.fault after is
+
+pub returns-in-Err-clause-stays : goal.returns-in-Err-clause-stays
+returns-in-Err-clause-stays g c = grind (arith, common_steps)

@@ -1,6 +1,7 @@
-use Rattle.std.proofs.Common.{◌≡◌, ◌≤◌, ◌∷◌, ◌++◌, [], rules, ap, subst, sym, ◌∙◌}
+use Rattle.std.proofs.Common.{◌≡◌, ◌≤◌, ◌∷◌, ◌++◌, [], rules, ap, subst, sym, ◌∙◌, arith}
 use Rattle.readable_log.specs.Grants.{moment_of}
 use Rattle.trace_lines.specs.Timed.{IsTimed}
+use Rattle.std.proofs.lemmas.Grind.{common_steps}
 use Rattle.trace_lines.proofs.OneMore.{event_more, event_moment}
 use Rattle.trace_lines.proofs.timed.Timed.note_event.Goals as goal
 
@@ -12,3 +13,6 @@ invariant_of-self-2 c =
       subst IsTimed (sym longer) (event_more before c.args.entry c.args.moment c.self.invariant.0 c.requires later),
       sym (ap moment_of longer ∙ event_moment before c.args.entry c.args.moment c.requires),
     )
+
+pub returns-clause-later : goal.returns-clause-later
+returns-clause-later c = grind (arith, common_steps)

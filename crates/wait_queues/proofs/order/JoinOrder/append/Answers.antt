@@ -1,5 +1,6 @@
-use Rattle.std.proofs.Common.{◌<◌, ◌+◌, [], ◌∷◌, ◌++◌, ap, ◌∙◌, arith}
+use Rattle.std.proofs.Common.{◌<◌, ◌+◌, [], ◌∷◌, ◌++◌, ap, ◌∙◌, arith, rules}
 use Rattle.wait_queues.specs.Order.{Order, with_places}
+use borrow.Author.Rules.{get_or_read}
 use Rattle.wait_queues.proofs.Cells.{last_within, addition, kept, shown}
 use Rattle.wait_queues.proofs.order.JoinOrder.append.Goals as goal
 
@@ -21,3 +22,6 @@ returns c =
     (addition _ _ _ _ c.self.view_is c.self.invariant c.args.place _ c.index-last.ensures c.requires.room c.requires.absent _ _ _ _ c.link.ensures.next
     c.link.ensures.previous c.link-2.ensures.next c.link-2.ensures.previous)
     ∙ ap (λ (order : Order). with_places order (c.args.self.now.places ++ c.args.place ∷ [])) c.self.view_is
+
+pub link-requires-clause-to : goal.link-requires-clause-to
+link-requires-clause-to c = search (rules, get_or_read, c.requires-raw)

@@ -1,6 +1,8 @@
+use Rattle.std.proofs.Common.{arith}
 use Rattle.due_key.specs.Order.{key_cmp}
 use Rattle.pend_queue.specs.Pairs.{without}
 use Rattle.wait_queues.proofs.Queueing.{own_changed, own_within, rooms_kept}
+use Rattle.std.proofs.lemmas.Grind.{common_steps}
 use Rattle.wait_queues.proofs.queues.Queues.remove.Goals as goal
 
 pub invariant_of-self-in-Server : goal.invariant_of-self-in-Server
@@ -17,3 +19,9 @@ returns-in-Server-clause-rest g c =
     own_changed g.Q.PendQueue.pairs g.Q.PendQueue.room (without key_cmp c.args.key.now) c.self.inside.own.items c.self.inside.backend c.self.inside.moved _
     c.args.self.now c.args.queue c.in-Server.server c.index_mut.result.now _ c.self.view_is c.in-Server.is within c.index_mut.ensures.value
     c.remove-in-Server.ensures.pairs
+
+pub index_mut-requires : goal.index_mut-requires
+index_mut-requires g c = grind (arith, common_steps)
+
+pub returns-in-Server-clause-its : goal.returns-in-Server-clause-its
+returns-in-Server-clause-its g c = grind (arith, common_steps)

@@ -1,4 +1,4 @@
-use Rattle.std.proofs.Common.{◌<◌, ◌++◌, ◌∷◌, [], Contains, drop, length, ap, sym, ◌∙◌, subst}
+use Rattle.std.proofs.Common.{◌<◌, ◌++◌, ◌∷◌, [], Contains, drop, length, ap, sym, ◌∙◌, subst, arith}
 use Rattle.std.proofs.lemmas.Option.{slice_get_within}
 use Rattle.due_key.specs.declared.key.Key.{Key}
 use Rattle.due_key.specs.Order.{key_cmp}
@@ -11,6 +11,7 @@ use Rattle.wait_queues.specs.Waitlists.{Waitlist, NoneWaitsIn, IsFirstIn}
 use Rattle.wait_queues.proofs.Changes.{shifts, shifted_view, first_of_node, nothing_popped, shift_kept, shift_left, shift_fresh, shift_gone}
 use Rattle.wait_queues.proofs.Lineup.{server_whole, none_in, aside_room, absent_moved}
 use Rattle.wait_queues.proofs.Orders.{place_gone}
+use Rattle.std.proofs.lemmas.Grind.{common_steps}
 use Rattle.wait_queues.proofs.waiting.WaitQueues.shift.Goals as goal
 
 pub returns-in_default : goal.returns-in_default
@@ -118,3 +119,6 @@ returns g c =
           (inserted key_cmp x c.self.inside.queues.moved)) pair) c.put.ensures joins
           (c.moved.ensures ∙ ap (λ (k : Key). record { key = k; queue = Backend; joined = c.args.joined }) (sym it.named)),
     )
+
+pub invariant_of-self : goal.invariant_of-self
+invariant_of-self g c = grind (arith, common_steps)

@@ -1,0 +1,60 @@
+use relay_workers::Stopped;
+use std::alloc::AllocError;
+use thiserror::Error;
+use window_lines::TellFault;
+
+/// What went wrong with a good configuration.
+#[derive(Clone, Copy, Debug, PartialEq, Eq, Error)]
+pub enum ServeFault {
+    /// Memory was refused, or a thread.
+    #[error("no memory")]
+    NoMemory,
+    /// The file can't be read, its address can't be listened at, or the clock can't be read.
+    #[error("read fault")]
+    Read,
+    /// What is printed was refused.
+    #[error("write fault")]
+    Write,
+    /// All pauses of a wait were made. No event loop makes such pauses.
+    #[error("turns spent")]
+    Turns,
+}
+
+impl From<AllocError> for ServeFault {
+    ghost use Rattle.std.specs.Prelude.{◌≡◌};
+    ghost use Rattle.proxy_service.specs.declared.fault.ServeFault.TheVariants.{NoMemory};
+
+    ghost from_gives = { λ _ fault. fault ≡ NoMemory };
+
+    fn from(_: AllocError) -> ServeFault {
+        ServeFault::NoMemory
+    }
+}
+
+impl From<TellFault> for ServeFault {
+    ghost use Rattle.std.specs.Prelude.{◌≡◌};
+    ghost use Rattle.proxy_service.specs.Faults.{of_telling};
+
+    ghost from_gives = { λ it fault. fault ≡ of_telling it };
+
+    fn from(fault: TellFault) -> ServeFault {
+        match fault {
+            TellFault::NoMemory => ServeFault::NoMemory,
+            TellFault::Write => ServeFault::Write,
+        }
+    }
+}
+
+impl From<Stopped> for ServeFault {
+    ghost use Rattle.std.specs.Prelude.{◌≡◌};
+    ghost use Rattle.proxy_service.specs.Faults.{of_stopping};
+
+    ghost from_gives = { λ it fault. fault ≡ of_stopping it };
+
+    fn from(stopped: Stopped) -> ServeFault {
+        match stopped {
+            Stopped::NoMemory => ServeFault::NoMemory,
+            Stopped::PausesSpent => ServeFault::Turns,
+        }
+    }
+}

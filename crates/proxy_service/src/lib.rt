@@ -1,0 +1,14 @@
+//! The service of a configuration that was read: from the address where clients come to what is printed at the end.
+#![tactic(auto)]
+
+mod crew;
+mod fault;
+mod opening;
+mod parts;
+mod preparing;
+mod serving;
+mod sharing;
+mod telling;
+
+pub use fault::ServeFault;
+pub use serving::{listen_and_serve, serve_at};

@@ -1,0 +1,41 @@
+ghost use Rattle.std.specs.Prelude.{◌<◌, ◌≤◌, IfOk};
+ghost use Rattle.proxy_config.specs.Sound.{IsSoundConfig};
+ghost use Rattle.proxy_service.specs.Parts.{AreNew};
+ghost use Rattle.proxy_service.specs.Setups.{setup_of};
+
+use crate::preparing::{limits_of, setup_of};
+use dispatch_core::Core;
+use grant_board::{Board, KeeperSeat, RelaySeat};
+use grant_desk::Queues;
+use late_cert::Running;
+use proxy_config::Config;
+use std::alloc::{AllocError, Global};
+
+/// What a desk is made of, and the seat of its relays.
+pub(crate) struct Parts {
+    pub(crate) core: Core<Queues>,
+    pub(crate) running: Running,
+    pub(crate) board: Board,
+    pub(crate) keeper: KeeperSeat,
+    pub(crate) relay: RelaySeat,
+}
+
+/// Those of a configuration, for so many live requests.
+pub(crate) fn parts_of(alloc: Global, config: &Config, places: usize) -> Result<Parts, AllocError>
+    requires config { IsSoundConfig config.now }
+    requires places { (0 < places) × (places ≤ 4096) }
+    ensures { IfOk result (AreNew (setup_of config.now places)) }
+{
+    let setup = setup_of(alloc, config, places)?;
+    let limits = limits_of(alloc, &setup)?;
+    let running = Running::new(alloc, limits.len())?;
+    let core = Core::new(alloc, setup)?;
+    let (board, keeper, relay) = Board::open(alloc, places, &limits)?;
+    Ok(Parts {
+        core,
+        running,
+        board,
+        keeper,
+        relay,
+    })
+}

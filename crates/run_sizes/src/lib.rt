@@ -1,0 +1,6 @@
+//! How much a proxy takes on, as the command line says.
+#![tactic(auto)]
+
+mod sizes;
+
+pub use sizes::{MOST_LOOPS, MOST_WORKERS, Sizes};

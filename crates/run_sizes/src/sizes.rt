@@ -1,0 +1,59 @@
+ghost use Rattle.std.specs.Prelude.{◌≡◌, ◌<◌, ◌≤◌, ◌↔◌, IfSome, IsSome, IsTrue};
+ghost use Rattle.run_sizes.specs.Sizes.{IsWithin, AreWithin};
+
+/// So many loops there are at most.
+pub const MOST_LOOPS: u32 = 64;
+
+/// So many runners there are at most.
+pub const MOST_WORKERS: u32 = 256;
+
+/// What the command line says.
+#[derive(Clone, Copy, Debug, PartialEq, Eq)]
+pub struct Sizes {
+    pub workers: Option<u32>,
+    pub loops: Option<u32>,
+    pub places: usize,
+    pub requests: u64,
+    ghost some: { 0 < places },
+    ghost most: { places ≤ 4096 },
+}
+
+impl Sizes {
+    /// So many runners, 1 to 256, and loops, 1 to 64, where they are given; so many requests live, 1 to 4,096; after so many clients it ends, at most
+    /// 999,999,999, 0: never. None where one of them is out of its range.
+    pub fn new(
+        workers: Option<u32>,
+        loops: Option<u32>,
+        places: u32,
+        requests: u32,
+    ) -> Option<Sizes>
+        ensures some { IfSome result (λ it. (it.workers ≡ workers) × (it.loops ≡ loops) × (it.places ≡ places) × (it.requests ≡ requests)) }
+        ensures variant { IsSome result ↔ AreWithin workers loops places requests }
+    {
+        if is_within(workers, MOST_WORKERS)
+            && is_within(loops, MOST_LOOPS)
+            && 0 < places
+            && places <= 4096
+            && requests <= 999_999_999
+        {
+            Some(Sizes {
+                workers,
+                loops,
+                places: places as usize,
+                requests: u64::from(requests),
+            })
+        } else {
+            None
+        }
+    }
+}
+
+// Whether a number that is given is 1 to this one.
+fn is_within(given: Option<u32>, most: u32) -> bool
+    ensures { IsTrue result ↔ IsWithin given most }
+{
+    match given {
+        None => true,
+        Some(number) => 0 < number && number <= most,
+    }
+}

@@ -5,7 +5,7 @@ use Rattle.check_state.specs.Results.{is_up, run_at_end}
 use Rattle.check_state.specs.Shortened.{shortened}
 use Rattle.check_state.specs.Standing.{Standing, IsHealthOf}
 use Rattle.check_state.proofs.Walk.{State, step, walk}
-use Rattle.check_state.proofs.Steps.{Counts, walk_stands, walk_counts}
+use Rattle.check_state.proofs.Steps.{walk_stands, walk_counts}
 
 from_none : (n : ℕ) → 0 + n ≡ n
 from_none n = omega arith

@@ -1,6 +1,6 @@
 -- A script has one trace.
 use Rattle.std.proofs.Common.{◌≡◌, ◌⊎◌, inl, inr, ℕ, ◌+◌, pos, ◌+ℤ◌, max, List, [], ◌∷◌}
-use Rattle.std.proofs.Common.{◌++◌, map, length, None, refl, ap, sym, ◌∙◌, subst}
+use Rattle.std.proofs.Common.{◌++◌, map, None, refl, ap, sym, ◌∙◌, subst}
 use Rattle.std.specs.Str.Lines.{lines}
 use Rattle.std.proofs.lemmas.List.{append_cancel_left, map-append}
 use Rattle.std.proofs.lemmas.Option.{same_Some}

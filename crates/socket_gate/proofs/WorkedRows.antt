@@ -1,5 +1,5 @@
 -- How long is waited, at worked examples.
-use Rattle.std.proofs.Common.{◌≡◌, ℕ, refl}
+use Rattle.std.proofs.Common.{◌≡◌, refl}
 use Rattle.std.specs.Prelude.{Some, None}
 use Rattle.proxy_config.specs.declared.parts.Checks.{Checks}
 use Rattle.socket_gate.specs.Waits.{turnaround, patience, left}

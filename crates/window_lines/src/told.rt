@@ -1,4 +1,4 @@
-ghost use Rattle.std.specs.Prelude.{◌≡◌, IfOk, string_bytes};
+ghost use Rattle.std.specs.Prelude.{◌≡◌, ◌⊎◌, IfOk, IsSome, None, string_bytes};
 ghost use Rattle.window_lines.specs.Sums.{plus, with_window};
 ghost use Rattle.window_lines.specs.Texts.{window_text};
 
@@ -33,7 +33,7 @@ pub struct Told {
 impl Told {
     /// None so far.
     pub fn new(sums: Sums) -> Told
-        ensures { (result.windows ≡ 0) × (result.sums ≡ sums) }
+        ensures { (result.windows ≡ 0) × (result.sums ≡ sums) × (result.fault ≡ None) }
     {
         Told {
             windows: 0,
@@ -46,6 +46,7 @@ impl Told {
     pub fn tell<R: Print>(&mut self, rt: &R, alloc: Global, names: &Names, window: &Window)
         ensures windows { self.new.windows ≡ plus self.old.windows 1 }
         ensures sums { self.new.sums ≡ with_window window.now.servers.items self.old.sums }
+        ensures fault { (self.new.fault ≡ self.old.fault) ⊎ IsSome self.new.fault }
     {
         self.windows = self.windows.saturating_add(1);
         self.sums.add(window.servers.as_slice());

@@ -1,4 +1,4 @@
-use Rattle.std.proofs.Common.{◌≡◌, ◌++◌, string_bytes, ap, ◌∙◌}
+use Rattle.std.proofs.Common.{◌++◌, string_bytes, ap, ◌∙◌}
 use Rattle.markup_text.specs.Escapes.{escaped}
 use Rattle.markup_text.proofs.Escaped.{one_more}
 use lib.Utf8.{encode}

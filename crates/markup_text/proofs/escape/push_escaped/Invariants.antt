@@ -1,4 +1,4 @@
-use Rattle.std.proofs.Common.{◌≡◌, ◌++◌, OnOk, string_bytes, encode_utf8, ℕ, ◌+◌, ◌-◌, ◌*◌, ◌<◌, ◌≤◌, length}
+use Rattle.std.proofs.Common.{◌≡◌, ◌++◌, string_bytes}
 use lib.Utf8.{encodes}
 use Rattle.markup_text.specs.Escapes.{escaped}
 use Rattle.markup_text.proofs.escape.push_escaped.Given as goal

@@ -1,6 +1,5 @@
-use Rattle.std.proofs.Common.{◌≡◌, ◌++◌, OnOk, string_bytes, encode_utf8, ℕ, rules, sym, ap, ◌∙◌}
-use Rattle.markup_text.specs.Escapes.{escaped}
-use Rattle.markup_text.proofs.Escaped.{quote, ampersand, apostrophe, less, greater, sign_stays}
+use Rattle.std.proofs.Common.{rules}
+use Rattle.markup_text.proofs.Escaped.{quote, ampersand, apostrophe, less, greater}
 use Rattle.markup_text.proofs.escape.push_sign.Goals as goal
 
 pub returns-in-38 : goal.returns-in-38

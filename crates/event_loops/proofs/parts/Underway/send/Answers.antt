@@ -1,4 +1,4 @@
-use Rattle.std.proofs.Common.{◌≡◌, ℕ, List, subst, sym}
+use Rattle.std.proofs.Common.{ℕ, List, subst, sym}
 use Rattle.std.specs.Option.{unwrap_or}
 use Rattle.event_loops.proofs.Handed.{still_of_request}
 use Rattle.event_loops.specs.Handed.{IsRestOfRequest}

@@ -1,5 +1,5 @@
 use Rattle.std.proofs.Common.{rules}
-use denote.Param.Send.{IsSend, IsSync, sendable}
+use denote.Param.Send.{IsSend, sendable}
 use Rattle.worker_crew.proofs.crew.fn.run_all.scope.Goals as goal
 
 pub run_crew-all-requires-send-N : goal.run_crew-all-requires-send-N

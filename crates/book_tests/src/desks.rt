@@ -7,7 +7,7 @@ ghost use Rattle.outstanding.specs.Books.{terms_of};
 ghost use Rattle.reporting_core.specs.Reporting.{IsNew};
 
 use dispatch_core::Core;
-use dispatch_log::{Queue, Refusal, ServerSet, Servers, Setup};
+use dispatch_log::{Intake, Queue, Refusal, ServerSet, Servers, Setup};
 use dispatch_trace::Ticketed;
 use due_key::{Class, Due, Moment, Offset};
 use grant_board::{Board, BoardName, Closing, KeeperSeat, RelaySeat, Taking};

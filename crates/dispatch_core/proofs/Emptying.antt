@@ -11,7 +11,7 @@ use Rattle.dispatch_log.specs.declared.row.Phase.TheVariants.{Loose, Waiting, Se
 use Rattle.dispatch_log.specs.declared.row.Row.{Row}
 use Rattle.dispatch_log.specs.declared.setup.Setup.{Setup}
 use Rattle.dispatch_log.specs.Histories.{History, state_of}
-use Rattle.dispatch_log.specs.Judgement.{Stage, falling, granting, next_stage}
+use Rattle.dispatch_log.specs.Judgement.{Stage, emptying, granting, next_stage}
 use Rattle.dispatch_log.specs.Refusals.{is_waiting}
 use Rattle.dispatch_log.specs.Rows.{Rows, queued, waits_in, phase_waits_in}
 use Rattle.dispatch_log.proofs.Judged.{stage_after-push}
@@ -48,13 +48,13 @@ few_queued queue (cell ∷ rows) =
 -- moves so far, and room for those that are left
 pub record MovesSince (server : ℕ) (old now : History) : Type 0 where
   pub goes : GoesOn old now
-  pub stage : stage_of now ≡ falling server
+  pub stage : stage_of now ≡ emptying server
   pub redispatch : IsTrue now.setup.redispatch
   pub within : server < length now.setup.servers
   pub counted : length goes.entries + queued (Server server) (state_of now).rows ≡ queued (Server server) (state_of old).rows
   pub room : length now.log + queued (Server server) (state_of now).rows ≤ now.setup.log
 
-pub moves_none : (server : ℕ) (h : History) → stage_of h ≡ falling server → IsTrue h.setup.redispatch → server < length h.setup.servers
+pub moves_none : (server : ℕ) (h : History) → stage_of h ≡ emptying server → IsTrue h.setup.redispatch → server < length h.setup.servers
     → length h.log + waiting_of h ≤ h.setup.log → MovesSince server h h
 moves_none server h stage redispatch within room = record {
   goes = goes_none h;

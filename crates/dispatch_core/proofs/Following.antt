@@ -6,13 +6,13 @@ use Rattle.check_state.specs.Standing.{change_between}
 use Rattle.dispatch_log.specs.declared.entry.Entry.TheVariants.{Health}
 use Rattle.dispatch_log.specs.declared.setup.Setup.{Setup}
 use Rattle.dispatch_log.specs.Histories.{History, state_of, end_of}
-use Rattle.dispatch_log.specs.Judgement.{Stage, checking, falling, granting, IsOver, MayGrant, MayCome, was_up}
+use Rattle.dispatch_log.specs.Judgement.{Stage, checking, emptying, granting, IsOver, MayGrant, MayCome, was_up}
 use Rattle.dispatch_log.specs.Scenes.{is_up}
 use Rattle.dispatch_log.proofs.Judged.{stage_after-push}
-use Rattle.dispatch_core.specs.Steps.{GoesOn, CarriesOn, MovesAll, HasEventRoom}
+use Rattle.dispatch_core.specs.Steps.{GoesOn, CarriesOn, MovesAll, HasEventRoom, HasMoveRoom}
 use Rattle.dispatch_trace.specs.Histories.{with_entry, stage_of, scene_of, waiting_of, MayComeNext}
 use Rattle.dispatch_core.proofs.Going.{goes_none, goes_entry, goes_then, room_left, carries}
-use Rattle.dispatch_trace.proofs.Placing.{same_setup, places_next, few_wait}
+use Rattle.dispatch_trace.proofs.Placing.{longer, same_setup, places_next, few_wait}
 
 -- what a change says of before and after
 stay_same : (a b : Bool) → Stay ≡ change_between a b → a ≡ b
@@ -73,36 +73,58 @@ module _ (h : History) (server : ℕ) (stage : stage_of h ≡ checking server) w
       (refl, down, λ (e : was ≡ false). let no : true ≡ false = sym before ∙ e in cc)
 
   module _ (one : History) (goes : one ≡ with_entry h (Health server false)) where
-    pub fallen_stage : stage_of one ≡ falling server
+    pub fallen_stage : stage_of one ≡ emptying server
     fallen_stage = ap stage_of goes ∙ stage_after-push granting h.log (Health server false)
 
-    abbrev fallen : GoesOn h one
-    fallen = goes_entry h one (Health server false) goes refl
+    pub fallen_room : HasEventRoom h → HasMoveRoom one
+    fallen_room has =
+        let room = has.room in
+        let longer = longer h one (Health server false) goes in
+        let setup = same_setup h one (Health server false) goes in
+        let places : one.setup.places ≡ h.setup.places = ap (λ (s : Setup). s.places) setup in
+        let most : one.setup.log ≡ h.setup.log = ap (λ (s : Setup). s.log) setup in
+        record { room = omega arith; places = places_next h one (Health server false) goes has.places }
 
-    pub fallen_room : HasEventRoom h → length one.log + waiting_of one ≤ one.setup.log
-    fallen_room room = room_left h one fallen 1 (omega arith) (omega arith) room.places
+    pub carries_fall : (two : History) → CarriesOn one two → CarriesOn h two
+    carries_fall two carried = record {
+      goes = goes_then h one two (goes_entry h one (Health server false) goes refl) carried.goes;
+      over = carried.over;
+      may_grant = carried.may_grant;
+      room = carried.room;
+    }
 
-    pub carries_down : one.setup.redispatch ≡ false → HasEventRoom h → CarriesOn h one
-    carries_down stays room =
-        let over : IsOver one.setup (state_of one) (falling server) = λ moves row live waits. (let no : false ≡ true = sym stays ∙ moves in cc) in
-        record {
-          goes = fallen;
-          over = subst (λ (t : Stage). IsOver one.setup (state_of one) t) (sym fallen_stage) over;
-          may_grant = subst (λ (t : Stage). MayGrant one.setup (state_of one) t) (sym fallen_stage) over;
-          room = fallen_room room;
-        }
+-- a server that takes no request any more: its own are moved, or wait on
+module _ (h : History) (server : ℕ) (stage : stage_of h ≡ emptying server) (has : HasMoveRoom h) where
+  pub moves_fit : length h.log + waiting_of h ≤ h.setup.log
+  moves_fit = let room = has.room in room_left h h (goes_none h) 0 (omega arith) (omega arith) has.places
 
-    pub carries_moved : (two : History) → MovesAll server one two → HasEventRoom h → CarriesOn h two
-    carries_moved two moves room =
-        let over : IsOver two.setup (state_of two) (falling server) = λ moved row live waits. moves.none row live waits in
-        record {
-          goes = goes_then h one two fallen moves.goes;
-          over = subst (λ (t : Stage). IsOver two.setup (state_of two) t) (sym moves.stage) over;
-          may_grant = subst (λ (t : Stage). MayGrant two.setup (state_of two) t) (sym moves.stage) over;
-          room =
-              let few = moves.few in
-              let waiting = few_wait one (places_next h one (Health server false) goes room.places) in
-              let places : one.setup.places ≡ h.setup.places = ap (λ (s : Setup). s.places) (same_setup h one (Health server false) goes) in
-              let long : length (Health server false ∷ [] ++ moves.goes.entries) ≡ length moves.goes.entries + 1 = omega arith in
-              room_left h two (goes_then h one two fallen moves.goes) (h.setup.places + 1) (omega arith) (omega arith) room.places;
-        }
+  pub carries_unmoved : h.setup.redispatch ≡ false → CarriesOn h h
+  carries_unmoved stays =
+      let over : IsOver h.setup (state_of h) (emptying server) = λ moves row live waits. (let no : false ≡ true = sym stays ∙ moves in cc) in
+      record {
+        goes = goes_none h;
+        over = subst (λ (t : Stage). IsOver h.setup (state_of h) t) (sym stage) over;
+        may_grant = subst (λ (t : Stage). MayGrant h.setup (state_of h) t) (sym stage) over;
+        room = moves_fit;
+      }
+
+  pub carries_moved : (two : History) → MovesAll server h two → CarriesOn h two
+  carries_moved two moves =
+      let over : IsOver two.setup (state_of two) (emptying server) = λ moved row live waits. moves.none row live waits in
+      record {
+        goes = moves.goes;
+        over = subst (λ (t : Stage). IsOver two.setup (state_of two) t) (sym moves.stage) over;
+        may_grant = subst (λ (t : Stage). MayGrant two.setup (state_of two) t) (sym moves.stage) over;
+        room =
+            let few = moves.few in
+            let waiting = few_wait h has.places in
+            let room = has.room in
+            room_left h two moves.goes h.setup.places (omega arith) (omega arith) has.places;
+      }
+
+-- and a new limit
+pub event_moves : (h : History) → HasEventRoom h → HasMoveRoom h
+event_moves h has = record { room = (let room = has.room in omega arith); places = has.places }
+
+pub carries_open : (h : History) → stage_of h ≡ granting → HasEventRoom h → CarriesOn h h
+carries_open h stage has = let room = has.room in carries h h (goes_none h) 0 stage (omega arith) (omega arith) has.places

@@ -1,19 +1,21 @@
 -- A new limit as a composition of entries.
-use Rattle.std.proofs.Common.{◌≡◌, ℕ, ◌+◌, ◌≤◌, ◌<◌, [], ◌∷◌, false, None, length, refl, ap, ◌∙◌, arith, nat_le}
+use Rattle.std.proofs.Common.{◌≡◌, ℕ, ◌+◌, ◌≤◌, ◌<◌, [], ◌∷◌, false, None, length, refl, ap, sym, ◌∙◌, subst, arith, nat_le}
 use Rattle.std.proofs.lemmas.Bool.Decides.{nat_tests}
+use Rattle.dispatch_log.specs.declared.allowance.Intake.{Intake}
 use Rattle.dispatch_log.specs.declared.entry.Entry.TheVariants.{Limit}
 use Rattle.dispatch_log.specs.declared.refusal.Refusal.TheVariants.{LogFull, NoSuchServer}
+use Rattle.dispatch_log.specs.declared.setup.Setup.{Setup}
 use Rattle.dispatch_log.specs.Histories.{History, refuses_limit}
-use Rattle.dispatch_log.specs.Judgement.{granting}
-use Rattle.dispatch_log.specs.Legal.{IsLegal, AddsEvent}
+use Rattle.dispatch_log.specs.Judgement.{granting, limit_stage}
+use Rattle.dispatch_log.specs.Legal.{IsLegal}
 use Rattle.dispatch_log.specs.Refusals.{lacks_room}
 use Rattle.dispatch_log.proofs.Accepted.{none_refuses}
 use Rattle.dispatch_log.proofs.Judged.{stage_after-push}
-use Rattle.dispatch_core.specs.Steps.{Settles}
-use Rattle.dispatch_trace.specs.Histories.{with_entry, stage_of, waiting_of, MayGrantNext}
+use Rattle.dispatch_core.specs.Steps.{HasEventRoom}
+use Rattle.dispatch_trace.specs.Histories.{with_entry, stage_of}
 use Rattle.dispatch_core.proofs.Calls.{legal_places}
-use Rattle.dispatch_core.proofs.Going.{goes_none, room_left, begun_room, adds}
-use Rattle.dispatch_trace.proofs.Placing.{has_room, over_granting, may_granting}
+use Rattle.dispatch_core.proofs.Going.{begun_room}
+use Rattle.dispatch_trace.proofs.Placing.{has_room, same_setup}
 
 module _ (h : History) (server : ℕ) (accepted : refuses_limit h server ≡ None) where
   passes_room : lacks_room h.setup (length h.log) ≡ false
@@ -29,20 +31,12 @@ module _ (h : History) (server : ℕ) (accepted : refuses_limit h server ≡ Non
   pub limit_fits : length h.log < h.setup.log
   limit_fits = let room = has_room h passes_room in omega arith
 
-  module _ (one : History) (m limit : ℕ) (begun : one ≡ with_entry h (Limit m server limit)) where
-    -- it owes nothing but grants
-    limit_stage : stage_of one ≡ granting
-    limit_stage = ap stage_of begun ∙ stage_after-push granting h.log (Limit m server limit)
+  module _ (one : History) (m : ℕ) (limit : Intake) (begun : one ≡ with_entry h (Limit m server limit)) where
+    pub limit_opens : stage_of one ≡ limit_stage server limit
+    limit_opens = ap stage_of begun ∙ stage_after-push granting h.log (Limit m server limit)
 
-    pub limit_may_grant : MayGrantNext one
-    limit_may_grant = may_granting one limit_stage
+    pub limit_there : server < length one.setup.servers
+    limit_there = subst (λ (s : Setup). server < length s.servers) (sym (same_setup h one (Limit m server limit) begun)) limit_within
 
-    pub limit_settles : IsLegal h → length one.log + waiting_of one ≤ one.setup.log
-    limit_settles legal =
-        let begun_with = begun_room h one (Limit m server limit) (has_room h passes_room) (legal_places h legal) begun in
-        let room = begun_with.room in
-        room_left one one (goes_none one) 0 (omega arith) (omega arith) begun_with.places
-
-    -- and with them the event is whole
-    pub limit_adds : (now : History) → Settles one now → AddsEvent h now (Limit m server limit)
-    limit_adds now settled = adds h one one now (Limit m server limit) refl begun (goes_none one) (over_granting one limit_stage) settled
+    pub limit_room : IsLegal h → HasEventRoom one
+    limit_room legal = begun_room h one (Limit m server limit) (has_room h passes_room) (legal_places h legal) begun

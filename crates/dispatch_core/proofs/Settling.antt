@@ -8,7 +8,7 @@ use Rattle.dispatch_log.specs.declared.queue.Queue.{Queue}
 use Rattle.dispatch_log.specs.declared.row.Phase.TheVariants.{Serving}
 use Rattle.dispatch_log.specs.declared.setup.Setup.{Setup}
 use Rattle.dispatch_log.specs.Histories.{History, state_of}
-use Rattle.dispatch_log.specs.Judgement.{Stage, freed_by_failure, telling, checking, falling, granting, IsOver, MayGrant, next_stage}
+use Rattle.dispatch_log.specs.Judgement.{Stage, freed_by_failure, telling, checking, emptying, granting, IsOver, MayGrant, next_stage}
 use Rattle.dispatch_log.specs.Retries.{are_redispatched}
 use Rattle.dispatch_log.specs.Rows.{pin_of, in_phase}
 use Rattle.dispatch_log.specs.States.{State, after}
@@ -27,7 +27,7 @@ grant_over : (setup : Setup) (s : State) (t : Stage) (u v : ℕ) (q : Queue) →
 grant_over setup s granting u v q over = tt
 grant_over setup s telling u v q over = tt
 grant_over setup s (checking w) u v q over = tt
-grant_over setup s (falling w) u v q over = tt
+grant_over setup s (emptying w) u v q over = tt
 grant_over setup s t u v q over = absurd over
 
 -- and more may come
@@ -37,7 +37,7 @@ grant_more setup s (freed_by_failure l w) u v q may = subst (λ n. IsTrue (are_r
 grant_more setup s granting u v q may = tt
 grant_more setup s telling u v q may = tt
 grant_more setup s (checking w) u v q may = tt
-grant_more setup s (falling w) u v q may = tt
+grant_more setup s (emptying w) u v q may = tt
 grant_more setup s t u v q may = absurd may
 
 -- grants so far, and room for as many more as requests wait

@@ -4,7 +4,7 @@ use Rattle.dispatch_log.specs.declared.entry.Entry.{Entry}
 use Rattle.dispatch_log.specs.declared.setup.Setup.{Setup}
 use Rattle.dispatch_log.specs.Grants.{IsSettled}
 use Rattle.dispatch_log.specs.Histories.{History, state_of, begins_event}
-use Rattle.dispatch_log.specs.Judgement.{HasSlot, IsTold, granting, freed_by_failure, falling}
+use Rattle.dispatch_log.specs.Judgement.{HasSlot, IsTold, granting, freed_by_failure, emptying}
 use Rattle.dispatch_log.specs.Rows.{Rows, pin_of}
 use Rattle.dispatch_trace.specs.declared.position.Ticketed.{Ticketed}
 use Rattle.dispatch_trace.specs.Histories.{with_entry, stage_of, scene_of, waiting_of, HasPlaces, IsAt, IsEmptied, IsJudged, IsOverNext, MayGrantNext}
@@ -16,6 +16,11 @@ event_room setup = 2 * setup.places + 3
 
 pub record HasEventRoom (history : History) : Type 0 where
   pub room : length history.log + event_room history.setup ≤ history.setup.log
+  pub places : HasPlaces history
+
+-- room enough where each request that waits may move and be granted
+pub record HasMoveRoom (history : History) : Type 0 where
+  pub room : length history.log + 2 * history.setup.places ≤ history.setup.log
   pub places : HasPlaces history
 
 -- a history goes on inside an event
@@ -64,9 +69,9 @@ abbrev pub IsReturn : Rows → ℕ → Option ℕ → Type 0
 IsReturn rows ticket (Some server) = HasSlot rows ticket server
 IsReturn rows ticket None = IsTold rows ticket
 
--- a history goes on by moves until nobody waits in the queue of the server that went down
+-- a history goes on by moves until nobody waits in the queue of the server that went down or was closed
 pub record MovesAll (server : ℕ) (old new : History) : Type 0 where
   pub goes : GoesOn old new
-  pub stage : stage_of new ≡ falling server
+  pub stage : stage_of new ≡ emptying server
   pub few : length goes.entries ≤ waiting_of old
   pub none : IsEmptied server new

@@ -10,7 +10,7 @@ ghost use Rattle.dispatch_trace.specs.Histories.{scene_of, IsAt, HasEntryRoom};
 
 use crate::events::Events;
 use crate::healths::Healths;
-use dispatch_log::{Phase, Queue, Refusal, Setup};
+use dispatch_log::{Intake, Phase, Queue, Refusal, Setup};
 use dispatch_trace::{Ticketed, Trace};
 use due_key::{Class, Key, Moment, Offset};
 use pend_queue::{ListQueue, PendQueue};
@@ -212,12 +212,13 @@ impl<Q: PendQueue<Key, usize>> Core<Q> {
         Ok(())
     }
 
-    /// A server serves at most so many requests at once from now on (`maxconn`); 0: no limit. No request
-    /// that it serves is stopped: it takes no other until it serves fewer than the limit. Where the
-    /// limit rose, requests that wait take the slots that came free. Refused, in this order, where the log is full
-    /// or no server has the number. Takes no memory; `O(s)` in the servers, and `O(log n)` for each
-    /// request that takes a slot.
-    pub fn limit(&mut self, moment: Moment, server: usize, limit: u32) -> Result<(), Refusal>
+    /// A server takes so many requests from now on (`maxconn`), or none. No request that it serves is
+    /// stopped: it takes no other until it serves fewer than the limit. Where the limit rose, or a closed
+    /// server was opened, requests that wait take the slots that came free; where it was closed, the
+    /// requests of its queue are moved into the backend's under `option redispatch`, and wait on otherwise.
+    /// Refused, in this order, where the log is full or no server has the number. Takes no memory; `O(s)` in
+    /// the servers, and `O(log n)` for each request that is moved or takes a slot.
+    pub fn limit(&mut self, moment: Moment, server: usize, limit: Intake) -> Result<(), Refusal>
         ensures ok { OnOk result (AddsEvent self.old self.new (Limit (effective self.old moment) server limit)) }
         ensures err { IfErr result (λ refusal. refuses_limit self.old server ≡ Some refusal) }
         ensures accepted { OnOk result (refuses_limit self.old server ≡ None) }
@@ -228,6 +229,7 @@ impl<Q: PendQueue<Key, usize>> Core<Q> {
             return Err(refusal);
         }
         self.events.trace.limit(moment, server, limit);
+        self.events.follow_limit(server, limit);
         self.events.settle();
         Ok(())
     }

@@ -1,15 +1,15 @@
 ghost use Rattle.std.specs.Prelude.{◌≡◌, ◌+◌, ◌<◌, ◌≤◌, [], length, IsTrue, None, true, false};
 ghost use Rattle.check_state.specs.Standing.{change_between};
 ghost use Rattle.dispatch_log.specs.Histories.{state_of};
-ghost use Rattle.dispatch_log.specs.Judgement.{returning, failing, checking, falling, telling, was_up, HasSlot};
+ghost use Rattle.dispatch_log.specs.Judgement.{returning, failing, checking, emptying, telling, limit_stage, was_up, HasSlot};
 ghost use Rattle.dispatch_log.specs.Scenes.{is_up};
 ghost use Rattle.dispatch_log.specs.Retries.{are_spent, are_redispatched};
 ghost use Rattle.dispatch_log.specs.Rows.{pin_of, failures_of};
-ghost use Rattle.dispatch_core.specs.Steps.{IsReturn, Places, Leaves, Settles, CarriesOn, MovesAll, HasEventRoom};
+ghost use Rattle.dispatch_core.specs.Steps.{IsReturn, Places, Leaves, Settles, CarriesOn, MovesAll, HasEventRoom, HasMoveRoom};
 ghost use Rattle.dispatch_trace.specs.Histories.{stage_of, scene_of, waiting_of, IsAt, MayPut, MayGrantNext};
 
 use check_state::Change;
-use dispatch_log::Queue;
+use dispatch_log::{Intake, Queue};
 use dispatch_trace::{Fate, Ticketed, Trace};
 use due_key::Key;
 use pend_queue::{ListQueue, PendQueue};
@@ -128,6 +128,19 @@ impl<Q: PendQueue<Key, usize>> Events<Q> {
         }
     }
 
+    /// What follows from a server's new limit.
+    pub(crate) fn follow_limit(&mut self, server: usize, limit: Intake)
+        requires stage { stage_of self.old.trace ≡ limit_stage server limit }
+        requires within { server < length self.old.trace.setup.servers }
+        requires room { HasEventRoom self.old.trace }
+        ensures { CarriesOn self.old.trace self.new.trace }
+    {
+        match limit {
+            Intake::Open(_) => {}
+            Intake::Closed => self.empty(server),
+        }
+    }
+
     /// Notes that a server went down, and moves its requests where they are to be moved.
     fn fall(&mut self, server: usize)
         requires checking { stage_of self.old.trace ≡ checking server }
@@ -138,6 +151,16 @@ impl<Q: PendQueue<Key, usize>> Events<Q> {
         ensures { CarriesOn self.old.trace self.new.trace }
     {
         self.trace.tell_health(server, false);
+        self.empty(server);
+    }
+
+    /// Moves the requests of a server that takes none any more, where they are to be moved.
+    fn empty(&mut self, server: usize)
+        requires emptying { stage_of self.old.trace ≡ emptying server }
+        requires within { server < length self.old.trace.setup.servers }
+        requires room { HasMoveRoom self.old.trace }
+        ensures { CarriesOn self.old.trace self.new.trace }
+    {
         if self.trace.setup().redispatch {
             self.move_all(server);
         }
@@ -145,7 +168,7 @@ impl<Q: PendQueue<Key, usize>> Events<Q> {
 
     /// Moves the requests of a server's queue into the backend's, by rising key.
     fn move_all(&mut self, server: usize)
-        requires falling { stage_of self.old.trace ≡ falling server }
+        requires emptying { stage_of self.old.trace ≡ emptying server }
         requires redispatch { IsTrue self.old.trace.setup.redispatch }
         requires within { server < length self.old.trace.setup.servers }
         requires room { length self.old.trace.log + waiting_of self.old.trace ≤ self.old.trace.setup.log }

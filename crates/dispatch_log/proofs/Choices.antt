@@ -1,5 +1,5 @@
 -- What is chosen is one: the least key of some rows, the pick of some servers, the server that takes next.
-use Rattle.std.proofs.Common.{◌≡◌, ◌≢◌, ℕ, zero, suc, ◌+◌, ◌-◌, ◌<◌, ◌≤◌, ◌==◌, ◌||◌, nat_lt, Bool, true, false, cond}
+use Rattle.std.proofs.Common.{◌≡◌, ◌≢◌, ℕ, zero, suc, ◌+◌, ◌-◌, ◌<◌, ◌≤◌, ◌==◌, ◌&&◌, ◌||◌, nat_lt, Bool, true, false, cond}
 use Rattle.std.proofs.Common.{Option, None, Some, MatchOption, length, slice_get, refl, ap, sym, ◌∙◌, subst, arith, Ordering, Less, Equal, Greater}
 use Rattle.std.specs.Option.{option_map_or}
 use Rattle.std.proofs.lemmas.Bool.{and_parts}
@@ -20,7 +20,7 @@ use Rattle.dispatch_log.specs.Grants.{CanTake, IsNextTaker}
 use Rattle.dispatch_log.specs.Picks.{weight_of, steps_after, IsPick}
 use Rattle.dispatch_log.specs.Placement.{IsCandidate, IsChosen, IsJoining, IsTurnedAway}
 use Rattle.dispatch_log.specs.Rows.{Rows, IsRow, queued, same_queue, phase_waits_in}
-use Rattle.dispatch_log.specs.Scenes.{Scene, of_server, is_up, is_usable, is_free, has_room, takes_pinned, working_pin, may_take, may_go_to}
+use Rattle.dispatch_log.specs.Scenes.{Scene, limit_of, is_open, of_server, is_up, is_usable, is_free, has_room, takes_pinned, working_pin, may_take, may_go_to}
 use Rattle.dispatch_log.proofs.RowLemmas.{HaveOwnTickets}
 
 -- keys of which neither comes after the other are one
@@ -91,7 +91,7 @@ pinned_there scene (Some p) v works = by_test (takes_pinned scene p) refl works
 
     by_test : (b : Bool) → takes_pinned scene p ≡ b → cond b (Some p) None ≡ Some v → v < length scene.servers
     by_test true e found =
-        let parts = and_parts (is_up scene p) _ e in
+        let parts = and_parts (is_up scene p && is_open (limit_of scene p)) _ e in
         subst (λ k. k < length scene.servers) (same_Some p v found) (by_free (is_free scene p) refl parts.1)
     by_test false e found = none_some found
 

@@ -1,11 +1,13 @@
 -- The dispatch theorem's first three parts, for every legal log.
-use Rattle.std.proofs.Common.{◌≡◌, ℕ, zero, suc, ◌+◌, ◌<◌, ◌≤◌, max, ◌==◌, nat_lt, ◌||◌, Bool, true, false, not, cond, ◌⊎◌}
+use Rattle.std.proofs.Common.{◌≡◌, ℕ, zero, suc, ◌+◌, ◌<◌, IfSome, ◌≤◌, max, ◌==◌, nat_lt, ◌||◌, Bool, true, false, not, cond, ◌⊎◌}
 use Rattle.std.proofs.Common.{inl, inr, List, [], ◌∷◌, Option, None, Some, count_by, slice_get, refl, ap, sym, ◌∙◌, subst, arith}
 use Rattle.std.proofs.Math.ListN.{set}
 use Rattle.std.specs.Option.{option_map_or}
 use Rattle.std.proofs.lemmas.Bool.Decides.{Decides-eqb, nat_tests}
 use Rattle.std.proofs.lemmas.List.Sums.{sum_by-cons}
 use Rattle.dispatch_log.specs.declared.allowance.Allowance.{Allowance}
+use Rattle.dispatch_log.specs.declared.allowance.Intake.{Intake}
+use Rattle.dispatch_log.specs.declared.allowance.Intake.TheVariants.{Open, Closed}
 use Rattle.dispatch_log.specs.declared.entry.Entry.{Entry}
 use Rattle.dispatch_log.specs.declared.entry.Entry.TheVariants.{Arrive, Done, Fail, Abort, Tick, Check, Limit, Direct}
 use Rattle.dispatch_log.specs.declared.entry.Entry.TheVariants.{Joined, Granted, Moved, Freed, Retried, Left, Health, Ended}
@@ -15,16 +17,16 @@ use Rattle.verdict.specs.declared.cause.Cause.TheVariants.{Aborted, Timeout, Ret
 use Rattle.dispatch_log.specs.declared.row.Row.{Row}
 use Rattle.dispatch_log.specs.declared.setup.ServerSet.{ServerSet}
 use Rattle.dispatch_log.specs.declared.setup.Setup.{Setup}
-use Rattle.dispatch_log.specs.Dispatch.{bound_by, bound_of, KeepsLimits, given_between, is_arrival_of, is_end_of, arrivals_of, ends_of, is_placed, IsDispatched}
+use Rattle.dispatch_log.specs.Dispatch.{bound_from, bound_by, bound_of, KeepsLimits, given_between, is_arrival_of, is_end_of, arrivals_of, ends_of, is_placed, IsDispatched}
 use Rattle.dispatch_log.specs.Histories.{History, state_of, start_of}
 use Rattle.dispatch_log.specs.Legal.{IsBase, IsLegal}
 use Rattle.dispatch_log.specs.Judgement.{Stage, placing, returning, ending, failing, freed_by_failure, aborting, telling}
-use Rattle.dispatch_log.specs.Judgement.{checking, falling, granting, IsPut, MayCome, next_stage, stage_after, AllMayCome}
+use Rattle.dispatch_log.specs.Judgement.{checking, emptying, granting, IsPut, MayCome, next_stage, stage_after, AllMayCome}
 use Rattle.dispatch_log.specs.Refusals.{has_a_slot}
 use Rattle.dispatch_log.specs.Retries.{failed}
 use Rattle.dispatch_log.specs.Rows.{Rows, StandsAt, IsRow, changed, in_phase, in_backend_since, gone, pin_of, has_ticket, is_served_by, served, rows_of}
 use Rattle.dispatch_log.specs.States.{State, scene, after, after_all, arrived, Point, point_of, next_point}
-use Rattle.dispatch_log.specs.Scenes.{Scene, is_free}
+use Rattle.dispatch_log.specs.Scenes.{Scene, serves_beside, is_free}
 use Rattle.dispatch_log.proofs.Accepted.{row_of_accepted}
 use Rattle.dispatch_log.proofs.Consistency.{IsConsistent, loose_ticket}
 use Rattle.dispatch_log.proofs.Judged.{consistent_after, consistent_all, over_none}
@@ -34,12 +36,12 @@ use Rattle.list_facts.proofs.Never.{false_true, none_some}
 use Rattle.dispatch_log.proofs.RowLemmas.{HaveOwnTickets, changed_at}
 
 -- the scene of a decision about slots, to which health is nothing
-abbrev slots : Setup → State → Scene
+abbrev pub slots : Setup → State → Scene
 slots setup s = record { servers = setup.servers; limits = s.limits; ups = []; rows = s.rows }
 
 -- what an entry does to the rows: it writes one place, where a slot that is taken was free or the row's already, and
 -- where rows, arrivals and ends of each ticket balance
-record Writes (setup : Setup) (s next : State) (entry : Entry) : Type 0 where
+pub record Writes (setup : Setup) (s next : State) (entry : Entry) : Type 0 where
   pub place : ℕ
   pub old : Option Row
   pub cell : Option Row
@@ -51,35 +53,37 @@ record Writes (setup : Setup) (s next : State) (entry : Entry) : Type 0 where
       ≡ tally (has_ticket ticket cell) + tally (is_end_of ticket entry)
 
 -- or it leaves them and keeps their limits, and is no arrival and no end
-record Leaves (s next : State) (entry : Entry) : Type 0 where
+pub record Leaves (s next : State) (entry : Entry) : Type 0 where
   pub same : next.rows ≡ s.rows
   pub keeps : KeepsLimits s → KeepsLimits next
   pub no_arrival : (ticket : ℕ) → is_arrival_of ticket entry ≡ false
   pub no_end : (ticket : ℕ) → is_end_of ticket entry ≡ false
 
-abbrev Does : Setup → State → Entry → Type 0
+abbrev pub Does : Setup → State → Entry → Type 0
 Does setup s e = Writes setup s (after setup s e) e ⊎ Leaves s (after setup s e) e
 
 -- a limit that is set, and what its server serves: the bound is no less, and another server's is as before
-abbrev bound_in : List Allowance → ℕ → ℕ
-bound_in limits server = option_map_or bound_by (slice_get limits server) 0
+abbrev IsWithin : ℕ → Option ℕ → Type 0
+IsWithin m bound = IfSome bound (λ most. m ≤ most)
 
-within_bound : (limit count m : ℕ) → m ≤ count → 0 < bound_by (record { limit = limit; served = count })
-    → m ≤ bound_by (record { limit = limit; served = count })
-within_bound limit count m few some = by_test (limit == 0) some
+abbrev bound_in : List Allowance → ℕ → Option ℕ
+bound_in limits server = option_map_or bound_by (slice_get limits server) None
+
+within_bound : (limit : Intake) (count m : ℕ) → m ≤ count → IsWithin m (bound_from limit count)
+within_bound (Open limit) count m few = by_test (limit == 0)
   where
-    by_test : (b : Bool) → 0 < cond b 0 (max limit count) → m ≤ cond b 0 (max limit count)
-    by_test true some = absurd (omega arith)
-    by_test false some = omega arith
+    by_test : (b : Bool) → IsWithin m (cond b None (Some (max limit count)))
+    by_test true = tt
+    by_test false = omega arith
+within_bound Closed count m few = few
 
-limit_kept : (limits : List Allowance) (v server limit count m : ℕ) → (v ≡ server → m ≤ count) → (0 < bound_in limits server → m ≤ bound_in limits server)
-    → 0 < bound_in (set limits v (record { limit = limit; served = count })) server
-    → m ≤ bound_in (set limits v (record { limit = limit; served = count })) server
-limit_kept [] v server limit count m own keeps some = keeps some
-limit_kept (it ∷ limits) zero zero limit count m own keeps some = within_bound limit count m (own refl) some
-limit_kept (it ∷ limits) zero (suc server) limit count m own keeps some = keeps some
-limit_kept (it ∷ limits) (suc v) zero limit count m own keeps some = keeps some
-limit_kept (it ∷ limits) (suc v) (suc server) limit count m own keeps some = limit_kept limits v server limit count m (λ same. own (ap suc same)) keeps some
+limit_kept : (limits : List Allowance) (v server : ℕ) (limit : Intake) (count m : ℕ) → (v ≡ server → m ≤ count) → IsWithin m (bound_in limits server)
+    → IsWithin m (bound_in (set limits v (record { limit = limit; served = count })) server)
+limit_kept [] v server limit count m own keeps = keeps
+limit_kept (it ∷ limits) zero zero limit count m own keeps = within_bound limit count m (own refl)
+limit_kept (it ∷ limits) zero (suc server) limit count m own keeps = keeps
+limit_kept (it ∷ limits) (suc v) zero limit count m own keeps = keeps
+limit_kept (it ∷ limits) (suc v) (suc server) limit count m own keeps = limit_kept limits v server limit count m (λ same. own (ap suc same)) keeps
 
 -- the entry names a row, and changes it
 named : (setup : Setup) (s : State) (e : Entry) (u p : ℕ) (r : Row) (f : Row → Option Row) → HaveOwnTickets s.rows → StandsAt s.rows p r → r.key.ticket ≡ u
@@ -127,7 +131,7 @@ put_writes setup s t old (Left u NoServer) cursor ups pin avoid is one put =
 put_writes setup s t old e cursor ups pin avoid is one put = absurd put
 
 -- what every entry does that is judged
-writes_of : (here : Point) (t : Stage) (e : Entry) → IsConsistent here.state.rows here.state.ticket t → MayCome here t e → Does here.setup here.state e
+pub writes_of : (here : Point) (t : Stage) (e : Entry) → IsConsistent here.state.rows here.state.ticket t → MayCome here t e → Does here.setup here.state e
 writes_of here t (Arrive m a) is may = inl (record {
   place = a.place;
   old = None;
@@ -148,8 +152,8 @@ writes_of here t (Tick m) is may = left here.setup here.state (Tick m) refl (λ 
 writes_of here t (Check m v ok) is may = left here.setup here.state (Check m v ok) refl (λ keeps. keeps) (λ ticket. refl) (λ ticket. refl)
 writes_of here t (Limit m v k) is may =
     left here.setup here.state (Limit m v k) refl
-    (λ keeps server some. limit_kept here.state.limits v server k (served v here.state.rows) (served server here.state.rows)
-    (λ same. subst (λ w. served server here.state.rows ≤ served w here.state.rows) (sym same) (omega arith)) (keeps server) some)
+    (λ keeps server. limit_kept here.state.limits v server k (served v here.state.rows) (served server here.state.rows)
+    (λ same. subst (λ w. served server here.state.rows ≤ served w here.state.rows) (sym same) (omega arith)) (keeps server))
     (λ ticket. refl) (λ ticket. refl)
 writes_of here t (Granted u q v) is may =
     let it = may.1 in
@@ -194,53 +198,63 @@ writes_of here telling (Left u Timeout) is may =
     named here.setup here.state (Left u Timeout) u may.expired.0.0 may.row (in_phase (Told Timeout)) is.tickets may.expired.0.1 may.named refl refl
     (λ server e. false_true e) (λ ticket. refl)
 writes_of here (checking w) (Health v up) is may = left here.setup here.state (Health v up) refl (λ keeps. keeps) (λ ticket. refl) (λ ticket. refl)
-writes_of here (falling w) (Moved u v) is may =
+writes_of here (emptying w) (Moved u v) is may =
     let it = may.2 in
     named here.setup here.state (Moved u v) u it.live.0 it.row (in_backend_since here.state.moment) is.tickets it.live.1 it.named refl refl
     (λ server e. false_true e) (λ ticket. refl)
 writes_of here t e is may = absurd may
 
 -- a free server serves fewer than its bound
-free_below : (setup : Setup) (s : State) (server : ℕ) → is_free (slots setup s) server ≡ true → 0 < bound_of s server → served server s.rows < bound_of s server
-free_below setup s server free some = by_server (slice_get setup.servers server) (slice_get s.limits server) free some
+free_below : (setup : Setup) (s : State) (server : ℕ) → is_free (slots setup s) server ≡ true → IsWithin (served server s.rows + 1) (bound_of s server)
+free_below setup s server free = by_server (slice_get setup.servers server) (slice_get s.limits server) free
   where
-    by_server : (it : Option ServerSet) (a : Option Allowance)
-        → option_map_or (λ (x : ServerSet). (option_map_or (λ (y : Allowance). y.limit) a 0 == 0) || nat_lt (served server s.rows)
-        (option_map_or (λ (y : Allowance). y.limit) a 0)) it false ≡ true
-        → 0 < option_map_or bound_by a 0 → served server s.rows < option_map_or bound_by a 0
-    by_server None a free some = false_true free
-    by_server (Some x) None free some = absurd (omega arith)
-    by_server (Some x) (Some y) free some = by_limit (y.limit == 0) free some
+    by_limit : (limit : Intake) (count : ℕ) → serves_beside limit (served server s.rows) ≡ true → IsWithin (served server s.rows + 1) (bound_from limit count)
+    by_limit (Open limit) count free = by_test (limit == 0) free
       where
-        by_limit : (b : Bool) → b || nat_lt (served server s.rows) y.limit ≡ true → 0 < cond b 0 (max y.limit y.served)
-            → served server s.rows < cond b 0 (max y.limit y.served)
-        by_limit true free some = absurd (omega arith)
-        by_limit false free some = let less : served server s.rows < y.limit = grind (arith, nat_tests) in omega arith
+        by_test : (b : Bool) → b || nat_lt (served server s.rows) limit ≡ true → IsWithin (served server s.rows + 1) (cond b None (Some (max limit count)))
+        by_test true free = tt
+        by_test false free = let less : served server s.rows < limit = grind (arith, nat_tests) in omega arith
+    by_limit Closed count free = false_true free
+
+    by_server : (it : Option ServerSet) (a : Option Allowance)
+        → option_map_or (λ (x : ServerSet). serves_beside (option_map_or (λ (y : Allowance). y.limit) a Closed) (served server s.rows)) it false ≡ true
+        → IsWithin (served server s.rows + 1) (option_map_or bound_by a None)
+    by_server None a free = false_true free
+    by_server (Some x) None free = tt
+    by_server (Some x) (Some y) free = by_limit y.limit y.served free
+
+-- a server that serves none keeps its bound
+pub none_within : (bound : Option ℕ) (m : ℕ) → m ≡ 0 → IsWithin m bound
+none_within None m none = tt
+none_within (Some most) m none = omega (arith, none)
+
+-- fewer keep a bound that more keep
+fewer_within : (bound : Option ℕ) (m n : ℕ) → m ≤ n → IsWithin n bound → IsWithin m bound
+fewer_within None m n fewer is = tt
+fewer_within (Some most) m n fewer is = omega arith
 
 -- limits are kept by a write whose slots were free, or the row's already
 limits_written : (setup : Setup) (s next : State) (e : Entry) → Writes setup s next e → KeepsLimits s → KeepsLimits next
-limits_written setup s next e w keeps server some = subst (λ n. served server next.rows ≤ n) (sym bound) (by_test (is_served_by server w.cell) refl)
+limits_written setup s next e w keeps server = subst (IsWithin (served server next.rows)) (sym bound) (by_test (is_served_by server w.cell) refl)
   where
     bound : bound_of next server ≡ bound_of s server
-    bound = ap (λ l. option_map_or bound_by (slice_get l server) 0) w.same_limits
-
-    was : 0 < bound_of s server
-    was = subst (λ n. 0 < n) bound some
+    bound = ap (λ l. option_map_or bound_by (slice_get l server) None) w.same_limits
 
     count : served server next.rows + tally (is_served_by server w.old) ≡ served server s.rows + tally (is_served_by server w.cell)
     count = ap (λ rows. served server rows + tally (is_served_by server w.old)) w.written ∙ count-set (is_served_by server) s.rows w.place w.old w.cell w.stood
 
-    kept : served server s.rows ≤ bound_of s server
-    kept = keeps server was
-
-    by_test : (b : Bool) → is_served_by server w.cell ≡ b → served server next.rows ≤ bound_of s server
+    by_test : (b : Bool) → is_served_by server w.cell ≡ b → IsWithin (served server next.rows) (bound_of s server)
     by_test true e =
         let one : tally (is_served_by server w.cell) ≡ 1 = ap tally e in
         elim (w.takes server e) [
-          | inl test ↦ let free : served server s.rows < bound_of s server = free_below setup s server test was in omega (arith, count)
-          | inr had ↦ let before : tally (is_served_by server w.old) ≡ 1 = ap tally had in omega (arith, count, kept)
+          | inl test ↦ fewer_within (bound_of s server) (served server next.rows) (served server s.rows + 1) (omega (arith, count)) (free_below setup s server test)
+          | inr had ↦
+              let before : tally (is_served_by server w.old) ≡ 1 = ap tally had in
+              fewer_within (bound_of s server) (served server next.rows) (served server s.rows) (omega (arith, count)) (keeps server)
         ]
-    by_test false e = let none : tally (is_served_by server w.cell) ≡ 0 = ap tally e in omega (arith, count, kept)
+    by_test false e =
+        let none : tally (is_served_by server w.cell) ≡ 0 = ap tally e in
+        fewer_within (bound_of s server) (served server next.rows) (served server s.rows) (omega (arith, count)) (keeps server)
 
 -- limits are kept by every entry
 limits_after : (here : Point) (t : Stage) (e : Entry) → IsConsistent here.state.rows here.state.ticket t → MayCome here t e → KeepsLimits here.state

@@ -3,6 +3,7 @@ use Rattle.std.proofs.Common.{◌≡◌, ◌≢◌, ℕ, ◌+◌, true, false, n
 use Rattle.std.proofs.Common.{None, Some, length, refl, ap, sym, ◌∙◌, subst, arith, ◌⊎◌, inl, inr}
 use Rattle.std.proofs.Math.ListN.{set, length-set}
 use Rattle.std.proofs.lemmas.List.{length-map}
+use Rattle.dispatch_log.specs.declared.allowance.Intake.TheVariants.{Open, Closed}
 use Rattle.dispatch_log.specs.declared.entry.Entry.{Entry}
 use Rattle.dispatch_log.specs.declared.entry.Entry.TheVariants.{Arrive, Done, Fail, Abort, Tick, Check, Limit, Direct}
 use Rattle.dispatch_log.specs.declared.entry.Entry.TheVariants.{Joined, Granted, Moved, Freed, Retried, Left, Health, Ended}
@@ -15,7 +16,7 @@ use Rattle.dispatch_log.specs.declared.setup.Setup.{Setup}
 use Rattle.dispatch_log.specs.declared.queue.Queue.{Queue}
 use Rattle.dispatch_log.specs.declared.queue.Queue.TheVariants.{Backend, Server}
 use Rattle.dispatch_log.specs.Judgement.{IsInPhase, HasSlot, IsTold, Stage, placing, returning, ending, failing, freed_by_failure, aborting, telling, checking}
-use Rattle.dispatch_log.specs.Judgement.{falling, granting, IsOver, MayGrant, IsPut, MayCome, IsFirstIn, HasExpired, next_stage, stage_after, AllMayCome}
+use Rattle.dispatch_log.specs.Judgement.{emptying, granting, IsOver, MayGrant, IsPut, MayCome, IsFirstIn, HasExpired, next_stage, stage_after, AllMayCome}
 use Rattle.dispatch_log.specs.Health.{results_of}
 use Rattle.dispatch_log.specs.Refusals.{is_waiting, has_a_slot, failure_refusal}
 use Rattle.dispatch_log.specs.Retries.{failed}
@@ -51,7 +52,7 @@ pub over_none : (setup : Setup) (s : State) (t : Stage) → IsOver setup s t →
 over_none setup s granting over = refl
 over_none setup s telling over = refl
 over_none setup s (checking v) over = refl
-over_none setup s (falling v) over = refl
+over_none setup s (emptying v) over = refl
 over_none setup s t over = absurd over
 
 -- the row that is in no place, or none, stays so over a grant
@@ -61,7 +62,7 @@ grant_keeps setup s (freed_by_failure t w) u v q may = refl
 grant_keeps setup s granting u v q may = refl
 grant_keeps setup s telling u v q may = refl
 grant_keeps setup s (checking w) u v q may = refl
-grant_keeps setup s (falling w) u v q may = refl
+grant_keeps setup s (emptying w) u v q may = refl
 grant_keeps setup s t u v q may = absurd may
 
 -- a row that waits, has a slot or is told is in a place
@@ -143,7 +144,8 @@ consistent_after here t (Fail m u) is may =
 consistent_after here t (Abort m u) is may = at_stage here.state.rows here.state.ticket t (aborting u) is (over_none here.setup here.state t may.over)
 consistent_after here t (Tick m) is may = at_stage here.state.rows here.state.ticket t telling is (over_none here.setup here.state t may.over)
 consistent_after here t (Check m v ok) is may = at_stage here.state.rows here.state.ticket t (checking v) is (over_none here.setup here.state t may.over)
-consistent_after here t (Limit m v k) is may = at_stage here.state.rows here.state.ticket t granting is (over_none here.setup here.state t may.over)
+consistent_after here t (Limit m v (Open k)) is may = at_stage here.state.rows here.state.ticket t granting is (over_none here.setup here.state t may.over)
+consistent_after here t (Limit m v Closed) is may = at_stage here.state.rows here.state.ticket t (emptying v) is (over_none here.setup here.state t may.over)
 consistent_after here t (Granted u q v) is may =
     let it = may.1 in
     moves_on here.state.rows here.state.ticket u it.live.0 t (next_stage t (Granted u q v)) it.row (record it.row { phase = Serving v })
@@ -188,10 +190,10 @@ consistent_after here telling (Left u Timeout) is may =
     moves_on here.state.rows here.state.ticket u may.expired.0.0 telling telling may.row (record may.row { phase = Told Timeout })
     (in_phase (Told Timeout)) is refl may.expired.0.1 may.named refl refl (expired_firm here.setup here.state.moment may.row.phase may.expired.1) (λ e. cc)
 consistent_after here (checking w) (Health v true) is may = at_stage here.state.rows here.state.ticket (checking w) granting is refl
-consistent_after here (checking w) (Health v false) is may = at_stage here.state.rows here.state.ticket (checking w) (falling v) is refl
-consistent_after here (falling w) (Moved u v) is may =
+consistent_after here (checking w) (Health v false) is may = at_stage here.state.rows here.state.ticket (checking w) (emptying v) is refl
+consistent_after here (emptying w) (Moved u v) is may =
     let it = may.2 in
-    moves_on here.state.rows here.state.ticket u it.live.0 (falling w) (falling v) it.row
+    moves_on here.state.rows here.state.ticket u it.live.0 (emptying w) (emptying v) it.row
     (record it.row { pin = None; phase = Waiting Backend here.state.moment })
     (in_backend_since here.state.moment) is refl it.live.1 it.named refl refl (waits_firm (Server v) it.row.phase it.waits) (λ e. cc)
 consistent_after here t e is may = absurd may
@@ -332,6 +334,6 @@ freed_slot here t u v may = absurd may
 
 -- a stay that is moved is the first of its server's queue
 pub moved_row : (here : Point) (t : Stage) (u v : ℕ) → MayCome here t (Moved u v) → IsFirstIn (Server v) here.state.rows u
-moved_row here (falling w) u v may = may.2
+moved_row here (emptying w) u v may = may.2
 moved_row here (freed_by_failure t w) u v may = absurd may.put
 moved_row here t u v may = absurd may

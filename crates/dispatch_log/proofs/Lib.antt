@@ -17,9 +17,12 @@ pub mod QueueOrder
 pub mod RightLogs
 pub mod RightWindows
 pub mod WrongWindows
+pub mod RightClosings
+pub mod WrongClosings
 pub mod OneEntry
 pub mod SameScenes
 pub mod Determined
 pub mod SameCalls
 pub mod Within
 pub mod Limiting
+pub mod Closings

@@ -3,11 +3,12 @@ use Rattle.std.proofs.Common.{◌≡◌, ℕ, suc, ◌+◌, ◌<◌, List, [], �
 use Rattle.std.proofs.Math.Seq.{take-length, take-suc}
 use Rattle.std.proofs.lemmas.List.{map-append, length-map}
 use Rattle.dispatch_log.specs.declared.allowance.Allowance.{Allowance}
+use Rattle.dispatch_log.specs.declared.allowance.Intake.TheVariants.{Open}
 use Rattle.dispatch_log.specs.declared.setup.ServerSet.{ServerSet}
 use Rattle.dispatch_log.specs.States.{opening_limits}
 
 abbrev opening_limit : ServerSet → Allowance
-opening_limit server = record { limit = server.limit; served = 0 }
+opening_limit server = record { limit = Open server.limit; served = 0 }
 
 pub opening_limits-length : (servers : List ServerSet) → length (opening_limits servers) ≡ length servers
 opening_limits-length servers = length-map servers opening_limit

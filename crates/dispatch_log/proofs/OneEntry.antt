@@ -17,7 +17,7 @@ use Rattle.dispatch_log.specs.declared.setup.Setup.{Setup}
 use Rattle.dispatch_log.specs.Grants.{IsSettled, IsLawfulGrant}
 use Rattle.dispatch_log.specs.Histories.{begins_event}
 use Rattle.dispatch_log.specs.Judgement.{IsInPhase, HasSlot, IsTold, IsFirstExpired, IsFirstIn, was_up, Stage, placing, returning, ending, failing}
-use Rattle.dispatch_log.specs.Judgement.{freed_by_failure, aborting, telling, checking, falling, granting, IsOver, MayGrant, IsPut, IsPutAnew, MayCome}
+use Rattle.dispatch_log.specs.Judgement.{freed_by_failure, aborting, telling, checking, emptying, granting, IsOver, MayGrant, IsPut, IsPutAnew, MayCome}
 use Rattle.dispatch_log.specs.Refusals.{is_waiting}
 use Rattle.dispatch_log.specs.Retries.{are_spent, are_redispatched, are_retried}
 use Rattle.dispatch_log.specs.Rows.{Rows, phase_is_served_by, phase_is_told, phase_waits_in, pin_of, failures_of}
@@ -44,8 +44,8 @@ module _ (setup : Setup) (s : State) where
   Owed telling (Left ticket Timeout) = IsFirstExpired setup s ticket
   Owed (checking checked) (Health server up) =
       (server ≡ checked) × (is_up (scene setup s) server ≡ up) × (was_up setup s server ≢ up)
-  Owed (falling fallen) (Moved ticket server) =
-      (server ≡ fallen) × IsTrue setup.redispatch × IsFirstIn (Server server) s.rows ticket
+  Owed (emptying emptied) (Moved ticket server) =
+      (server ≡ emptied) × IsTrue setup.redispatch × IsFirstIn (Server server) s.rows ticket
   Owed stage entry = ⊥
 
   -- a grant that may come
@@ -74,7 +74,7 @@ module _ (setup : Setup) (s : State) where
   granted_or_owed n (aborting t) e none may = inr may
   granted_or_owed n telling e none may = inr may
   granted_or_owed n (checking w) e none may = inr may
-  granted_or_owed n (falling w) e none may = inr may
+  granted_or_owed n (emptying w) e none may = inr may
   granted_or_owed n granting e none may = inr may
 
 -- a slot, or a word that none came, are the row's of the ticket
@@ -228,7 +228,7 @@ module _ (setup : Setup) (s : State) (own : HaveOwnTickets s.rows) (within : 0 <
       (ap (λ k. Health k up) server ∙ ap (λ b. Health v b) (sym now), λ same. owed.2 (ap (was_up setup s) server ∙ same ∙ now))
   changed_health v e owed = absurd owed
 
-  moved_on : (v : ℕ) (e : Entry) → Owed setup s (falling v) e → (u : ℕ) × (e ≡ Moved u v) × IsTrue setup.redispatch × IsFirstIn (Server v) s.rows u
+  moved_on : (v : ℕ) (e : Entry) → Owed setup s (emptying v) e → (u : ℕ) × (e ≡ Moved u v) × IsTrue setup.redispatch × IsFirstIn (Server v) s.rows u
   moved_on v (Moved u w) owed = (u, ap (λ k. Moved u k) owed.0, owed.1, subst (λ k. IsFirstIn (Server k) s.rows u) owed.0 owed.2)
   moved_on v e owed = absurd owed
 
@@ -278,7 +278,7 @@ module _ (setup : Setup) (s : State) (own : HaveOwnTickets s.rows) (within : 0 <
       let b = told f second in
       a.1 ∙ ap (λ k. Left k Timeout) (expired_same a.0 b.0 a.2 b.2) ∙ sym b.1
   owed_same (checking v) e f first second = (changed_health v e first).0 ∙ sym (changed_health v f second).0
-  owed_same (falling v) e f first second =
+  owed_same (emptying v) e f first second =
       let a = moved_on v e first in
       let b = moved_on v f second in
       a.1 ∙ ap (λ k. Moved k v) (first_same (Server v) a.0 b.0 a.3 b.3) ∙ sym b.1
@@ -289,7 +289,7 @@ module _ (setup : Setup) (s : State) (own : HaveOwnTickets s.rows) (within : 0 <
   over_owes_none granting e over owed = owed
   over_owes_none telling e over owed = let it = told e owed in over it.2.row it.2.expired
   over_owes_none (checking v) e over owed = (changed_health v e owed).1 over
-  over_owes_none (falling v) e over owed = let it = moved_on v e owed in over it.2 it.3.row it.3.live it.3.waits
+  over_owes_none (emptying v) e over owed = let it = moved_on v e owed in over it.2 it.3.row it.3.live it.3.waits
   over_owes_none t e over owed = absurd over
 
   -- and where a slot may go to another request first, the one that is put anew isn't put yet
@@ -302,7 +302,7 @@ module _ (setup : Setup) (s : State) (own : HaveOwnTickets s.rows) (within : 0 <
   grant_owes_none granting u v q e may grant owed = owed
   grant_owes_none telling u v q e may grant owed = over_owes_none telling e may owed
   grant_owes_none (checking w) u v q e may grant owed = over_owes_none (checking w) e may owed
-  grant_owes_none (falling w) u v q e may grant owed = over_owes_none (falling w) e may owed
+  grant_owes_none (emptying w) u v q e may grant owed = over_owes_none (emptying w) e may owed
   grant_owes_none t u v q e may grant owed = absurd may
 
   granted_is : (t : Stage) (e : Entry) → MayBeGranted setup s t e

@@ -35,7 +35,7 @@ pub for_one_server : (P : ℕ → Type 0) → P 0 → ((n : ℕ) → P (suc n)) 
 for_one_server P first past zero = first
 for_one_server P first past (suc n) = past n
 
-for_two_servers : (P : ℕ → Type 0) → P 0 → P 1 → ((n : ℕ) → P (suc (suc n))) → (server : ℕ) → P server
+pub for_two_servers : (P : ℕ → Type 0) → P 0 → P 1 → ((n : ℕ) → P (suc (suc n))) → (server : ℕ) → P server
 for_two_servers P first second past zero = first
 for_two_servers P first second past (suc zero) = second
 for_two_servers P first second past (suc (suc n)) = past n
@@ -199,7 +199,7 @@ rising_is_lawful = record {
 }
 
 -- before the first server is checked, and once 2 is moved
-abbrev before_the_check : Scene
+abbrev pub before_the_check : Scene
 before_the_check = record {
   servers = checked_server ∷ plain_server ∷ [];
   limits = opening_limits (checked_server ∷ plain_server ∷ []);

@@ -3,6 +3,7 @@ use Rattle.std.proofs.Common.{◌≡◌, ◌≢◌, pos, negsuc, true, List, [],
 use Rattle.std.proofs.lemmas.List.Elements.{All-cons, All-nil}
 use Rattle.list_facts.proofs.Never.{false_true}
 use Rattle.due_key.specs.Order.{key_cmp}
+use Rattle.dispatch_log.specs.declared.allowance.Intake.TheVariants.{Open}
 use Rattle.dispatch_log.specs.declared.entry.Entry.{Entry}
 use Rattle.dispatch_log.specs.declared.entry.Entry.TheVariants.{Limit, Done, Freed, Ended, Granted}
 use Rattle.dispatch_log.specs.declared.row.Phase.{Phase}
@@ -24,21 +25,21 @@ use Rattle.dispatch_log.proofs.RightLogs.{up_by, for_one_server, class_0, no_off
 use Rattle.dispatch_log.proofs.Windows.{opening_base, next_legal}
 
 -- the second and the third row of the first two logs
-abbrev pair_row : Phase → Row
+abbrev pub pair_row : Phase → Row
 pair_row phase = record { key = record { class = pos 0; due = pos 0; ticket = 2 }; pin = None; failures = 0; phase = phase }
 
-abbrev last_row : Row
+abbrev pub last_row : Row
 last_row = record { key = record { class = pos 0; due = pos 1; ticket = 3 }; pin = None; failures = 0; phase = Waiting Backend 1 }
 
 -- the setup of the first two
-abbrev by_pairs : Setup
+abbrev pub by_pairs : Setup
 by_pairs = (worked_by_pairs []).setup
 
-abbrev pairs_start : State
+abbrev pub pairs_start : State
 pairs_start = (worked_by_pairs []).base
 
 -- tickets 1 and 2 are served and 3 waits, and so a log may go on that may come after that
-pairs_served : (rest : List Entry) → AllMayCome (point_of by_pairs (after_all by_pairs pairs_start two_are_served) 6) granting rest
+pub pairs_served : (rest : List Entry) → AllMayCome (point_of by_pairs (after_all by_pairs pairs_start two_are_served) 6) granting rest
     → AllMayCome (point_of by_pairs pairs_start 0) granting (two_are_served ++ rest)
 pairs_served rest follows = (
   (
@@ -103,17 +104,17 @@ pairs_served rest follows = (
 )
 
 -- once the limit is 3
-abbrev once_raised : Scene
+abbrev pub once_raised : Scene
 once_raised = record {
   servers = pair_server ∷ [];
-  limits = record { limit = 3; served = 2 } ∷ [];
+  limits = record { limit = Open 3; served = 2 } ∷ [];
   ups = true ∷ [];
   rows = Some (first_row None 0 (Serving 0)) ∷ Some (pair_row (Serving 0)) ∷ Some last_row ∷ None ∷ [];
 }
 
 raised_is_lawful : AreLawful (point_of by_pairs pairs_start 0) raised_limit_grants
 raised_is_lawful = record {
-  judged = pairs_served (Limit 3 0 3 ∷ Granted 3 Backend 0 ∷ []) (
+  judged = pairs_served (Limit 3 0 (Open 3) ∷ Granted 3 Backend 0 ∷ []) (
     record {
       over = tt;
       settled = for_one_server _ (λ can. false_true can.0) (λ n can. false_true can.0);
@@ -154,7 +155,7 @@ raised_is_lawful = record {
 
 lowered_is_lawful : AreLawful (point_of by_pairs pairs_start 0) lowered_limit_is_reached
 lowered_is_lawful = record {
-  judged = pairs_served (Limit 3 0 1 ∷ Done 4 1 ∷ Freed 1 0 ∷ Ended 1 ∷ []) (
+  judged = pairs_served (Limit 3 0 (Open 1) ∷ Done 4 1 ∷ Freed 1 0 ∷ Ended 1 ∷ []) (
     record {
       over = tt;
       settled = for_one_server _ (λ can. false_true can.0) (λ n can. false_true can.0);
@@ -261,7 +262,7 @@ two_wait_is_legal = record { begins = opening_base worked_setup; lawful = two_wa
 abbrev once_ended : Scene
 once_ended = record {
   servers = plain_server ∷ [];
-  limits = record { limit = 1; served = 0 } ∷ [];
+  limits = record { limit = Open 1; served = 0 } ∷ [];
   ups = true ∷ [];
   rows = None ∷ Some (second_row None (Waiting Backend 1)) ∷ Some (third_row None (Waiting Backend 2)) ∷ None ∷ [];
 }

@@ -13,13 +13,13 @@ use Rattle.dispatch_log.specs.declared.setup.Setup.{Setup}
 use Rattle.dispatch_log.specs.Determined.{HaveSameRows}
 use Rattle.dispatch_log.specs.Grants.{CanTake, IsSettled, IsNextTaker, IsLawfulGrant}
 use Rattle.dispatch_log.specs.Judgement.{IsInPhase, IsFirstExpired, IsFirstIn, Stage, placing, returning, ending, failing, freed_by_failure}
-use Rattle.dispatch_log.specs.Judgement.{aborting, telling, checking, falling, granting, MayGrant, IsPut, IsPutAnew}
+use Rattle.dispatch_log.specs.Judgement.{aborting, telling, checking, emptying, granting, MayGrant, IsPut, IsPutAnew}
 use Rattle.dispatch_log.specs.Picks.{load, weight_of, IsNoMoreLoaded, IsPick}
 use Rattle.dispatch_log.specs.Placement.{IsCandidate, IsChosen}
 use Rattle.dispatch_log.specs.Retries.{are_spent, are_redispatched, are_retried}
 use Rattle.dispatch_log.specs.Rows.{Rows, pin_of, failures_of, is_served_by, waits_in, served, queued}
 use Rattle.dispatch_log.specs.States.{State, scene}
-use Rattle.dispatch_log.specs.Scenes.{Scene, limit_of, of_server, is_up, is_usable, is_free, has_room, takes_pinned, working_pin}
+use Rattle.dispatch_log.specs.Scenes.{Scene, limit_of, is_open, serves_beside, holds_beside, of_server, is_up, is_usable, is_free, has_room, takes_pinned, working_pin}
 use Rattle.dispatch_log.proofs.OneEntry.{Owed, MayBeGranted, IsNext}
 use Rattle.dispatch_log.proofs.RowLemmas.{HaveOwnTickets}
 use Rattle.dispatch_log.proofs.SameRows.{row_of-same, pin_of-same}
@@ -41,18 +41,18 @@ module _ (setup : Setup) (s : State) (other : Rows) (same : HaveSameRows s.rows 
   queued-same q = sym (same.counted (waits_in q) refl)
 
   free-same : (v : ℕ) → is_free sd v ≡ is_free sc v
-  free-same v = ap (λ (n : ℕ). of_server sc v (λ it. (limit_of sc v == 0) || nat_lt n (limit_of sc v))) (served-same v)
+  free-same v = ap (λ (n : ℕ). of_server sc v (λ it. serves_beside (limit_of sc v) n)) (served-same v)
 
   load-same : (v : ℕ) → load sd v ≡ load sc v
   load-same v = ap (λ (n : ℕ). n + queued (Server v) other) (served-same v) ∙ ap (λ (n : ℕ). served v s.rows + n) (queued-same (Server v))
 
   room-same : (v : ℕ) → has_room sd v ≡ has_room sc v
-  room-same v = ap (λ (n : ℕ). is_usable sc v && of_server sc v (λ it. (limit_of sc v == 0) || nat_lt n (limit_of sc v + it.maxqueue))) (load-same v)
+  room-same v = ap (λ (n : ℕ). is_usable sc v && of_server sc v (λ it. holds_beside (limit_of sc v) it.maxqueue n)) (load-same v)
 
   takes-same : (v : ℕ) → takes_pinned sd v ≡ takes_pinned sc v
   takes-same v =
-      ap (λ (b : Bool). is_up sc v && (b || of_server sc v (λ it. (it.maxqueue == 0) || nat_lt (queued (Server v) other) it.maxqueue))) (free-same v)
-      ∙ ap (λ (n : ℕ). is_up sc v && (is_free sc v || of_server sc v (λ it. (it.maxqueue == 0) || nat_lt n it.maxqueue))) (queued-same (Server v))
+      ap (λ (b : Bool). is_up sc v && is_open (limit_of sc v) && (b || of_server sc v (λ it. (it.maxqueue == 0) || nat_lt (queued (Server v) other) it.maxqueue))) (free-same v)
+      ∙ ap (λ (n : ℕ). is_up sc v && is_open (limit_of sc v) && (is_free sc v || of_server sc v (λ it. (it.maxqueue == 0) || nat_lt n it.maxqueue))) (queued-same (Server v))
 
   pin-same : (pin : Option ℕ) → working_pin sd pin ≡ working_pin sc pin
   pin-same None = refl
@@ -176,7 +176,7 @@ module _ (setup : Setup) (s : State) (other : Rows) (same : HaveSameRows s.rows 
   owed_back (aborting t) (Left u Aborted) owed = (owed.0, phase_back _ u owed.1)
   owed_back telling (Left u Timeout) owed = expired_back u owed
   owed_back (checking v) (Health w up) owed = owed
-  owed_back (falling v) (Moved u w) owed = (owed.0, owed.1, first_back (Server w) u owed.2)
+  owed_back (emptying v) (Moved u w) owed = (owed.0, owed.1, first_back (Server w) u owed.2)
   owed_back t e owed = absurd owed
 
   may_grant_back : (t : Stage) → MayGrant setup there t → MayGrant setup s t
@@ -184,7 +184,7 @@ module _ (setup : Setup) (s : State) (other : Rows) (same : HaveSameRows s.rows 
   may_grant_back granting may = tt
   may_grant_back telling may = λ row expired. may row (same.there row expired.0, expired.1)
   may_grant_back (checking v) may = may
-  may_grant_back (falling v) may = λ redispatch row live waits. may redispatch row (same.there row live) waits
+  may_grant_back (emptying v) may = λ redispatch row live waits. may redispatch row (same.there row live) waits
   may_grant_back t may = absurd may
 
   granted_back : (t : Stage) (e : Entry) → MayBeGranted setup there t e → MayBeGranted setup s t e

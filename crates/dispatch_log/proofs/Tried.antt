@@ -7,6 +7,7 @@ use Rattle.std.proofs.lemmas.Option.{same_Some}
 use Rattle.std.proofs.lemmas.Bool.{and_parts}
 use Rattle.std.proofs.lemmas.Bool.Decides.{Decides-eqb, nat_tests}
 use Rattle.dispatch_log.specs.declared.entry.Arrival.{Arrival}
+use Rattle.dispatch_log.specs.declared.allowance.Intake.TheVariants.{Open, Closed}
 use Rattle.dispatch_log.specs.declared.entry.Entry.{Entry}
 use Rattle.dispatch_log.specs.declared.entry.Entry.TheVariants.{Arrive, Done, Fail, Abort, Tick, Check, Limit, Direct}
 use Rattle.dispatch_log.specs.declared.entry.Entry.TheVariants.{Joined, Granted, Moved, Freed, Retried, Left, Health, Ended}
@@ -18,7 +19,7 @@ use Rattle.dispatch_log.specs.declared.setup.Setup.{Setup}
 use Rattle.dispatch_log.specs.declared.queue.Queue.{Queue}
 use Rattle.dispatch_log.specs.declared.queue.Queue.TheVariants.{Backend, Server}
 use Rattle.dispatch_log.specs.Judgement.{HasSlot, Stage, placing, returning, ending, failing, freed_by_failure, aborting, telling, checking}
-use Rattle.dispatch_log.specs.Judgement.{falling, granting, IsOver, MayGrant, IsPut, MayCome, next_stage, stage_after, AllMayCome}
+use Rattle.dispatch_log.specs.Judgement.{emptying, granting, IsOver, MayGrant, IsPut, MayCome, next_stage, stage_after, AllMayCome}
 use Rattle.dispatch_log.specs.Refusals.{is_waiting, has_a_slot}
 use Rattle.dispatch_log.specs.Retries.{are_redispatched, are_retried, are_spent, failed}
 use Rattle.dispatch_log.specs.Rows.{Rows, StandsAt, IsRow, IsVacant, changed, in_phase, in_backend_since}
@@ -54,7 +55,7 @@ over_excuses_none : (setup : Setup) (s : State) (t : Stage) → IsOver setup s t
 over_excuses_none setup s granting over = refl
 over_excuses_none setup s telling over = refl
 over_excuses_none setup s (checking v) over = refl
-over_excuses_none setup s (falling v) over = refl
+over_excuses_none setup s (emptying v) over = refl
 over_excuses_none setup s t over = absurd over
 
 -- rows that stay
@@ -130,7 +131,7 @@ grant_excused setup s (freed_by_failure t w) u p r is may stands named waits e =
 grant_excused setup s granting u p r is may stands named waits e = none_some e
 grant_excused setup s telling u p r is may stands named waits e = none_some e
 grant_excused setup s (checking v) u p r is may stands named waits e = none_some e
-grant_excused setup s (falling v) u p r is may stands named waits e = none_some e
+grant_excused setup s (emptying v) u p r is may stands named waits e = none_some e
 grant_excused setup s t u p r is may stands named waits e = absurd may
 
 grant_excuses : (setup : Setup) (s : State) (t : Stage) (u v : ℕ) (q : Queue) → MayGrant setup s t → Excuses t (next_stage t (Granted u q v))
@@ -138,7 +139,7 @@ grant_excuses setup s (freed_by_failure t w) u v q may ticket other e = other e
 grant_excuses setup s granting u v q may ticket other e = none_some e
 grant_excuses setup s telling u v q may ticket other e = none_some e
 grant_excuses setup s (checking w) u v q may ticket other e = none_some e
-grant_excuses setup s (falling w) u v q may ticket other e = none_some e
+grant_excuses setup s (emptying w) u v q may ticket other e = none_some e
 grant_excuses setup s t u v q may ticket other e = absurd may
 
 -- the failures of a ticket, by its row
@@ -235,7 +236,10 @@ module _ (setup : Setup) (s : State) where
   tried_after n t (Tick m) is may tried = stay setup t telling s.rows tried (λ ticket other. none_excused t (over_excuses_none setup s t may.over) ticket)
   tried_after n t (Check m v ok) is may tried =
       stay setup t (checking v) s.rows tried (λ ticket other. none_excused t (over_excuses_none setup s t may.over) ticket)
-  tried_after n t (Limit m v k) is may tried = stay setup t granting s.rows tried (λ ticket other. none_excused t (over_excuses_none setup s t may.over) ticket)
+  tried_after n t (Limit m v (Open k)) is may tried =
+      stay setup t granting s.rows tried (λ ticket other. none_excused t (over_excuses_none setup s t may.over) ticket)
+  tried_after n t (Limit m v Closed) is may tried =
+      stay setup t (emptying v) s.rows tried (λ ticket other. none_excused t (over_excuses_none setup s t may.over) ticket)
   tried_after n t (Fail m u) is may tried =
       let it = row_of_accepted (λ phase. not (has_a_slot phase)) setup s n u may.accepted in
       change_one setup t (failing u) s.rows u it.place it.row (failed setup) tried is.tickets it.stands it.named
@@ -289,10 +293,10 @@ module _ (setup : Setup) (s : State) where
       told_now setup telling telling s.rows u may.expired.0.0 may.row (in_phase (Told Timeout)) tried is.tickets may.expired.0.1 may.named
       (in_told may.row (Told Timeout) refl) (λ ticket differs other e. none_some e)
   tried_after n (checking w) (Health v true) is may tried = stay setup (checking w) granting s.rows tried (λ ticket other e. none_some e)
-  tried_after n (checking w) (Health v false) is may tried = stay setup (checking w) (falling v) s.rows tried (λ ticket other e. none_some e)
-  tried_after n (falling w) (Moved u v) is may tried =
+  tried_after n (checking w) (Health v false) is may tried = stay setup (checking w) (emptying v) s.rows tried (λ ticket other e. none_some e)
+  tried_after n (emptying w) (Moved u v) is may tried =
       let it = may.2 in
-      keeps_failures setup (falling w) (falling v) s.rows u it.live.0 it.row (in_backend_since s.moment) tried is.tickets it.live.1 it.named
+      keeps_failures setup (emptying w) (emptying v) s.rows u it.live.0 it.row (in_backend_since s.moment) tried is.tickets it.live.1 it.named
       (waiting_untold it.row.phase (in_queue_waits (Server v) it.row.phase it.waits)) (λ e. none_some e)
       (λ x e. ap (λ (y : Row). y.failures) (sym (same_Some (record it.row { pin = None; phase = Waiting Backend s.moment }) x e)))
       (λ ticket other e. none_some e)

@@ -7,12 +7,13 @@ use Rattle.std.proofs.lemmas.List.{length-map}
 use Rattle.std.proofs.lemmas.Bool.{and_parts}
 use Rattle.list_facts.proofs.Replicated.{count-replicate, none_in_empty}
 use Rattle.check_state.proofs.Shortened.{same_up}
+use Rattle.dispatch_log.specs.declared.allowance.Intake.TheVariants.{Open}
 use Rattle.dispatch_log.specs.declared.entry.Entry.{Entry}
 use Rattle.dispatch_log.specs.declared.entry.Entry.TheVariants.{Arrive, Done, Fail, Abort, Tick, Check, Limit, Direct}
 use Rattle.dispatch_log.specs.declared.entry.Entry.TheVariants.{Joined, Granted, Moved, Freed, Retried, Left, Health, Ended}
 use Rattle.dispatch_log.specs.declared.setup.ServerSet.{ServerSet}
 use Rattle.dispatch_log.specs.declared.setup.Setup.{Setup}
-use Rattle.dispatch_log.specs.Dispatch.{given_between}
+use Rattle.dispatch_log.specs.Dispatch.{bound_of, given_between}
 use Rattle.dispatch_log.specs.Refusals.{lacks_room, pins_to_none, tickets_are_spent, is_full, arrival_refusal}
 use Rattle.dispatch_log.specs.Setups.{IsSound, is_within, has_rise_and_fall}
 use Rattle.dispatch_log.specs.Grants.{IsSettled}
@@ -23,7 +24,7 @@ use Rattle.dispatch_log.specs.Legal.{IsBase, IsLegal}
 use Rattle.dispatch_log.specs.Rows.{has_ticket, rows_of, is_served_by, served}
 use Rattle.dispatch_log.specs.States.{State, after, after_all, opening_state, Point, next_point}
 use Rattle.dispatch_log.proofs.Accepted.{arrival_tests}
-use Rattle.dispatch_log.proofs.Dispatched.{dispatched, base_consistent}
+use Rattle.dispatch_log.proofs.Dispatched.{none_within, dispatched, base_consistent}
 use Rattle.dispatch_log.proofs.Judged.{places_all, limits_all}
 use Rattle.dispatch_log.proofs.Standing.{AreRowsBy, standing_all}
 use Rattle.dispatch_log.proofs.Staying.{KeepsTo, keeps_all}
@@ -37,7 +38,7 @@ pub opening_base : (setup : Setup) → IsBase setup (opening_state setup)
 opening_base setup = record {
   places = length-replicate setup.places None;
   checked = length-replicate (length setup.servers) [];
-  limited = length-map setup.servers (λ (it : ServerSet). record { limit = it.limit; served = 0 });
+  limited = length-map setup.servers (λ (it : ServerSet). record { limit = Open it.limit; served = 0 });
   numbered = omega arith;
   timed = omega arith;
   timed_rows = λ row live. absurd (none_in_empty setup.places live.0 row live.1);
@@ -45,8 +46,7 @@ opening_base setup = record {
   cursor = λ some. omega (arith, some);
   tried = λ row live untold. absurd (none_in_empty setup.places live.0 row live.1);
   dispatched = record {
-    limits = λ server some.
-        let none : served server (replicate setup.places None) ≡ 0 = count-replicate (is_served_by server) setup.places None refl in omega arith;
+    limits = λ server. none_within (bound_of (opening_state setup) server) _ (count-replicate (is_served_by server) setup.places None refl);
     one_place = λ ticket. record {
       arrives_once = none_between 0 ticket;
       until_its_end = refl;

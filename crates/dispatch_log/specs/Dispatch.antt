@@ -1,7 +1,9 @@
 -- What holds after every event of a dispatcher.
-use Rattle.std.specs.Prelude.{◌≡◌, ℕ, ◌+◌, ◌<◌, ◌≤◌, max, nat_le, nat_lt, ◌==◌, ◌&&◌, Bool, true, false, List, IsTrue, count_by, slice_get, if◌then◌else◌}
+use Rattle.std.specs.Prelude.{◌≡◌, ℕ, ◌+◌, ◌≤◌, max, Option, None, Some, IfSome, nat_le, nat_lt, ◌==◌, ◌&&◌, Bool, true, false, List, IsTrue, count_by, slice_get, if◌then◌else◌}
 use Rattle.std.specs.Option.{option_map_or}
 use Rattle.dispatch_log.specs.declared.allowance.Allowance.{Allowance}
+use Rattle.dispatch_log.specs.declared.allowance.Intake.{Intake}
+use Rattle.dispatch_log.specs.declared.allowance.Intake.TheVariants.{Open, Closed}
 use Rattle.dispatch_log.specs.declared.entry.Entry.{Entry}
 use Rattle.dispatch_log.specs.declared.entry.Entry.TheVariants.{Arrive, Ended}
 use Rattle.dispatch_log.specs.declared.row.Phase.{Phase}
@@ -12,17 +14,21 @@ use Rattle.dispatch_log.specs.Grants.{IsSettled}
 use Rattle.dispatch_log.specs.Rows.{IsRow, served, rows_of}
 use Rattle.dispatch_log.specs.States.{State, scene}
 
--- how many requests a server may be found to serve: none is stopped where its limit is set below what it serves; 0 where
--- it has no limit
-abbrev pub bound_by : Allowance → ℕ
-bound_by it = if it.limit == 0 then 0 else max it.limit it.served
+-- how many requests a server of a limit may be found to serve that served so many when the limit was set: none of those is
+-- stopped, and a closed one takes no other; none is said where it has no limit
+abbrev pub bound_from : Intake → ℕ → Option ℕ
+bound_from (Open limit) count = if limit == 0 then None else Some (max limit count)
+bound_from Closed count = Some count
 
-abbrev pub bound_of : State → ℕ → ℕ
-bound_of state server = option_map_or bound_by (slice_get state.limits server) 0
+abbrev pub bound_by : Allowance → Option ℕ
+bound_by it = bound_from it.limit it.served
+
+abbrev pub bound_of : State → ℕ → Option ℕ
+bound_of state server = option_map_or bound_by (slice_get state.limits server) None
 
 -- no server serves more than its bound
 abbrev pub KeepsLimits : State → Type 0
-KeepsLimits state = (server : ℕ) → 0 < bound_of state server → served server state.rows ≤ bound_of state server
+KeepsLimits state = (server : ℕ) → IfSome (bound_of state server) (λ bound. served server state.rows ≤ bound)
 
 abbrev pub is_arrival_of : ℕ → Entry → Bool
 is_arrival_of ticket (Arrive moment arrival) = arrival.ticket == ticket

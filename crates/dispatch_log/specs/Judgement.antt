@@ -4,6 +4,8 @@ use Rattle.std.specs.Option.{option_map_or}
 use Rattle.due_key.specs.Range.{IsBetween}
 use Rattle.due_key.specs.declared.class.TheConstants.{LOWEST_CLASS, HIGHEST_CLASS}
 use Rattle.due_key.specs.declared.offset.TheConstants.{LOWEST_OFFSET, HIGHEST_OFFSET}
+use Rattle.dispatch_log.specs.declared.allowance.Intake.{Intake}
+use Rattle.dispatch_log.specs.declared.allowance.Intake.TheVariants.{Open, Closed}
 use Rattle.dispatch_log.specs.declared.entry.Arrival.{Arrival}
 use Rattle.dispatch_log.specs.declared.entry.Entry.{Entry}
 use Rattle.dispatch_log.specs.declared.entry.Entry.TheVariants.{Arrive, Done, Fail, Abort, Tick, Check, Limit, Direct}
@@ -97,18 +99,18 @@ pub data Stage : Type 0 where
   telling : Stage
   -- whether a check changed the health of this server
   checking : ℕ → Stage
-  -- the requests that wait at this server, which went down, one by one
-  falling : ℕ → Stage
+  -- the requests that wait at this server, which went down or was closed, one by one
+  emptying : ℕ → Stage
   -- grants, as long as one is lawful, and then another event
   granting : Stage
 
 -- an event owes nothing any more but grants: no expired request, no word of a change of health, no request in the
--- queue of a server that went down where they are moved
+-- queue of a server that went down or was closed where they are moved
 abbrev pub IsOver : Setup → State → Stage → Type 0
 IsOver setup state granting = Unit {0}
 IsOver setup state telling = (row : Row) → IsExpired setup state row → ⊥
 IsOver setup state (checking server) = was_up setup state server ≡ is_up (scene setup state) server
-IsOver setup state (falling server) = IsTrue setup.redispatch → IsEmptyQueue (Server server) state.rows
+IsOver setup state (emptying server) = IsTrue setup.redispatch → IsEmptyQueue (Server server) state.rows
 IsOver setup state stage = ⊥
 
 -- grants may come: the event owes nothing else, or a request is redispatched, whose slot goes to another one first
@@ -165,9 +167,14 @@ MayCome point (aborting leaver) (Left ticket Aborted) = (ticket ≡ leaver) × I
 MayCome point telling (Left ticket Timeout) = IsFirstExpired point.setup point.state ticket
 MayCome point (checking checked) (Health server up) =
     (server ≡ checked) × (is_up (scene point.setup point.state) server ≡ up) × (was_up point.setup point.state server ≢ up)
-MayCome point (falling fallen) (Moved ticket server) =
-    (server ≡ fallen) × IsTrue point.setup.redispatch × IsFirstIn (Server server) point.state.rows ticket
+MayCome point (emptying emptied) (Moved ticket server) =
+    (server ≡ emptied) × IsTrue point.setup.redispatch × IsFirstIn (Server server) point.state.rows ticket
 MayCome point stage entry = ⊥
+
+-- what a new limit of a server opens with: where it is closed, the requests that wait at it
+abbrev pub limit_stage : ℕ → Intake → Stage
+limit_stage server (Open limit) = granting
+limit_stage server Closed = emptying server
 
 -- the stage after an entry
 abbrev pub next_stage : Stage → Entry → Stage
@@ -177,14 +184,14 @@ next_stage stage (Fail moment ticket) = failing ticket
 next_stage stage (Abort moment ticket) = aborting ticket
 next_stage stage (Tick moment) = telling
 next_stage stage (Check moment server ok) = checking server
-next_stage stage (Limit moment server limit) = granting
+next_stage stage (Limit moment server limit) = limit_stage server limit
 next_stage (failing leaver) (Freed ticket server) = freed_by_failure ticket server
 next_stage stage (Freed ticket server) = ending ticket
 next_stage (freed_by_failure leaver server) (Granted ticket queue taker) = freed_by_failure leaver server
 next_stage telling (Left ticket cause) = telling
 next_stage stage (Health server true) = granting
-next_stage stage (Health server false) = falling server
-next_stage stage (Moved ticket server) = falling server
+next_stage stage (Health server false) = emptying server
+next_stage stage (Moved ticket server) = emptying server
 next_stage stage entry = granting
 
 abbrev pub stage_after : Stage → List Entry → Stage

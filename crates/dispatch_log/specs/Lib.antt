@@ -14,9 +14,11 @@ pub mod Histories
 pub mod Dispatch
 pub mod Bounds
 pub mod Legal
+pub mod Closings
 pub mod Runs
 pub mod Determined
 pub mod Worked
 pub mod WorkedChanges
 pub mod WorkedRight
 pub mod WorkedWindows
+pub mod WorkedClosings

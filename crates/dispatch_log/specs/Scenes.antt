@@ -1,7 +1,9 @@
 -- What a server can take.
-use Rattle.std.specs.Prelude.{ℕ, ◌+◌, ◌==◌, nat_lt, ◌&&◌, ◌||◌, Bool, false, List, Option, None, Some, slice_get, slice_index_or, if◌then◌else◌}
+use Rattle.std.specs.Prelude.{ℕ, ◌+◌, ◌==◌, nat_lt, ◌&&◌, ◌||◌, Bool, true, false, List, Option, None, Some, slice_get, slice_index_or, if◌then◌else◌}
 use Rattle.std.specs.Option.{option_map_or}
 use Rattle.dispatch_log.specs.declared.allowance.Allowance.{Allowance}
+use Rattle.dispatch_log.specs.declared.allowance.Intake.{Intake}
+use Rattle.dispatch_log.specs.declared.allowance.Intake.TheVariants.{Open, Closed}
 use Rattle.dispatch_log.specs.declared.queue.Queue.{Queue}
 use Rattle.dispatch_log.specs.declared.queue.Queue.TheVariants.{Backend, Server}
 use Rattle.dispatch_log.specs.declared.row.Phase.{Phase}
@@ -21,9 +23,25 @@ pub record Scene : Type 0 where
 abbrev pub of_server : Scene → ℕ → (ServerSet → Bool) → Bool
 of_server scene server test = option_map_or test (slice_get scene.servers server) false
 
--- a server's present limit; 0 where it has none, and where no server has the number
-abbrev pub limit_of : Scene → ℕ → ℕ
-limit_of scene server = option_map_or (λ it. it.limit) (slice_get scene.limits server) 0
+-- a server's present limit; closed where no server has the number
+abbrev pub limit_of : Scene → ℕ → Intake
+limit_of scene server = option_map_or (λ it. it.limit) (slice_get scene.limits server) Closed
+
+-- open: not closed
+abbrev pub is_open : Intake → Bool
+is_open (Open limit) = true
+is_open Closed = false
+
+-- whether a server of a limit serves one more request beside so many; a closed one none
+abbrev pub serves_beside : Intake → ℕ → Bool
+serves_beside (Open limit) count = (limit == 0) || nat_lt count limit
+serves_beside Closed count = false
+
+-- whether balancing gives a server of a limit and a maxqueue one more beside so many that it serves and queues; a closed
+-- one none
+abbrev pub holds_beside : Intake → ℕ → ℕ → Bool
+holds_beside (Open limit) maxqueue count = (limit == 0) || nat_lt count (limit + maxqueue)
+holds_beside Closed maxqueue count = false
 
 -- up: the server's health lets it take requests
 abbrev pub is_up : Scene → ℕ → Bool
@@ -33,22 +51,22 @@ is_up scene server = slice_index_or scene.ups server false
 abbrev pub is_usable : Scene → ℕ → Bool
 is_usable scene server = is_up scene server && of_server scene server (λ it. nat_lt 0 it.weight)
 
--- free: the server serves fewer than its present limit, or has none
+-- free: the server isn't closed, and serves fewer than its present limit, or has none
 abbrev pub is_free : Scene → ℕ → Bool
-is_free scene server = of_server scene server (λ it. (limit_of scene server == 0) || nat_lt (served server scene.rows) (limit_of scene server))
+is_free scene server = of_server scene server (λ it. serves_beside (limit_of scene server) (served server scene.rows))
 
--- room: the server is usable, and has no limit, or serves and queues fewer than its limit plus maxqueue
+-- room: the server is usable and not closed, and has no limit, or serves and queues fewer than its limit plus maxqueue
 abbrev pub has_room : Scene → ℕ → Bool
 has_room scene server =
     is_usable scene server
-    && of_server scene server (λ it. (limit_of scene server == 0) || nat_lt (served server scene.rows + queued (Server server) scene.rows)
-    (limit_of scene server + it.maxqueue))
+    && of_server scene server (λ it. holds_beside (limit_of scene server) it.maxqueue (served server scene.rows + queued (Server server) scene.rows))
 
--- whether a server takes a request that is bound to it: where it is up, into a slot where it is free, and else into
--- its queue, which may be as long as maxqueue, or of any length where that is 0
+-- whether a server takes a request that is bound to it: where it is up and open, into a slot where it is free, and else
+-- into its queue, which may be as long as maxqueue, or of any length where that is 0
 abbrev pub takes_pinned : Scene → ℕ → Bool
 takes_pinned scene server =
     is_up scene server
+    && is_open (limit_of scene server)
     && (is_free scene server || of_server scene server (λ it. (it.maxqueue == 0) || nat_lt (queued (Server server) scene.rows) it.maxqueue))
 
 -- a pin whose server takes the request

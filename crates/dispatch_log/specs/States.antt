@@ -3,6 +3,8 @@ use Rattle.std.specs.Prelude.{ℕ, ◌+◌, ◌-◌, ◌==◌, Bool, true, List,
 use Rattle.std.specs.Option.{option_map_or}
 use Rattle.due_key.specs.declared.key.Key.{Key}
 use Rattle.dispatch_log.specs.declared.allowance.Allowance.{Allowance}
+use Rattle.dispatch_log.specs.declared.allowance.Intake.{Intake}
+use Rattle.dispatch_log.specs.declared.allowance.Intake.TheVariants.{Open}
 use Rattle.dispatch_log.specs.declared.entry.Arrival.{Arrival}
 use Rattle.dispatch_log.specs.declared.entry.Entry.{Entry}
 use Rattle.dispatch_log.specs.declared.entry.Entry.TheVariants.{Arrive, Done, Fail, Abort, Tick, Check, Limit, Direct}
@@ -28,9 +30,9 @@ pub record State : Type 0 where
   pub ticket : ℕ
   pub cursor : ℕ
 
--- at first each server may serve as many as its setup says
+-- at first each server is open to as many as its setup says
 abbrev pub opening_limits : List ServerSet → List Allowance
-opening_limits servers = map (λ server. record { limit = server.limit; served = 0 }) servers
+opening_limits servers = map (λ server. record { limit = Open server.limit; served = 0 }) servers
 
 -- no request, no check, no event yet; the last server counts as picked
 abbrev pub opening_state : Setup → State
@@ -75,7 +77,7 @@ abbrev pub cursor_after_granting : Setup → ℕ → ℕ → ℕ
 cursor_after_granting setup server cursor = if option_map_or (λ it. it.weight == 0) (slice_get setup.servers server) true then cursor else server
 
 -- a server's limit is set, and what it serves is noted
-abbrev pub with_limit : ℕ → ℕ → State → List Allowance
+abbrev pub with_limit : ℕ → Intake → State → List Allowance
 with_limit server limit state = slice_set state.limits server (record { limit = limit; served = served server state.rows })
 
 -- what an entry leaves: an arrival's row stands at its place, under the next ticket; a failure is counted as its event

@@ -1,6 +1,7 @@
 -- Worked logs of limits that change and of windows that follow one another: three that are legal, and others of which none
 -- is, each for one reason.
 use Rattle.std.specs.Prelude.{pos, List, [], ◌∷◌, ◌++◌, None, Some, false}
+use Rattle.dispatch_log.specs.declared.allowance.Intake.TheVariants.{Open}
 use Rattle.dispatch_log.specs.declared.entry.Entry.{Entry}
 use Rattle.dispatch_log.specs.declared.entry.Entry.TheVariants.{Arrive, Done, Limit, Direct, Joined, Granted, Freed, Ended}
 use Rattle.dispatch_log.specs.declared.queue.Queue.TheVariants.{Backend}
@@ -28,23 +29,23 @@ two_are_served =
 
 -- the limit is raised to 3, and 3 takes the new slot
 abbrev pub raised_limit_grants : List Entry
-raised_limit_grants = two_are_served ++ Limit 3 0 3 ∷ Granted 3 Backend 0 ∷ []
+raised_limit_grants = two_are_served ++ Limit 3 0 (Open 3) ∷ Granted 3 Backend 0 ∷ []
 
 -- the limit is lowered to 1, and 1 ends: 2 is still served, and 3 waits on
 abbrev pub lowered_limit_is_reached : List Entry
-lowered_limit_is_reached = two_are_served ++ Limit 3 0 1 ∷ Done 4 1 ∷ Freed 1 0 ∷ Ended 1 ∷ []
+lowered_limit_is_reached = two_are_served ++ Limit 3 0 (Open 1) ∷ Done 4 1 ∷ Freed 1 0 ∷ Ended 1 ∷ []
 
 -- the limit is lowered to 1, and 1 ends: 2 is still served, and 3 is served beside it
 abbrev pub grant_at_the_lowered_limit : List Entry
-grant_at_the_lowered_limit = two_are_served ++ Limit 3 0 1 ∷ Done 4 1 ∷ Freed 1 0 ∷ Ended 1 ∷ Granted 3 Backend 0 ∷ []
+grant_at_the_lowered_limit = two_are_served ++ Limit 3 0 (Open 1) ∷ Done 4 1 ∷ Freed 1 0 ∷ Ended 1 ∷ Granted 3 Backend 0 ∷ []
 
 -- the limit is raised to 3, and the new slot stays idle
 abbrev pub raised_limit_grants_nothing : List Entry
-raised_limit_grants_nothing = two_are_served ++ Limit 3 0 3 ∷ []
+raised_limit_grants_nothing = two_are_served ++ Limit 3 0 (Open 3) ∷ []
 
 -- the limit of a server that isn't there
 abbrev pub limit_of_no_server : List Entry
-limit_of_no_server = two_are_served ++ Limit 3 1 3 ∷ []
+limit_of_no_server = two_are_served ++ Limit 3 1 (Open 3) ∷ []
 
 -- the window after another, with its own log
 abbrev pub windows : History → List Entry → History

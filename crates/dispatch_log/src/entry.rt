@@ -1,6 +1,7 @@
 ghost use Rattle.std.specs.Prelude.{◌≡◌};
 ghost use Rattle.dispatch_log.specs.States.{key_of};
 
+use crate::allowance::Intake;
 use crate::queue::Queue;
 use due_key::{Class, Due, Key, Moment};
 use verdict::Cause;
@@ -55,8 +56,8 @@ pub enum Entry {
     Tick(Moment),
     /// Event: a check of the server ended; it answered, or not.
     Check(Moment, usize, bool),
-    /// Event: the server may serve so many requests at once from now on; 0: no limit.
-    Limit(Moment, usize, u32),
+    /// Event: the server takes so many requests from now on, or none.
+    Limit(Moment, usize, Intake),
     /// The ticket takes a slot of the server as it arrives.
     Direct(u64, usize),
     /// The ticket begins to wait in the queue.

@@ -1,4 +1,5 @@
 ghost use Rattle.dispatch_log.specs.Bounds.{IsWithin};
+ghost use Rattle.dispatch_log.specs.Closings.{ClosedTakeNobody, ClosedServeNoMore};
 ghost use Rattle.dispatch_log.specs.Determined.{events, unplaced, AreSameButForPlaces, IsSameButForPlaces, AreSameHistories, AreRefusedAlike};
 ghost use Rattle.dispatch_log.specs.Dispatch.{IsDispatched};
 ghost use Rattle.dispatch_log.specs.Histories.{History, state_of, next_window, begins_event};
@@ -13,6 +14,7 @@ ghost use Rattle.dispatch_log.specs.Runs.{Call, IsRun};
 ghost use Rattle.dispatch_log.specs.Worked.{worked, worked_by_two, worked_by_weights, worked_by_queues, worked_by_room, first_come_first_served, idle_slot, grant_above_the_limit, due_date_of_no_offset, class_out_of_range, moment_out_of_range, end_is_missing, ticket_left_out, backend_head_first, more_loaded_server, tie_against_the_cursor, loads_without_weights, loads_without_queues, waits_beside_room};
 ghost use Rattle.dispatch_log.specs.WorkedRight.{redispatch_to_the_other_server, told_by_rising_ticket, fall_moves_its_queue};
 ghost use Rattle.dispatch_log.specs.WorkedWindows.{worked_by_pairs, raised_limit_grants, lowered_limit_is_reached, waits_of_the_base_are_served, grant_at_the_lowered_limit, raised_limit_grants_nothing, limit_of_no_server, class_of_the_base_is_out_of_range, due_date_of_the_base_is_too_late, wait_of_the_base_is_to_come, waits_of_the_base_are_forgotten, cursor_is_reset, tickets_begin_anew};
+ghost use Rattle.dispatch_log.specs.WorkedClosings.{closed_server_serves_on, opened_server_grants, waits_for_an_opening, pin_to_a_closed_server_is_ignored, closing_moves_its_queue, grant_at_a_closed_server, closing_stops_a_request, opened_server_grants_nothing, waits_for_a_closed_server, balanced_to_a_closed_server, no_server_beside_a_closed_one, closing_leaves_its_queue, closing_moves_without_redispatch};
 ghost use Rattle.dispatch_log.specs.WorkedChanges.{worked_with_checks, worked_in_time, worked_with_a_retry, retry_past_the_retries, failure_counted_twice, redispatch_keeps_the_pin, redispatch_to_the_failed_server, redispatch_before_the_grant, no_server_beside_a_usable_one, told_one_millisecond_early, told_by_falling_ticket, expired_and_not_told, abort_of_a_served_request, failure_of_a_waiting_request, fall_leaves_its_queue, moves_by_ticket, grant_before_the_moves, rise_grants_nothing, rise_is_not_told, down_after_its_rise, down_though_it_answers, fall_grants_nothing, moved_without_a_fall, redispatched_by_a_new_due_date, served_by_a_fallen_server};
 
 /// The law of legal logs: whatever was asked of a dispatcher, in whatever order, as long as its
@@ -20,6 +22,13 @@ ghost use Rattle.dispatch_log.specs.WorkedChanges.{worked_with_checks, worked_in
 /// free slot faces a request that may take it.
 pub fn legal_logs_are_dispatched()
     ensures { (history : History) → IsLegal history → IsDispatched history }
+{}
+
+/// The law of closed servers: from where a server is closed to where its limit is set again, no entry
+/// gives a request a slot of it or a stay in its queue, and it serves no more than when it was closed.
+pub fn closed_servers_take_nobody()
+    ensures given { ClosedTakeNobody }
+    ensures served { ClosedServeNoMore }
 {}
 
 /// The law of bounds: a legal log keeps within its setup, whose places are as many as its rows' places,
@@ -76,6 +85,11 @@ pub fn worked_logs_are_legal()
     ensures raised_limit_grants { IsLegal (worked_by_pairs raised_limit_grants) }
     ensures lowered_limit_is_reached { IsLegal (worked_by_pairs lowered_limit_is_reached) }
     ensures waits_of_the_base_are_served { IsLegal waits_of_the_base_are_served }
+    ensures closed_server_serves_on { IsLegal (worked_by_pairs closed_server_serves_on) }
+    ensures opened_server_grants { IsLegal (worked_by_pairs opened_server_grants) }
+    ensures waits_for_an_opening { IsLegal (worked_by_pairs waits_for_an_opening) }
+    ensures pin_to_a_closed_server_is_ignored { IsLegal (worked_with_checks pin_to_a_closed_server_is_ignored) }
+    ensures closing_moves_its_queue { IsLegal (worked_with_checks closing_moves_its_queue) }
 {}
 
 /// The law of wrong logs: none of these, each wrong in one way, is legal.
@@ -125,4 +139,12 @@ pub fn wrong_logs_are_not_legal()
     ensures waits_of_the_base_are_forgotten { IsLegal waits_of_the_base_are_forgotten → ⊥ }
     ensures cursor_is_reset { IsLegal cursor_is_reset → ⊥ }
     ensures tickets_begin_anew { IsLegal tickets_begin_anew → ⊥ }
+    ensures grant_at_a_closed_server { IsLegal (worked_by_pairs grant_at_a_closed_server) → ⊥ }
+    ensures closing_stops_a_request { IsLegal (worked_by_pairs closing_stops_a_request) → ⊥ }
+    ensures opened_server_grants_nothing { IsLegal (worked_by_pairs opened_server_grants_nothing) → ⊥ }
+    ensures waits_for_a_closed_server { IsLegal (worked_with_checks waits_for_a_closed_server) → ⊥ }
+    ensures balanced_to_a_closed_server { IsLegal (worked_by_queues balanced_to_a_closed_server) → ⊥ }
+    ensures no_server_beside_a_closed_one { IsLegal (worked no_server_beside_a_closed_one) → ⊥ }
+    ensures closing_leaves_its_queue { IsLegal (worked_with_checks closing_leaves_its_queue) → ⊥ }
+    ensures closing_moves_without_redispatch { IsLegal (worked closing_moves_without_redispatch) → ⊥ }
 {}

@@ -10,12 +10,12 @@ mod refusal;
 mod row;
 mod setup;
 
-pub use allowance::Allowance;
+pub use allowance::{Allowance, Intake};
 pub use entry::{Arrival, Entry};
 pub use laws::{
-    calls_are_determined, entries_go_on_from_entries, legal_logs_are_determined,
-    legal_logs_are_dispatched, legal_logs_keep_within, runs_are_dispatched, windows_begin_at_bases,
-    worked_logs_are_legal, wrong_logs_are_not_legal,
+    calls_are_determined, closed_servers_take_nobody, entries_go_on_from_entries,
+    legal_logs_are_determined, legal_logs_are_dispatched, legal_logs_keep_within,
+    runs_are_dispatched, windows_begin_at_bases, worked_logs_are_legal, wrong_logs_are_not_legal,
 };
 pub use queue::{Queue, order_of_queues};
 pub use refusal::Refusal;

@@ -2,7 +2,7 @@ ghost use Rattle.std.specs.Prelude.{◌≡◌, ◌↔◌, IfOk, IsTrue};
 ghost use Rattle.dispatch_log.specs.States.{opening_limits};
 ghost use Rattle.dispatch_log.specs.Setups.{IsSound};
 
-use crate::allowance::Allowance;
+use crate::allowance::{Allowance, Intake};
 use list_facts::Items;
 use std::alloc::{AllocError, Global};
 
@@ -65,7 +65,7 @@ impl Setup {
         let mut limits = Vec::with_capacity(alloc, servers.len())?;
         for server in servers {
             limits.push_reserved(Allowance {
-                limit: server.limit,
+                limit: Intake::Open(server.limit),
                 served: 0,
             });
         }

@@ -9,7 +9,7 @@ use self::facts::Fact;
 use self::setups::Plan;
 use self::steps::{Step, play};
 use dispatch_core::{Phase, Queue, Refusal};
-use dispatch_log::{Arrival, Entry};
+use dispatch_log::{Arrival, Entry, Intake};
 use due_key::{Class, Due, Offset};
 use verdict::Cause;
 
@@ -332,15 +332,15 @@ fn a_risen_limit_grants(rt: HostRuntime) {
         Step::Call(0, arrive(0, 0)),
         Step::Call(1, arrive(0, 0)),
         Step::Call(2, arrive(0, -5)),
-        Step::Call(3, Call::Limit(0, 2)),
-        Step::Entry(6, Entry::Limit(moment(3), 0, 2)),
+        Step::Call(3, Call::Limit(0, Intake::Open(2))),
+        Step::Entry(6, Entry::Limit(moment(3), 0, Intake::Open(2))),
         Step::Entry(7, Entry::Granted(3, Queue::Backend, 0)),
         Step::Tells(Fact::Entries(8)),
-        Step::Call(4, Call::Limit(0, 0)),
-        Step::Entry(8, Entry::Limit(moment(4), 0, 0)),
+        Step::Call(4, Call::Limit(0, Intake::Open(0))),
+        Step::Entry(8, Entry::Limit(moment(4), 0, Intake::Open(0))),
         Step::Entry(9, Entry::Granted(2, Queue::Backend, 0)),
         Step::Tells(Fact::Entries(10)),
-        Step::Refused(5, Call::Limit(1, 1), Refusal::NoSuchServer),
+        Step::Refused(5, Call::Limit(1, Intake::Open(1)), Refusal::NoSuchServer),
     ];
     play(&rt, rt.alloc(), Plan::Alone, &steps);
 }
@@ -350,10 +350,10 @@ fn a_lowered_limit_stops_nobody(rt: HostRuntime) {
     let steps = [
         Step::Call(0, arrive(0, 0)),
         Step::Call(0, arrive(0, 0)),
-        Step::Call(1, Call::Limit(0, 1)),
+        Step::Call(1, Call::Limit(0, Intake::Open(1))),
         Step::Call(2, arrive(0, 0)),
         Step::Call(3, Call::Done(1)),
-        Step::Entry(4, Entry::Limit(moment(1), 0, 1)),
+        Step::Entry(4, Entry::Limit(moment(1), 0, Intake::Open(1))),
         Step::Entry(5, arrived(2, 3, 0, 2)),
         Step::Entry(6, Entry::Joined(3, Queue::Backend)),
         Step::Entry(7, Entry::Done(moment(3), 1)),
@@ -401,4 +401,21 @@ fn a_full_log_has_room_after_a_roll(rt: HostRuntime) {
         Step::Tells(Fact::BaseRows(1)),
     ];
     play(&rt, rt.alloc(), Plan::Cramped, &steps);
+}
+
+#[test]
+fn a_closed_server_serves_on_and_takes_nobody(rt: HostRuntime) {
+    let steps = [
+        Step::Call(0, arrive(0, 0)),
+        Step::Call(1, Call::Limit(0, Intake::Closed)),
+        Step::Call(2, pinned(0, 0)),
+        Step::Entry(2, Entry::Limit(moment(1), 0, Intake::Closed)),
+        Step::Entry(4, Entry::Joined(2, Queue::Backend)),
+        Step::Call(3, Call::Done(1)),
+        Step::LastEntry(Entry::Ended(1)),
+        Step::Tells(Fact::Served(0, 0)),
+        Step::Call(4, Call::Limit(0, Intake::Open(1))),
+        Step::LastEntry(Entry::Granted(2, Queue::Backend, 0)),
+    ];
+    play(&rt, rt.alloc(), Plan::Alone, &steps);
 }

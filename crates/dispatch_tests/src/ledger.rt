@@ -2,7 +2,7 @@ ghost use Rattle.std.specs.Prelude.{◌≡◌, ℕ, ◌<◌, None, length, repli
 ghost use Rattle.slot_ledger.specs.Slots.{AreBelow};
 
 use crate::assertions::{holds, same};
-use dispatch_log::{Allowance, Phase, Queue, Row, ServerSet, Servers, Setup};
+use dispatch_log::{Allowance, Intake, Phase, Queue, Row, ServerSet, Servers, Setup};
 use due_key::{Class, Due, Key, Moment, Offset};
 use slot_ledger::Ledger;
 use std::alloc::Global;
@@ -244,10 +244,14 @@ fn set_a_limit(rt: &impl Abort, ledger: &mut Ledger<char>)
         ledger.cell(place),
         Some(row_of(5, None, Phase::Serving(0))),
     );
-    ledger.set_limit(0, 3);
-    same(rt, (ledger.limit(0), ledger.limit(1)), (3, 1));
+    ledger.set_limit(0, Intake::Open(3));
+    same(
+        rt,
+        (ledger.limit(0), ledger.limit(1)),
+        (Intake::Open(3), Intake::Open(1)),
+    );
     let noted = Allowance {
-        limit: 3,
+        limit: Intake::Open(3),
         served: 1,
     };
     same(rt, ledger.limits().first().copied(), Some(noted));

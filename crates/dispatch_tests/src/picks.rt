@@ -1,7 +1,7 @@
 ghost use Rattle.std.specs.Prelude.{◌≡◌, None, length, replicate};
 
 use crate::assertions::{holds, same};
-use dispatch_log::{Phase, Queue, Row, ServerSet, Servers, Setup};
+use dispatch_log::{Intake, Phase, Queue, Row, ServerSet, Servers, Setup};
 use due_key::{Class, Due, Key, Moment, Offset};
 use server_pick::{Cursor, Heads, Placement, Set64, candidates, next_queue, next_taker, place};
 use slot_ledger::Ledger;
@@ -13,7 +13,7 @@ use std::process::Abort;
 enum Step {
     Down(usize),
     Up(usize),
-    Limit(usize, u32),
+    Limit(usize, Intake),
     // Where a request with this pin that avoids this server is put.
     Place(Option<usize>, Option<usize>, Placement),
     // Whether this server is a candidate for a request that avoids that one.
@@ -49,7 +49,7 @@ fn set_up(rt: &impl Abort, ledger: &mut Ledger<char>, server: usize, up: bool) {
     ledger.set_up(server, up);
 }
 
-fn set_limit(rt: &impl Abort, ledger: &mut Ledger<char>, server: usize, limit: u32) {
+fn set_limit(rt: &impl Abort, ledger: &mut Ledger<char>, server: usize, limit: Intake) {
     holds(rt, server < ledger.setup().servers.len());
     ledger.set_limit(server, limit);
 }
@@ -163,10 +163,12 @@ fn a_server_takes_up_to_its_present_limit(rt: HostRuntime) {
     let mut ledger = three_servers(&rt, rt.alloc());
     serve_one(&mut ledger);
     let steps = [
-        Step::Limit(0, 2),
+        Step::Limit(0, Intake::Open(2)),
         Step::Place(Some(0), None, Placement::Slot(0)),
-        Step::Limit(0, 1),
+        Step::Limit(0, Intake::Open(1)),
         Step::Place(Some(0), None, Placement::OwnQueue(0)),
+        Step::Limit(0, Intake::Closed),
+        Step::Place(Some(0), None, Placement::Slot(1)),
     ];
     play(&rt, &mut ledger, &steps);
     drop(ledger);

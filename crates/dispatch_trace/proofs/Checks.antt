@@ -7,6 +7,7 @@ use Rattle.dispatch_log.specs.declared.entry.Entry.TheVariants.{Check, Limit}
 use Rattle.dispatch_log.specs.Health.{ups_of, with_result}
 use Rattle.dispatch_log.specs.Histories.{state_of, effective, refuses_check, refuses_limit}
 use Rattle.dispatch_log.specs.declared.allowance.Allowance.{Allowance}
+use Rattle.dispatch_log.specs.declared.allowance.Intake.{Intake}
 use Rattle.dispatch_log.specs.Rows.{Rows, served}
 use Rattle.slot_ledger.specs.Ledgers.{with_up, with_limit}
 use Rattle.slot_ledger.specs.Slots.{rows_in}
@@ -47,7 +48,7 @@ module _ {N : Type 0} (pair_of : N → Key × ℕ) where
       is.holds.limits
       (moment_moved t.position s now is.holds.position)
 
-  pub limit_kept : (t : Traced N) (server limit moment now : ℕ) → IsTrace pair_of t
+  pub limit_kept : (t : Traced N) (server : ℕ) (limit : Intake) (moment now : ℕ) → IsTrace pair_of t
       → MayBeginNext (history_of t) moment (refuses_limit (history_of t) server) → now ≡ max t.position.last moment
       → IsTrace pair_of
       (record {

@@ -10,7 +10,7 @@ use Rattle.dispatch_log.specs.declared.queue.Queue.TheVariants.{Backend, Server}
 use Rattle.dispatch_log.specs.declared.row.Phase.TheVariants.{Waiting}
 use Rattle.dispatch_log.specs.declared.row.Row.{Row}
 use Rattle.dispatch_log.specs.Histories.{History, state_of, end_of}
-use Rattle.dispatch_log.specs.Judgement.{Stage, falling, MayCome, IsFirstIn}
+use Rattle.dispatch_log.specs.Judgement.{Stage, emptying, MayCome, IsFirstIn}
 use Rattle.dispatch_log.specs.Rows.{waits_in, queued, in_backend_since}
 use Rattle.dispatch_log.specs.States.{State}
 use Rattle.dispatch_log.proofs.Judged.{after_all-push}
@@ -36,12 +36,12 @@ module _ {N : Type 0} (pair_of : N → Key × ℕ) where
   -- what a move's call found
   pub record MoveCalls (t : Traced N) (server place : ℕ) (waiter : Waiter) : Type 0 where
     pub before : IsTrace pair_of t
-    pub stage : stage_of (history_of t) ≡ falling server
+    pub stage : stage_of (history_of t) ≡ emptying server
     pub redispatch : IsTrue t.kept.setup.redispatch
     pub first : IsFirstListed (Server server) t.waits.waiters place waiter
 
   pub move_calls : (t : Traced N) (now : History) (server place : ℕ) (waiter : Waiter) → IsTrace pair_of t → history_of t ≡ now
-      → stage_of now ≡ falling server → IsTrue now.setup.redispatch → IsFirstListed (Server server) t.waits.waiters place waiter
+      → stage_of now ≡ emptying server → IsTrue now.setup.redispatch → IsFirstListed (Server server) t.waits.waiters place waiter
       → MoveCalls t server place waiter
   move_calls t now server place waiter is same stage redispatch first = record {
     before = is;

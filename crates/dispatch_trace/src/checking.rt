@@ -8,7 +8,7 @@ ghost use Rattle.dispatch_trace.specs.Traces.{is_up_at};
 ghost use Rattle.dispatch_trace.specs.Histories.{with_entry, MayComeNext, MayAccept};
 
 use crate::trace::Trace;
-use dispatch_log::{Entry, Refusal, Setup};
+use dispatch_log::{Entry, Intake, Refusal, Setup};
 use due_key::{Key, Moment};
 use pend_queue::PendQueue;
 
@@ -49,8 +49,8 @@ impl<Q: PendQueue<Key, usize>> Trace<Q> {
         None
     }
 
-    /// A server may serve so many requests from now on; 0: no limit. `O(1)`.
-    pub fn limit(&mut self, moment: Moment, server: usize, limit: u32)
+    /// A server takes so many requests from now on, or none. `O(1)`.
+    pub fn limit(&mut self, moment: Moment, server: usize, limit: Intake)
         requires begins { MayAccept self.old (refuses_limit self.old server) }
         requires within { server < length self.old.setup.servers }
         requires room { length self.old.log < self.old.setup.log }

@@ -2,7 +2,7 @@ ghost use Rattle.std.specs.Prelude.{◌≡◌, ◌+◌, ◌<◌, ◌≤◌, IsTr
 ghost use Rattle.std.specs.Bool.{OnTrue, OnFalse};
 ghost use Rattle.dispatch_log.specs.declared.queue.Queue.TheVariants.{Server};
 ghost use Rattle.dispatch_log.specs.Histories.{state_of};
-ghost use Rattle.dispatch_log.specs.Judgement.{falling};
+ghost use Rattle.dispatch_log.specs.Judgement.{emptying};
 ghost use Rattle.dispatch_log.specs.Rows.{queued};
 ghost use Rattle.dispatch_trace.specs.Histories.{stage_of, IsMove, IsEmptied};
 
@@ -16,7 +16,7 @@ impl<Q: PendQueue<Key, usize>> Trace<Q> {
     /// Moves the first request of a server's queue into the backend's. Answers whether there was one.
     /// The queue's own cost beside `O(1)`.
     pub fn move_first(&mut self, server: usize) -> bool
-        requires falling { stage_of self.old ≡ falling server }
+        requires emptying { stage_of self.old ≡ emptying server }
         requires redispatch { IsTrue self.old.setup.redispatch }
         requires within { server < length self.old.setup.servers }
         requires room { length self.old.log + queued (Server server) (state_of self.old).rows ≤ self.old.setup.log }

@@ -14,7 +14,7 @@ use Rattle.verdict.specs.declared.Ending.TheVariants.{Done, Failed}
 use Rattle.grant_board.specs.declared.view.View.{View}
 use Rattle.grant_board.specs.BoardWords.{code_of, encode_of, IsWord, IsWordAmong, nonzero}
 use Rattle.list_facts.specs.Weights.{total, along}
-use Rattle.grant_board.specs.Views.{Terms, KeeperView, KeeperPart, RelayView}
+use Rattle.grant_board.specs.Views.{first_mark, Terms, KeeperView, KeeperPart, RelayView}
 use Rattle.grant_board.specs.Rule.{BoardState, standing, offered, taken, posted, as_return, of_relays}
 use Rattle.grant_board.specs.Rule.{is_first, is_other, split_off, joined_in, Agrees, Orderly}
 use Rattle.grant_board.specs.Ruled.{view, at_rest}
@@ -40,14 +40,14 @@ each_empty P p zero = tt
 each_empty P p (suc n) = (p, each_empty P p n)
 
 -- a board with empty words, the limits for bounds, one keeper and its first seat
-pub opens : (t : Terms) → Orderly t (opening (replicate t.places 0 ++ t.limits) [] (view (at_rest (new_keeper t) ∷ []) (new_relay t true ∷ [])))
+pub opens : (t : Terms) → Orderly t (opening (replicate t.places 0 ++ map first_mark t.limits) [] (view (at_rest (new_keeper t) ∷ []) (new_relay t true ∷ [])))
 opens t =
     let cells : List Word = replicate t.places Empty in record {
       cells = cells;
-      bounds = t.limits;
-      words = ap (λ (ws : List ℕ). ws ++ t.limits) (words-empty t.places);
+      bounds = map first_mark t.limits;
+      words = ap (λ (ws : List ℕ). ws ++ map first_mark t.limits) (words-empty t.places);
       long = length-replicate t.places Empty;
-      servers = refl;
+      servers = length-map t.limits first_mark;
       valid = each_empty IsWord tt t.places;
       among = each_empty (IsWordAmong (length t.limits)) tt t.places;
       one_keeper = refl;
@@ -62,8 +62,8 @@ opens t =
       agree = first_agrees;
     }
   where
-    first_agrees : (j : ℕ) (v : View) → get_elem? (view (at_rest (new_keeper t) ∷ []) (new_relay t true ∷ []) ∷ []) j ≡ some v → Agrees t t.limits v
-    first_agrees zero v e = subst (Agrees t t.limits) (some-injective (view (at_rest (new_keeper t) ∷ []) (new_relay t true ∷ [])) v e) (
+    first_agrees : (j : ℕ) (v : View) → get_elem? (view (at_rest (new_keeper t) ∷ []) (new_relay t true ∷ []) ∷ []) j ≡ some v → Agrees t (map first_mark t.limits) v
+    first_agrees zero v e = subst (Agrees t (map first_mark t.limits)) (some-injective (view (at_rest (new_keeper t) ∷ []) (new_relay t true ∷ [])) v e) (
       ((refl, refl), tt),
       (refl, tt),
     )
@@ -149,7 +149,7 @@ closes t s o j k r left me first settled is =
     subst (λ (x : Terms). (y : Orderly x s) → left ≡ along (standing (λ _. 1)) 0 y.cells
     → IsClosed k.view r left) same (λ y at. closes_at k s y j r left me first settled at) o is
 
-pub opens_at : (t : Terms) (words : List ℕ) → words ≡ replicate t.places 0 ++ t.limits → Orderly t (opening words [] (opened t))
+pub opens_at : (t : Terms) (words : List ℕ) → words ≡ replicate t.places 0 ++ map first_mark t.limits → Orderly t (opening words [] (opened t))
 opens_at t words is = subst (λ (ws : List ℕ). Orderly t (opening ws [] (opened t))) (sym is) (opens t)
 
 pub nonzero-no : (n : ℕ) → n ≡ 0 → nonzero n ≡ 0

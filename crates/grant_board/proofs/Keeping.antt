@@ -56,7 +56,7 @@ pub record MayOffer (k : KeeperView) (p ticket : ℕ) (verdict : Verdict) : Type
   pub free : count_at p k.out ≡ 0
   pub word : IsWord (Offered ticket verdict)
   pub among : IsAmong (length k.terms.limits) verdict
-  pub room : (n : ℕ) → 0 < slice_index k.bounds n → 0 < serves_at n verdict → count_of n k.out < slice_index k.bounds n
+  pub room : (n : ℕ) → 0 < slice_index k.bounds n → 0 < serves_at n verdict → count_of n k.out + 1 < slice_index k.bounds n
 
 pub offered_kept : (t : Terms) (slots id : ℕ) (k : KeeperPart) (p ticket : ℕ) (d : Verdict) (new : ℕ) → new ≡ encode_of (Offered ticket d)
     → MayOffer k.view p ticket d
@@ -238,7 +238,7 @@ limited_kept t slots id k server i new at may s o wide me _ =
     let all : (n : ℕ) → of_keepers (λ x. count_of n x.view.out) s.views ≡ count_of n k.view.out = λ n.
     keeper_alone t s o id k [] me (λ x. count_of n x.view.out) in
     let near : server < length o.bounds = omega (arith, may.0, o.servers, ap (λ (x : Terms). length x.limits) agree.0) in
-    let bounded : (n : ℕ) → 0 < slice_index (set o.bounds server new) n → count_of n k.view.out ≤ slice_index (set o.bounds server new) n =
+    let bounded : (n : ℕ) → 0 < slice_index (set o.bounds server new) n → count_of n k.view.out < slice_index (set o.bounds server new) n =
     λ n some_bound. dite (ℕ_discrete n server)
     (λ e.
     let now : slice_index (set o.bounds server new) n ≡ new = ap (λ (m : ℕ). slice_index (set o.bounds server new) m) e

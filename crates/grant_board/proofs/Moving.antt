@@ -43,7 +43,7 @@ pub record Owes (t : Terms) (s : BoardState) (o : Orderly t s) (bounds : List �
       (λ (r : RelayView). total h r.posts) v.relays
       ≡ total (λ (k : KeeperPart). total h k.view.returns) v.keepers + gone (posted (as_return h)) + total (λ (r : RelayView). total h r.posts) w.relays
   pub bounded : (n : ℕ) → 0 < slice_index bounds n
-      → of_keepers (λ k. count_of n k.view.out) s.views + total (λ (k : KeeperPart). count_of n k.view.out) w.keepers ≤ slice_index bounds n + total
+      → of_keepers (λ k. count_of n k.view.out) s.views + total (λ (k : KeeperPart). count_of n k.view.out) w.keepers < slice_index bounds n + total
       (λ (k : KeeperPart). count_of n k.view.out) v.keepers
   pub sight : (h : Sighting → ℕ) → of_keepers (λ k. total h k.sight) s.views + total (λ (k : KeeperPart). total h k.sight) w.keepers + gone (posted h)
       ≤ along (posted h) 0 o.cells + come (posted h) + total (λ (k : KeeperPart). total h k.sight) v.keepers

@@ -171,9 +171,9 @@ takes_one slots p old new n m x ticket d told word was is =
 pub keeper_table : (a : TableId) (v : KeeperView) (x : Keeper) (b n : TableId) → record { board = a; view = v } ≡ x → x.board ≡ n → b ≡ n → a ≡ b
 keeper_table a v x b n is same other = ap (λ (y : Keeper). y.board) is ∙ (same ∙ sym other)
 
-bound_of : (k : KeeperView) (d : Verdict) (n : ℕ) → HasRoom k d → 0 < slice_index k.bounds n → 0 < serves_at n d → count_of n k.out < slice_index k.bounds n
+bound_of : (k : KeeperView) (d : Verdict) (n : ℕ) → HasRoom k d → 0 < slice_index k.bounds n → 0 < serves_at n d → count_of n k.out + 1 < slice_index k.bounds n
 bound_of k (Serve s) n room some_bound serves = dite (ℕ_discrete s n)
-    (λ same. subst (λ (m : ℕ). 0 < slice_index k.bounds m → count_of m k.out < slice_index k.bounds m) same room.1 some_bound)
+    (λ same. subst (λ (m : ℕ). 0 < slice_index k.bounds m → count_of m k.out + 1 < slice_index k.bounds m) same room.1 some_bound)
     (λ other. absurd (omega (arith, serves_at-other n s other)))
 bound_of k (Told cause) n room some_bound serves = absurd (omega arith)
 

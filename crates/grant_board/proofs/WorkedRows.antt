@@ -1,5 +1,5 @@
 -- Worked rows for the definitions: what must hold, and what must not.
-use Rattle.std.proofs.Common.{◌≡◌, ℕ, zero, suc, List, [], ◌∷◌, slice_index, refl, ap, sym, subst, true, arith}
+use Rattle.std.proofs.Common.{◌≡◌, ℕ, ◌<◌, zero, suc, List, [], ◌∷◌, slice_index, refl, ap, sym, subst, true, arith}
 use mathlib.Core.Option.{some, some-injective, some-ne-none}
 use lib.ListN.{get_elem?}
 use Rattle.verdict.specs.declared.cause.Cause.TheVariants.{Aborted, NoServer}
@@ -66,11 +66,16 @@ only_view : (t : Terms) (bounds : List ℕ) (v : View) → Agrees t bounds v →
 only_view t bounds v agrees zero u e = subst (Agrees t bounds) (some-injective v u e) agrees
 only_view t bounds v agrees (suc j) u e = absurd (some-ne-none u (sym e))
 
+-- the one mark
+one_mark : (m n : ℕ) → 0 < slice_index (m ∷ []) n → slice_index (m ∷ []) n ≡ m
+one_mark m zero marked = refl
+one_mark m (suc n) marked = absurd (omega (arith, marked))
+
 -- where ticket 7 is offered, its keeper knows that it is out
-pub knows_what_is_out : Orderly one_place (with_words offered (new_relay one_place true) (7169 ∷ 1 ∷ []))
+pub knows_what_is_out : Orderly one_place (with_words offered (new_relay one_place true) (7169 ∷ 2 ∷ []))
 knows_what_is_out = record {
   cells = Offered 7 (Serve 0) ∷ [];
-  bounds = 1 ∷ [];
+  bounds = 2 ∷ [];
   words = refl;
   long = refl;
   servers = refl;
@@ -83,20 +88,20 @@ knows_what_is_out = record {
   passes = λ h. refl;
   offers = λ h. omega arith;
   posts = λ h. refl;
-  bounded = λ n some_bound. omega (arith, serves_at-one n (Serve 0));
+  bounded = λ n some_bound. omega (arith, serves_at-one n (Serve 0), one_mark 2 n some_bound);
   sight = λ h. omega arith;
-  agree = only_view one_place (1 ∷ []) (view (at_rest offered ∷ []) (new_relay one_place true ∷ [])) (((refl, refl), tt), (refl, tt));
+  agree = only_view one_place (2 ∷ []) (view (at_rest offered ∷ []) (new_relay one_place true ∷ [])) (((refl, refl), tt), (refl, tt));
 }
 
 -- no word is offered that the keeper doesn't know of
-pub unknown_offer : (r : RelayView) → ¬ Orderly one_place (with_words (new_keeper one_place) r (7169 ∷ 1 ∷ []))
+pub unknown_offer : (r : RelayView) → ¬ Orderly one_place (with_words (new_keeper one_place) r (7169 ∷ 2 ∷ []))
 unknown_offer r o =
-    let s = with_words (new_keeper one_place) r (7169 ∷ 1 ∷ []) in
+    let s = with_words (new_keeper one_place) r (7169 ∷ 2 ∷ []) in
     omega (arith, o.out (λ _. 1), ap (total nonzero) (places_words one_place s o), nonzero-words o.cells 0)
 
 -- a place that is out has no empty word
-pub forgotten_offer : (r : RelayView) → ¬ Orderly one_place (with_words offered r (0 ∷ 1 ∷ []))
-forgotten_offer r o = omega (arith, o.out (λ _. 1), ap (total nonzero) (places_words one_place (with_words offered r (0 ∷ 1 ∷ [])) o), nonzero-words o.cells 0)
+pub forgotten_offer : (r : RelayView) → ¬ Orderly one_place (with_words offered r (0 ∷ 2 ∷ []))
+forgotten_offer r o = omega (arith, o.out (λ _. 1), ap (total nonzero) (places_words one_place (with_words offered r (0 ∷ 2 ∷ [])) o), nonzero-words o.cells 0)
 
 -- no two passes are taken at one place
 pub two_passes : (k : KeeperView) (r : RelayView) (words : List ℕ) → r.passes ≡ grant 0 7 (Serve 0) ∷ grant 0 7 (Serve 0) ∷ []
@@ -111,52 +116,52 @@ abbrev two_out : KeeperView
 two_out = offer_after (offer_after (new_keeper two_places) (grant 0 7 (Serve 0))) (grant 1 8 (Serve 0))
 
 -- the bound may rise, and end; it can't be set to 1
-pub bound_rises : MayLimit two_out 0 3
+pub bound_rises : MayLimit two_out 0 4
 bound_rises = (omega arith, λ some_bound. omega arith)
 
 pub bound_ends : MayLimit two_out 0 0
 bound_ends = (omega arith, λ some_bound. omega arith)
 
-pub bound_below_what_is_out : ¬ MayLimit two_out 0 1
+pub bound_below_what_is_out : ¬ MayLimit two_out 0 2
 bound_below_what_is_out may = omega (arith, may.1 (omega arith))
 
 -- no server but the board's has one
-pub bound_of_no_server : ¬ MayLimit two_out 1 3
+pub bound_of_no_server : ¬ MayLimit two_out 1 4
 bound_of_no_server may = omega (arith, may.0)
 
 -- with a bound of 2 a third verdict has no room, with 3 it has, and without a bound
 pub no_room_at_2 : ¬ HasRoom two_out (Serve 0)
 no_room_at_2 room = omega (arith, room.1 (omega arith))
 
-pub room_at_3 : HasRoom (limit_after two_out 0 3) (Serve 0)
+pub room_at_3 : HasRoom (limit_after two_out 0 4) (Serve 0)
 room_at_3 = (omega arith, λ some_bound. omega arith)
 
 pub room_without_bound : HasRoom (limit_after two_out 0 0) (Serve 0)
 room_without_bound = (omega arith, λ some_bound. omega arith)
 
 -- the word behind the places is the bound: no rule has a lower one than what is out, even where the keeper knows it
-pub word_below_what_is_out : (r : RelayView) → ¬ Orderly two_places (with_words (limit_after two_out 0 1) r (7169 ∷ 8193 ∷ 1 ∷ []))
+pub word_below_what_is_out : (r : RelayView) → ¬ Orderly two_places (with_words (limit_after two_out 0 2) r (7169 ∷ 8193 ∷ 2 ∷ []))
 word_below_what_is_out r o =
-    let s = with_words (limit_after two_out 0 1) r (7169 ∷ 8193 ∷ 1 ∷ []) in
+    let s = with_words (limit_after two_out 0 2) r (7169 ∷ 8193 ∷ 2 ∷ []) in
     omega (arith, o.bounded 0 (omega (arith, bound_at two_places s o 0)), bound_at two_places s o 0)
 
 -- and none another one than the keeper knows
-pub unknown_bound : (r : RelayView) → ¬ Orderly two_places (with_words two_out r (7169 ∷ 8193 ∷ 3 ∷ []))
+pub unknown_bound : (r : RelayView) → ¬ Orderly two_places (with_words two_out r (7169 ∷ 8193 ∷ 4 ∷ []))
 unknown_bound r o =
-    let s = with_words two_out r (7169 ∷ 8193 ∷ 3 ∷ []) in
+    let s = with_words two_out r (7169 ∷ 8193 ∷ 4 ∷ []) in
     omega (arith, bound_at two_places s o 0, ap (λ (bs : List ℕ). slice_index bs 0) (o.agree 0 (view (at_rest two_out ∷ []) (r ∷ [])) refl).0.0.1)
 
 -- ticket 7 came back, ticket 8 is taken, and then the bound is 1
 abbrev one_back : KeeperView
-one_back = limit_after (collect_after two_out (grant 0 7 (Serve 0)) Done) 0 1
+one_back = limit_after (collect_after two_out (grant 0 7 (Serve 0)) Done) 0 2
 
 abbrev one_taken : RelayView
 one_taken = post_after (take_after (take_after (new_relay two_places true) (grant 0 7 (Serve 0))) (grant 1 8 (Serve 0))) (grant 0 7 (Serve 0)) Done
 
-pub lowered_bound : Orderly two_places (with_words one_back one_taken (0 ∷ 8194 ∷ 1 ∷ []))
+pub lowered_bound : Orderly two_places (with_words one_back one_taken (0 ∷ 8194 ∷ 2 ∷ []))
 lowered_bound = record {
   cells = Empty ∷ Taken 8 (Serve 0) ∷ [];
-  bounds = 1 ∷ [];
+  bounds = 2 ∷ [];
   words = refl;
   long = refl;
   servers = refl;
@@ -169,7 +174,7 @@ lowered_bound = record {
   passes = λ h. omega arith;
   offers = λ h. omega arith;
   posts = λ h. omega arith;
-  bounded = λ n some_bound. omega (arith, serves_at-one n (Serve 0));
+  bounded = λ n some_bound. omega (arith, serves_at-one n (Serve 0), one_mark 2 n some_bound);
   sight = λ h. omega arith;
-  agree = only_view two_places (1 ∷ []) (view (at_rest one_back ∷ []) (one_taken ∷ [])) (((refl, refl), tt), (refl, tt));
+  agree = only_view two_places (2 ∷ []) (view (at_rest one_back ∷ []) (one_taken ∷ [])) (((refl, refl), tt), (refl, tt));
 }

@@ -1,5 +1,5 @@
 -- The keeper's calls, for the layer that holds its seat: what `offer`, `collect`, `limit` and `vouch` ask and change, and what `Board::close` tells at the end.
-use Rattle.std.specs.Prelude.{◌≡◌, ℕ, ◌+◌, ◌<◌, ◌≤◌, List, [], ◌∷◌, ◌++◌, slice_index, slice_set, length, Contains}
+use Rattle.std.specs.Prelude.{◌≡◌, ℕ, ◌+◌, ◌<◌, ◌≤◌, List, [], ◌∷◌, ◌++◌, map, slice_index, slice_set, length, Contains}
 use Rattle.verdict.specs.declared.Verdict.{Verdict}
 use Rattle.verdict.specs.declared.Verdict.TheVariants.{Serve, Told}
 use Rattle.verdict.specs.declared.Ending.{Ending}
@@ -8,7 +8,7 @@ use Rattle.grant_board.specs.declared.laws.Word.TheVariants.{Posted}
 use Rattle.grant_board.specs.declared.returned.Return.{Return}
 use Rattle.grant_board.specs.BoardWords.{encode_of, MayEnd, IsUnposted}
 use Rattle.list_facts.specs.Weights.{total, along, AreIn}
-use Rattle.grant_board.specs.Views.{Grant, grant, Terms, look, KeeperView, RelayView, return_of, count_of, without}
+use Rattle.grant_board.specs.Views.{Grant, grant, Terms, first_mark, look, KeeperView, RelayView, return_of, count_of, without}
 use Rattle.grant_board.specs.Rule.{BoardState, standing, offered, taken, posted, as_return, Orderly}
 
 -- a keeper's seat: its board, and what it knows
@@ -16,9 +16,9 @@ pub record Keeper : Type 0 where
   pub board : TableId
   pub view : KeeperView
 
--- one that has done nothing: each server's bound is its limit
+-- one that has done nothing: each server's mark is that of its limit
 abbrev pub new_keeper : Terms → KeeperView
-new_keeper terms = record { terms = terms; bounds = terms.limits; out = []; offers = []; returns = []; looks = [] }
+new_keeper terms = record { terms = terms; bounds = map first_mark terms.limits; out = []; offers = []; returns = []; looks = [] }
 
 -- a look more
 abbrev pub keeper_looked : KeeperView → ℕ → ℕ → KeeperView
@@ -30,7 +30,7 @@ offer_after k g = record k { out = k.out ++ g ∷ []; offers = k.offers ++ g ∷
 
 -- The verdict may be offered: its server is one of the board's, and where that has a bound fewer grants of it are out
 abbrev pub HasRoom : KeeperView → Verdict → Type 0
-HasRoom k (Serve server) = (server < length k.terms.limits) × (0 < slice_index k.bounds server → count_of server k.out < slice_index k.bounds server)
+HasRoom k (Serve server) = (server < length k.terms.limits) × (0 < slice_index k.bounds server → count_of server k.out + 1 < slice_index k.bounds server)
 HasRoom k (Told cause) = Unit {0}
 
 -- collect: the place is out no more, and the return is the last
@@ -53,13 +53,13 @@ pub record FindsUnposted (k k' : KeeperView) (place : ℕ) : Type 0 where
   pub after : k' ≡ keeper_looked k place word
   pub unposted : IsUnposted word
 
--- limit: the server's bound is this
+-- limit: the server's mark is this
 abbrev pub limit_after : KeeperView → ℕ → ℕ → KeeperView
 limit_after k server bound = record k { bounds = slice_set k.bounds server bound }
 
 -- The server may have the bound: it is one of the board's, and no more grants of it are out than the bound, where that is one
 abbrev pub MayLimit : KeeperView → ℕ → ℕ → Type 0
-MayLimit k server bound = (server < length k.terms.limits) × (0 < bound → count_of server k.out ≤ bound)
+MayLimit k server bound = (server < length k.terms.limits) × (0 < bound → count_of server k.out < bound)
 
 -- vouch: the keeper looked at the board's first word, and each of the relay's passes is out
 pub record Vouches (k k' : KeeperView) (passes : List Grant) : Type 0 where

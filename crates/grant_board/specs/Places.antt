@@ -42,7 +42,7 @@ pub record ByPlaces (terms : Terms) (s : BoardState) (k : KeeperView) : Type 0 w
   pub bounds : (server : ℕ) → server < length terms.limits → slice_index s.words (terms.places + server) ≡ slice_index k.bounds server
   pub servers : length k.bounds ≡ length terms.limits
   -- no more places serve at a server than its bound, where it has one
-  pub bounded : (server : ℕ) → 0 < slice_index k.bounds server → count_of server k.out ≤ slice_index k.bounds server
+  pub bounded : (server : ℕ) → 0 < slice_index k.bounds server → count_of server k.out < slice_index k.bounds server
 
 -- the rule says all this of each state
 abbrev pub RuleByPlaces : Type 0

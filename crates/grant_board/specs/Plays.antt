@@ -123,7 +123,7 @@ posts st m r n =
 -- the passes of two seats are of different places, no more of them are of the server than its bound, where it has one, and no more in all than places
 pub record AreApart (places server bound : ℕ) (xs ys : List Grant) : Type 0 where
   pub different : (place : ℕ) → count_at place xs + count_at place ys ≤ 1
-  pub bounded : 0 < bound → count_of server xs + count_of server ys ≤ bound
+  pub bounded : 0 < bound → count_of server xs + count_of server ys < bound
   pub room : length xs + length ys ≤ places
 
 -- a relay loads a server's word beside another's part

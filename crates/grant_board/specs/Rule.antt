@@ -82,7 +82,7 @@ abbrev pub Agrees : Terms → List ℕ → View → Type 0
 Agrees terms bounds v = AllByRecursion (KeeperAgrees terms bounds) v.keepers × AllByRecursion (RelayAgrees terms) v.relays
 
 pub record Orderly (terms : Terms) (s : BoardState) : Type 0 where
-  -- a word for each place, and behind them one for each server, which is its bound
+  -- a word for each place, and behind them one for each server, which is its mark: one more than its bound, or 0 where it has none
   pub cells : List Word
   pub bounds : List ℕ
   pub words : s.words ≡ map encode_of cells ++ bounds
@@ -105,8 +105,8 @@ pub record Orderly (terms : Terms) (s : BoardState) : Type 0 where
   -- what was posted has come back or stands posted, each as often
   pub posts : (weight : Return → ℕ)
       → of_keepers (λ k. total weight k.view.returns) s.views + along (posted (as_return weight)) 0 cells ≡ of_relays (λ r. total weight r.posts) s.views
-  -- no more grants of a server are out than its bound, where it has one
-  pub bounded : (server : ℕ) → 0 < slice_index bounds server → of_keepers (λ k. count_of server k.view.out) s.views ≤ slice_index bounds server
+  -- fewer grants of a server are out than its mark, where it has one
+  pub bounded : (server : ℕ) → 0 < slice_index bounds server → of_keepers (λ k. count_of server k.view.out) s.views < slice_index bounds server
   -- what the keeper has in sight stands posted
   pub sight : (weight : Sighting → ℕ) → of_keepers (λ k. total weight k.sight) s.views ≤ along (posted weight) 0 cells
   pub agree : (j : ℕ) (v : View) → get_elem? s.views j ≡ some v → Agrees terms bounds v

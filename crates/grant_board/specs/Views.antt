@@ -1,5 +1,5 @@
 -- What seats know.
-use Rattle.std.specs.Prelude.{ℕ, Bool, List, [], ◌∷◌, ◌==◌, if◌then◌else◌}
+use Rattle.std.specs.Prelude.{ℕ, ◌+◌, Option, None, Some, Bool, List, [], ◌∷◌, ◌==◌, if◌then◌else◌}
 use Rattle.verdict.specs.declared.Verdict.{Verdict}
 use Rattle.verdict.specs.declared.Verdict.TheVariants.{Serve, Told}
 use Rattle.verdict.specs.declared.Ending.{Ending}
@@ -31,7 +31,16 @@ pub record Look : Type 0 where
 abbrev pub look : ℕ → ℕ → Look
 look place word = record { place = place; word = word }
 
--- What the keeper knows: each server's bound, of which 0 is none, the grants that are out, all that it offered, all that came back, and its looks.
+-- a server's mark: one more than its bound, and 0 where it has none
+abbrev pub mark_of : Option ℕ → ℕ
+mark_of None = 0
+mark_of (Some bound) = bound + 1
+
+-- the mark of a limit, of which 0 is none
+abbrev pub first_mark : ℕ → ℕ
+first_mark limit = if limit == 0 then 0 else limit + 1
+
+-- What the keeper knows: each server's mark, the grants that are out, all that it offered, all that came back, and its looks.
 -- Each list is in the order of its steps
 pub record KeeperView : Type 0 where
   pub terms : Terms

@@ -74,8 +74,8 @@ impl KeeperSeat {
         })
     }
 
-    /// Sets a server's bound, of which 0 is none. One step, and no memory.
-    pub fn limit(&mut self, board: &Board, server: usize, bound: u32)
+    /// Sets a server's mark: one more than its bound, or 0 where it has none. One step, and no memory.
+    pub fn limit(&mut self, board: &Board, server: usize, bound: u64)
         requires same_board { self.old.board ≡ board.now }
         requires may_limit { MayLimit self.old.view server bound }
         ensures limited { self.new ≡ record self.old { view = limit_after self.old.view server bound } }
@@ -83,10 +83,7 @@ impl KeeperSeat {
     {
         let seat = &mut self.seat;
         let word = self.places + server;
-        board
-            .table
-            .shared
-            .store::<Limit>(seat, word, u64::from(bound));
+        board.table.shared.store::<Limit>(seat, word, bound);
     }
 
     /// The relay's seat as it was, and how many passes it has, each of which is out. Three steps, and no memory.

@@ -1,9 +1,9 @@
 // How a board begins and ends.
-ghost use Rattle.std.specs.Prelude.{◌≡◌, ◌<◌, ◌≤◌, ◌++◌, true, length, take, replicate, IfOk};
+ghost use Rattle.std.specs.Prelude.{◌≡◌, ◌<◌, ◌≤◌, ◌++◌, true, length, map, take, replicate, IfOk};
 ghost use Rattle.std.specs.Mem.Slots.{slots_items, slots_len, IsFull};
 ghost use Rattle.list_facts.specs.Weights.{total};
 ghost use Rattle.grant_board.specs.BoardWords.{nonzero};
-ghost use Rattle.grant_board.specs.Views.{terms};
+ghost use Rattle.grant_board.specs.Views.{first_mark, terms};
 ghost use Rattle.grant_board.specs.Rule.{terms_of};
 ghost use Rattle.grant_board.specs.KeeperCalls.{new_keeper, IsClosed};
 ghost use Rattle.grant_board.specs.RelayCalls.{new_relay};
@@ -80,18 +80,25 @@ impl Board {
     }
 }
 
-// An empty word for each place, and behind them the servers' limits.
+// An empty word for each place, and behind them the servers' marks.
 fn first_words(alloc: Global, places: usize, limits: &[u32]) -> Result<Vec<u64>, AllocError>
     requires places_fit { places ≤ 4096 }
     requires servers_fit { length limits.now ≤ 64 }
-    ensures { IfOk result (λ words. words.items ≡ replicate places 0 ++ limits.now) }
+    ensures { IfOk result (λ words. words.items ≡ replicate places 0 ++ map first_mark limits.now) }
 {
     let mut words = Vec::with_capacity(alloc, places + limits.len())?;
     words.resize(places, 0)?;
     for limit in limits {
-        words.push(u64::from(*limit))?;
+        words.push(first_mark(*limit))?;
     }
     Ok(words)
+}
+
+// The first mark of a server of this limit.
+fn first_mark(limit: u32) -> u64
+    ensures { result ≡ first_mark limit }
+{
+    if limit == 0 { 0 } else { u64::from(limit) + 1 }
 }
 
 // What the table is told of the limits.

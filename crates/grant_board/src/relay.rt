@@ -37,7 +37,7 @@ impl Model for RelaySeat {
 pub struct Met {
     /// How many passes of the server the two have together.
     pub passes: u64,
-    /// The server's bound, of which 0 is none.
+    /// One more than the server's bound; 0: it has none.
     pub bound: u64,
 }
 
@@ -99,7 +99,7 @@ impl RelaySeat {
         requires server { server < length self.old.view.terms.limits }
         ensures back { result.0 ≡ other }
         ensures passes { result.1.passes ≡ count_of server self.old.view.passes + count_of server other.view.passes }
-        ensures within_bound { 0 < result.1.bound → result.1.passes ≤ result.1.bound }
+        ensures within_bound { 0 < result.1.bound → result.1.passes < result.1.bound }
         ensures within_places { result.1.passes ≤ self.old.view.terms.places }
         ensures apart { (place : _) → count_at place self.old.view.passes + count_at place other.view.passes ≤ 1 }
         ensures ruled { MeetRuled self.new.view other.view server result.1.bound }

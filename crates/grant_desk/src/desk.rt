@@ -2,7 +2,6 @@ ghost use Rattle.std.specs.Prelude.{◌≡◌, ◌<◌, ◌↔◌, [], length, I
 ghost use Rattle.std.specs.Sync.Mutex.{mutex_guard_value};
 ghost use Rattle.dispatch_log.specs.declared.entry.Entry.TheVariants.{Arrive, Abort, Tick, Check, Limit};
 ghost use Rattle.dispatch_log.specs.declared.refusal.Refusal.TheVariants.{LogFull};
-ghost use Rattle.dispatch_log.specs.Dispatch.{bound_by};
 ghost use Rattle.dispatch_log.specs.Histories.{first_window, next_window, state_of, effective, refuses_arrival, refuses_abort, refuses_tick, refuses_check, refuses_limit, SomeExpires, RefusedOrNoMemory};
 ghost use Rattle.dispatch_log.specs.Legal.{AddsEvent};
 ghost use Rattle.dispatch_log.specs.Rows.{served};
@@ -15,14 +14,14 @@ ghost use Rattle.list_facts.specs.Weights.{AreIn};
 ghost use Rattle.readable_log.specs.Windows.{window_in};
 ghost use Rattle.reporting_core.specs.Lines.{AreLines};
 ghost use Rattle.reporting_core.specs.Reporting.{IsNew};
-ghost use Rattle.outstanding.specs.Books.{terms_of};
+ghost use Rattle.outstanding.specs.Books.{terms_of, mark_by};
 ghost use Rattle.outstanding.specs.Calls.{CarriesOut, TakesBack, SetsBound};
 ghost use Rattle.outstanding.specs.Outstanding.{outstanding};
 ghost use Rattle.outstanding.specs.Turns.{Turns, VisitsSome};
 
 use binom_queue::BinomQueue;
 use dispatch_core::Core;
-use dispatch_log::{Queue, Refusal};
+use dispatch_log::{Intake, Queue, Refusal};
 use dispatch_trace::Ticketed;
 use due_key::{Class, Key, Moment};
 use grant_board::{Board, BoardName, Closing, KeeperSeat, RelaySeat, Return};
@@ -129,16 +128,16 @@ impl<N: BoardName> Desk<N> {
         self.enter(rt).check(&self.board, moment, server, ok, woken)
     }
 
-    /// A server's limit is set: the event, then the server's bound at the board, then the offers. Refused as the dispatcher's `limit`.
+    /// A server's limit is set: the event, then the server's mark at the board, then the offers. Refused as the dispatcher's `limit`.
     pub fn limit<R: Wait>(
         &self,
         rt: &R,
         moment: Moment,
         server: usize,
-        limit: u32,
+        limit: Intake,
         woken: &mut PlaceSet,
     ) -> Result<(), Refusal>
-        ensures ok { OnOk result (SomeStep N.terms (λ old new. AddsEvent old.history new.history (Limit (effective old.history moment) server limit) × SetsBound old new server (bound_by (record { limit = limit; served = served server (state_of old.history).rows })) woken.old woken.new)) }
+        ensures ok { OnOk result (SomeStep N.terms (λ old new. AddsEvent old.history new.history (Limit (effective old.history moment) server limit) × SetsBound old new server (mark_by (record { limit = limit; served = served server (state_of old.history).rows })) woken.old woken.new)) }
         ensures err { IfErr result (λ refusal. SomeHeld N.terms (λ held. refuses_limit held.history server ≡ Some refusal)) }
         ensures unchanged { OnErr result (woken.new ≡ woken.old) }
     {

@@ -15,13 +15,15 @@ use Rattle.grant_board.specs.declared.returned.Return.{Return}
 use Rattle.grant_board.specs.Views.{grant, Terms, KeeperView, serves_at, count_of}
 use Rattle.grant_board.specs.BoardWords.{MayEnd}
 use Rattle.grant_board.specs.KeeperCalls.{Keeper, Collects, FindsUnposted, MayLimit, limit_after}
+use Rattle.dispatch_log.specs.declared.allowance.Intake.{Intake}
+use Rattle.dispatch_log.specs.declared.allowance.Intake.TheVariants.{Open, Closed}
 use Rattle.dispatch_log.specs.declared.entry.Entry.TheVariants.{Done, Fail, Limit}
 use Rattle.dispatch_log.specs.declared.refusal.Refusal.TheVariants.{LogFull, NoSuchServer, NoSuchTicket, WrongPhase}
 use Rattle.dispatch_log.specs.declared.row.Phase.{Phase}
 use Rattle.dispatch_log.specs.declared.row.Phase.TheVariants.{Loose, Waiting, Serving, Told}
 use Rattle.dispatch_log.specs.declared.row.Row.{Row}
 use Rattle.dispatch_log.specs.declared.setup.ServerSet.{ServerSet}
-use Rattle.dispatch_log.specs.Dispatch.{bound_by}
+use Rattle.dispatch_log.specs.Dispatch.{bound_from}
 use Rattle.dispatch_log.specs.Histories.{History, state_of, next_window, refuses_limit}
 use Rattle.dispatch_log.specs.Legal.{IsLegal, AddsEvent}
 use Rattle.dispatch_log.specs.Refusals.{first_of, lacks_room, is_waiting, has_a_slot}
@@ -31,11 +33,11 @@ use Rattle.dispatch_log.proofs.Accepted.{none_refuses}
 use Rattle.dispatch_log.proofs.RowLemmas.{row_of_at}
 use Rattle.dispatch_log.proofs.Within.{within}
 use Rattle.dispatch_trace.specs.Histories.{HasEntryRoom}
-use Rattle.outstanding.specs.Books.{IsBook, IsOwing}
+use Rattle.outstanding.specs.Books.{mark_by, IsBook, IsOwing}
 use Rattle.outstanding.specs.Calls.{Booked, added, grants_in, with_offers, Wakes, ended_by, event_of, TakesBack, SetsBound}
 use Rattle.outstanding.specs.Outstanding.{verdict_at}
 use Rattle.outstanding.specs.Verdicts.{verdicts, endings}
-use Rattle.outstanding.proofs.Owing.{own_tickets, out_row, owes, owes_end, state_on}
+use Rattle.outstanding.proofs.Owing.{below_mark, own_tickets, out_row, owes, owes_end, state_on}
 use Rattle.outstanding.proofs.Weighing.{IsOutAt, count_of_served}
 use Rattle.atomic_table.specs.Seated.{TableId}
 use Rattle.locked_book.specs.Books.{IsKeptBook}
@@ -132,15 +134,16 @@ known_server : (a b : Bool) → first_of ((a, LogFull) ∷ (b, NoSuchServer) ∷
 known_server a b accepted = (none_refuses b NoSuchServer [] (none_refuses a LogFull ((b, NoSuchServer) ∷ []) accepted).1).0
 
 -- what is served at a server with a bound is within it
-at_least : (limit count : ℕ) → 0 < bound_by (record { limit = limit; served = count }) → count ≤ bound_by (record { limit = limit; served = count })
-at_least limit count some = by_test (limit == 0) some
+kept_by : (limit : Intake) (count : ℕ) → IfSome (bound_from limit count) (λ most. count ≤ most)
+kept_by (Open limit) count = by_test (limit == 0)
   where
-    by_test : (b : Bool) → 0 < cond b 0 (max limit count) → count ≤ cond b 0 (max limit count)
-    by_test true some = absurd (omega arith)
-    by_test false some = omega arith
+    by_test : (b : Bool) → IfSome (cond b None (Some (max limit count))) (λ most. count ≤ most)
+    by_test true = tt
+    by_test false = omega arith
+kept_by Closed count = omega arith
 
-pub may_limit : (h : History) (view : KeeperView) (server limit bound : ℕ) → IsBook h view → refuses_limit h server ≡ None
-    → bound ≡ bound_by (record { limit = limit; served = served server (state_of h).rows }) → MayLimit view server bound
+pub may_limit : (h : History) (view : KeeperView) (server : ℕ) (limit : Intake) (bound : ℕ) → IsBook h view → refuses_limit h server ≡ None
+    → bound ≡ mark_by (record { limit = limit; served = served server (state_of h).rows }) → MayLimit view server bound
 may_limit h view server limit bound is accepted same =
     let there : nat_le (length h.setup.servers) server ≡ false = known_server _ _ accepted in
     let low : server < length h.setup.servers = grind (arith, nat_tests) in
@@ -148,24 +151,24 @@ may_limit h view server limit bound is accepted same =
     ∙ length-map h.setup.servers (λ (it : ServerSet). it.limit) in (
       omega (arith, low, terms),
       λ some.
-          let most = at_least limit (served server (state_of h).rows) (omega (arith, some, same)) in
+          let most = below_mark _ _ (kept_by limit (served server (state_of h).rows)) (omega (arith, some, same)) in
           let out : count_of server view.out ≡ served server (state_of h).rows = is.out (λ g. serves_at server g.verdict)
           ∙ count_of_served server 0 (state_of h).rows in
           omega (arith, most, out, same),
     )
 
-pub limit_owes : (h new : History) (view now : KeeperView) (moment server limit bound : ℕ) → IsLegal h → IsBook h view
+pub limit_owes : (h new : History) (view now : KeeperView) (moment server : ℕ) (limit : Intake) (bound : ℕ) → IsLegal h → IsBook h view
     → AddsEvent h new (Limit moment server limit)
-    → bound ≡ bound_by (record { limit = limit; served = served server (state_of h).rows }) → now ≡ limit_after view server bound
+    → bound ≡ mark_by (record { limit = limit; served = served server (state_of h).rows }) → now ≡ limit_after view server bound
     → IsOwing new now (added h new)
 limit_owes h new view now moment server limit bound legal is adds same after_it =
     let set_here : (state_of new).limits ≡ set (state_of h).limits server (record { limit = limit; served = served server (state_of h).rows }) =
     ap (λ (s : State). s.limits) (state_on h new (Limit moment server limit) adds)
     ∙ limits_kept h.setup (after h.setup (state_of h) (Limit moment server limit)) adds.brought adds.one_event in
-    let bounds : set view.bounds server bound ≡ map bound_by (state_of new).limits =
-    ap (λ l. set l server bound) is.bounds ∙ ap (set (map bound_by (state_of h).limits) server) same
-    ∙ sym (map-set bound_by (state_of h).limits server (record { limit = limit; served = served server (state_of h).rows }))
-    ∙ ap (map bound_by) (sym set_here) in
+    let bounds : set view.bounds server bound ≡ map mark_by (state_of new).limits =
+    ap (λ l. set l server bound) is.bounds ∙ ap (set (map mark_by (state_of h).limits) server) same
+    ∙ sym (map-set mark_by (state_of h).limits server (record { limit = limit; served = served server (state_of h).rows }))
+    ∙ ap (map mark_by) (sym set_here) in
     subst (λ (v : KeeperView). IsOwing new v (added h new)) (sym after_it)
     (subst (IsOwing new (limit_after view server bound)) (sym (added_is h new (Limit moment server limit) adds))
     (owes h new view (set view.bounds server bound) (Limit moment server limit) legal is refl adds refl (λ weight. refl) bounds))

@@ -1,25 +1,25 @@
 -- Events that a book makes: what they owe, and that it is paid.
-use Rattle.std.proofs.Common.{◌≡◌, ◌<◌, ℕ, zero, suc, ◌==◌, max, cond, replicate, Bool, true, false, List, []}
+use Rattle.std.proofs.Common.{◌≡◌, ◌+◌, ◌<◌, ℕ, zero, suc, ◌==◌, max, cond, replicate, Bool, true, false, List, []}
 use Rattle.std.proofs.Common.{◌∷◌, ◌++◌, All, Option, None, Some, map, drop, length, refl, ap, sym, ◌∙◌, subst, arith}
 use Rattle.std.specs.List.{cons_option}
 use Rattle.std.proofs.lemmas.List.{append_assoc, append-nil}
 use Rattle.std.proofs.Math.Seq.{drop-append_seam}
 use Rattle.std.proofs.lemmas.List.Elements.{All-head, All-tail}
 use Rattle.verdict.specs.declared.Verdict.{Verdict}
-use Rattle.grant_board.specs.Views.{Grant, grant, KeeperView}
+use Rattle.grant_board.specs.Views.{first_mark, mark_of, Grant, grant, KeeperView}
 use Rattle.grant_board.specs.KeeperCalls.{Keeper, new_keeper, offer_after}
 use Rattle.std.proofs.lemmas.Bool.Decides.{Decides-eqb}
 use Rattle.list_facts.specs.Weights.{total}
 use Rattle.list_facts.proofs.Never.{false_true}
+use Rattle.dispatch_log.specs.declared.allowance.Intake.TheVariants.{Open}
 use Rattle.dispatch_log.specs.declared.setup.ServerSet.{ServerSet}
 use Rattle.dispatch_log.specs.declared.entry.Entry.{Entry}
 use Rattle.dispatch_log.specs.declared.entry.Entry.TheVariants.{Arrive, Done, Fail, Abort, Tick, Check, Limit}
 use Rattle.dispatch_log.specs.declared.setup.Setup.{Setup}
-use Rattle.dispatch_log.specs.Dispatch.{bound_by}
 use Rattle.dispatch_log.specs.Histories.{History, first_window, state_of, begins_event}
 use Rattle.dispatch_log.specs.Legal.{IsLegal, AddsEvent}
 use Rattle.dispatch_log.specs.States.{State, after, after_all, opening_limits}
-use Rattle.outstanding.specs.Books.{terms_of, IsBook, IsOwing}
+use Rattle.outstanding.specs.Books.{mark_by, terms_of, IsBook, IsOwing}
 use Rattle.outstanding.specs.Calls.{Booked, added, grants_in, with_offers, Wakes, CarriesOut}
 use Rattle.outstanding.specs.Outstanding.{outstanding_from, place_in, grants_of}
 use Rattle.outstanding.specs.Verdicts.{verdict_in, verdicts, ending_in}
@@ -87,7 +87,7 @@ pub plain_owes : (h new : History) (view : KeeperView) (e : Entry) → IsLegal h
 plain_owes h new view e legal is plain adds =
     subst (IsOwing new view) (sym (added_is h new e adds))
     (owes h new view view.bounds e legal is (by_event e plain) adds (by_ending e plain) (λ weight. by_back weight e plain)
-    (is.bounds ∙ ap (map bound_by) (sym (sets_none h new e adds (by_limits e plain)))))
+    (is.bounds ∙ ap (map mark_by) (sym (sets_none h new e adds (by_limits e plain)))))
   where
     by_event : (x : Entry) → is_plain x ≡ true → begins_event x ≡ true
     by_event (Arrive m a) p = refl
@@ -133,17 +133,17 @@ carried old h new first now woken woken_then from same long offers wakes =
     }
 
 -- a first book
-opening_bounds : (servers : List ServerSet) → map (λ (it : ServerSet). it.limit) servers ≡ map bound_by (opening_limits servers)
-opening_bounds [] = refl
-opening_bounds (it ∷ servers) = ap (λ n. n ∷ map (λ (x : ServerSet). x.limit) servers) (own it.limit)
-    ∙ ap (λ l. bound_by (record { limit = it.limit; served = 0 }) ∷ l) (opening_bounds servers)
+opening_marks : (servers : List ServerSet) → map first_mark (map (λ (it : ServerSet). it.limit) servers) ≡ map mark_by (opening_limits servers)
+opening_marks [] = refl
+opening_marks (it ∷ servers) = ap (λ n. n ∷ map first_mark (map (λ (x : ServerSet). x.limit) servers)) (own it.limit)
+    ∙ ap (λ l. mark_by (record { limit = Open it.limit; served = 0 }) ∷ l) (opening_marks servers)
   where
-    own : (limit : ℕ) → limit ≡ bound_by (record { limit = limit; served = 0 })
-    own limit = by_test (limit == 0) refl
+    own : (limit : ℕ) → first_mark limit ≡ mark_by (record { limit = Open limit; served = 0 })
+    own limit = by_test (limit == 0)
       where
-        by_test : (b : Bool) → (limit == 0) ≡ b → limit ≡ cond (limit == 0) 0 (max limit 0)
-        by_test true e = rw e ((Decides-eqb limit 0).0 e)
-        by_test false e = rw e (omega arith)
+        by_test : (b : Bool) → cond b 0 (limit + 1) ≡ mark_of (cond b None (Some (max limit 0)))
+        by_test true = refl
+        by_test false = omega arith
 
 nothing_out : (weight : Grant → ℕ) (i n : ℕ) → total weight (outstanding_from i (replicate n None)) ≡ 0
 nothing_out weight i zero = refl
@@ -152,7 +152,7 @@ nothing_out weight i (suc n) = nothing_out weight (suc i) n
 pub first_book : (setup : Setup) → IsBook (first_window setup []) (new_keeper (terms_of setup))
 first_book setup = record {
   terms = refl;
-  bounds = opening_bounds setup.servers;
+  bounds = opening_marks setup.servers;
   out = λ weight. sym (nothing_out weight 0 setup.places);
   offers = ([], refl);
   returns = ([], refl);

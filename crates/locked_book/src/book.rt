@@ -1,7 +1,6 @@
 ghost use Rattle.std.specs.Prelude.{◌≡◌, ℕ, ◌+◌, ◌*◌, ◌<◌, ◌≤◌, ◌↔◌, List, [], length, IfSome, IfNone, IfOk, IfErr, OnOk, OnErr, IsTrue, Some, pos, ◌+ℤ◌};
 ghost use Rattle.dispatch_log.specs.declared.entry.Entry.TheVariants.{Arrive, Abort, Tick, Check, Limit};
 ghost use Rattle.dispatch_log.specs.declared.refusal.Refusal.TheVariants.{LogFull};
-ghost use Rattle.dispatch_log.specs.Dispatch.{bound_by};
 ghost use Rattle.dispatch_log.specs.Rows.{served};
 ghost use Rattle.list_facts.specs.Weights.{AreIn};
 ghost use Rattle.outstanding.specs.Outstanding.{outstanding};
@@ -16,13 +15,13 @@ ghost use Rattle.readable_log.specs.Windows.{window_in};
 ghost use Rattle.reporting_core.specs.Lines.{AreLines};
 ghost use Rattle.reporting_core.specs.Reporting.{IsNew};
 ghost use Rattle.grant_board.specs.KeeperCalls.{new_keeper, FindsUnposted, Vouches};
-ghost use Rattle.outstanding.specs.Books.{terms_of, IsBook};
+ghost use Rattle.outstanding.specs.Books.{terms_of, mark_by, IsBook};
 ghost use Rattle.outstanding.specs.Calls.{event_of, CarriesOut, TakesBack, SetsBound};
 
 use crate::keeping::Keeping;
 use crate::offering::offer_from;
 use dispatch_core::Core;
-use dispatch_log::{Queue, Refusal};
+use dispatch_log::{Intake, Queue, Refusal};
 use dispatch_trace::Ticketed;
 use due_key::{Class, Key, Moment, Offset};
 use grant_board::{Board, BoardName, KeeperSeat, RelaySeat, Return};
@@ -209,27 +208,27 @@ impl<Q: PendQueue<Key, usize>, N: BoardName> Book<Q, N> {
         Some(back)
     }
 
-    /// A server's limit is set: the event, then the server's bound at the board, then the offers. No request that is out is called back. Refused as
+    /// A server's limit is set: the event, then the server's mark at the board, then the offers. No request that is out is called back. Refused as
     /// the dispatcher's `limit`.
     pub fn limit(
         &mut self,
         board: &Board,
         moment: Moment,
         server: usize,
-        limit: u32,
+        limit: Intake,
         woken: &mut PlaceSet,
     ) -> Result<(), Refusal>
         requires { board.now ≡ N.board }
         ensures ok { OnOk result (AddsEvent self.old.history self.new.history (Limit (effective self.old.history moment) server limit)) }
         ensures err { IfErr result (λ refusal. refuses_limit self.old.history server ≡ Some refusal) }
-        ensures bound { OnOk result (SetsBound self.old self.new server (bound_by (record { limit = limit; served = served server (state_of self.old.history).rows })) woken.old woken.new) }
+        ensures bound { OnOk result (SetsBound self.old self.new server (mark_by (record { limit = limit; served = served server (state_of self.old.history).rows })) woken.old woken.new) }
         ensures unchanged { OnErr result ((self.new ≡ self.old) × (woken.new ≡ woken.old)) }
     {
         let from = self.core.log().len();
         // No more are served than there are places.
         let served = self.core.served(server).min(self.core.places());
         self.core.limit(moment, server, limit)?;
-        self.keeping.limit(board, server, bound_of(limit, served));
+        self.keeping.limit(board, server, mark_by(limit, served));
         offer_from(&self.core, &mut self.keeping, board, from, woken);
         Ok(())
     }
@@ -363,15 +362,15 @@ impl<Q: PendQueue<Key, usize>, N: BoardName> Book<Q, N> {
     }
 }
 
-// The bound of a server that serves so many when its limit is set; 0: none.
-fn bound_of(limit: u32, served: usize) -> u32
+// The mark of a server that serves so many when its limit is set.
+fn mark_by(limit: Intake, served: usize) -> u64
     requires { served ≤ 4096 }
-    ensures { result ≡ bound_by (record { limit = limit; served = served }) }
+    ensures { result ≡ mark_by (record { limit = limit; served = served }) }
 {
-    if limit == 0 {
-        0
-    } else {
-        limit.max(served.min(4096) as u32)
+    match limit {
+        Intake::Open(0) => 0,
+        Intake::Open(limit) => u64::from(limit).max(served as u64) + 1,
+        Intake::Closed => served as u64 + 1,
     }
 }
 

@@ -88,8 +88,8 @@ impl Keeping {
         Some(back)
     }
 
-    /// Sets a server's bound.
-    pub fn limit(&mut self, board: &Board, server: usize, bound: u32)
+    /// Sets a server's mark.
+    pub fn limit(&mut self, board: &Board, server: usize, bound: u64)
         requires same_board { self.old.board ≡ board.now }
         requires may_limit { MayLimit self.old.view server bound }
         ensures { self.new ≡ record self.old { view = limit_after self.old.view server bound } }

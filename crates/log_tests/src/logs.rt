@@ -1,5 +1,5 @@
 use crate::assertions::{holds, same};
-use dispatch_log::{Allowance, Arrival, Phase, Queue, Refusal, ServerSet, Servers, Setup};
+use dispatch_log::{Allowance, Arrival, Intake, Phase, Queue, Refusal, ServerSet, Servers, Setup};
 use due_key::{Class, Due, Key, Moment, Offset};
 use std::alloc::Global;
 use std::process::Abort;
@@ -69,7 +69,10 @@ fn limits_are_the_setups_at_first(rt: HostRuntime) {
     let setup = setup_of(&rt, rt.alloc(), servers.as_slice(), 999_999_999);
     holds(&rt, setup.sound());
     let limits = setup.opening_limits(rt.alloc()).expect(&rt, "memory");
-    let expected = [7, 0].map(|limit| Allowance { limit, served: 0 });
+    let expected = [7, 0].map(|limit| Allowance {
+        limit: Intake::Open(limit),
+        served: 0,
+    });
     same(&rt, limits.as_slice(), expected.as_slice());
 }
 

@@ -3,7 +3,9 @@ ghost use Rattle.dispatch_log.specs.Setups.{IsSound};
 
 use crate::assertions::{holds, same};
 use check_state::Health;
-use dispatch_log::{Allowance, Arrival, Entry, Phase, Queue, Row, ServerSet, Servers, Setup};
+use dispatch_log::{
+    Allowance, Arrival, Entry, Intake, Phase, Queue, Row, ServerSet, Servers, Setup,
+};
 use due_key::{Class, Due, Key, Moment, Offset};
 use readable_log::{Base, BaseRow, Log, SlotGrant, Stay, Unreadable};
 use std::alloc::Global;
@@ -70,7 +72,7 @@ fn with_seven(rt: &impl Abort, alloc: Global) -> Base
     base.set_row(1, Some(seven()));
     base.set_healths(&[Some(Health::new(1, 2))]);
     base.set_limits(&[Allowance {
-        limit: 3,
+        limit: Intake::Open(3),
         served: 1,
     }]);
     base.set_position(moment(4), 7, 0);

@@ -19,7 +19,7 @@ use Rattle.dispatch_log.specs.declared.row.Phase.TheVariants.{Loose, Waiting, Se
 use Rattle.dispatch_log.specs.declared.row.Row.{Row}
 use Rattle.dispatch_log.specs.declared.setup.Setup.{Setup}
 use Rattle.dispatch_log.specs.Histories.{begins_event}
-use Rattle.dispatch_log.specs.Judgement.{Stage, placing, returning, ending, failing, freed_by_failure, aborting, telling, checking, falling}
+use Rattle.dispatch_log.specs.Judgement.{Stage, placing, returning, ending, failing, freed_by_failure, aborting, telling, checking, emptying}
 use Rattle.dispatch_log.specs.Judgement.{granting, MayGrant, IsPut, MayCome, IsOver, HasExpired, next_stage}
 use Rattle.dispatch_log.specs.Refusals.{is_waiting}
 use Rattle.dispatch_log.specs.Rows.{Rows, StandsAt, changed, in_phase, in_backend_since, gone, phase_waits_in, phase_is_served_by}
@@ -42,7 +42,7 @@ kept weight (freed_by_failure ticket server) rows = 0
 kept weight (aborting ticket) rows = 0
 kept weight telling rows = 0
 kept weight (checking server) rows = 0
-kept weight (falling server) rows = 0
+kept weight (emptying server) rows = 0
 kept weight granting rows = 0
 
 -- what an entry adds
@@ -80,7 +80,7 @@ kept_grant weight setup s (freed_by_failure t w) rows may = refl
 kept_grant weight setup s granting rows may = refl
 kept_grant weight setup s telling rows may = refl
 kept_grant weight setup s (checking w) rows may = refl
-kept_grant weight setup s (falling w) rows may = refl
+kept_grant weight setup s (emptying w) rows may = refl
 kept_grant weight setup s t rows may = absurd may
 
 kept_granted : (weight : Grant → ℕ) (t : Stage) (u v : ℕ) (q : Queue) (rows : Rows) → kept weight (next_stage t (Granted u q v)) rows ≡ 0
@@ -92,14 +92,14 @@ kept_granted weight (failing t) u v q rows = refl
 kept_granted weight (aborting t) u v q rows = refl
 kept_granted weight telling u v q rows = refl
 kept_granted weight (checking w) u v q rows = refl
-kept_granted weight (falling w) u v q rows = refl
+kept_granted weight (emptying w) u v q rows = refl
 kept_granted weight granting u v q rows = refl
 
 pub kept_over : (weight : Grant → ℕ) (setup : Setup) (s : State) (t : Stage) (rows : Rows) → IsOver setup s t → kept weight t rows ≡ 0
 kept_over weight setup s granting rows over = refl
 kept_over weight setup s telling rows over = refl
 kept_over weight setup s (checking v) rows over = refl
-kept_over weight setup s (falling v) rows over = refl
+kept_over weight setup s (emptying v) rows over = refl
 kept_over weight setup s t rows over = absurd over
 
 module _ (weight : Grant → ℕ) (setup : Setup) (s : State) where
@@ -248,7 +248,7 @@ module _ (weight : Grant → ℕ) (setup : Setup) (s : State) where
           )
       by_entry (checking w) (Health v true) none is may then = omega arith
       by_entry (checking w) (Health v false) none is may then = omega arith
-      by_entry (falling w) (Moved u v) none is may then =
+      by_entry (emptying w) (Moved u v) none is may then =
           let it = may.2 in
           omega (arith, stays u it.live.0 it.row (in_backend_since s.moment) is.tickets it.live.1 it.named (waits_none (Server v) it.row.phase it.waits) refl)
       by_entry t e none is may then = absurd may

@@ -1,6 +1,6 @@
 -- What a book owes within a call, and what it pays by offers.
 use Rattle.std.proofs.Common.{◌≡◌, ℕ, zero, suc, ◌+◌, ◌<◌, ◌≤◌, ◌^◌, true, false, List, [], ◌∷◌, ◌++◌}
-use Rattle.std.proofs.Common.{All, Contains, Option, None, Some, length, map, slice_get, slice_index, refl, ap, sym, ◌∙◌, subst, arith}
+use Rattle.std.proofs.Common.{All, Contains, IfSome, Option, None, Some, length, map, slice_get, slice_index, refl, ap, sym, ◌∙◌, subst, arith}
 use Rattle.std.specs.Option.{option_map_or}
 use Rattle.std.specs.List.{cons_option}
 use Rattle.std.proofs.lemmas.Option.{slice_get_within}
@@ -13,7 +13,7 @@ use Rattle.list_facts.specs.Weights.{total}
 use Rattle.list_facts.proofs.Ones.{one, has_one, one-same, AreIn-Contains}
 use Rattle.list_facts.proofs.Totals.{total-push}
 use Rattle.grant_board.specs.declared.returned.Return.{Return}
-use Rattle.grant_board.specs.Views.{Grant, grant, Terms, KeeperView, at_place, serves_at, count_at, count_of, return_of}
+use Rattle.grant_board.specs.Views.{Grant, grant, Terms, mark_of, KeeperView, at_place, serves_at, count_at, count_of, return_of}
 use Rattle.grant_board.specs.KeeperCalls.{HasRoom, offer_after, Collects}
 use Rattle.grant_board.proofs.Grants.{at_place-yes, serves_at-same, same_grant, grants_tell}
 use Rattle.dispatch_log.specs.declared.allowance.Allowance.{Allowance}
@@ -36,7 +36,7 @@ use Rattle.dispatch_log.proofs.Judged.{over_none}
 use Rattle.dispatch_log.proofs.RowLemmas.{HaveOwnTickets}
 use Rattle.dispatch_log.proofs.Runs.{after_on}
 use Rattle.dispatch_log.proofs.Within.{within}
-use Rattle.outstanding.specs.Books.{terms_of, unplaced, returned, IsBook, IsOwing}
+use Rattle.outstanding.specs.Books.{terms_of, mark_by, unplaced, returned, IsBook, IsOwing}
 use Rattle.outstanding.specs.Outstanding.{verdict_at, granted, outstanding, place_in, grants_of}
 use Rattle.outstanding.specs.Verdicts.{verdict_in, verdicts, ending_in, endings}
 use Rattle.outstanding.proofs.Weighing.{weigh, only, of_ticket, once_at, count_of_served, IsOutAt, is_out}
@@ -92,7 +92,7 @@ endings_on h new e adds returns earlier is =
 -- an event that ends nothing: its verdicts are owed, and bounds are those of the new state
 pub owes : (h new : History) (view : KeeperView) (bounds : List ℕ) (e : Entry) → IsLegal h → IsBook h view → begins_event e ≡ true → (adds : AddsEvent h new e)
     → ending_in e ≡ None
-    → ((weight : Grant → ℕ) → back weight e (state_of h).rows ≡ 0) → bounds ≡ map bound_by (state_of new).limits
+    → ((weight : Grant → ℕ) → back weight e (state_of h).rows ≡ 0) → bounds ≡ map mark_by (state_of new).limits
     → IsOwing new (record view { bounds = bounds }) (e ∷ adds.brought)
 owes h new view bounds e legal is event adds none nothing bounded = record {
   terms = is.terms ∙ ap terms_of (sym adds.setup);
@@ -136,7 +136,7 @@ owes_end h new old view place it e legal is collects event adds ends backs limit
     in
     record {
       terms = ap (λ (v : KeeperView). v.terms) collects.after ∙ is.terms ∙ ap terms_of (sym adds.setup);
-      bounds = ap (λ (v : KeeperView). v.bounds) collects.after ∙ is.bounds ∙ ap (map bound_by) (sym limits);
+      bounds = ap (λ (v : KeeperView). v.bounds) collects.after ∙ is.bounds ∙ ap (map mark_by) (sym limits);
       out = λ weight. omega (arith, is.out weight, collects.weighs weight, weighs weight, weighs_on weight h new e legal event adds);
       offers = (
         is.offers.0,
@@ -205,10 +205,15 @@ pub record MayOffer (view : KeeperView) (place ticket : ℕ) (it : Verdict) : Ty
   pub ticket_fits : ticket < 2 ^ 40
   pub has_room : HasRoom view it
 
-bound_at : (limits : List Allowance) (s : ℕ) → slice_index (map bound_by limits) s ≡ option_map_or bound_by (slice_get limits s) 0
+bound_at : (limits : List Allowance) (s : ℕ) → slice_index (map mark_by limits) s ≡ mark_of (option_map_or bound_by (slice_get limits s) None)
 bound_at [] s = refl
 bound_at (it ∷ limits) zero = refl
 bound_at (it ∷ limits) (suc s) = bound_at limits s
+
+-- what keeps a bound is below its mark
+pub below_mark : (bound : Option ℕ) (n : ℕ) → IfSome bound (λ most. n ≤ most) → 0 < mark_of bound → n < mark_of bound
+below_mark None n keeps marked = absurd (omega (arith, marked))
+below_mark (Some most) n keeps marked = omega (arith, keeps)
 
 serving_phase : (phase : Phase) (s : ℕ) → verdict_at phase ≡ Some (Serve s) → phase ≡ Serving s
 serving_phase Loose s is = cc
@@ -241,10 +246,10 @@ may_offer h view es place ticket it legal is owed = record {
         (bounds.servers owed.row (place, owed.stands)) in
         let terms : length view.terms.limits ≡ length h.setup.servers = ap (λ (t : Terms). length t.limits) is.terms
         ∙ length-map h.setup.servers (λ server. server.limit) in
-        let bound : slice_index view.bounds s ≡ bound_of (state_of h) s = ap (λ l. slice_index l s) is.bounds ∙ bound_at (state_of h).limits s in (
+        let bound : slice_index view.bounds s ≡ mark_of (bound_of (state_of h) s) = ap (λ l. slice_index l s) is.bounds ∙ bound_at (state_of h).limits s in (
           omega (arith, there, terms),
           λ some.
-              let limit : served s rows ≤ bound_of (state_of h) s = (dispatched h legal).limits s (omega (arith, some, bound)) in
+              let limit : served s rows < mark_of (bound_of (state_of h) s) = below_mark _ _ ((dispatched h legal).limits s) (omega (arith, some, bound)) in
               let more_there : count_of s view.out + serves_at s (Serve s) ≤ count_of s (outstanding rows) = more (λ g. serves_at s g.verdict) in
               omega (arith, limit, bound, more_there, serves_at-same s, count_of_served s 0 rows),
         )

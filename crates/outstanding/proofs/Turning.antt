@@ -9,6 +9,7 @@ use Rattle.list_facts.specs.Weights.{total}
 use Rattle.list_facts.proofs.Never.{false_true}
 use Rattle.list_facts.proofs.Totals.{total-append}
 use Rattle.grant_board.specs.Views.{Grant, grant}
+use Rattle.dispatch_log.specs.declared.allowance.Intake.TheVariants.{Open, Closed}
 use Rattle.dispatch_log.specs.declared.entry.Entry.{Entry}
 use Rattle.dispatch_log.specs.declared.entry.Entry.TheVariants.{Arrive, Done, Fail, Abort, Tick, Check, Limit, Direct}
 use Rattle.dispatch_log.specs.declared.entry.Entry.TheVariants.{Joined, Granted, Moved, Freed, Retried, Left, Health, Ended}
@@ -17,7 +18,7 @@ use Rattle.dispatch_log.specs.declared.queue.Queue.TheVariants.{Backend}
 use Rattle.dispatch_log.specs.declared.row.Row.{Row}
 use Rattle.dispatch_log.specs.Histories.{begins_event}
 use Rattle.dispatch_log.specs.Judgement.{Stage, placing, returning, ending, failing, freed_by_failure, aborting, telling, checking}
-use Rattle.dispatch_log.specs.Judgement.{falling, granting, MayCome, AllMayCome, IsOver, next_stage, stage_after}
+use Rattle.dispatch_log.specs.Judgement.{emptying, granting, MayCome, AllMayCome, IsOver, next_stage, stage_after}
 use Rattle.dispatch_log.specs.Retries.{failed}
 use Rattle.dispatch_log.specs.Rows.{Rows, with_change, changed, in_phase, in_backend_since, has_ticket}
 use Rattle.dispatch_log.specs.States.{after, after_all, arrived, Point, next_point}
@@ -38,7 +39,7 @@ may_end (freed_by_failure ticket server) = false
 may_end (aborting ticket) = false
 may_end telling = false
 may_end (checking server) = false
-may_end (falling server) = false
+may_end (emptying server) = false
 may_end granting = false
 
 -- a change that keeps tickets keeps the places of all
@@ -109,14 +110,14 @@ quiet_next here (freed_by_failure t w) e quiet none may = absurd may.put
 quiet_next here granting (Granted u q v) quiet none may = refl
 quiet_next here telling (Granted u q v) quiet none may = refl
 quiet_next here (checking w) (Granted u q v) quiet none may = refl
-quiet_next here (falling w) (Granted u q v) quiet none may = refl
+quiet_next here (emptying w) (Granted u q v) quiet none may = refl
 quiet_next here (failing t) (Freed u v) quiet none may = refl
 quiet_next here (failing t) (Retried u v k) quiet none may = refl
 quiet_next here (aborting t) (Left u Aborted) quiet none may = refl
 quiet_next here telling (Left u Timeout) quiet none may = refl
 quiet_next here (checking w) (Health v true) quiet none may = refl
 quiet_next here (checking w) (Health v false) quiet none may = refl
-quiet_next here (falling w) (Moved u v) quiet none may = refl
+quiet_next here (emptying w) (Moved u v) quiet none may = refl
 quiet_next here (returning t) e quiet none may = false_true (sym quiet)
 quiet_next here (ending t) e quiet none may = false_true (sym quiet)
 quiet_next here t (Granted u q v) quiet none may = absurd may.0
@@ -243,7 +244,8 @@ begins weight here t (Fail m u) is may =
 begins weight here t (Abort m u) is may = (refl, refl)
 begins weight here t (Tick m) is may = (refl, refl)
 begins weight here t (Check m v ok) is may = (refl, refl)
-begins weight here t (Limit m v k) is may = (refl, refl)
+begins weight here t (Limit m v (Open k)) is may = (refl, refl)
+begins weight here t (Limit m v Closed) is may = (refl, refl)
 begins weight here t e is may = cc
 
 -- a whole event

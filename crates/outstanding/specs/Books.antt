@@ -4,7 +4,8 @@ use Rattle.verdict.specs.declared.Ending.{Ending}
 use Rattle.verdict.specs.declared.Verdict.{Verdict}
 use Rattle.list_facts.specs.Weights.{total}
 use Rattle.grant_board.specs.declared.returned.Return.{Return}
-use Rattle.grant_board.specs.Views.{Grant, Terms, terms, KeeperView}
+use Rattle.grant_board.specs.Views.{Grant, Terms, terms, mark_of, KeeperView}
+use Rattle.dispatch_log.specs.declared.allowance.Allowance.{Allowance}
 use Rattle.dispatch_log.specs.declared.entry.Entry.{Entry}
 use Rattle.dispatch_log.specs.declared.setup.Setup.{Setup}
 use Rattle.dispatch_log.specs.Dispatch.{bound_by}
@@ -16,6 +17,10 @@ use Rattle.outstanding.specs.Verdicts.{verdicts, endings}
 abbrev pub terms_of : Setup → Terms
 terms_of setup = terms setup.places (map (λ server. server.limit) setup.servers)
 
+-- a server's mark at the board, by its bound
+abbrev pub mark_by : Allowance → ℕ
+mark_by it = mark_of (bound_by it)
+
 -- grants and returns without their places
 abbrev pub unplaced : List Grant → List (ℕ × Verdict)
 unplaced grants = map (λ g. (g.ticket, g.verdict)) grants
@@ -23,11 +28,11 @@ unplaced grants = map (λ g. (g.ticket, g.verdict)) grants
 abbrev pub returned : List Return → List (ℕ × Ending)
 returned returns = map (λ back. (back.ticket, back.ending)) returns
 
--- between calls: the board has the setup's terms and the state's bounds; what is out weighs what is outstanding, whatever
+-- between calls: the board has the setup's terms and the marks of the state's bounds; what is out weighs what is outstanding, whatever
 -- each grant weighs; and the offers end with the window's verdicts, the returns with its endings
 pub record IsBook (history : History) (view : KeeperView) : Type 0 where
   pub terms : view.terms ≡ terms_of history.setup
-  pub bounds : view.bounds ≡ map bound_by (state_of history).limits
+  pub bounds : view.bounds ≡ map mark_by (state_of history).limits
   pub out : (weight : Grant → ℕ) → total weight view.out ≡ total weight (outstanding (state_of history).rows)
   pub offers : (earlier : List (ℕ × Verdict)) × (unplaced view.offers ≡ earlier ++ verdicts history.log)
   pub returns : (earlier : List (ℕ × Ending)) × (returned view.returns ≡ earlier ++ endings history.log)
@@ -35,7 +40,7 @@ pub record IsBook (history : History) (view : KeeperView) : Type 0 where
 -- within a call: the same, but the verdicts among these entries are still to be offered
 pub record IsOwing (history : History) (view : KeeperView) (entries : List Entry) : Type 0 where
   pub terms : view.terms ≡ terms_of history.setup
-  pub bounds : view.bounds ≡ map bound_by (state_of history).limits
+  pub bounds : view.bounds ≡ map mark_by (state_of history).limits
   pub out : (weight : Grant → ℕ) → total weight view.out + total weight (grants_of (state_of history).rows (verdicts entries))
       ≡ total weight (outstanding (state_of history).rows)
   pub offers : (earlier : List (ℕ × Verdict)) × (unplaced view.offers ++ verdicts entries ≡ earlier ++ verdicts history.log)

@@ -9,7 +9,7 @@ ghost use Rattle.readable_log.specs.Windows.{window_in};
 ghost use Rattle.reporting_core.specs.Reporting.{IsNew};
 
 use dispatch_core::Core;
-use dispatch_log::{Queue, Refusal};
+use dispatch_log::{Intake, Queue, Refusal};
 use dispatch_trace::Ticketed;
 use due_key::{Class, Key, Moment, Offset};
 use late_cert::Running;
@@ -135,7 +135,7 @@ impl<Q: PendQueue<Key, usize>> ReportingCore<Q> {
     }
 
     /// As the dispatcher's.
-    pub fn limit(&mut self, moment: Moment, server: usize, limit: u32) -> Result<(), Refusal>
+    pub fn limit(&mut self, moment: Moment, server: usize, limit: Intake) -> Result<(), Refusal>
         ensures ok { OnOk result (AddsEvent self.old self.new (Limit (effective self.old moment) server limit)) }
         ensures err { IfErr result (λ refusal. refuses_limit self.old server ≡ Some refusal) }
         ensures accepted { OnOk result (refuses_limit self.old server ≡ None) }

@@ -4,6 +4,7 @@ use Rattle.std.specs.Fmt.{digits}
 use Rattle.dispatch_log.specs.declared.entry.Entry.TheVariants as entries
 use Rattle.dispatch_log.specs.declared.queue.Queue.TheVariants as queues
 use Rattle.dispatch_log.specs.declared.refusal.Refusal.TheVariants.{PlacesFull, TicketsSpent}
+use Rattle.dispatch_log.specs.declared.allowance.Intake.TheVariants.{Open, Closed}
 use Rattle.script.specs.declared.step.Step.TheVariants.{Arrive, Done, Fail, Abort, Tick, Check, Limit, Roll}
 use Rattle.script.specs.Steps.{step_of, is_skipped, steps_of}
 use Rattle.script.specs.Headers.{setting_of, settings_of}
@@ -77,8 +78,14 @@ check_of_no_name = refl
 check_with_another_word : step_of (codes "4 check a on") ≡ None
 check_with_another_word = refl
 
-limit_row : step_of (codes "3 limit a 1") ≡ Some (Limit 3 (codes "a") 1)
+limit_row : step_of (codes "3 limit a 1") ≡ Some (Limit 3 (codes "a") (Open 1))
 limit_row = refl
+
+closing_row : step_of (codes "3 limit a closed") ≡ Some (Limit 3 (codes "a") Closed)
+closing_row = refl
+
+closing_by_another_word : step_of (codes "3 limit a Closed") ≡ None
+closing_by_another_word = refl
 
 limit_without_a_number : step_of (codes "3 limit a") ≡ None
 limit_without_a_number = refl
@@ -271,7 +278,7 @@ check_text : entry_text names (entries.Check 7 1 true) ++ entry_text names (entr
 unfolding digits
 check_text = refl
 
-limit_text : entry_text names (entries.Limit 7 1 3) ++ entry_text names (entries.Limit 8 0 0) ≡ codes "7 limit b 3\n8 limit a 0\n"
+limit_text : entry_text names (entries.Limit 7 1 (Open 3)) ++ entry_text names (entries.Limit 8 0 (Open 0)) ++ entry_text names (entries.Limit 9 0 Closed) ≡ codes "7 limit b 3\n8 limit a 0\n9 limit a closed\n"
 unfolding digits
 limit_text = refl
 

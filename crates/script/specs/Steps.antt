@@ -9,6 +9,8 @@ use Rattle.due_key.specs.declared.offset.TheConstants.{LOWEST_OFFSET, HIGHEST_OF
 use Rattle.proxy_words.specs.Text.{words}
 use Rattle.proxy_words.specs.Names.{is_name}
 use Rattle.proxy_words.specs.Numerals.{numeral, signed_numeral}
+use Rattle.dispatch_log.specs.declared.allowance.Intake.{Intake}
+use Rattle.dispatch_log.specs.declared.allowance.Intake.TheVariants.{Open, Closed}
 use Rattle.script.specs.declared.step.Step.{Step}
 use Rattle.script.specs.declared.step.Step.TheVariants.{Arrive, Done, Fail, Abort, Tick, Check, Limit, Roll}
 
@@ -66,10 +68,14 @@ check_of moment (server ∷ result ∷ []) = option_and_then
     (λ at. option_and_then (λ name. option_map (λ answered. Check at name answered) (result_of result)) (named server)) (numeral 18 moment)
 check_of moment others = None
 
--- a new limit at a moment, by the words behind `limit`: the server's name, and how many requests it may serve
+-- how many requests a server takes, by a word: `closed` for none, and else the most that it serves at once
+abbrev pub intake_of : List ℕ → Option Intake
+intake_of word = if bytes_eq word (codes "closed") then Some Closed else option_map Open (numeral 9 word)
+
+-- a new limit at a moment, by the words behind `limit`: the server's name, and how many requests it takes
 abbrev pub limit_of : List ℕ → List (List ℕ) → Option Step
 limit_of moment (server ∷ limit ∷ []) = option_and_then
-    (λ at. option_and_then (λ name. option_map (λ most. Limit at name most) (numeral 9 limit)) (named server)) (numeral 18 moment)
+    (λ at. option_and_then (λ name. option_map (λ intake. Limit at name intake) (intake_of limit)) (named server)) (numeral 18 moment)
 limit_of moment others = None
 
 -- the next window, by the one word of the line

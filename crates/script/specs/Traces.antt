@@ -2,6 +2,8 @@
 use Rattle.std.specs.Prelude.{ℕ, Bool, true, false, List, [], ◌++◌, Option, Some, None, slice_index_or, codes}
 use Rattle.std.specs.List.{flat_map}
 use Rattle.std.specs.Fmt.{decimal, signed_decimal}
+use Rattle.dispatch_log.specs.declared.allowance.Intake.{Intake}
+use Rattle.dispatch_log.specs.declared.allowance.Intake.TheVariants.{Open, Closed}
 use Rattle.dispatch_log.specs.declared.entry.Arrival.{Arrival}
 use Rattle.dispatch_log.specs.declared.entry.Entry.{Entry}
 use Rattle.dispatch_log.specs.declared.entry.Entry.TheVariants.{Arrive, Done, Fail, Abort, Tick, Check, Limit, Direct}
@@ -25,6 +27,11 @@ abbrev pub health_word : Bool → List ℕ
 health_word true = codes "up"
 health_word false = codes "down"
 
+-- how many requests a server takes: the most that it serves at once, or the word for none
+abbrev pub intake_text : Intake → List ℕ
+intake_text (Open limit) = decimal limit
+intake_text Closed = codes "closed"
+
 -- the name of the server that an arrival is bound to, behind a space
 abbrev pub pin_text : List (List ℕ) → Option ℕ → List ℕ
 pin_text names None = []
@@ -43,7 +50,7 @@ entry_text names (Fail moment ticket) = decimal moment ++ codes " fail " ++ deci
 entry_text names (Abort moment ticket) = decimal moment ++ codes " abort " ++ decimal ticket ++ codes "\n"
 entry_text names (Tick moment) = decimal moment ++ codes " tick\n"
 entry_text names (Check moment server answered) = decimal moment ++ codes " check " ++ name_of names server ++ codes " " ++ health_word answered ++ codes "\n"
-entry_text names (Limit moment server limit) = decimal moment ++ codes " limit " ++ name_of names server ++ codes " " ++ decimal limit ++ codes "\n"
+entry_text names (Limit moment server limit) = decimal moment ++ codes " limit " ++ name_of names server ++ codes " " ++ intake_text limit ++ codes "\n"
 entry_text names (Direct ticket server) = codes "  direct " ++ decimal ticket ++ codes " " ++ name_of names server ++ codes "\n"
 entry_text names (Joined ticket queue) = codes "  join " ++ decimal ticket ++ codes " " ++ queue_name names queue ++ codes "\n"
 entry_text names (Granted ticket queue server) =

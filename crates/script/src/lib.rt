@@ -17,5 +17,5 @@ pub use name::Name;
 pub use names::Names;
 pub use report::{push_reports, push_roll};
 pub use setting::Setting;
-pub use step::Step;
+pub use step::{Step, intake_of};
 pub use trace::{push_entries, push_refusal};

@@ -1,9 +1,10 @@
 ghost use Rattle.std.specs.Prelude.{◌≡◌};
 ghost use Rattle.std.specs.Option.{option_copied};
 ghost use Rattle.proxy_words.specs.Numerals.{numeral};
-ghost use Rattle.script.specs.Steps.{only, ticketed, arrival_line, arrival_of, return_of, failure_of, abort_of, tick_of, check_of, result_of, limit_of, roll_of, step_of as step_of_line};
+ghost use Rattle.script.specs.Steps.{only, ticketed, arrival_line, arrival_of, return_of, failure_of, abort_of, tick_of, check_of, result_of, intake_of, limit_of, roll_of, step_of as step_of_line};
 
 use crate::name::Name;
+use dispatch_log::Intake;
 use due_key::{Class, Moment, Offset};
 use proxy_words::{Words, long_number, number, signed_long_number};
 
@@ -43,11 +44,12 @@ pub enum Step<'a> {
         server: Name<'a>,
         answered: bool,
     },
-    /// `M limit NAME N`: from this moment the server with this name serves at most so many requests at a time; 0 is no limit.
+    /// `M limit NAME N` or `M limit NAME closed`: from this moment the server with this name serves at most so many requests at
+    /// a time, where 0 is no limit, or takes none.
     Limit {
         moment: Moment,
         server: Name<'a>,
-        limit: u32,
+        limit: Intake,
     },
     /// `roll`: the next window of the log begins. It is no event, and has no moment.
     Roll,
@@ -170,7 +172,7 @@ fn check_of<'a>(moment: &[u8], mut words: Words<'a>) -> Option<Step<'a>>
     })
 }
 
-// `NAME N`, behind `M limit`.
+// `NAME N` or `NAME closed`, behind `M limit`.
 fn limit_of<'a>(moment: &[u8], mut words: Words<'a>) -> Option<Step<'a>>
     ensures { result ≡ limit_of moment.now words.entry }
 {
@@ -181,12 +183,24 @@ fn limit_of<'a>(moment: &[u8], mut words: Words<'a>) -> Option<Step<'a>>
     }
     let moment = moment_of(moment)?;
     let server = Name::new(server)?;
-    let limit = number(limit)?;
+    let limit = intake_of(limit)?;
     Some(Step::Limit {
         moment,
         server,
         limit,
     })
+}
+
+/// How many requests a server takes, by a word: `closed`, or a number of at most nine digits.
+pub fn intake_of(word: &[u8]) -> Option<Intake>
+    ensures { result ≡ intake_of word.now }
+{
+    if word == b"closed".as_slice() {
+        Some(Intake::Closed)
+    } else {
+        let limit = number(word)?;
+        Some(Intake::Open(limit))
+    }
 }
 
 // `roll`, the only word.

@@ -1,11 +1,11 @@
 ghost use Rattle.std.specs.Prelude.{◌≡◌, ◌++◌, OnOk, string_bytes, codes, decimal};
-ghost use Rattle.script.specs.Traces.{arrival_text, health_word as health_word_is, pin_text, entry_text, entries_text, refusal_text, queue_name};
+ghost use Rattle.script.specs.Traces.{arrival_text, intake_text, health_word as health_word_is, pin_text, entry_text, entries_text, refusal_text, queue_name};
 
 use crate::names::Names;
 use crate::writing::{
     end_by_name, end_by_number, push_moment, push_name, push_number, push_signed, push_ticket,
 };
-use dispatch_log::{Arrival, Entry, Queue, Refusal};
+use dispatch_log::{Arrival, Entry, Intake, Queue, Refusal};
 use due_key::Moment;
 use std::alloc::AllocError;
 
@@ -44,7 +44,7 @@ fn push_entry(text: &mut String, names: &Names, entry: &Entry) -> Result<(), All
         Entry::Limit(moment, server, limit) => {
             push_moment(text, moment, " limit")?;
             push_name(text, names.of(server))?;
-            end_by_number(text, limit)
+            end_by_intake(text, limit)
         }
         Entry::Direct(ticket, server) => push_put(text, "  direct ", ticket, names.of(server)),
         Entry::Joined(ticket, queue) => push_put(text, "  join ", ticket, name_of(names, queue)),
@@ -67,6 +67,16 @@ fn push_entry(text: &mut String, names: &Names, entry: &Entry) -> Result<(), All
             end_by_name(text, health_word(up))
         }
         Entry::Ended(ticket) => push_end(text, ticket),
+    }
+}
+
+// ` N` or ` closed`, and the line's end.
+fn end_by_intake(text: &mut String, limit: Intake) -> Result<(), AllocError>
+    ensures { OnOk result (string_bytes text.new ≡ string_bytes text.old ++ (codes " " ++ intake_text limit ++ codes "\n")) }
+{
+    match limit {
+        Intake::Open(limit) => end_by_number(text, limit),
+        Intake::Closed => end_by_name(text, "closed"),
     }
 }
 

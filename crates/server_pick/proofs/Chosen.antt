@@ -4,13 +4,15 @@ use Rattle.std.proofs.Common.{Some, MatchOption, length, slice_get, ◌↔◌, r
 use Rattle.std.specs.Option.{option_map_or}
 use Rattle.std.proofs.lemmas.Bool.Decides.{nat_tests, Decides-eqb}
 use Rattle.std.proofs.lemmas.Option.{same_Some}
+use Rattle.dispatch_log.specs.declared.allowance.Intake.{Intake}
+use Rattle.dispatch_log.specs.declared.allowance.Intake.TheVariants.{Open, Closed}
 use Rattle.dispatch_log.specs.declared.queue.Queue.TheVariants.{Server}
 use Rattle.dispatch_log.specs.declared.setup.ServerSet.{ServerSet}
 use Rattle.dispatch_log.specs.Picks.{IsPick}
 use Rattle.dispatch_log.specs.Placement.{IsCandidate, IsChosen}
 use Rattle.dispatch_log.specs.Rows.{served, queued}
 use Rattle.dispatch_log.specs.States.{cursor_after_placing}
-use Rattle.dispatch_log.specs.Scenes.{Scene, of_server, is_up, is_usable, is_free, has_room, takes_pinned, working_pin, limit_of}
+use Rattle.dispatch_log.specs.Scenes.{Scene, of_server, is_up, is_usable, is_free, has_room, takes_pinned, working_pin, limit_of, is_open, serves_beside, holds_beside}
 use Rattle.list_facts.proofs.Places.{same_or_other}
 use Rattle.dispatch_log.proofs.Choices.{there as server_there}
 use Rattle.server_pick.specs.Order.{HasRoomBut}
@@ -25,20 +27,20 @@ usable_within scene server usable = server_there scene server (λ it. nat_lt 0 i
 pub room_takes : (scene : Scene) (server : ℕ) → has_room scene server ≡ true → takes_pinned scene server ≡ true
 room_takes scene server room = by_up (is_up scene server) room
   where
-    by_server : (it : Option ServerSet)
-        → option_map_or (λ (x : ServerSet). (limit_of scene server == 0) || nat_lt (served server scene.rows + queued (Server server) scene.rows)
-        (limit_of scene server + x.maxqueue)) it false ≡ true
-        → option_map_or (λ (x : ServerSet). (limit_of scene server == 0) || nat_lt (served server scene.rows) (limit_of scene server)) it false || option_map_or
-        (λ (x : ServerSet). (x.maxqueue == 0) || nat_lt (queued (Server server) scene.rows) x.maxqueue) it false ≡ true
-    by_server None e = cc
-    by_server (Some x) e = grind (arith, nat_tests)
+    by_server : (limit : Intake) (it : Option ServerSet)
+        → option_map_or (λ (x : ServerSet). holds_beside limit x.maxqueue (served server scene.rows + queued (Server server) scene.rows)) it false ≡ true
+        → is_open limit && (option_map_or (λ (x : ServerSet). serves_beside limit (served server scene.rows)) it false || option_map_or
+        (λ (x : ServerSet). (x.maxqueue == 0) || nat_lt (queued (Server server) scene.rows) x.maxqueue) it false) ≡ true
+    by_server limit None e = cc
+    by_server (Open limit) (Some x) e = grind (arith, nat_tests)
+    by_server Closed (Some x) e = cc
 
     by_up : (up : Bool)
         → (up && of_server scene server (λ it. nat_lt 0 it.weight)) && of_server scene server
-        (λ it. (limit_of scene server == 0) || nat_lt (served server scene.rows + queued (Server server) scene.rows) (limit_of scene server + it.maxqueue))
+        (λ it. holds_beside (limit_of scene server) it.maxqueue (served server scene.rows + queued (Server server) scene.rows))
         ≡ true
-        → up && (is_free scene server || of_server scene server (λ it. (it.maxqueue == 0) || nat_lt (queued (Server server) scene.rows) it.maxqueue)) ≡ true
-    by_up true e = by_server (slice_get scene.servers server) (and_second (of_server scene server (λ it. nat_lt 0 it.weight)) _ e)
+        → up && is_open (limit_of scene server) && (is_free scene server || of_server scene server (λ it. (it.maxqueue == 0) || nat_lt (queued (Server server) scene.rows) it.maxqueue)) ≡ true
+    by_up true e = by_server (limit_of scene server) (slice_get scene.servers server) (and_second (of_server scene server (λ it. nat_lt 0 it.weight)) _ e)
     by_up false e = cc
 
 -- where no server is a candidate, none has room

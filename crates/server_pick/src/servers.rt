@@ -1,12 +1,12 @@
-ghost use Rattle.std.specs.Prelude.{◌≡◌, ◌+◌, ◌≤◌, ◌==◌, ◌||◌, nat_lt, All, IsTrue, length};
+ghost use Rattle.std.specs.Prelude.{◌≡◌, ◌≤◌, ◌==◌, ◌||◌, nat_lt, All, IsTrue, length};
 ghost use Rattle.dispatch_log.specs.declared.queue.Queue.TheVariants.{Server};
 ghost use Rattle.dispatch_log.specs.Rows.{queued};
 ghost use Rattle.dispatch_log.specs.Setups.{is_within};
 ghost use Rattle.dispatch_log.specs.Picks.{weight_of, load};
-ghost use Rattle.dispatch_log.specs.Scenes.{of_server, limit_of, is_usable, is_free, has_room, takes_pinned};
+ghost use Rattle.dispatch_log.specs.Scenes.{of_server, limit_of, is_open, serves_beside, holds_beside, is_usable, is_free, has_room, takes_pinned};
 ghost use Rattle.slot_ledger.specs.Ledgers.{scene_of};
 
-use dispatch_log::{Queue, ServerSet};
+use dispatch_log::{Intake, Queue, ServerSet};
 use slot_ledger::Ledger;
 
 /// The weight of a server; 0 where no server has the number.
@@ -49,10 +49,7 @@ pub(crate) fn is_free<H: Drop>(ledger: &Ledger<H>, server: usize) -> bool
 {
     match settings(ledger).get(server) {
         None => false,
-        Some(_) => {
-            let limit = ledger.limit(server);
-            limit == 0 || (ledger.served(server) as u64) < u64::from(limit)
-        }
+        Some(_) => serves_beside(ledger.limit(server), ledger.served(server) as u64),
     }
 }
 
@@ -65,22 +62,53 @@ pub(crate) fn has_room<H: Drop>(ledger: &Ledger<H>, server: usize) -> bool
 
 /// Whether a server serves and queues fewer requests than balancing may give it.
 fn has_places<H: Drop>(ledger: &Ledger<H>, server: usize) -> bool
-    ensures places { result ≡ of_server (scene_of ledger.now) server (λ it. (limit_of (scene_of ledger.now) server == 0) || nat_lt (load (scene_of ledger.now) server) (limit_of (scene_of ledger.now) server + it.maxqueue)) }
+    ensures places { result ≡ of_server (scene_of ledger.now) server (λ it. holds_beside (limit_of (scene_of ledger.now) server) it.maxqueue (load (scene_of ledger.now) server)) }
     ensures few { length ledger.now.setup.servers ≤ 64 }
 {
     match settings(ledger).get(server) {
         None => false,
-        Some(it) => {
-            let (limit, load) = (u64::from(ledger.limit(server)), load(ledger, server));
-            limit == 0 || load < limit || load - limit < u64::from(it.maxqueue)
+        Some(it) => holds_beside(ledger.limit(server), it.maxqueue, load(ledger, server)),
+    }
+}
+
+/// Whether a server of a limit serves one more request beside so many.
+fn serves_beside(limit: Intake, count: u64) -> bool
+    ensures { result ≡ serves_beside limit count }
+{
+    match limit {
+        Intake::Open(limit) => limit == 0 || count < u64::from(limit),
+        Intake::Closed => false,
+    }
+}
+
+/// Whether balancing gives a server of a limit and a maxqueue one more beside so many.
+fn holds_beside(limit: Intake, maxqueue: u32, count: u64) -> bool
+    ensures { result ≡ holds_beside limit maxqueue count }
+{
+    match limit {
+        Intake::Open(limit) => {
+            let limit = u64::from(limit);
+            limit == 0 || count < limit || count - limit < u64::from(maxqueue)
         }
+        Intake::Closed => false,
+    }
+}
+
+fn is_open(limit: Intake) -> bool
+    ensures { result ≡ is_open limit }
+{
+    match limit {
+        Intake::Open(_) => true,
+        Intake::Closed => false,
     }
 }
 
 pub(crate) fn takes_pinned<H: Drop>(ledger: &Ledger<H>, server: usize) -> bool
     ensures { result ≡ takes_pinned (scene_of ledger.now) server }
 {
-    ledger.up(server) && (is_free(ledger, server) || queues_pinned(ledger, server))
+    ledger.up(server)
+        && is_open(ledger.limit(server))
+        && (is_free(ledger, server) || queues_pinned(ledger, server))
 }
 
 /// Whether a server's queue takes a request that is bound to it.

@@ -1,6 +1,7 @@
 -- Ledgers, as contracts see them.
 use Rattle.std.specs.Prelude.{◌≡◌, ℕ, Bool, List, Option, length, slice_set}
 use Rattle.dispatch_log.specs.declared.allowance.Allowance.{Allowance}
+use Rattle.dispatch_log.specs.declared.allowance.Intake.{Intake}
 use Rattle.dispatch_log.specs.declared.setup.Setup.{Setup}
 use Rattle.dispatch_log.specs.Rows.{served}
 use Rattle.dispatch_log.specs.Setups.{IsSound}
@@ -29,7 +30,7 @@ abbrev pub with_up : {H : Type 0} → Kept H → ℕ → Bool → Kept H
 with_up kept server up = record kept { ups = slice_set kept.ups server up }
 
 -- the same ledger with a server's limit set, and what it serves noted
-abbrev pub with_limit : {H : Type 0} → Kept H → ℕ → ℕ → Kept H
+abbrev pub with_limit : {H : Type 0} → Kept H → ℕ → Intake → Kept H
 with_limit kept server limit = record kept { limits = slice_set kept.limits server (record { limit = limit; served = served server (rows_in kept.slots) }) }
 
 -- a ledger is of a sound setup, has its places, and counts its rows

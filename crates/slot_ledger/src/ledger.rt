@@ -11,7 +11,7 @@ ghost use Rattle.slot_ledger.specs.Counts.{IsQueueOf, IsPhaseOf};
 
 use crate::counts::Counts;
 use crate::places::Places;
-use dispatch_log::{Allowance, Phase, Queue, Row, Setup};
+use dispatch_log::{Allowance, Intake, Phase, Queue, Row, Setup};
 use due_key::Moment;
 use std::alloc::{AllocError, Global};
 use std::marker::Model;
@@ -93,12 +93,12 @@ impl<H: Drop> Ledger<H> {
         self.ups[server] = up;
     }
 
-    /// How many requests a server may serve at present; 0: no limit. `O(1)`.
-    pub fn limit(&self, server: usize) -> u32
+    /// How many requests a server takes at present. `O(1)`.
+    pub fn limit(&self, server: usize) -> Intake
         ensures { result ≡ limit_of (scene_of self.now) server }
     {
         match self.limits.get(server) {
-            None => 0,
+            None => Intake::Closed,
             Some(it) => it.limit,
         }
     }
@@ -110,9 +110,9 @@ impl<H: Drop> Ledger<H> {
         self.limits.as_slice()
     }
 
-    /// A server may serve so many requests from now on, and what it serves is noted; 0: no limit.
+    /// A server takes so many requests from now on, or none, and what it serves is noted.
     /// No request is stopped. `O(1)`.
-    pub fn set_limit(&mut self, server: usize, limit: u32)
+    pub fn set_limit(&mut self, server: usize, limit: Intake)
         requires { server < length self.old.setup.servers }
         ensures { self.new ≡ with_limit self.old server limit }
     {

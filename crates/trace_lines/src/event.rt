@@ -4,9 +4,10 @@ ghost use Rattle.readable_log.specs.Grants.{moment_in};
 use crate::fault::{LineError, TraceCause};
 use crate::fields::{end, next, one, two};
 use crate::servers::Servers;
-use dispatch_log::{Arrival, Entry};
+use dispatch_log::{Arrival, Entry, Intake};
 use due_key::{Class, Due, Moment, Offset};
 use proxy_words::{Words, long_number, number, signed_long_number};
+use script::intake_of;
 
 /// The event that a line tells of, by its moment and the words behind it.
 pub(crate) fn event_of(
@@ -95,17 +96,21 @@ fn check(servers: &mut Servers, moment: Moment, words: Words) -> Result<Entry, L
     Ok(Entry::Check(moment, server, answered))
 }
 
-// `S N`, behind `M limit`.
+// `S N` or `S closed`, behind `M limit`.
 fn limit(servers: &mut Servers, moment: Moment, words: Words) -> Result<Entry, LineError>
     ensures { IfOk result (λ entry. moment_in entry ≡ Some moment) }
 {
     let (name, most) = two(words)?;
-    let (server, limit) = (servers.number(name)?, small_number(most)?);
+    let (server, limit) = (servers.number(name)?, intake(most)?);
     Ok(Entry::Limit(moment, server, limit))
 }
 
 pub(crate) fn ticket(word: &[u8]) -> Result<u64, LineError> {
     long_number(word).ok_or(LineError::Faulty(TraceCause::Form))
+}
+
+fn intake(word: &[u8]) -> Result<Intake, LineError> {
+    intake_of(word).ok_or(LineError::Faulty(TraceCause::Form))
 }
 
 /// A number of at most nine digits.

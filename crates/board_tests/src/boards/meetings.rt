@@ -7,12 +7,12 @@ use std::process::Abort;
 
 pub const BOTH: Met = Met {
     passes: 2,
-    bound: 2,
+    bound: 3,
 };
 
 const ONE: Met = Met {
     passes: 1,
-    bound: 1,
+    bound: 2,
 };
 
 // Two seats take a pass each and meet; one pass comes back, the bound falls to 1, and they meet again.
@@ -40,7 +40,7 @@ fn meet_twice<R: Abort>(
             same(rt, met, BOTH);
             first.post(board, pass, Ending::Done);
             match keeper.collect(board, 0) {
-                Some(_) => keeper.limit(board, 0, 1),
+                Some(_) => keeper.limit(board, 0, 2),
                 None => assert!(rt; false, "posted"),
             }
             let (back, met) = first.meet(board, back, 0);

@@ -95,7 +95,7 @@ fn collect_all<R: Wait>(rt: &R, board: &Board, keeper: KeeperSeat) -> KeeperSeat
         if out == 0 {
             break;
         }
-        keeper.limit(board, 0, if place == 2 { 2 } else { 0 });
+        keeper.limit(board, 0, if place == 2 { 3 } else { 0 });
         match keeper.collect(board, place) {
             Some(_) => out -= 1,
             None => {}

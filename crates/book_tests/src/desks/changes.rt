@@ -13,7 +13,7 @@ fn limit<N: BoardName, R: Abort + Wait>(
     limit: u32,
 ) -> Option<usize> {
     let mut woken = PlaceSet::new();
-    let answer = desk.limit(rt, at(moment), 0, limit, &mut woken);
+    let answer = desk.limit(rt, at(moment), 0, Intake::Open(limit), &mut woken);
     answer.expect(rt, "a limit");
     woken.next(0)
 }

@@ -115,7 +115,13 @@ fn come<N: BoardName, R: Wait>(
 fn change<N: BoardName, R: Wait>(rt: &R, desk: &Desk<N>, number: u32) {
     if number % 64 == 63 {
         let mut woken = PlaceSet::new();
-        let _ = desk.limit(rt, Moment::zero(), 0, 1 + number / 64 % 4, &mut woken);
+        let _ = desk.limit(
+            rt,
+            Moment::zero(),
+            0,
+            Intake::Open(1 + number / 64 % 4),
+            &mut woken,
+        );
     }
 }
 

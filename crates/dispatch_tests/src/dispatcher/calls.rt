@@ -2,6 +2,7 @@ use super::setups::{Plan, setup_of};
 use crate::assertions::{holds, same};
 use binom_queue::BinomQueue;
 use dispatch_core::{Core, Refusal};
+use dispatch_log::Intake;
 use due_key::{Class, Key, Moment, Offset};
 use pend_queue::{ListQueue, PendQueue};
 use std::alloc::Global;
@@ -20,7 +21,7 @@ pub enum Call {
     Abort(u64),
     Tick,
     Check(usize, bool),
-    Limit(usize, u32),
+    Limit(usize, Intake),
 }
 
 /// An arrival without a pin.

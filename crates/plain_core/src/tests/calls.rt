@@ -1,5 +1,6 @@
 use crate::assertions::holds;
 use dispatch_core::{Core, Refusal, Setup};
+use dispatch_log::Intake;
 use due_key::{Class, Key, Moment, Offset};
 use pend_queue::PendQueue;
 use std::alloc::Global;
@@ -14,7 +15,7 @@ pub enum Call {
     Abort(u64),
     Tick,
     Check(usize, bool),
-    Limit(usize, u32),
+    Limit(usize, Intake),
 }
 
 /// Asks a call of the dispatcher, and tells the place of an arrival.

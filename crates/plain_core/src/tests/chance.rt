@@ -1,5 +1,6 @@
 use super::calls::Call;
 use super::state::Plain;
+use dispatch_log::Intake;
 use due_key::{Class, Moment, Offset};
 
 /// A fixed sequence of moments and calls that look random.
@@ -70,12 +71,20 @@ impl Chance {
             13 => Call::Tick,
             14 if self.below(4) == 0 => {
                 let server = self.server(plain);
-                Call::Limit(server, self.below(4).min(3) as u32)
+                Call::Limit(server, self.intake())
             }
             _ => {
                 let server = self.server(plain);
                 Call::Check(server, self.below(5) > 1)
             }
+        }
+    }
+
+    // Closed, or open to up to three, or to any number.
+    fn intake(&mut self) -> Intake {
+        match self.below(5).min(4) {
+            4 => Intake::Closed,
+            limit => Intake::Open(limit as u32),
         }
     }
 

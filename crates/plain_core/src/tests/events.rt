@@ -1,7 +1,7 @@
 use super::calls::Call;
 use super::servers::waits;
 use super::state::Plain;
-use dispatch_log::{Arrival, Entry, Phase, Queue, Refusal};
+use dispatch_log::{Arrival, Entry, Intake, Phase, Queue, Refusal};
 use due_key::{Due, Moment};
 use verdict::Cause;
 
@@ -17,7 +17,7 @@ pub enum Stage {
     Aborting(u64),
     Telling,
     Checking(usize),
-    Falling(usize),
+    Emptying(usize),
     Granting,
 }
 
@@ -37,9 +37,9 @@ impl Stage {
                 ticket, server,
             ),
             (Stage::Telling, Entry::Left(_, _)) => Stage::Telling,
-            (_, Entry::Health(server, false)) | (_, Entry::Moved(_, server)) => Stage::Falling(
-                server,
-            ),
+            (_, Entry::Health(server, false))
+            | (_, Entry::Moved(_, server))
+            | (_, Entry::Limit(_, server, Intake::Closed)) => Stage::Emptying(server),
             _ => Stage::Granting,
         }
     }
@@ -147,13 +147,13 @@ impl Plain {
             },
             Stage::Checking(server) if self.is_up_by_results(server, true) != self.is_up(server) =>
                 { Some(Entry::Health(server, self.is_up(server))) }
-            Stage::Falling(server) if self.setup.redispatch => {
+            Stage::Emptying(server) if self.setup.redispatch => {
                 match self.first_in(Queue::Server(server)) {
                     Some(row) => Some(Entry::Moved(row.key.ticket, server)),
                     None => self.grant(),
                 }
             }
-            Stage::Checking(_) | Stage::Falling(_) | Stage::Granting => self.grant(),
+            Stage::Checking(_) | Stage::Emptying(_) | Stage::Granting => self.grant(),
         }
     }
 

@@ -1,5 +1,5 @@
 use super::state::Plain;
-use dispatch_log::{Phase, Queue, ServerSet};
+use dispatch_log::{Intake, Phase, Queue, ServerSet};
 
 impl Plain {
     pub fn servers(&self) -> usize {
@@ -10,8 +10,8 @@ impl Plain {
         self.setup.servers.as_slice().get(server).copied()
     }
 
-    /// How many requests a server may serve at present; 0: no limit.
-    pub fn limit(&self, server: usize) -> Option<u32> {
+    /// How many requests a server takes at present.
+    pub fn limit(&self, server: usize) -> Option<Intake> {
         self.limits.get(server).copied()
     }
 
@@ -66,8 +66,8 @@ impl Plain {
 
     pub fn is_free(&self, server: usize) -> bool {
         match self.limit(server) {
-            Some(limit) => limit == 0 || self.served(server) < limit as usize,
-            None => false,
+            Some(Intake::Open(limit)) => limit == 0 || self.served(server) < limit as usize,
+            Some(Intake::Closed) | None => false,
         }
     }
 
@@ -76,7 +76,10 @@ impl Plain {
         let Some(it) = self.server(server) else {
             return false;
         };
-        let limit = self.limit(server).unwrap_or(0) as usize;
+        let Some(Intake::Open(limit)) = self.limit(server) else {
+            return false;
+        };
+        let limit = limit as usize;
         let most = limit.saturating_add(it.maxqueue as usize);
         (limit == 0 || self.load(server) < most) && self.is_usable(server)
     }
@@ -88,7 +91,8 @@ impl Plain {
         };
         let most = it.maxqueue as usize;
         let has_space = most == 0 || self.queued(Queue::Server(server)) < most;
-        self.is_up(server) && (self.is_free(server) || has_space)
+        let is_open = self.limit(server) != Some(Intake::Closed);
+        self.is_up(server) && is_open && (self.is_free(server) || has_space)
     }
 
     pub fn working_pin(&self, pin: Option<usize>) -> Option<usize> {

@@ -1,5 +1,5 @@
 use super::servers::waits;
-use dispatch_log::{Arrival, Entry, Phase, Queue, Row, ServerSet, Setup};
+use dispatch_log::{Arrival, Entry, Intake, Phase, Queue, Row, ServerSet, Setup};
 use due_key::{Key, Moment};
 use std::alloc::Global;
 use std::process::Abort;
@@ -13,8 +13,8 @@ pub struct Plain {
     pub results: Vec<Vec<bool>>,
     /// Which servers are up, by their results.
     pub ups: Vec<bool>,
-    /// How many requests each server may serve at present; 0: no limit.
-    pub limits: Vec<u32>,
+    /// How many requests each server takes at present.
+    pub limits: Vec<Intake>,
     pub moment: Moment,
     pub ticket: u64,
     /// The server that balancing picked last.
@@ -30,7 +30,7 @@ impl Plain {
         let mut limits = Vec::new(alloc);
         for server in setup.servers.as_slice() {
             results.push(Vec::new(alloc)).expect(rt, "memory");
-            limits.push(server.limit).expect(rt, "memory");
+            limits.push(Intake::Open(server.limit)).expect(rt, "memory");
         }
         Plain {
             rows: vacant(rt, alloc, setup.places),
@@ -224,7 +224,7 @@ impl Plain {
         }
     }
 
-    fn set_limit(&mut self, server: usize, limit: u32) {
+    fn set_limit(&mut self, server: usize, limit: Intake) {
         if let Some(cell) = self.limits.get_mut(server) {
             *cell = limit;
         }

@@ -2,7 +2,7 @@ use crate::assertions::same;
 use script::{Line, step_in};
 
 // Lines, and the steps that they ask for, as these are printed.
-static ASKED: [(&str, &str); 16] = [
+static ASKED: [(&str, &str); 17] = [
     (
         "\t7  arrive 5000\t-600000 ",
         "Arrive { moment: Moment { number: 7 }, class: Class { number: 2047 }, offset: Offset { number: -524287 }, pin: None }",
@@ -46,15 +46,19 @@ static ASKED: [(&str, &str); 16] = [
     ),
     (
         "3 limit a 1",
-        r#"Limit { moment: Moment { number: 3 }, server: Name { text: "a" }, limit: 1 }"#,
+        r#"Limit { moment: Moment { number: 3 }, server: Name { text: "a" }, limit: Open(1) }"#,
     ),
     (
         "\t00 limit  limit 999999999 ",
-        r#"Limit { moment: Moment { number: 0 }, server: Name { text: "limit" }, limit: 999999999 }"#,
+        r#"Limit { moment: Moment { number: 0 }, server: Name { text: "limit" }, limit: Open(999999999) }"#,
     ),
     (
         "6 limit a 0",
-        r#"Limit { moment: Moment { number: 6 }, server: Name { text: "a" }, limit: 0 }"#,
+        r#"Limit { moment: Moment { number: 6 }, server: Name { text: "a" }, limit: Open(0) }"#,
+    ),
+    (
+        "7 limit a closed",
+        r#"Limit { moment: Moment { number: 7 }, server: Name { text: "a" }, limit: Closed }"#,
     ),
     ("roll", "Roll"),
     (" \troll ", "Roll"),

@@ -1,6 +1,6 @@
 use crate::assertions::same;
 use crate::samples::{moment, named};
-use dispatch_log::{Arrival, Entry, Queue, Refusal};
+use dispatch_log::{Arrival, Entry, Intake, Queue, Refusal};
 use due_key::{Class, Due, Offset};
 use script::{push_entries, push_refusal};
 use std::alloc::Global;
@@ -66,8 +66,9 @@ fn failures_ticks_checks_and_limits_are_written_line_by_line(rt: HostRuntime) {
         Entry::Health(0, false),
         Entry::Moved(4, 0),
         Entry::Left(1, Cause::Retries),
-        Entry::Limit(moment(18), 1, 7),
-        Entry::Limit(moment(19), 0, 0),
+        Entry::Limit(moment(18), 1, Intake::Open(7)),
+        Entry::Limit(moment(19), 0, Intake::Open(0)),
+        Entry::Limit(moment(20), 1, Intake::Closed),
     ];
     let text = text_of(&rt, rt.alloc(), &entries);
     let expected = "\
@@ -85,6 +86,7 @@ fn failures_ticks_checks_and_limits_are_written_line_by_line(rt: HostRuntime) {
   left 1 retries
 18 limit b 7
 19 limit a 0
+20 limit b closed
 ";
     same(&rt, text.as_str(), expected);
 }

@@ -1,3 +1,4 @@
+use Rattle.dispatch_log.proofs.WrongClosings.{not_at_a_closed_server, not_stopped, not_idle_after_an_opening, not_waiting_for_a_closed, not_balanced_to_a_closed, not_beside_a_closed_one, not_left_at_a_closed, not_moved_without}
 use Rattle.dispatch_log.proofs.WrongWindows.{not_of_no_class_before, not_due_too_late, not_waiting_to_come}
 use Rattle.dispatch_log.proofs.WrongWindows.{not_at_the_lowered_limit, not_idle_after_a_raise, not_of_no_server, not_forgotten, not_reset, not_anew}
 use Rattle.dispatch_log.proofs.WrongLogs.{not_first_come, not_idle, not_above_limit, not_without_offset, not_of_no_class}
@@ -144,3 +145,27 @@ returns-clause-moved_without_a_fall c = not_moved_alone
 
 pub returns-clause-redispatched_by_a_new_due_date : goal.returns-clause-redispatched_by_a_new_due_date
 returns-clause-redispatched_by_a_new_due_date c = not_due_anew
+
+pub returns-clause-grant_at_a_closed_server : goal.returns-clause-grant_at_a_closed_server
+returns-clause-grant_at_a_closed_server c = not_at_a_closed_server
+
+pub returns-clause-closing_stops_a_request : goal.returns-clause-closing_stops_a_request
+returns-clause-closing_stops_a_request c = not_stopped
+
+pub returns-clause-opened_server_grants_nothing : goal.returns-clause-opened_server_grants_nothing
+returns-clause-opened_server_grants_nothing c = not_idle_after_an_opening
+
+pub returns-clause-waits_for_a_closed_server : goal.returns-clause-waits_for_a_closed_server
+returns-clause-waits_for_a_closed_server c = not_waiting_for_a_closed
+
+pub returns-clause-balanced_to_a_closed_server : goal.returns-clause-balanced_to_a_closed_server
+returns-clause-balanced_to_a_closed_server c = not_balanced_to_a_closed
+
+pub returns-clause-no_server_beside_a_closed_one : goal.returns-clause-no_server_beside_a_closed_one
+returns-clause-no_server_beside_a_closed_one c = not_beside_a_closed_one
+
+pub returns-clause-closing_leaves_its_queue : goal.returns-clause-closing_leaves_its_queue
+returns-clause-closing_leaves_its_queue c = not_left_at_a_closed
+
+pub returns-clause-closing_moves_without_redispatch : goal.returns-clause-closing_moves_without_redispatch
+returns-clause-closing_moves_without_redispatch c = not_moved_without

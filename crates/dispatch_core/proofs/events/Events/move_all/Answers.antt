@@ -2,7 +2,7 @@ use Rattle.dispatch_core.proofs.Emptying.{moves_none, moves_more, moves_all}
 use Rattle.dispatch_core.proofs.events.Events.move_all.Goals as goal
 
 pub moving-init : goal.moving-init
-moving-init g c = moves_none c.args.server c.args.self.now.trace c.requires.falling c.requires.redispatch c.requires.within c.requires.room
+moving-init g c = moves_none c.args.server c.args.self.now.trace c.requires.emptying c.requires.redispatch c.requires.within c.requires.room
 
 pub moving-preserved : goal.moving-preserved
 moving-preserved g c = moves_more c.args.server _ _ _ c.moving.invariant c.moving-test.ensures.moved

@@ -1,5 +1,6 @@
-use Rattle.std.proofs.Common.{ℕ, ap, sym, ◌∙◌, true, length, replicate, [], ◌++◌, arith}
-use Rattle.std.proofs.lemmas.List.{length-append, length-replicate}
+use Rattle.std.proofs.Common.{ℕ, ◌+◌, map, ap, sym, ◌∙◌, true, length, replicate, [], ◌++◌, arith}
+use Rattle.std.proofs.lemmas.List.{length-append, length-map, length-replicate}
+use Rattle.grant_board.specs.Views.{first_mark}
 use Rattle.grant_board.specs.Rule.{terms_of}
 use Rattle.grant_board.specs.Plays.{relay_of, cut_off}
 use Rattle.grant_board.proofs.Ending.{opens_at}
@@ -9,13 +10,14 @@ use Rattle.grant_board.proofs.board.Board.open.Goals as goal
 
 pub of_words-requires : goal.of_words-requires
 of_words-requires c = opens_at (terms_of c.plan-plan.result) c.deref.result.now
-    (c.deref.ensures.value ∙ (c.in_ok-words.ensures ∙ ap (λ t. replicate t.places 0 ++ t.limits) (sym c.plan-plan.ensures)))
+    (c.deref.ensures.value ∙ (c.in_ok-words.ensures ∙ ap (λ t. replicate t.places 0 ++ map first_mark t.limits) (sym c.plan-plan.ensures)))
 
 pub split_seat-first-requires : goal.split_seat-first-requires
 split_seat-first-requires c =
     let made = c.in_ok-table.ensures in
     let seat = c.in_ok-table.seat in
-    let long = ap length c.deref.ensures.value ∙ (ap length c.in_ok-words.ensures ∙ length-append (replicate c.args.places 0) c.args.limits.now) in (
+    let long = ap length c.deref.ensures.value ∙ (ap length c.in_ok-words.ensures ∙ length-append (replicate c.args.places 0) (map first_mark c.args.limits.now)
+    ∙ ap (λ n. length {A = ℕ} (replicate c.args.places 0) + n) (length-map c.args.limits.now first_mark)) in (
       made.2,
       omega (arith, made.0, long, length-replicate {A = ℕ} c.args.places 0, c.requires.some_places.0),
       cut_kept (terms_of c.in_ok-table.table.shared.key) seat.id seat.me.0,

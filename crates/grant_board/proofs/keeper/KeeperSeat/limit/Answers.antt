@@ -14,16 +14,15 @@ store-requires c =
     let same = c.requires.same_board in
     let table = keeper_table seat.table_id k c.args.self.now shared.table_id c.args.board.now c.self.view_is same c.board.view_is in
     let may = subst (λ x. MayLimit x.view c.args.server c.args.bound) (sym c.self.view_is) c.requires.may_limit in
-    let number = subst (λ n. MayLimit k c.args.server n) (sym c.from.ensures) may in
     let word : c.self.inside.places + c.args.server ≡ k.terms.places + c.args.server = omega (arith, c.self.invariant.table.places_are) in (
       table,
       has_word _ _ _ _ _ c.self.invariant.table table (server_near _ _ _ _ c.self.invariant.table may.0),
-      limits_at (terms_of shared.key) shared.table_id.slots seat.id seat.me (at_rest k) c.self.invariant.me c.args.server _ _ word number,
+      limits_at (terms_of shared.key) shared.table_id.slots seat.id seat.me (at_rest k) c.self.invariant.me c.args.server _ _ word may,
     )
 
 -- what the step tells
 told : (c : goal.After-store)
-    → c.store.new.seat.me ≡ keeper_seat (at_rest (limit_after (keeper_of c.self.inside.seat.me.0.keepers).view c.args.server c.from.result))
+    → c.store.new.seat.me ≡ keeper_seat (at_rest (limit_after (keeper_of c.self.inside.seat.me.0.keepers).view c.args.server c.args.bound))
 told c =
     let k = keeper_of c.self.inside.seat.me.0.keepers in
     let may = subst (λ x. MayLimit x.view c.args.server c.args.bound) (sym c.self.view_is) c.requires.may_limit in
@@ -42,9 +41,8 @@ returns-clause-limited c =
     let seat = c.self.inside.seat in
     let to = c.store.new.seat in
     let k = (keeper_of seat.me.0.keepers).view in
-    let bound : c.from.result ≡ c.args.bound = c.from.ensures in
     keeper_value (λ v. limit_after v c.args.server c.args.bound) seat.table_id to.table_id to.me k c.args.self.now c.store.ensures.0 c.self.view_is
-    (told c ∙ ap (λ n. keeper_seat (at_rest (limit_after k c.args.server n))) bound)
+    (told c)
 
 pub returns-clause-ruled : goal.returns-clause-ruled
 returns-clause-ruled c = keeper_ruled c.store.new.seat.me _ (told c) c.store.ensures.2.1

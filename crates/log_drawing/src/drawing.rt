@@ -51,8 +51,14 @@ rect,path{vector-effect:non-scaling-stroke}\
 .w{fill-opacity:.28;stroke-opacity:.75}.s{stroke:#222;stroke-opacity:.6}.l{fill-opacity:.55;stroke:none;pointer-events:none}\
 .c{stroke:#000;stroke-opacity:1;stroke-width:2}.d{stroke:#111;stroke-width:2;fill:none;pointer-events:none}\
 .x{stroke:#c00000;stroke-width:3;fill:none;pointer-events:none}\
-.u{stroke:#111;stroke-dasharray:4 3;fill:none}.t{fill:#111;stroke:none}.y{fill:url(#down);pointer-events:none}.e{stroke-opacity:.8;fill:none;pointer-events:none}.o{stroke:#999;stroke-dasharray:1 3;fill:none}\
+.u{stroke:#111;stroke-dasharray:4 3;fill:none}.t{fill:#111;stroke:none}.y{fill:url(#down);pointer-events:none}.j{fill:url(#closed);pointer-events:none}.e{stroke-opacity:.8;fill:none;pointer-events:none}.o{stroke:#999;stroke-dasharray:1 3;fill:none}\
 .z .w,.z .s{stroke-width:.4}.z .c{stroke-width:1}.z .d{stroke-width:1;stroke-opacity:.5}.p{stroke-opacity:.4;fill:none}.q{fill:none}\
+";
+
+// The hatching of a server that is down, and of one that is closed.
+const HATCHES: &str = "\
+<defs><pattern id=\"down\" width=\"8\" height=\"8\" patternUnits=\"userSpaceOnUse\" patternTransform=\"rotate(45)\"><path d=\"M1 0v8\" stroke=\"#333\" stroke-opacity=\".55\" stroke-width=\"2\"/><path d=\"M5 0v8\" stroke=\"#fff\" stroke-opacity=\".6\" stroke-width=\"2\"/></pattern>
+<pattern id=\"closed\" width=\"6\" height=\"6\" patternUnits=\"userSpaceOnUse\"><path d=\"M0 1h6\" stroke=\"#333\" stroke-opacity=\".55\" stroke-width=\"1.5\"/><path d=\"M0 4h6\" stroke=\"#fff\" stroke-opacity=\".6\" stroke-width=\"1.5\"/></pattern></defs>
 ";
 
 /// Writes the picture at the end. After an `Err` a part of it may stand there. `O(n log n)` in the entries, times the
@@ -88,9 +94,8 @@ fn push_head(text: &mut String, sheet: &Sheet) -> Result<(), AllocError> {
     )?;
     text.push_str(COLOUR_STYLE)?;
     text.push_str(STYLE)?;
-    text.push_str(
-        "</style>\n<defs><pattern id=\"down\" width=\"8\" height=\"8\" patternUnits=\"userSpaceOnUse\" patternTransform=\"rotate(45)\"><path d=\"M1 0v8\" stroke=\"#333\" stroke-opacity=\".55\" stroke-width=\"2\"/><path d=\"M5 0v8\" stroke=\"#fff\" stroke-opacity=\".6\" stroke-width=\"2\"/></pattern></defs>\n",
-    )?;
+    text.push_str("</style>\n")?;
+    text.push_str(HATCHES)?;
     text.push_str("<rect width=\"100%\" height=\"100%\" fill=\"#fff\"/>\n")
 }
 

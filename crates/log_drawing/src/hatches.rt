@@ -1,50 +1,100 @@
 use crate::drawing::Scene;
 use crate::sheet::Band;
-use dispatch_log::Entry;
+use dispatch_log::{Entry, Intake};
 use log_stretches::Lane;
 use std::alloc::AllocError;
 
-/// Writes a hatched stretch over the lane of each server while it is down.
+/// Why a server takes nobody for a time.
+#[derive(Clone, Copy)]
+enum Pause {
+    Down(usize),
+    Closed(usize),
+}
+
+impl Pause {
+    // What an entry begins.
+    fn begun_by(entry: &Entry) -> Option<Pause> {
+        match *entry {
+            Entry::Health(server, false) => Some(Pause::Down(server)),
+            Entry::Limit(_, server, Intake::Closed) => Some(Pause::Closed(server)),
+            _ => None,
+        }
+    }
+
+    // A server that is closed once more begins another pause, so that no stretch is hatched twice.
+    fn is_ended_by(&self, entry: &Entry) -> bool {
+        match *self {
+            Pause::Down(server) => *entry == Entry::Health(server, true),
+            Pause::Closed(server) => match *entry {
+                Entry::Limit(_, other, _) => other == server,
+                _ => false,
+            },
+        }
+    }
+
+    fn lane(&self) -> Lane {
+        match *self {
+            Pause::Down(server) | Pause::Closed(server) => Lane::Server(server),
+        }
+    }
+
+    fn style(&self) -> &'static str {
+        match *self {
+            Pause::Down(_) => "y",
+            Pause::Closed(_) => "j",
+        }
+    }
+}
+
+/// Writes a hatched stretch over the lane of each server while it is down, and another while it is closed.
 pub(crate) fn push_hatches(text: &mut String, scene: &Scene) -> Result<(), AllocError> {
     for (number, entry) in scene.subject.entries.iter().enumerate() {
-        if let Entry::Health(server, false) = *entry {
-            let up = up_again(scene.subject.entries, number, server);
-            if let Some(band) = scene.sheet.band(Lane::Server(server)) {
-                push_hatch(text, scene, &band, number, up)?;
-            }
+        if let Some(pause) = Pause::begun_by(entry) {
+            push_pause(text, scene, pause, number)?;
         }
     }
     Ok(())
 }
 
-// The number of the entry behind this one by which the server is up again.
-fn up_again(entries: &[Entry], number: usize, server: usize) -> Option<usize> {
-    let behind = entries.get(number..)?;
-    let after = behind
-        .iter()
-        .position(|entry| *entry == Entry::Health(server, true))?;
-    Some(number.saturating_add(after))
+fn push_pause(
+    text: &mut String,
+    scene: &Scene,
+    pause: Pause,
+    number: usize,
+) -> Result<(), AllocError> {
+    let Some(band) = scene.sheet.band(pause.lane()) else {
+        return Ok(());
+    };
+    let until = end_of(scene.subject.entries, pause, number);
+    let sheet = scene.sheet;
+    let from = sheet.since(scene.course.moment(number.saturating_add(1)));
+    let to = until.map_or(sheet.span, |number| {
+        sheet.since(scene.course.moment(number.saturating_add(1)))
+    });
+    push_hatch(text, pause, &band, sheet.pixel(from), sheet.pixel(to))
+}
+
+// The number of the entry behind this one that ends its pause.
+fn end_of(entries: &[Entry], pause: Pause, number: usize) -> Option<usize> {
+    let next = number.saturating_add(1);
+    let behind = entries.get(next..)?;
+    let after = behind.iter().position(|entry| pause.is_ended_by(entry))?;
+    Some(next.saturating_add(after))
 }
 
 fn push_hatch(
     text: &mut String,
-    scene: &Scene,
+    pause: Pause,
     band: &Band,
-    down: usize,
-    up: Option<usize>,
+    left: u64,
+    right: u64,
 ) -> Result<(), AllocError> {
-    let sheet = scene.sheet;
-    let from = sheet.since(scene.course.moment(down.saturating_add(1)));
-    let to = up.map_or(sheet.span, |number| {
-        sheet.since(scene.course.moment(number.saturating_add(1)))
-    });
-    let left = sheet.pixel(from);
-    let right = sheet.pixel(to);
+    let style = pause.style();
     let width = right.saturating_sub(left).max(1);
     let top = band.top;
     let height = band.height;
     writeln!(
         text,
-        "<rect class=\"y\" x=\"{left}\" y=\"{top}\" width=\"{width}\" height=\"{height}\"/>"
+        "<rect class=\"{style}\" x=\"{left}\" y=\"{top}\" width=\"{width}\" height=\"{height}\"/>"
     )
 }

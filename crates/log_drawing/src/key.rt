@@ -74,6 +74,7 @@ const SIGNS: &str = "\
 <path class=\"t\" d=\"M788 67h10l-5 8z\"/><text x=\"804\" y=\"76\">worst slot</text>
 <path class=\"u\" d=\"M884 64v14\"/><text x=\"892\" y=\"76\">cut</text>
 <rect class=\"y\" x=\"930\" y=\"65\" width=\"14\" height=\"12\"/><text x=\"950\" y=\"76\">server is down</text>
+<rect class=\"j\" x=\"1052\" y=\"65\" width=\"14\" height=\"12\"/><text x=\"1072\" y=\"76\">server is closed</text>
 ";
 
 fn push_signs(text: &mut String) -> Result<(), AllocError> {

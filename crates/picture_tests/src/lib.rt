@@ -5,6 +5,8 @@
 #[cfg(test)]
 mod assertions;
 #[cfg(test)]
+mod closing;
+#[cfg(test)]
 mod drawn_scripts;
 #[cfg(test)]
 mod overtaking;

@@ -12,7 +12,7 @@ use self::state::Plain;
 use crate::assertions::{holds, same};
 use binom_queue::BinomQueue;
 use dispatch_core::{Core, Log};
-use dispatch_log::{Entry, Queue, ServerSet, Servers, Setup};
+use dispatch_log::{Entry, Intake, Queue, ServerSet, Servers, Setup};
 use due_key::{Key, Moment};
 use pend_queue::{ListQueue, PendQueue};
 use std::alloc::Global;
@@ -211,6 +211,7 @@ enum Kind {
     Moved,
     Retried,
     Risen,
+    Closed,
     Left(Cause),
 }
 
@@ -223,7 +224,8 @@ fn is_of(entry: &Entry, kind: Kind) -> bool {
         | (Entry::Granted(_, Queue::Backend, _), Kind::GrantedFromBackend)
         | (Entry::Moved(_, _), Kind::Moved)
         | (Entry::Retried(_, _, _), Kind::Retried)
-        | (Entry::Health(_, true), Kind::Risen) => true,
+        | (Entry::Health(_, true), Kind::Risen)
+        | (Entry::Limit(_, _, Intake::Closed), Kind::Closed) => true,
         (Entry::Left(_, cause), Kind::Left(of_it)) => *cause == of_it,
         _ => false,
     }
@@ -248,14 +250,27 @@ fn has_every_kind(rt: &impl Abort, log: &[Entry]) {
     has_kind(rt, log, Kind::Moved);
     has_kind(rt, log, Kind::Retried);
     has_kind(rt, log, Kind::Risen);
+    has_kind(rt, log, Kind::Closed);
+}
+
+// A log in which no queue was moved because its server was closed stops the test.
+fn has_emptied_queue(rt: &impl Abort, log: &[Entry]) {
+    let mut closed = false;
+    let mut found = false;
+    for entry in log {
+        found = found || closed && is_of(entry, Kind::Moved);
+        closed = is_of(entry, Kind::Closed);
+    }
+    holds(rt, found);
 }
 
 // Of servers that are checked, over such queues.
 fn follows_the_definitions<Q: PendQueue<Key, usize>>(rt: &impl Abort, alloc: Global) {
     let (setup, copy) = (many_checks(rt, alloc), many_checks(rt, alloc));
-    let course = both_agree::<Q>(rt, alloc, setup, copy, 20_000);
+    let course = both_agree::<Q>(rt, alloc, setup, copy, 50_000);
     let log = course.entries.as_slice();
     has_every_kind(rt, log);
+    has_emptied_queue(rt, log);
     for cause in [
         Cause::Aborted,
         Cause::Timeout,
@@ -272,7 +287,7 @@ fn follows_the_definitions<Q: PendQueue<Key, usize>>(rt: &impl Abort, alloc: Glo
 // Where logs fill, over such queues.
 fn fills_logs<Q: PendQueue<Key, usize>>(rt: &impl Abort, alloc: Global) {
     let (setup, copy) = (few_checks(rt, alloc), few_checks(rt, alloc));
-    let course = both_agree::<Q>(rt, alloc, setup, copy, 5000);
+    let course = both_agree::<Q>(rt, alloc, setup, copy, 10_000);
     holds(rt, course.full > 1);
     drop(course);
 }

@@ -1,4 +1,5 @@
 mod broken_streams;
+mod closings;
 mod failures;
 mod faults;
 mod health;

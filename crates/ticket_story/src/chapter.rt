@@ -64,16 +64,27 @@ fn add_stay_end(
             write_lateness(&mut line, lateness)?;
         }
         Some(Entry::Moved(_, server)) => {
-            write!(
-                line,
-                "{} is down, so it moves to *",
-                telling.names.of(*server)
-            )?;
+            let name = telling.names.of(*server);
+            let cause = emptying_cause(telling.entries, position);
+            write!(line, "{name} is {cause}, so it moves to *")?;
         }
         Some(Entry::Left(_, cause)) => write!(line, "it is told that it isn't served: {cause}")?,
         _ => write!(line, "it waits there no more")?,
     }
     story.add(line)
+}
+
+// Why the queue of a server moves: the moves of an event stand right behind it.
+fn emptying_cause(entries: &[Entry], position: usize) -> &'static str {
+    let before = entries.get(..position).unwrap_or(&[]);
+    let event = before
+        .iter()
+        .rev()
+        .find(|entry| !matches!(entry, Entry::Moved(_, _)));
+    match event {
+        Some(Entry::Limit(_, _, _)) => "closed",
+        _ => "down",
+    }
 }
 
 fn due_in(came: &Came) -> Due {

@@ -16,7 +16,7 @@ enum Event {
 }
 
 // Each as often as it is to be drawn.
-static EVENTS: [Event; 20] = [
+static EVENTS: [Event; 22] = [
     Event::Arrival,
     Event::Arrival,
     Event::Arrival,
@@ -36,6 +36,8 @@ static EVENTS: [Event; 20] = [
     Event::Other("tick"),
     Event::Other("check a down"),
     Event::Other("check a up"),
+    Event::Other("limit a closed"),
+    Event::Other("limit a 1"),
     Event::Roll,
 ];
 
@@ -67,7 +69,7 @@ impl Chance {
 
     fn push_event(&mut self, text: &mut String, moment: u64) -> Result<(), AllocError> {
         let ticket = self.below(24);
-        match EVENTS.get(self.below(20) as usize) {
+        match EVENTS.get(self.below(22) as usize) {
             Some(Event::Arrival) => self.push_arrival(text, moment),
             Some(Event::Ticketed(words)) => writeln!(text, "{moment} {words} {ticket}"),
             Some(Event::Other(words)) => writeln!(text, "{moment} {words}"),

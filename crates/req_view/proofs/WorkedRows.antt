@@ -1,9 +1,9 @@
 -- The definitions at worked examples: what must hold, and what must not.
-use Rattle.std.proofs.Common.{◌≡◌, ℕ, List, [], ◌∷◌, Some, None, codes, length, refl, ap, arith}
+use Rattle.std.proofs.Common.{◌≡◌, ℕ, List, [], ◌∷◌, Some, None, true, false, codes, length, refl, ap, arith}
 use Rattle.httparse.specs.Grammar.{RequestHead, crlf, print_request, trim_ows}
 use Rattle.req_view.specs.declared.version.Version.TheVariants.{Http10, Http11}
 use Rattle.req_view.specs.Request.{Request, request_of, values_of, IsWelcome}
-use Rattle.req_view.specs.Target.{path_of}
+use Rattle.req_view.specs.Target.{path_of, has_fragment}
 
 path_after_host : path_of (codes "http://h/a?b") ≡ Some (codes "/a")
 path_after_host = refl
@@ -32,7 +32,7 @@ old_head fields = record { method = codes "GET"; target = codes "/"; version = H
 
 one_host : IsWelcome (head ((codes "hOST", codes "h") ∷ (codes "A", codes "b") ∷ []))
 unfolding head
-one_host = record { names_host = refl; wants_no_tunnel = λ same. absurd (omega (arith, ap length same)) }
+one_host = record { names_host = refl; wants_no_tunnel = λ same. absurd (omega (arith, ap length same)); has_no_fragment = refl }
 
 no_host : ¬ (IsWelcome (head ((codes "Hosts", codes "h") ∷ [])))
 unfolding head
@@ -44,7 +44,7 @@ two_hosts welcome = omega (arith, welcome.names_host)
 
 old_without_host : IsWelcome (old_head [])
 unfolding old_head
-old_without_host = record { names_host = omega arith; wants_no_tunnel = λ same. absurd (omega (arith, ap length same)) }
+old_without_host = record { names_host = omega arith; wants_no_tunnel = λ same. absurd (omega (arith, ap length same)); has_no_fragment = refl }
 
 old_with_two_hosts : ¬ (IsWelcome (old_head ((codes "Host", codes "h") ∷ (codes "host", codes "h") ∷ [])))
 unfolding old_head
@@ -52,6 +52,10 @@ old_with_two_hosts welcome = omega (arith, welcome.names_host)
 
 tunnel : ¬ (IsWelcome (record { method = codes "CONNECT"; target = codes "h:1"; version = Http11; fields = (codes "Host", codes "h") ∷ [] }))
 tunnel welcome = welcome.wants_no_tunnel refl
+
+-- what looks like the end of a path isn't one
+fragment : ¬ (IsWelcome (record { method = codes "GET"; target = codes "/a#.png"; version = Http11; fields = (codes "Host", codes "h") ∷ [] }))
+fragment welcome = let has : true ≡ false = welcome.has_no_fragment in absurd (cc has)
 
 -- values come in the order of the fields, whatever the case of the name
 values_row : values_of (codes "x-due") ((codes "X-Due", codes "5, 70") ∷ (codes "A", codes "b") ∷ (codes "x-DUE", codes "6") ∷ [])

@@ -1,8 +1,9 @@
 -- What a request's head says, and which heads a proxy takes.
-use Rattle.std.specs.Prelude.{◌≡◌, ◌≢◌, ℕ, ◌≤◌, List, map, filter, Bool, codes, if◌then◌else◌, ◌==◌, length}
+use Rattle.std.specs.Prelude.{◌≡◌, ◌≢◌, ℕ, ◌≤◌, List, map, filter, Bool, false, codes, if◌then◌else◌, ◌==◌, length}
 use Rattle.std.specs.Str.{str_eq_ignore_ascii_case}
 use Rattle.httparse.specs.Grammar.{RequestHead}
 use Rattle.httparse.specs.Spans.{name_and_value}
+use Rattle.req_view.specs.Target.{has_fragment}
 use Rattle.req_view.specs.declared.version.Version.{Version}
 use Rattle.req_view.specs.declared.version.Version.TheVariants.{Http10, Http11}
 
@@ -47,7 +48,8 @@ abbrev pub SuitsVersion : Version → ℕ → Type 0
 SuitsVersion Http10 count = count ≤ 1
 SuitsVersion Http11 count = count ≡ 1
 
--- a proxy takes the request: it names one host, as its version asks, and wants no tunnel
+-- a proxy takes the request: it names one host, as its version asks, wants no tunnel, and its target has no fragment
 pub record IsWelcome (r : Request) : Type 0 where
   pub names_host : SuitsVersion r.version (hosts r)
   pub wants_no_tunnel : r.method ≢ codes "CONNECT"
+  pub has_no_fragment : has_fragment r.target ≡ false

@@ -1,12 +1,19 @@
 -- The path of a request's target.
 use Rattle.std.specs.Prelude.{ℕ, List, drop, Option, Some, None, Bool, codes, if◌then◌else◌, ◌==◌}
-use Rattle.std.specs.List.{starts_with, before_first, position_or_len}
+use Rattle.std.specs.List.{list_any, starts_with, before_first, position_or_len}
 
 abbrev pub is_slash : ℕ → Bool
 is_slash byte = byte == 47
 
 abbrev pub is_question_mark : ℕ → Bool
 is_question_mark byte = byte == 63
+
+abbrev pub is_number_sign : ℕ → Bool
+is_number_sign byte = byte == 35
+
+-- a number sign begins a fragment, which is no part of a request's target (RFC 9112, 3.2)
+abbrev pub has_fragment : List ℕ → Bool
+has_fragment target = list_any is_number_sign target
 
 -- the target begins with these bytes
 abbrev pub begins : List ℕ → List ℕ → Bool

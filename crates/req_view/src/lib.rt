@@ -1,7 +1,8 @@
 //! Heads of requests and answers: from the bytes that have come so far to what they say.
 //!
 //! A head is what `httparse` takes as one in its default configuration, of at most 16,384 bytes and 64
-//! fields. That of a request also names its host as its version asks, and its method isn't `CONNECT`.
+//! fields. That of a request also names its host as its version asks, its method isn't `CONNECT`, and its target has no
+//! fragment.
 #![tactic(auto)]
 
 mod answer;

@@ -114,7 +114,7 @@ impl View {
         self.section.values(name)
     }
 
-    /// Whether it names its host as its version asks, and wants no tunnel. `O(n)`.
+    /// Whether it names its host as its version asks, wants no tunnel, and its target has no fragment. `O(n)`.
     pub(crate) fn is_welcome(&self) -> bool
         ensures { IsTrue result ↔ IsWelcome self.now }
     {
@@ -123,6 +123,7 @@ impl View {
             Version::Http10 => hosts <= 1,
             Version::Http11 => hosts == 1,
         };
-        names_host && self.method() != b"CONNECT".as_slice()
+        let wants_tunnel = self.method() == b"CONNECT".as_slice();
+        names_host && !wants_tunnel && !target::has_fragment(self.target())
     }
 }

@@ -1,5 +1,5 @@
 ghost use Rattle.std.specs.Prelude.{◌≡◌, Some, None, MatchOption, position};
-ghost use Rattle.req_view.specs.Target.{without_query as text_without_query, from_slash as text_from_slash, is_slash, is_question_mark, path_of};
+ghost use Rattle.req_view.specs.Target.{without_query as text_without_query, from_slash as text_from_slash, has_fragment as text_has_fragment, is_slash, is_question_mark, path_of};
 
 /// The path of a request's target.
 pub(crate) fn path(target: &[u8]) -> Option<&[u8]>
@@ -14,6 +14,13 @@ pub(crate) fn path(target: &[u8]) -> Option<&[u8]>
     } else {
         None
     }
+}
+
+/// Whether a target has a fragment.
+pub(crate) fn has_fragment(target: &[u8]) -> bool
+    ensures { result ≡ text_has_fragment target.now }
+{
+    target.iter().any(|byte| *byte == b'#')
 }
 
 fn without_query(text: &[u8]) -> &[u8]

@@ -6,7 +6,7 @@ use std::process::Abort;
 
 type TextRow = (&'static str, Seen);
 
-static NO_HEADS: [TextRow; 9] = [
+static NO_HEADS: [TextRow; 10] = [
     ("GET  / HTTP/1.1\r\n", Seen::Refused),
     ("GET / HTTP/2.0\r\n", Seen::Refused),
     ("GET / HTTP/1.1\r\nHost : h\r\n", Seen::Refused),
@@ -24,6 +24,11 @@ static NO_HEADS: [TextRow; 9] = [
     ),
     // A tunnel is refused.
     ("CONNECT h:1 HTTP/1.1\r\nHost: h\r\n\r\n", Seen::Refused),
+    // A target has no fragment.
+    (
+        "GET /secret.html#.png HTTP/1.1\r\nHost: h\r\n\r\n",
+        Seen::Refused,
+    ),
 ];
 
 #[test]

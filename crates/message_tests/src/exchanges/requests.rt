@@ -2,7 +2,7 @@ use crate::exchanges::relays::{Row, Side, become_of_each};
 use relay_http::Fault;
 
 // first lines (RFC 9112, sections 2.2 and 3)
-static LINES: [Row; 17] = [
+static LINES: [Row; 18] = [
     (
         "a request without a body",
         b"GET / HTTP/1.1\r\nHost: h\r\n\r\n",
@@ -73,6 +73,11 @@ static LINES: [Row; 17] = [
     (
         "a control byte in the target",
         b"GET /\x01 HTTP/1.1\r\nHost: h\r\n\r\n",
+        Err(Fault::Head),
+    ),
+    (
+        "a fragment in the target",
+        b"GET /secret.html#.png HTTP/1.1\r\nHost: h\r\n\r\n",
         Err(Fault::Head),
     ),
     ("no head at all", b"\x16\x03\x01", Err(Fault::Head)),

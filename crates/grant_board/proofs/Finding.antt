@@ -203,6 +203,6 @@ module _ (t : Terms) (s : BoardState) (o : Orderly t s) where
   pub passes_room : of_relays (λ r. total (λ (g : Grant). 1) r.passes) s.views ≤ t.places
   passes_room = omega (arith, o.passes (λ _. 1), o.long, along_length (taken (λ _. 1)) (taken_small (λ _. 1) (λ g. omega arith)) o.cells 0)
 
-  -- and no more of a server than its bound
+  -- and fewer of a server than its mark
   pub passes_bounded : (n : ℕ) → 0 < slice_index o.bounds n → of_relays (λ r. count_of n r.passes) s.views < slice_index o.bounds n
   passes_bounded n some_bound = omega (arith, passes_out (λ g. serves_at n g.verdict), o.bounded n some_bound)

@@ -1,11 +1,11 @@
 pub mod Grants
 mod Codes
 mod Moving
-mod Finding
+pub mod Finding
 mod Keeping
 mod Joining
 mod Ending
 mod Seating
 mod Counting
-mod Reading
+pub mod Reading
 mod WorkedRows

@@ -28,7 +28,7 @@ keeper_looked k place word = record k { looks = k.looks ++ look place word ∷ [
 abbrev pub offer_after : KeeperView → Grant → KeeperView
 offer_after k g = record k { out = k.out ++ g ∷ []; offers = k.offers ++ g ∷ [] }
 
--- The verdict may be offered: its server is one of the board's, and where that has a bound fewer grants of it are out
+-- The verdict may be offered: its server is one of the board's, and where that has a mark fewer grants of it are out with this one
 abbrev pub HasRoom : KeeperView → Verdict → Type 0
 HasRoom k (Serve server) = (server < length k.terms.limits) × (0 < slice_index k.bounds server → count_of server k.out + 1 < slice_index k.bounds server)
 HasRoom k (Told cause) = Unit {0}

@@ -38,10 +38,10 @@ pub record ByPlaces (terms : Terms) (s : BoardState) (k : KeeperView) : Type 0 w
   pub once : (j i : ℕ) (r : RelayView) (place : ℕ) → HasRelay s j i r → count_at place r.passes ≤ 1
   pub apart : (j i : ℕ) (r : RelayView) (m n : ℕ) (q : RelayView) (place : ℕ) → HasRelay s j i r → HasRelay s m n q → ¬ ((m ≡ j) × (n ≡ i))
       → count_at place r.passes + count_at place q.passes ≤ 1
-  -- behind the places' words each server's word is its bound, as the keeper knows it
+  -- behind the places' words each server's word is its mark, as the keeper knows it
   pub bounds : (server : ℕ) → server < length terms.limits → slice_index s.words (terms.places + server) ≡ slice_index k.bounds server
   pub servers : length k.bounds ≡ length terms.limits
-  -- no more places serve at a server than its bound, where it has one
+  -- fewer places serve at a server than its mark, where it has one
   pub bounded : (server : ℕ) → 0 < slice_index k.bounds server → count_of server k.out < slice_index k.bounds server
 
 -- the rule says all this of each state

@@ -81,7 +81,7 @@ clears st m r n =
     → (n ≡ keeper_seat (at_rest (collect_after k g ending))) × Contains k.out g
     × ((weight : Grant → ℕ) → total weight (without st.word k.out) + weight g ≡ total weight k.out)
 
--- the keeper stores a server's bound
+-- the keeper stores a server's mark
 abbrev pub limits : Telling
 limits st m r n =
     let k = keeper_of m.0.keepers in
@@ -120,7 +120,7 @@ posts st m r n =
     → (n ≡ relay_seat (post_after q g ending))
     × ((weight : Grant → ℕ) → total weight (without st.word q.passes) + weight g ≡ total weight q.passes)
 
--- the passes of two seats are of different places, no more of them are of the server than its bound, where it has one, and no more in all than places
+-- the passes of two seats are of different places, fewer of them are of the server than its mark, where it has one, and no more in all than places
 pub record AreApart (places server bound : ℕ) (xs ys : List Grant) : Type 0 where
   pub different : (place : ℕ) → count_at place xs + count_at place ys ≤ 1
   pub bounded : 0 < bound → count_of server xs + count_of server ys < bound

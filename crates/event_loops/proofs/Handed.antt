@@ -5,6 +5,7 @@ use Rattle.std.proofs.lemmas.List.{take-append-drop}
 use Rattle.relay_body.specs.declared.framing.Framing.{Framing}
 use Rattle.relay_http.specs.Messages.{IsForwarded, IsAnswered}
 use Rattle.relay_http.specs.Texts.{framed_for}
+use Rattle.relay_http.specs.declared.persistence.Persistence.TheVariants.{Close}
 use Rattle.event_loops.specs.Handed.{IsRestOfRequest, IsRestOfAnswer, IsAnswerIn}
 use Rattle.req_view.specs.Request.{Request}
 use Rattle.whole_messages.specs.declared.progress.Progress.{Progress}
@@ -15,7 +16,7 @@ use Rattle.whole_messages.specs.Outcomes.{OnWhole}
 later : (text sent rest : List ℕ) (n : ℕ) → text ≡ sent ++ rest → text ≡ (sent ++ take n rest) ++ drop n rest
 later text sent rest n is = is ∙ (ap (λ it. sent ++ it) (sym (take-append-drop n rest)) ∙ sym (append_assoc sent (take n rest) (drop n rest)))
 
-pub all_of_request : (request : Request) (used text : List ℕ) → IsForwarded request used text → IsRestOfRequest request text
+pub all_of_request : (request : Request) (used text : List ℕ) → IsForwarded Close request used text → IsRestOfRequest request text
 all_of_request request used text forwarded = record { used = used; text = text; forwarded = forwarded; sent = []; text_is = refl }
 
 pub less_of_request : (request : Request) (rest : List ℕ) (n : ℕ) → IsRestOfRequest request rest → IsRestOfRequest request (drop n rest)
@@ -50,7 +51,7 @@ still_of_answer rest n it = ∥∥₁_map it (less_of_answer rest n)
 -- what is found in the bytes that came, behind an empty text, is an answer in what came
 pub answer_in : (told : Progress (Unit {0})) (request : Request) (got bytes before after : List ℕ) (ended : Bool) → bytes ≡ got → before ≡ []
     → OnWhole told ((used : List ℕ) × (rest : List ℕ) × (text : List ℕ)
-    × (answered : IsAnswered request.method (framed_for request.version) used text) × (bytes ≡ used ++ rest) × (after ≡ before ++ text)
+    × (answered : IsAnswered Close request.method (framed_for request.version) used text) × (bytes ≡ used ++ rest) × (after ≡ before ++ text)
     × (answered.plan.body ≡ Framing.ToEnd → (ended ≡ true) × (rest ≡ [])))
     → OnWhole told (IsAnswerIn request got after)
 answer_in (Whole found) request got bytes before after ended same empty it =

@@ -23,6 +23,7 @@ use Rattle.relay_http.specs.declared.plans.Plan.{Plan}
 use Rattle.relay_http.proofs.Agreeing.{same_head}
 use Rattle.list_facts.proofs.Fronts.{some_behind}
 use Rattle.req_view.specs.Answer.{answer_of}
+use Rattle.relay_http.specs.declared.persistence.Persistence.TheVariants.{Close}
 use Rattle.req_view.specs.AnswerHeads.{HasNoAnswer}
 
 head : List ℕ → List ℕ → List Field → ResponseHead
@@ -126,7 +127,7 @@ answered_used : print_heads (leave ∷ hints ∷ []) ++ (print_response ok ++ co
 unfolding ok leave hints head two_bytes print_response
 answered_used = refl
 
-answered : IsAnswered (codes "GET") true
+answered : IsAnswered Close (codes "GET") true
     (codes "HTTP/1.1 100 Continue\r\n\r\nHTTP/1.1 103 X\r\n\r\nHTTP/1.1 200 OK\r\nContent-Length: 2\r\n\r\nab")
     (codes "HTTP/1.1 103 X\r\n\r\nHTTP/1.1 200 OK\r\nContent-Length: 2\r\nConnection: close\r\n\r\nab")
 unfolding ok leave hints head two_bytes trim_ows digits
@@ -144,7 +145,7 @@ answered = record {
 }
 
 -- a client of version 1.0 gets no hints
-answered_to_old : IsAnswered (codes "GET") false
+answered_to_old : IsAnswered Close (codes "GET") false
     (codes "HTTP/1.1 100 Continue\r\n\r\nHTTP/1.1 103 X\r\n\r\nHTTP/1.1 200 OK\r\nContent-Length: 2\r\n\r\nab")
     (codes "HTTP/1.1 200 OK\r\nContent-Length: 2\r\nConnection: close\r\n\r\nab")
 unfolding ok leave hints head two_bytes trim_ows digits
@@ -182,11 +183,11 @@ first_is_ok (k ∷ ks) h plan body text each final passes e =
     (e ∙ append_assoc (print_response k) (print_heads ks) (print_response h ++ body)) in
     ok_not_interim (subst (λ (j : ResponseHead). IsInterim (codes "GET") j) (sym same.0) each.0)
 
-not_yet_answered : (text : List ℕ) → ¬ (IsAnswered (codes "GET") true (print_response ok ++ codes "a") text)
+not_yet_answered : (text : List ℕ) → ¬ (IsAnswered Close (codes "GET") true (print_response ok ++ codes "a") text)
 not_yet_answered text w = first_is_ok w.interims w.head w.plan w.body w.passed w.are.each w.final w.passes w.used_is
 
 -- but it is a part of one
-part_answered : PartOfAnswered (codes "GET") true (codes "HTTP/1.1 200 OK\r\nContent-Length: 2\r\n\r\na")
+part_answered : PartOfAnswered Close (codes "GET") true (codes "HTTP/1.1 200 OK\r\nContent-Length: 2\r\n\r\na")
     (codes "HTTP/1.1 200 OK\r\nContent-Length: 2\r\nConnection: close\r\n\r\na")
 unfolding ok head two_bytes trim_ows digits print_response
 part_answered =
@@ -194,7 +195,7 @@ part_answered =
     head_and_body [] ok (record { body = Length 2; stated = Length 2 }) (codes "a") (codes "a") none ok_is_final (omega arith, refl)
 
 -- and so are the heads before it alone
-heads_alone : PartOfAnswered (codes "GET") true (codes "HTTP/1.1 100 Continue\r\n\r\nHTTP/1.1 103 X\r\n\r\n") (codes "HTTP/1.1 103 X\r\n\r\n")
+heads_alone : PartOfAnswered Close (codes "GET") true (codes "HTTP/1.1 100 Continue\r\n\r\nHTTP/1.1 103 X\r\n\r\n") (codes "HTTP/1.1 103 X\r\n\r\n")
 unfolding leave hints head print_response
 heads_alone = some_heads (leave ∷ hints ∷ []) two_interims
 

@@ -12,6 +12,7 @@ use Rattle.relay_body.specs.declared.pipe.Pipe.{Pipe}
 use Rattle.relay_http.specs.Messages.{IsAnswered, interims_text}
 use Rattle.relay_http.specs.States.{Marks, emptied}
 use Rattle.relay_http.specs.Texts.{answer_text}
+use Rattle.relay_http.specs.declared.persistence.Persistence.TheVariants.{Close}
 use Rattle.req_view.specs.Answer.{answer_of}
 
 nothing_kept : (old new : Option (List ℕ)) (front : List ℕ) → front ≡ [] → Appends old new front → Keeps old new
@@ -63,8 +64,8 @@ pub pipe_emptied : (p q : Pipe) → q.inbox ≡ [] → q.outbox ≡ p.outbox →
 pipe_emptied p q held waiting turns = λ i. record { inbox = held i; outbox = waiting i; turns = turns i }
 
 -- an answer's text isn't empty
-pub answered_some : {method : List ℕ} {framed : Bool} {used text : List ℕ} → IsAnswered method framed used text → 0 < length text
+pub answered_some : {method : List ℕ} {framed : Bool} {used text : List ℕ} → IsAnswered Close method framed used text → 0 < length text
 answered_some {framed = framed} {text = text} a =
-    let some : 0 < length (interims_text framed a.interims ++ (answer_text framed (answer_of a.head) a.plan ++ a.passed)) =
+    let some : 0 < length (interims_text framed a.interims ++ (answer_text Close framed (answer_of a.head) a.plan ++ a.passed)) =
     some_behind (interims_text framed a.interims) _ 72 in
     subst (λ (l : List ℕ). 0 < length l) (sym a.text_is) some

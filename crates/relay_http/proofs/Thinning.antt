@@ -15,6 +15,7 @@ use Rattle.relay_http.specs.Messages.{IsAnswered}
 use Rattle.relay_http.specs.declared.fault.Fault.{Fault}
 use Rattle.relay_http.specs.declared.fault.Fault.TheVariants.{Write}
 use Rattle.relay_http.proofs.Failing.{passes_of, misses_of}
+use Rattle.relay_http.specs.declared.persistence.Persistence.TheVariants.{Close}
 use Rattle.req_view.specs.Request.{Request, request_of}
 
 -- the bytes of a reader and of a writer, before and after
@@ -117,9 +118,9 @@ thin_both_fault (Err fault) Part Why a b r0 r w0 w e0 e f0 f none x = (
 
 pub thin_answer : {T : Type 0} (result : Result T Fault) (method : List ℕ) (framed : Bool) (a b : Ends) (r0 r w0 w : Option (List ℕ))
     → a.source.bytes ≡ r0 → b.source.bytes ≡ r → a.sink.bytes ≡ w0 → b.sink.bytes ≡ w → a.pipe.outbox ≡ [] → b.pipe.outbox ≡ []
-    → OnOk result ((x : List ℕ) × (y : List ℕ) × (answered : IsAnswered method framed x y) × Moves a b x y
+    → OnOk result ((x : List ℕ) × (y : List ℕ) × (answered : IsAnswered Close method framed x y) × Moves a b x y
     × (answered.plan.body ≡ ToEnd → IsAtEnd b.source.bytes) × (answered.plan.body ≡ ToEnd → b.pipe.inbox ≡ []))
-    → OnOk result ((x : List ℕ) × (y : List ℕ) × (answered : IsAnswered method framed x y) × Passes a.pipe.inbox b.pipe.inbox r0 r w0 w x y
+    → OnOk result ((x : List ℕ) × (y : List ℕ) × (answered : IsAnswered Close method framed x y) × Passes a.pipe.inbox b.pipe.inbox r0 r w0 w x y
     × (answered.plan.body ≡ ToEnd → IsAtEnd r) × (answered.plan.body ≡ ToEnd → b.pipe.inbox ≡ []))
 thin_answer (Ok v) method framed a b r0 r w0 w e0 e f0 f none left x = (
   x.0,

@@ -16,11 +16,13 @@ use Rattle.relay_http.specs.declared.fault.Fault.TheVariants.{Read, Framing as B
 use Rattle.relay_http.specs.States.{Serves, Marks}
 use Rattle.verdict.specs.declared.cause.Cause.TheVariants.{Aborted}
 use Rattle.verdict.specs.declared.Verdict.TheVariants.{Serve, Told}
+use Rattle.relay_http.specs.Persistences.{wished, answer_says}
 use Rattle.relay_http.specs.Replies.{leave_text}
 use Rattle.relay_http.specs.Texts.{request_text, answer_text, interim_text}
 use Rattle.req_view.specs.Answer.{Answer}
 use Rattle.req_view.specs.Request.{NamedValue, Request}
 use Rattle.req_view.specs.declared.version.Version.{Version}
+use Rattle.relay_http.specs.declared.persistence.Persistence.TheVariants.{Close, Persist, KeepAlive}
 use Rattle.req_view.specs.declared.version.Version.TheVariants.{Http10, Http11}
 
 post : List NamedValue → Request
@@ -49,7 +51,7 @@ unfolding naming_a_field post host length_is
 naming_a_field_framing = refl
 
 -- the field that Connection names isn't handed on
-naming_a_field_text : request_text naming_a_field (Length 3) ≡ codes "POST /a HTTP/1.1\r\nHost: h\r\nContent-Length: 3\r\nConnection: close\r\n\r\n"
+naming_a_field_text : request_text Close naming_a_field (Length 3) ≡ codes "POST /a HTTP/1.1\r\nHost: h\r\nContent-Length: 3\r\nConnection: close\r\n\r\n"
 unfolding naming_a_field post host length_is digits
 naming_a_field_text = refl
 
@@ -106,12 +108,12 @@ unfolding old_get
 no_framing = refl
 
 -- an old request without a Host field gets an empty one
-old_get_text : request_text (old_get []) Empty ≡ codes "GET /a HTTP/1.1\r\nHost:\r\nConnection: close\r\n\r\n"
+old_get_text : request_text Close (old_get []) Empty ≡ codes "GET /a HTTP/1.1\r\nHost:\r\nConnection: close\r\n\r\n"
 unfolding old_get
 old_get_text = refl
 
 -- and so does one whose Connection names Host
-host_named_text : request_text (post (host ∷ (codes "connection", codes "close , HOST") ∷ [])) Empty
+host_named_text : request_text Close (post (host ∷ (codes "connection", codes "close , HOST") ∷ [])) Empty
     ≡ codes "POST /a HTTP/1.1\r\nHost:\r\nConnection: close\r\n\r\n"
 unfolding post host
 host_named_text = refl
@@ -120,12 +122,12 @@ chunked_answer : answer_plan (codes "GET") (answer 200 Http11 (chunked ∷ [])) 
 unfolding answer chunked
 chunked_answer = refl
 
-chunked_to_old_client : answer_text false (answer 200 Http11 (chunked ∷ [])) (record { body = Chunked; stated = Chunked })
+chunked_to_old_client : answer_text Close false (answer 200 Http11 (chunked ∷ [])) (record { body = Chunked; stated = Chunked })
     ≡ codes "HTTP/1.1 200 OK\r\nConnection: close\r\n\r\n"
 unfolding answer chunked
 chunked_to_old_client = refl
 
-chunked_to_client : answer_text true (answer 200 Http11 (chunked ∷ [])) (record { body = Chunked; stated = Chunked })
+chunked_to_client : answer_text Close true (answer 200 Http11 (chunked ∷ [])) (record { body = Chunked; stated = Chunked })
     ≡ codes "HTTP/1.1 200 OK\r\nTransfer-Encoding: chunked\r\nConnection: close\r\n\r\n"
 unfolding answer chunked
 chunked_to_client = refl
@@ -138,7 +140,7 @@ not_modified : answer_plan (codes "GET") (answer 304 Http11 (length_is (codes "5
 unfolding answer length_is
 not_modified = refl
 
-not_modified_text : answer_text true (answer 304 Http11 (length_is (codes "5") ∷ [])) (record { body = Empty; stated = Length 5 })
+not_modified_text : answer_text Close true (answer 304 Http11 (length_is (codes "5") ∷ [])) (record { body = Empty; stated = Length 5 })
     ≡ codes "HTTP/1.1 304 OK\r\nContent-Length: 5\r\nConnection: close\r\n\r\n"
 unfolding answer length_is digits
 not_modified_text = refl
@@ -197,7 +199,7 @@ unfolding old_get length_is
 no_leave_for_old = refl
 
 -- the body goes behind the head, and no byte past it
-naming_a_field_whole : IsForwarded naming_a_field (codes "abc") (codes "POST /a HTTP/1.1\r\nHost: h\r\nContent-Length: 3\r\nConnection: close\r\n\r\nabc")
+naming_a_field_whole : IsForwarded Close naming_a_field (codes "abc") (codes "POST /a HTTP/1.1\r\nHost: h\r\nContent-Length: 3\r\nConnection: close\r\n\r\nabc")
 unfolding naming_a_field post host length_is digits
 naming_a_field_whole = record { framing = Length 3; framed = refl; body = codes "abc"; passes = (refl, refl); text_is = refl }
 
@@ -207,23 +209,24 @@ length_of w same used text passes =
     (subst (λ (f : Framing). IsBody f true used text) (sym is) passes).0
 
 -- two bytes are no body of three
-not_yet_whole : (text : List ℕ) → ¬ (IsForwarded naming_a_field (codes "ab") text)
+not_yet_whole : (text : List ℕ) → ¬ (IsForwarded Close naming_a_field (codes "ab") text)
 not_yet_whole text w = omega (arith, length_of w.framing (sym naming_a_field_framing ∙ w.framed) (codes "ab") w.body w.passes)
 
 -- but a part, which becomes as much
-naming_a_field_part : PartOfForwarded naming_a_field (codes "ab") (codes "POST /a HTTP/1.1\r\nHost: h\r\nContent-Length: 3\r\nConnection: close\r\n\r\nab")
+naming_a_field_part : PartOfForwarded Close naming_a_field (codes "ab")
+    (codes "POST /a HTTP/1.1\r\nHost: h\r\nContent-Length: 3\r\nConnection: close\r\n\r\nab")
 unfolding naming_a_field post host length_is digits
 naming_a_field_part = head_and_body (Length 3) (codes "ab") (codes "ab") refl (omega arith, refl)
 
 -- a byte past the body is of no part
-few_bytes : (used text : List ℕ) → PartOfForwarded naming_a_field used text → length used ≤ 3
+few_bytes : (used text : List ℕ) → PartOfForwarded Close naming_a_field used text → length used ≤ 3
 few_bytes used text nothing = omega arith
 few_bytes used text (head_and_body w u body framed part) =
     let same : Some (Length 3) ≡ Some w = sym naming_a_field_framing ∙ framed in
     let is : Length 3 ≡ w = cc in
     (subst (λ (f : Framing). PartOfBody f true u body) (sym is) part).0
 
-past_the_body : (text : List ℕ) → ¬ (PartOfForwarded naming_a_field (codes "abcd") text)
+past_the_body : (text : List ℕ) → ¬ (PartOfForwarded Close naming_a_field (codes "abcd") text)
 past_the_body text part = omega (arith, few_bytes (codes "abcd") text part)
 
 -- where the input ends there, a byte is wanting
@@ -263,3 +266,45 @@ not_silent end marks = omega (arith, ap (length {A = ℕ}) (marks.unset refl))
 -- turns aren't spent while one is left
 not_spent : (old new : Ends) (input : List ℕ) → new.pipe.turns ≡ 1 → ¬ (Blames old new NoCause input TurnsSpent)
 not_spent old new input left blames = omega (arith, left, blames.1)
+
+-- the same where the connection stays open
+kept_open_text : request_text Persist naming_a_field (Length 3) ≡ codes "POST /a HTTP/1.1\r\nHost: h\r\nContent-Length: 3\r\n\r\n"
+unfolding naming_a_field post host length_is digits
+kept_open_text = refl
+
+answer_kept_open : answer_text Persist true (answer 304 Http11 (length_is (codes "5") ∷ [])) (record { body = Empty; stated = Length 5 })
+    ≡ codes "HTTP/1.1 304 OK\r\nContent-Length: 5\r\n\r\n"
+unfolding answer length_is digits
+answer_kept_open = refl
+
+-- an old client that asked is told so
+old_asks : wished (old_get ((codes "Connection", codes "Keep-Alive") ∷ [])) ≡ KeepAlive
+unfolding old_get
+old_asks = refl
+
+old_answer_kept : answer_text KeepAlive false (answer 304 Http11 (length_is (codes "5") ∷ [])) (record { body = Empty; stated = Length 5 })
+    ≡ codes "HTTP/1.1 304 OK\r\nContent-Length: 5\r\nConnection: keep-alive\r\n\r\n"
+unfolding answer length_is digits
+old_answer_kept = refl
+
+-- one that didn't isn't, nor one that also asks to close
+old_silent : wished (old_get []) ≡ Close
+unfolding old_get
+old_silent = refl
+
+both_asked : wished (old_get ((codes "connection", codes "keep-alive, CLOSE") ∷ [])) ≡ Close
+unfolding old_get
+both_asked = refl
+
+-- the answer in chunks to an old client, and the one up to the end to anyone, close it
+chunks_close : answer_says true (old_get ((codes "Connection", codes "keep-alive") ∷ [])) (record { body = Chunked; stated = Chunked }) ≡ Close
+unfolding old_get
+chunks_close = refl
+
+end_closes : answer_says true (post (host ∷ [])) (record { body = ToEnd; stated = ToEnd }) ≡ Close
+unfolding post host
+end_closes = refl
+
+chunks_stay : answer_says true (post (host ∷ [])) (record { body = Chunked; stated = Chunked }) ≡ Persist
+unfolding post host
+chunks_stay = refl

@@ -7,6 +7,7 @@ pub mod Framings
 pub mod Heads
 pub mod Lines
 pub mod Messages
+pub mod Persistences
 pub mod Replies
 pub mod States
 pub mod Summaries

@@ -11,24 +11,25 @@ use Rattle.relay_http.specs.declared.fault.Fault.{Fault}
 use Rattle.relay_http.specs.declared.fault.Fault.TheVariants.{NoMemory, Head, Framing, Read, Write, Turns, Closed}
 use Rattle.relay_http.specs.declared.messages.Role.{Role}
 use Rattle.relay_http.specs.declared.messages.Role.TheVariants.{Final, Interim, Refused}
+use Rattle.relay_http.specs.declared.persistence.Persistence.{Persistence}
 use Rattle.relay_http.specs.declared.plans.Plan.{Plan}
 use Rattle.req_view.specs.Answer.{Answer, answer_of}
 use Rattle.req_view.specs.AnswerHeads.{HasNoAnswer, NeverHasAnswer}
 use Rattle.req_view.specs.Request.{Request}
 
 -- `used` is the body of the request, and `text` is what the request becomes
-pub record IsForwarded (r : Request) (used text : List ℕ) : Type 0 where
+pub record IsForwarded (says : Persistence) (r : Request) (used text : List ℕ) : Type 0 where
   pub framing : Framed.Framing
   pub framed : request_framing r ≡ Some framing
   pub body : List ℕ
   pub passes : IsBody framing true used body
-  pub text_is : text ≡ request_text r framing ++ body
+  pub text_is : text ≡ request_text says r framing ++ body
 
 -- `used` is a part of its body, and `text` is what the head and it become; of a request that is framed badly, nothing
-pub data PartOfForwarded (r : Request) : List ℕ → List ℕ → Type 0 where
-  nothing : PartOfForwarded r [] []
+pub data PartOfForwarded (says : Persistence) (r : Request) : List ℕ → List ℕ → Type 0 where
+  nothing : PartOfForwarded says r [] []
   head_and_body : (framing : Framed.Framing) (used body : List ℕ) → request_framing r ≡ Some framing → PartOfBody framing true used body
-      → PartOfForwarded r used (request_text r framing ++ body)
+      → PartOfForwarded says r used (request_text says r framing ++ body)
 
 -- what is wrong with the bytes of a body
 abbrev pub NoBody : Framed.Framing → Fault → List ℕ → Type 0
@@ -75,7 +76,7 @@ abbrev pub interims_text : Bool → List ResponseHead → List ℕ
 interims_text framed hs = flat_map (λ h. interim_text framed (answer_of h)) hs
 
 -- `used` is the answer to a request of this method, with the heads before it, and `text` is what they become
-pub record IsAnswered (method : List ℕ) (framed : Bool) (used text : List ℕ) : Type 0 where
+pub record IsAnswered (says : Persistence) (method : List ℕ) (framed : Bool) (used text : List ℕ) : Type 0 where
   pub interims : List ResponseHead
   pub are : AreInterims method interims
   pub head : ResponseHead
@@ -85,14 +86,14 @@ pub record IsAnswered (method : List ℕ) (framed : Bool) (used text : List ℕ)
   pub passed : List ℕ
   pub passes : IsBody plan.body framed body passed
   pub used_is : used ≡ print_heads interims ++ (print_response head ++ body)
-  pub text_is : text ≡ interims_text framed interims ++ (answer_text framed (answer_of head) plan ++ passed)
+  pub text_is : text ≡ interims_text framed interims ++ (answer_text says framed (answer_of head) plan ++ passed)
 
 -- `used` is a part of such an answer, and `text` is what it becomes
-pub data PartOfAnswered (method : List ℕ) (framed : Bool) : List ℕ → List ℕ → Type 0 where
-  some_heads : (hs : List ResponseHead) → AreInterims method hs → PartOfAnswered method framed (print_heads hs) (interims_text framed hs)
+pub data PartOfAnswered (says : Persistence) (method : List ℕ) (framed : Bool) : List ℕ → List ℕ → Type 0 where
+  some_heads : (hs : List ResponseHead) → AreInterims method hs → PartOfAnswered says method framed (print_heads hs) (interims_text framed hs)
   head_and_body : (hs : List ResponseHead) (h : ResponseHead) (plan : Plan) (used passed : List ℕ) → AreInterims method hs → IsFinal method h plan
       → PartOfBody plan.body framed used passed
-      → PartOfAnswered method framed (print_heads hs ++ (print_response h ++ used)) (interims_text framed hs ++ (answer_text framed
+      → PartOfAnswered says method framed (print_heads hs ++ (print_response h ++ used)) (interims_text framed hs ++ (answer_text says framed
       (answer_of h) plan ++ passed))
 
 -- behind so many heads the input ends too early

@@ -5,6 +5,8 @@ use Rattle.httparse.specs.Ascii.{crlf_bytes, space}
 use Rattle.relay_body.specs.declared.framing.Framing.{Framing}
 use Rattle.relay_body.specs.declared.framing.Framing.TheVariants.{Empty, Length, Chunked, ToEnd}
 use Rattle.relay_http.specs.Fields.{kept, of_connection, of_request}
+use Rattle.relay_http.specs.declared.persistence.Persistence.{Persistence}
+use Rattle.relay_http.specs.declared.persistence.Persistence.TheVariants.{Close, Persist, KeepAlive}
 use Rattle.relay_http.specs.declared.plans.Plan.{Plan}
 use Rattle.req_view.specs.Answer.{Answer}
 use Rattle.req_view.specs.Request.{NamedValue, Request, is_named}
@@ -25,9 +27,11 @@ framing_text (Length count) = codes "Content-Length: " ++ (decimal count ++ crlf
 framing_text Chunked = codes "Transfer-Encoding: chunked\r\n"
 framing_text ToEnd = []
 
--- the connection's last line, and the empty one
-abbrev pub close_text : List ℕ
-close_text = codes "Connection: close\r\n\r\n"
+-- the connection's last line, if there is one, and the empty one
+abbrev pub connection_text : Persistence → List ℕ
+connection_text Close = codes "Connection: close\r\n\r\n"
+connection_text Persist = crlf_bytes
+connection_text KeepAlive = codes "Connection: keep-alive\r\n\r\n"
 
 -- an empty Host line, where no such field is left
 abbrev pub host_text : List NamedValue → List ℕ
@@ -38,13 +42,13 @@ abbrev pub request_line : Request → List ℕ
 request_line r = r.method ++ (space ∷ (r.target ++ codes " HTTP/1.1\r\n"))
 
 -- the framing, and the end of the head
-abbrev pub end_text : Framing → List ℕ
-end_text framing = framing_text framing ++ close_text
+abbrev pub end_text : Persistence → Framing → List ℕ
+end_text says framing = framing_text framing ++ connection_text says
 
 -- a request's head
-abbrev pub request_text : Request → Framing → List ℕ
-request_text r framing =
-    request_line r ++ (fields_text (kept of_request r.fields) ++ (host_text (kept of_request r.fields) ++ end_text framing))
+abbrev pub request_text : Persistence → Request → Framing → List ℕ
+request_text says r framing =
+    request_line r ++ (fields_text (kept of_request r.fields) ++ (host_text (kept of_request r.fields) ++ end_text says framing))
 
 -- three digits
 abbrev pub status_text : ℕ → List ℕ
@@ -69,8 +73,8 @@ framed_for Http10 = false
 framed_for Http11 = true
 
 -- an answer's head; `framed` is false for a client of version 1.0
-abbrev pub answer_text : Bool → Answer → Plan → List ℕ
-answer_text framed a plan = answer_lines a ++ end_text (stated framed plan.stated)
+abbrev pub answer_text : Persistence → Bool → Answer → Plan → List ℕ
+answer_text says framed a plan = answer_lines a ++ end_text says (stated framed plan.stated)
 
 -- a head before the answer: a client of version 1.0 gets none, and nobody gets a 100
 abbrev pub interim_text : Bool → Answer → List ℕ

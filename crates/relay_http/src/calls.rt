@@ -13,6 +13,7 @@ ghost use Rattle.req_view.specs.Request.{request_of};
 
 use crate::exchange::{Exchange, Stage};
 use crate::fault::Fault;
+use crate::persistence::Persistence;
 use crate::refusing::Code;
 use counted_io::Counted;
 use grant_board::Pass;
@@ -30,11 +31,13 @@ impl Exchange {
     pub fn read_request<R: Read>(&mut self, alloc: Global, reader: &mut R) -> Result<View, Fault>
         requires { IsAt Stage.New self.old }
         ensures ok { IfOk result (λ view. (h : RequestHead) × IsRequest h × (view ≡ request_of h) × IsSome (framings.request_framing view)
-            × ((w : Option (List ℕ)) → Passes self.old.pipe.inbox self.new.pipe.inbox (R.remaining reader.old) (R.remaining reader.new) w w (print_request h) [])) }
+            × ((w : Option (List ℕ))
+            → Passes self.old.pipe.inbox self.new.pipe.inbox (R.remaining reader.old) (R.remaining reader.new) w w (print_request h) [])) }
         ensures asked { OnOk result (self.new.stage ≡ Stage.Asked) }
         ensures closed { self.old.stage ≡ Stage.Failed → result ≡ Err Fault.Closed }
         ensures untouched { self.old.stage ≡ Stage.Failed → (self.new ≡ self.old) × (R.remaining reader.new ≡ R.remaining reader.old) }
-        ensures err { self.old.stage ≢ Stage.Failed → (w : Option (List ℕ)) → IfErr result (Misses self.old.pipe.inbox (R.remaining reader.old) (R.remaining reader.new) w w [] [] LacksRequest) }
+        ensures err { self.old.stage ≢ Stage.Failed → (w : Option (List ℕ))
+            → IfErr result (Misses self.old.pipe.inbox (R.remaining reader.old) (R.remaining reader.new) w w [] [] LacksRequest) }
         ensures failed { OnErr result (self.new.stage ≡ Stage.Failed) }
         ensures turns { self.new.pipe.turns ≤ self.old.pipe.turns }
         ensures spent { result ≡ Err Fault.Turns → self.new.pipe.turns ≡ 0 }
@@ -59,13 +62,17 @@ impl Exchange {
     ) -> Result<(), Fault>
         requires ready { IsAt Stage.Asked self.old }
         requires serves { Serves pass.now.verdict }
-        ensures ok { OnOk result ((used : List ℕ) × (text : List ℕ) × messages.IsForwarded view.now used text
-            × Passes self.old.pipe.inbox self.new.pipe.inbox (R.remaining reader.old) (R.remaining reader.new) (W.contents writer.old) (W.contents writer.new) used text) }
+        ensures ok { OnOk result ((used : List ℕ) × (text : List ℕ) × messages.IsForwarded Persistence.Close view.now used text
+            × Passes self.old.pipe.inbox self.new.pipe.inbox (R.remaining reader.old) (R.remaining reader.new) (W.contents writer.old)
+            (W.contents writer.new) used text) }
         ensures forwarded { OnOk result (self.new.stage ≡ states.forwarded_on pass.now) }
         ensures closed { self.old.stage ≡ Stage.Failed → result ≡ Err Fault.Closed }
-        ensures untouched { self.old.stage ≡ Stage.Failed → (self.new ≡ self.old) × (R.remaining reader.new ≡ R.remaining reader.old) × (W.contents writer.new ≡ W.contents writer.old) }
-        ensures err { self.old.stage ≢ Stage.Failed → IfErr result (λ fault. (used : List ℕ) × (text : List ℕ) × messages.PartOfForwarded view.now used text
-            × Misses self.old.pipe.inbox (R.remaining reader.old) (R.remaining reader.new) (W.contents writer.old) (W.contents writer.new) used text (messages.LacksForwarded view.now) fault) }
+        ensures untouched { self.old.stage ≡ Stage.Failed
+            → (self.new ≡ self.old) × (R.remaining reader.new ≡ R.remaining reader.old) × (W.contents writer.new ≡ W.contents writer.old) }
+        ensures err { self.old.stage ≢ Stage.Failed
+            → IfErr result (λ fault. (used : List ℕ) × (text : List ℕ) × messages.PartOfForwarded Persistence.Close view.now used text
+            × Misses self.old.pipe.inbox (R.remaining reader.old) (R.remaining reader.new) (W.contents writer.old) (W.contents writer.new) used text
+            (messages.LacksForwarded view.now) fault) }
         ensures failed { OnErr result (self.new.stage ≡ Stage.Failed) }
         ensures turns { self.new.pipe.turns ≤ self.old.pipe.turns }
         ensures spent { result ≡ Err Fault.Turns → self.new.pipe.turns ≡ 0 }
@@ -83,11 +90,13 @@ impl Exchange {
     /// Faults: `Write` and `Turns`. It takes no memory.
     pub fn go_on<W: Write>(&mut self, view: &View, writer: &mut W) -> Result<(), Fault>
         requires { IsAt Stage.Asked self.old }
-        ensures ok { (r : Option (List ℕ)) → OnOk result (Passes self.old.pipe.inbox self.new.pipe.inbox r r (W.contents writer.old) (W.contents writer.new) [] (leave_text view.now)) }
+        ensures ok { (r : Option (List ℕ))
+            → OnOk result (Passes self.old.pipe.inbox self.new.pipe.inbox r r (W.contents writer.old) (W.contents writer.new) [] (leave_text view.now)) }
         ensures asked { OnOk result (self.new.stage ≡ Stage.Asked) }
         ensures closed { self.old.stage ≡ Stage.Failed → result ≡ Err Fault.Closed }
         ensures untouched { self.old.stage ≡ Stage.Failed → (self.new ≡ self.old) × (W.contents writer.new ≡ W.contents writer.old) }
-        ensures err { self.old.stage ≢ Stage.Failed → (r : Option (List ℕ)) → IfErr result (Misses self.old.pipe.inbox r r (W.contents writer.old) (W.contents writer.new) [] (leave_text view.now) NoCause) }
+        ensures err { self.old.stage ≢ Stage.Failed → (r : Option (List ℕ))
+            → IfErr result (Misses self.old.pipe.inbox r r (W.contents writer.old) (W.contents writer.new) [] (leave_text view.now) NoCause) }
         ensures failed { OnErr result (self.new.stage ≡ Stage.Failed) }
         ensures turns { self.new.pipe.turns ≤ self.old.pipe.turns }
         ensures spent { result ≡ Err Fault.Turns → self.new.pipe.turns ≡ 0 }
@@ -114,16 +123,19 @@ impl Exchange {
     ) -> Result<(), Fault>
         requires ready { IsAt (states.forwarded_on pass.now) self.old }
         requires serves { Serves pass.now.verdict }
-        ensures ok { OnOk result ((used : List ℕ) × (text : List ℕ) × (answered : messages.IsAnswered view.now.method (framed_for view.now.version) used text)
+        ensures ok { OnOk result ((used : List ℕ) × (text : List ℕ)
+            × (answered : messages.IsAnswered Persistence.Close view.now.method (framed_for view.now.version) used text)
             × Passes [] self.new.pipe.inbox (R.remaining reader.old) (R.remaining reader.new) (W.contents writer.old) (W.contents writer.new) used text
             × (answered.plan.body ≡ Framing.ToEnd → IsAtEnd (R.remaining reader.new))
             × (answered.plan.body ≡ Framing.ToEnd → self.new.pipe.inbox ≡ [])) }
         ensures answered { OnOk result (self.new.stage ≡ Stage.Answered) }
         ensures closed { self.old.stage ≡ Stage.Failed → result ≡ Err Fault.Closed }
-        ensures untouched { self.old.stage ≡ Stage.Failed → (self.new ≡ self.old) × (R.remaining reader.new ≡ R.remaining reader.old) × (W.contents writer.new ≡ W.contents writer.old) }
+        ensures untouched { self.old.stage ≡ Stage.Failed
+            → (self.new ≡ self.old) × (R.remaining reader.new ≡ R.remaining reader.old) × (W.contents writer.new ≡ W.contents writer.old) }
         ensures err { self.old.stage ≢ Stage.Failed → IfErr result (λ fault. (used : List ℕ) × (text : List ℕ)
-            × messages.PartOfAnswered view.now.method (framed_for view.now.version) used text
-            × Misses [] (R.remaining reader.old) (R.remaining reader.new) (W.contents writer.old) (W.contents writer.new) used text (messages.LacksAnswer view.now.method) fault) }
+            × messages.PartOfAnswered Persistence.Close view.now.method (framed_for view.now.version) used text
+            × Misses [] (R.remaining reader.old) (R.remaining reader.new) (W.contents writer.old) (W.contents writer.new) used text
+            (messages.LacksAnswer view.now.method) fault) }
         ensures failed { OnErr result (self.new.stage ≡ Stage.Failed) }
         ensures turns { self.new.pipe.turns ≤ self.old.pipe.turns }
         ensures spent { result ≡ Err Fault.Turns → self.new.pipe.turns ≡ 0 }

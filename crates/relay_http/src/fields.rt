@@ -43,8 +43,8 @@ fn is_kept_host(section: &Section, position: usize) -> bool
     is_kept(section, Way::ToServer, field.name) && field.name.eq_ignore_ascii_case(b"Host")
 }
 
-// Whether a Connection field names it.
-fn is_of_this_connection(section: &Section, name: &[u8]) -> bool
+/// Whether a Connection field names it.
+pub(crate) fn is_of_this_connection(section: &Section, name: &[u8]) -> bool
     ensures { result ≡ fields.is_among (fields.parts_of (codes "Connection") section.now.fields) name.now }
 {
     have_part(section.values(b"Connection"), name)

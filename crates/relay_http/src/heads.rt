@@ -4,6 +4,7 @@ ghost use Rattle.relay_http.specs.Texts as texts;
 
 use crate::fields::Way;
 use crate::lines::{put, put_end, put_fields, put_host, put_three, send};
+use crate::persistence::Persistence;
 use crate::plans::Plan;
 use counted_io::Sink;
 use relay_body::{Fault, Framing, Pipe};
@@ -15,15 +16,16 @@ pub(crate) fn put_request<K: Sink>(
     sink: &mut K,
     view: &View,
     framing: Framing,
+    persistence: Persistence,
 ) -> Result<(), Fault>
     requires { (K.stream sink.old).calls + pipe.old.turns < 2 ^ 64 }
-    ensures ok { OnOk result (Puts pipe.old pipe.new (K.stream sink.old) (K.stream sink.new) (texts.request_text view.now framing)) }
-    ensures err { IfErr result (Halts pipe.old pipe.new (K.stream sink.old) (K.stream sink.new) (texts.request_text view.now framing)) }
+    ensures ok { OnOk result (Puts pipe.old pipe.new (K.stream sink.old) (K.stream sink.new) (texts.request_text persistence view.now framing)) }
+    ensures err { IfErr result (Halts pipe.old pipe.new (K.stream sink.old) (K.stream sink.new) (texts.request_text persistence view.now framing)) }
 {
     put_request_line(pipe, sink, view)?;
     put_fields(pipe, sink, view.section(), Way::ToServer)?;
     put_host(pipe, sink, view.section())?;
-    put_end(pipe, sink, framing)?;
+    put_end(pipe, sink, framing, persistence)?;
     Ok(())
 }
 
@@ -44,17 +46,18 @@ pub(crate) fn put_answer<K: Sink>(
     head: &AnswerHead,
     plan: Plan,
     framed: bool,
+    persistence: Persistence,
 ) -> Result<(), Fault>
     requires { (K.stream sink.old).calls + pipe.old.turns < 2 ^ 64 }
-    ensures ok { OnOk result (Puts pipe.old pipe.new (K.stream sink.old) (K.stream sink.new) (texts.answer_text framed head.now plan)) }
-    ensures err { IfErr result (Halts pipe.old pipe.new (K.stream sink.old) (K.stream sink.new) (texts.answer_text framed head.now plan)) }
+    ensures ok { OnOk result (Puts pipe.old pipe.new (K.stream sink.old) (K.stream sink.new) (texts.answer_text persistence framed head.now plan)) }
+    ensures err { IfErr result (Halts pipe.old pipe.new (K.stream sink.old) (K.stream sink.new) (texts.answer_text persistence framed head.now plan)) }
 {
     put_answer_lines(pipe, sink, head)?;
-    put_end(pipe, sink, stated(framed, plan.stated))?;
+    put_end(pipe, sink, stated(framed, plan.stated), persistence)?;
     Ok(())
 }
 
-fn stated(framed: bool, framing: Framing) -> Framing
+pub(crate) fn stated(framed: bool, framing: Framing) -> Framing
     ensures { result ≡ texts.stated framed framing }
 {
     match framing {
@@ -123,7 +126,7 @@ fn put_status_line<K: Sink>(pipe: &mut Pipe, sink: &mut K, head: &AnswerHead) ->
     Ok(())
 }
 
-fn status_digits(status: u16) -> [u8; 3]
+pub(crate) fn status_digits(status: u16) -> [u8; 3]
     requires { status < 1000 }
     ensures { result ≡ texts.status_text status }
 {

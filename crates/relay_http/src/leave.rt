@@ -16,9 +16,11 @@ use req_view::{Values, View};
 pub(crate) fn give_leave<K: Sink>(pipe: &mut Pipe, view: &View, sink: &mut K) -> Result<(), Fault>
     requires empty { pipe.old.outbox ≡ [] }
     requires countable { (K.stream sink.old).calls + pipe.old.turns < 2 ^ 64 }
-    ensures ok { (s : Stream) → OnOk result (Moves (ends pipe.old s (K.stream sink.old)) (ends pipe.new s (K.stream sink.new)) [] (replies.leave_text view.now)) }
+    ensures ok { (s : Stream)
+        → OnOk result (Moves (ends pipe.old s (K.stream sink.old)) (ends pipe.new s (K.stream sink.new)) [] (replies.leave_text view.now)) }
     ensures empty { OnOk result (pipe.new.outbox ≡ []) }
-    ensures err { (s : Stream) → IfErr result (Fails (ends pipe.old s (K.stream sink.old)) (ends pipe.new s (K.stream sink.new)) [] (replies.leave_text view.now) NoCause) }
+    ensures err { (s : Stream)
+        → IfErr result (Fails (ends pipe.old s (K.stream sink.old)) (ends pipe.new s (K.stream sink.new)) [] (replies.leave_text view.now) NoCause) }
 {
     if !waits_for_leave(view) {
         return Ok(());
@@ -27,7 +29,7 @@ pub(crate) fn give_leave<K: Sink>(pipe: &mut Pipe, view: &View, sink: &mut K) ->
     Ok(())
 }
 
-fn waits_for_leave(view: &View) -> bool
+pub(crate) fn waits_for_leave(view: &View) -> bool
     ensures { result ≡ replies.waits_for_leave view.now }
 {
     is_framed(view.version()) && has_body(request_framing(view)) && expects(view.values(b"Expect"))

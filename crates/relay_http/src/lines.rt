@@ -6,6 +6,7 @@ ghost use Rattle.relay_http.specs.Lines.{kept_line};
 ghost use Rattle.relay_http.specs.Texts as texts;
 
 use crate::fields::{Way, is_kept, keeps_host};
+use crate::persistence::{Persistence, connection_text};
 use counted_io::Sink;
 use itoa::Buffer;
 use relay_body::{Fault, Framing, Pipe};
@@ -120,8 +121,10 @@ pub(crate) fn put_host<K: Sink>(
     section: &Section,
 ) -> Result<(), Fault>
     requires { (K.stream sink.old).calls + pipe.old.turns < 2 ^ 64 }
-    ensures ok { OnOk result (Puts pipe.old pipe.new (K.stream sink.old) (K.stream sink.new) (texts.host_text (kept (dropped Way.ToServer) section.now.fields))) }
-    ensures err { IfErr result (Halts pipe.old pipe.new (K.stream sink.old) (K.stream sink.new) (texts.host_text (kept (dropped Way.ToServer) section.now.fields))) }
+    ensures ok { OnOk result (Puts pipe.old pipe.new (K.stream sink.old) (K.stream sink.new) (texts.host_text (kept
+        (dropped Way.ToServer) section.now.fields))) }
+    ensures err { IfErr result (Halts pipe.old pipe.new (K.stream sink.old) (K.stream sink.new) (texts.host_text (kept
+        (dropped Way.ToServer) section.now.fields))) }
 {
     if keeps_host(section) {
         return Ok(());
@@ -159,13 +162,18 @@ fn put_length<K: Sink>(pipe: &mut Pipe, sink: &mut K, count: u64) -> Result<(), 
     Ok(())
 }
 
-/// Puts the end of a head: its framing, and that the connection ends with the message.
-pub(crate) fn put_end<K: Sink>(pipe: &mut Pipe, sink: &mut K, framing: Framing) -> Result<(), Fault>
+/// Puts the end of a head: its framing, and what becomes of the connection.
+pub(crate) fn put_end<K: Sink>(
+    pipe: &mut Pipe,
+    sink: &mut K,
+    framing: Framing,
+    persistence: Persistence,
+) -> Result<(), Fault>
     requires { (K.stream sink.old).calls + pipe.old.turns < 2 ^ 64 }
-    ensures ok { OnOk result (Puts pipe.old pipe.new (K.stream sink.old) (K.stream sink.new) (texts.end_text framing)) }
-    ensures err { IfErr result (Halts pipe.old pipe.new (K.stream sink.old) (K.stream sink.new) (texts.end_text framing)) }
+    ensures ok { OnOk result (Puts pipe.old pipe.new (K.stream sink.old) (K.stream sink.new) (texts.end_text persistence framing)) }
+    ensures err { IfErr result (Halts pipe.old pipe.new (K.stream sink.old) (K.stream sink.new) (texts.end_text persistence framing)) }
 {
     put_framing(pipe, sink, framing)?;
-    put(pipe, sink, b"Connection: close\r\n\r\n")?;
+    put(pipe, sink, connection_text(persistence))?;
     Ok(())
 }

@@ -13,6 +13,7 @@ use crate::fault::Fault;
 use crate::framings::request_framing;
 use crate::heads::{pass_interim, put_answer, put_request};
 use crate::lines::send;
+use crate::persistence::Persistence;
 use crate::plans::{Plan, answer_plan, is_interim};
 use crate::reading::read_answer_head;
 use counted_io::{Sink, Source};
@@ -49,16 +50,17 @@ pub(crate) fn pass_request<S: Source, K: Sink>(
     sink: &mut K,
 ) -> Result<(), Fault>
     requires { Countable (ends pipe.old (S.stream source.old) (K.stream sink.old)) }
-    ensures ok { OnOk result ((used : List ℕ) × (text : List ℕ) × messages.IsForwarded view.now used text
+    ensures ok { OnOk result ((used : List ℕ) × (text : List ℕ) × messages.IsForwarded Persistence.Close view.now used text
         × Moves (ends pipe.old (S.stream source.old) (K.stream sink.old)) (ends pipe.new (S.stream source.new) (K.stream sink.new)) used text) }
     ensures empty { OnOk result (pipe.new.outbox ≡ []) }
-    ensures err { IfErr result (λ fault. (used : List ℕ) × (text : List ℕ) × messages.PartOfForwarded view.now used text
-        × Fails (ends pipe.old (S.stream source.old) (K.stream sink.old)) (ends pipe.new (S.stream source.new) (K.stream sink.new)) used text (messages.LacksForwarded view.now) fault) }
+    ensures err { IfErr result (λ fault. (used : List ℕ) × (text : List ℕ) × messages.PartOfForwarded Persistence.Close view.now used text
+        × Fails (ends pipe.old (S.stream source.old) (K.stream sink.old)) (ends pipe.new (S.stream source.new) (K.stream sink.new)) used text
+        (messages.LacksForwarded view.now) fault) }
 {
     let Some(framing) = request_framing(view) else {
         return Err(Fault::Framing);
     };
-    put_request(pipe, sink, view, framing)?;
+    put_request(pipe, sink, view, framing, Persistence::Close)?;
     pipe.pass_body(source, sink, framing, true)?;
     send(pipe, sink)?;
     Ok(())
@@ -73,13 +75,16 @@ pub(crate) fn pass_answer<S: Source, K: Sink>(
     sink: &mut K,
 ) -> Result<(), Fault>
     requires { Countable (ends pipe.old (S.stream source.old) (K.stream sink.old)) }
-    ensures ok { OnOk result ((used : List ℕ) × (text : List ℕ) × (answered : messages.IsAnswered view.now.method (framed_for view.now.version) used text)
+    ensures ok { OnOk result ((used : List ℕ) × (text : List ℕ)
+        × (answered : messages.IsAnswered Persistence.Close view.now.method (framed_for view.now.version) used text)
         × Moves (ends pipe.old (S.stream source.old) (K.stream sink.old)) (ends pipe.new (S.stream source.new) (K.stream sink.new)) used text
         × (answered.plan.body ≡ Framing.ToEnd → IsAtEnd (S.stream source.new).bytes)
         × (answered.plan.body ≡ Framing.ToEnd → pipe.new.inbox ≡ [])) }
     ensures empty { OnOk result (pipe.new.outbox ≡ []) }
-    ensures err { IfErr result (λ fault. (used : List ℕ) × (text : List ℕ) × messages.PartOfAnswered view.now.method (framed_for view.now.version) used text
-        × Fails (ends pipe.old (S.stream source.old) (K.stream sink.old)) (ends pipe.new (S.stream source.new) (K.stream sink.new)) used text (messages.LacksAnswer view.now.method) fault) }
+    ensures err { IfErr result (λ fault. (used : List ℕ) × (text : List ℕ)
+        × messages.PartOfAnswered Persistence.Close view.now.method (framed_for view.now.version) used text
+        × Fails (ends pipe.old (S.stream source.old) (K.stream sink.old)) (ends pipe.new (S.stream source.new) (K.stream sink.new)) used text
+        (messages.LacksAnswer view.now.method) fault) }
 {
     let planned = read_answer(pipe, alloc, view, source, sink)?;
     pass_planned(pipe, &planned, is_framed(view.version()), source, sink)
@@ -95,15 +100,17 @@ fn pass_planned<S: Source, K: Sink>(
 ) -> Result<(), Fault>
     requires { Countable (ends pipe.old (S.stream source.old) (K.stream sink.old)) }
     ensures ok { OnOk result ((body : List ℕ) × (passed : List ℕ) × IsBody planned.now.plan.body framed body passed
-        × Moves (ends pipe.old (S.stream source.old) (K.stream sink.old)) (ends pipe.new (S.stream source.new) (K.stream sink.new)) body (answer_text framed planned.now.head planned.now.plan ++ passed)
+        × Moves (ends pipe.old (S.stream source.old) (K.stream sink.old)) (ends pipe.new (S.stream source.new) (K.stream sink.new)) body
+        (answer_text Persistence.Close framed planned.now.head planned.now.plan ++ passed)
         × (planned.now.plan.body ≡ Framing.ToEnd → IsAtEnd (S.stream source.new).bytes)
         × (planned.now.plan.body ≡ Framing.ToEnd → pipe.new.inbox ≡ [])) }
     ensures empty { OnOk result (pipe.new.outbox ≡ []) }
     ensures err { IfErr result (λ fault. (body : List ℕ) × (passed : List ℕ) × PartOfBody planned.now.plan.body framed body passed
-        × Fails (ends pipe.old (S.stream source.old) (K.stream sink.old)) (ends pipe.new (S.stream source.new) (K.stream sink.new)) body (answer_text framed planned.now.head planned.now.plan ++ passed) (messages.NoBody planned.now.plan.body) fault) }
+        × Fails (ends pipe.old (S.stream source.old) (K.stream sink.old)) (ends pipe.new (S.stream source.new) (K.stream sink.new)) body
+        (answer_text Persistence.Close framed planned.now.head planned.now.plan ++ passed) (messages.NoBody planned.now.plan.body) fault) }
 {
     let plan = planned.plan;
-    put_answer(pipe, sink, &planned.head, plan, framed)?;
+    put_answer(pipe, sink, &planned.head, plan, framed, Persistence::Close)?;
     pipe.pass_body(source, sink, plan.body, framed)?;
     send(pipe, sink)?;
     Ok(())
@@ -118,7 +125,8 @@ fn read_answer<S: Source, K: Sink>(
     sink: &mut K,
 ) -> Result<Planned, Fault>
     requires { Countable (ends pipe.old (S.stream source.old) (K.stream sink.old)) }
-    ensures ok { IfOk result (λ planned. (hs : List ResponseHead) × (h : ResponseHead) × messages.AreInterims view.now.method hs × messages.IsFinal view.now.method h planned.plan
+    ensures ok { IfOk result (λ planned. (hs : List ResponseHead) × (h : ResponseHead) × messages.AreInterims view.now.method hs
+        × messages.IsFinal view.now.method h planned.plan
         × (planned.head ≡ answer_of h)
         × Moves (ends pipe.old (S.stream source.old) (K.stream sink.old)) (ends pipe.new (S.stream source.new) (K.stream sink.new))
         (messages.print_heads hs ++ print_response h) (messages.interims_text (framed_for view.now.version) hs)) }

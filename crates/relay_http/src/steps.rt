@@ -17,6 +17,7 @@ use crate::exchange::{Exchange, Stage};
 use crate::fault::Fault;
 use crate::leave::give_leave;
 use crate::messages::{pass_answer, pass_request};
+use crate::persistence::Persistence;
 use crate::reading::read_request;
 use counted_io::{Sink, Source};
 use grant_board::Pass;
@@ -38,7 +39,8 @@ impl Exchange {
         ensures asked { OnOk result (self.new.stage ≡ Stage.Asked) }
         ensures closed { self.old.stage ≡ Stage.Failed → result ≡ Err Fault.Closed }
         ensures untouched { self.old.stage ≡ Stage.Failed → (self.new ≡ self.old) × (S.stream source.new ≡ S.stream source.old) }
-        ensures err { self.old.stage ≢ Stage.Failed → (w : Stream) → IfErr result (Fails (ends self.old.pipe (S.stream source.old) w) (ends self.new.pipe (S.stream source.new) w) [] [] LacksRequest) }
+        ensures err { self.old.stage ≢ Stage.Failed → (w : Stream)
+            → IfErr result (Fails (ends self.old.pipe (S.stream source.old) w) (ends self.new.pipe (S.stream source.new) w) [] [] LacksRequest) }
         ensures failed { OnErr result (self.new.stage ≡ Stage.Failed) }
         ensures turns { self.new.pipe.turns ≤ self.old.pipe.turns }
         ensures spent { result ≡ Err Fault.Turns → self.new.pipe.turns ≡ 0 }
@@ -66,11 +68,13 @@ impl Exchange {
     pub fn go_on_to<K: Sink>(&mut self, view: &View, sink: &mut K) -> Result<(), Fault>
         requires ready { IsAt Stage.Asked self.old }
         requires countable { (K.stream sink.old).calls + self.old.pipe.turns < 2 ^ 64 }
-        ensures ok { (s : Stream) → OnOk result (Moves (ends self.old.pipe s (K.stream sink.old)) (ends self.new.pipe s (K.stream sink.new)) [] (leave_text view.now)) }
+        ensures ok { (s : Stream)
+            → OnOk result (Moves (ends self.old.pipe s (K.stream sink.old)) (ends self.new.pipe s (K.stream sink.new)) [] (leave_text view.now)) }
         ensures asked { OnOk result (self.new.stage ≡ Stage.Asked) }
         ensures closed { self.old.stage ≡ Stage.Failed → result ≡ Err Fault.Closed }
         ensures untouched { self.old.stage ≡ Stage.Failed → (self.new ≡ self.old) × (K.stream sink.new ≡ K.stream sink.old) }
-        ensures err { self.old.stage ≢ Stage.Failed → (s : Stream) → IfErr result (Fails (ends self.old.pipe s (K.stream sink.old)) (ends self.new.pipe s (K.stream sink.new)) [] (leave_text view.now) NoCause) }
+        ensures err { self.old.stage ≢ Stage.Failed → (s : Stream)
+            → IfErr result (Fails (ends self.old.pipe s (K.stream sink.old)) (ends self.new.pipe s (K.stream sink.new)) [] (leave_text view.now) NoCause) }
         ensures failed { OnErr result (self.new.stage ≡ Stage.Failed) }
         ensures turns { self.new.pipe.turns ≤ self.old.pipe.turns }
         ensures spent { result ≡ Err Fault.Turns → self.new.pipe.turns ≡ 0 }
@@ -102,13 +106,16 @@ impl Exchange {
         requires ready { IsAt Stage.Asked self.old }
         requires serves { Serves pass.now.verdict }
         requires countable { Countable (ends self.old.pipe (S.stream source.old) (K.stream sink.old)) }
-        ensures ok { OnOk result ((used : List ℕ) × (text : List ℕ) × messages.IsForwarded view.now used text
+        ensures ok { OnOk result ((used : List ℕ) × (text : List ℕ) × messages.IsForwarded Persistence.Close view.now used text
             × Moves (ends self.old.pipe (S.stream source.old) (K.stream sink.old)) (ends self.new.pipe (S.stream source.new) (K.stream sink.new)) used text) }
         ensures forwarded { OnOk result (self.new.stage ≡ states.forwarded_on pass.now) }
         ensures closed { self.old.stage ≡ Stage.Failed → result ≡ Err Fault.Closed }
-        ensures untouched { self.old.stage ≡ Stage.Failed → (self.new ≡ self.old) × (S.stream source.new ≡ S.stream source.old) × (K.stream sink.new ≡ K.stream sink.old) }
-        ensures err { self.old.stage ≢ Stage.Failed → IfErr result (λ fault. (used : List ℕ) × (text : List ℕ) × messages.PartOfForwarded view.now used text
-            × Fails (ends self.old.pipe (S.stream source.old) (K.stream sink.old)) (ends self.new.pipe (S.stream source.new) (K.stream sink.new)) used text (messages.LacksForwarded view.now) fault) }
+        ensures untouched { self.old.stage ≡ Stage.Failed
+            → (self.new ≡ self.old) × (S.stream source.new ≡ S.stream source.old) × (K.stream sink.new ≡ K.stream sink.old) }
+        ensures err { self.old.stage ≢ Stage.Failed
+            → IfErr result (λ fault. (used : List ℕ) × (text : List ℕ) × messages.PartOfForwarded Persistence.Close view.now used text
+            × Fails (ends self.old.pipe (S.stream source.old) (K.stream sink.old)) (ends self.new.pipe (S.stream source.new) (K.stream sink.new)) used text
+            (messages.LacksForwarded view.now) fault) }
         ensures failed { OnErr result (self.new.stage ≡ Stage.Failed) }
         ensures turns { self.new.pipe.turns ≤ self.old.pipe.turns }
         ensures spent { result ≡ Err Fault.Turns → self.new.pipe.turns ≡ 0 }
@@ -145,16 +152,20 @@ impl Exchange {
         requires ready { IsAt (states.forwarded_on pass.now) self.old }
         requires serves { Serves pass.now.verdict }
         requires countable { Countable (ends self.old.pipe (S.stream source.old) (K.stream sink.old)) }
-        ensures ok { OnOk result ((used : List ℕ) × (text : List ℕ) × (answered : messages.IsAnswered view.now.method (framed_for view.now.version) used text)
-            × Moves (ends (emptied self.old.pipe) (S.stream source.old) (K.stream sink.old)) (ends self.new.pipe (S.stream source.new) (K.stream sink.new)) used text
+        ensures ok { OnOk result ((used : List ℕ) × (text : List ℕ)
+            × (answered : messages.IsAnswered Persistence.Close view.now.method (framed_for view.now.version) used text)
+            × Moves (ends (emptied self.old.pipe) (S.stream source.old) (K.stream sink.old)) (ends self.new.pipe (S.stream source.new)
+            (K.stream sink.new)) used text
             × (answered.plan.body ≡ Framing.ToEnd → IsAtEnd (S.stream source.new).bytes)
             × (answered.plan.body ≡ Framing.ToEnd → self.new.pipe.inbox ≡ [])) }
         ensures answered { OnOk result (self.new.stage ≡ Stage.Answered) }
         ensures closed { self.old.stage ≡ Stage.Failed → result ≡ Err Fault.Closed }
-        ensures untouched { self.old.stage ≡ Stage.Failed → (self.new ≡ self.old) × (S.stream source.new ≡ S.stream source.old) × (K.stream sink.new ≡ K.stream sink.old) }
+        ensures untouched { self.old.stage ≡ Stage.Failed
+            → (self.new ≡ self.old) × (S.stream source.new ≡ S.stream source.old) × (K.stream sink.new ≡ K.stream sink.old) }
         ensures err { self.old.stage ≢ Stage.Failed → IfErr result (λ fault. (used : List ℕ) × (text : List ℕ)
-            × messages.PartOfAnswered view.now.method (framed_for view.now.version) used text
-            × Fails (ends (emptied self.old.pipe) (S.stream source.old) (K.stream sink.old)) (ends self.new.pipe (S.stream source.new) (K.stream sink.new)) used text (messages.LacksAnswer view.now.method) fault) }
+            × messages.PartOfAnswered Persistence.Close view.now.method (framed_for view.now.version) used text
+            × Fails (ends (emptied self.old.pipe) (S.stream source.old) (K.stream sink.old)) (ends self.new.pipe (S.stream source.new)
+            (K.stream sink.new)) used text (messages.LacksAnswer view.now.method) fault) }
         ensures failed { OnErr result (self.new.stage ≡ Stage.Failed) }
         ensures turns { self.new.pipe.turns ≤ self.old.pipe.turns }
         ensures spent { result ≡ Err Fault.Turns → self.new.pipe.turns ≡ 0 }

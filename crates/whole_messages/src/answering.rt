@@ -10,7 +10,7 @@ use crate::progress::{Progress, told_by};
 use counted_io::Counted;
 use grant_board::Pass;
 use relay_body::Framing;
-use relay_http::{Aside, Exchange};
+use relay_http::{Aside, Exchange, Persistence};
 use req_view::View;
 use std::alloc::Global;
 
@@ -38,11 +38,12 @@ pub fn answer_whole(
     requires same_pass { stage_of request.now.aside.now ≡ forwarded_on request.now.pass.now }
     requires unread { answer.old.reads ≡ 0 }
     ensures whole { OnWhole result ((used : List ℕ) × (rest : List ℕ) × (text : List ℕ)
-        × (answered : IsAnswered request.now.view.now.method (framed_for request.now.view.now.version) used text)
+        × (answered : IsAnswered Persistence.Close request.now.view.now.method (framed_for request.now.view.now.version) used text)
         × (answer.old.bytes.now ≡ used ++ rest) × (out.new.items ≡ out.old.items ++ text)
         × (answered.plan.body ≡ Framing.ToEnd → (answer.old.ended ≡ true) × (rest ≡ []))) }
     ensures more { OnMore result ((answer.old.ended ≡ false) × (answer.new.bytes.now ≡ []) × (answer.new.misses ≡ answer.old.misses + 1)) }
-    ensures refused { IfRefused result (λ fault. Begins (λ front. Refuses (LacksAnswer request.now.view.now.method) answer.old.ended exchange.new.pipe.turns front fault) answer.old.bytes.now) }
+    ensures refused { IfRefused result (λ fault. Begins (λ front. Refuses
+        (LacksAnswer request.now.view.now.method) answer.old.ended exchange.new.pipe.turns front fault) answer.old.bytes.now) }
     ensures kept { OnOthers result (out.new.items ≡ out.old.items) }
     ensures most { exchange.new.most ≡ exchange.old.most }
 {

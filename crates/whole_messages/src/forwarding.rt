@@ -9,7 +9,7 @@ use crate::progress::{Progress, told_by};
 use counted_io::Counted;
 use grant_board::Pass;
 use relay_body::INBOX_BYTES;
-use relay_http::{Aside, Exchange, Fault};
+use relay_http::{Aside, Exchange, Fault, Persistence};
 use req_view::View;
 
 /// Hands a request on whose head was read and whose body lies whole in what came behind it: the text for the server is put behind what `out` has. What
@@ -25,7 +25,7 @@ pub fn forward_whole(
 ) -> Progress<Aside>
     requires few { length behind.now ≤ INBOX_BYTES }
     requires serves { Serves pass.now.verdict }
-    ensures whole { OnWhole result ((used : List ℕ) × (rest : List ℕ) × (text : List ℕ) × IsForwarded view.now used text
+    ensures whole { OnWhole result ((used : List ℕ) × (rest : List ℕ) × (text : List ℕ) × IsForwarded Persistence.Close view.now used text
         × (behind.now ≡ used ++ rest) × (out.new.items ≡ out.old.items ++ text)) }
     ensures aside { IfWhole result (λ aside. stage_of aside ≡ forwarded_on pass.now) }
     ensures more { OnMore result (LacksForwarded view.now Fault.Read behind.now) }

@@ -6,12 +6,13 @@ use Rattle.relay_http.proofs.heads.put_answer.Goals as goal
 
 pub returns-in_err-put_answer_lines-clause-err : goal.returns-in_err-put_answer_lines-clause-err
 returns-in_err-put_answer_lines-clause-err g c =
-    at_exit _ _ _ c.from_residual.ensures.1 (halts_front (end_text (stated c.args.framed c.args.plan.stated)) c.in_err-put_answer_lines.ensures.err)
+    at_exit _ _ _ c.from_residual.ensures.1 (halts_front (end_text c.args.persistence
+    (stated c.args.framed c.args.plan.stated)) c.in_err-put_answer_lines.ensures.err)
 
 pub returns-in_err-put_end-clause-err : goal.returns-in_err-put_end-clause-err
 returns-in_err-put_end-clause-err g c =
     at_exit _ _ _ c.from_residual-in_err-put_end.ensures.1 (puts_halts c.in_ok-put_answer_lines.ensures.ok (halts_as
-    (ap end_text c.stated.ensures) c.in_err-put_end.ensures.err))
+    (ap (end_text c.args.persistence) c.stated.ensures) c.in_err-put_end.ensures.err))
 
 pub returns-clause-ok : goal.returns-clause-ok
-returns-clause-ok g c = puts_trans c.in_ok-put_answer_lines.ensures.ok (puts_as (ap end_text c.stated.ensures) c.in_ok-put_end.ensures.ok)
+returns-clause-ok g c = puts_trans c.in_ok-put_answer_lines.ensures.ok (puts_as (ap (end_text c.args.persistence) c.stated.ensures) c.in_ok-put_end.ensures.ok)

@@ -8,12 +8,13 @@ use Rattle.relay_http.proofs.heads.put_request.Goals as goal
 
 pub returns-in_err-put_request_line-clause-err : goal.returns-in_err-put_request_line-clause-err
 returns-in_err-put_request_line-clause-err g c =
-    let rest = fields_text (kept of_request c.args.view.now.fields) ++ (host_text (kept of_request c.args.view.now.fields) ++ end_text c.args.framing) in
+    let rest = fields_text (kept of_request c.args.view.now.fields) ++ (host_text (kept of_request c.args.view.now.fields)
+    ++ end_text c.args.persistence c.args.framing) in
     at_exit _ _ _ c.from_residual.ensures.1 (halts_front rest c.in_err-put_request_line.ensures.err)
 
 pub returns-in_err-put_fields-clause-err : goal.returns-in_err-put_fields-clause-err
 returns-in_err-put_fields-clause-err g c =
-    let rest = host_text (kept of_request c.args.view.now.fields) ++ end_text c.args.framing in
+    let rest = host_text (kept of_request c.args.view.now.fields) ++ end_text c.args.persistence c.args.framing in
     at_exit _ _ _ c.from_residual-in_err-put_fields.ensures.1
     (puts_halts c.in_ok-put_request_line.ensures.ok (halts_front rest (halts_as (ap (λ (fields : List NamedValue). fields_text
     (kept of_request fields)) c.section.ensures) c.in_err-put_fields.ensures.err)))
@@ -23,7 +24,7 @@ returns-in_err-put_host-clause-err g c =
     at_exit _ _ _ c.from_residual-in_err-put_host.ensures.1
     (puts_halts c.in_ok-put_request_line.ensures.ok (puts_halts (puts_as (ap (λ (fields : List NamedValue). fields_text
     (kept of_request fields)) c.section.ensures) c.in_ok-put_fields.ensures.ok)
-    (halts_front (end_text c.args.framing) (halts_as (ap (λ (fields : List NamedValue). host_text
+    (halts_front (end_text c.args.persistence c.args.framing) (halts_as (ap (λ (fields : List NamedValue). host_text
     (kept of_request fields)) c.section-2.ensures) c.in_err-put_host.ensures.err))))
 
 pub returns-in_err-put_end-clause-err : goal.returns-in_err-put_end-clause-err

@@ -11,6 +11,7 @@ use Rattle.relay_http.specs.Texts.{answer_text, framed_for}
 use Rattle.relay_http.proofs.Failing.{moves_fails, fails_as}
 use Rattle.relay_http.proofs.Passing.{body_then}
 use Rattle.req_view.specs.Answer.{answer_of}
+use Rattle.relay_http.specs.declared.persistence.Persistence.TheVariants.{Close}
 use Rattle.relay_http.proofs.messages.pass_answer.Goals as goal
 
 pub returns-in_err-planned-clause-err : goal.returns-in_err-planned-clause-err
@@ -27,9 +28,9 @@ returns-clause-ok g c =
     let plan = c.in_ok-planned.planned.plan in
     let heads = print_heads hs ++ print_response h in
     let before = interims_text framed hs in
-    let text = answer_text framed (answer_of h) plan in
+    let text = answer_text Close framed (answer_of h) plan in
     let told = c.is_framed.ensures ∙ ap framed_for c.version.ensures in
-    let same : answer_text c.is_framed.result c.in_ok-planned.planned.head plan ≡ text = λ i. answer_text (told i) (read.4 i) plan in
+    let same : answer_text Close c.is_framed.result c.in_ok-planned.planned.head plan ≡ text = λ i. answer_text Close (told i) (read.4 i) plan in
     on_ok_weaker c.pass_planned.result (λ rest. (
       print_heads hs ++ (print_response h ++ rest.0),
       before ++ (text ++ rest.1),
@@ -60,9 +61,9 @@ returns-clause-err g c =
     let h = read.1 in
     let plan = c.in_ok-planned.planned.plan in
     let before = interims_text framed hs in
-    let text = answer_text framed (answer_of h) plan in
+    let text = answer_text Close framed (answer_of h) plan in
     let told = c.is_framed.ensures ∙ ap framed_for c.version.ensures in
-    let same : answer_text c.is_framed.result c.in_ok-planned.planned.head plan ≡ text = λ i. answer_text (told i) (read.4 i) plan in
+    let same : answer_text Close c.is_framed.result c.in_ok-planned.planned.head plan ≡ text = λ i. answer_text Close (told i) (read.4 i) plan in
     IfErr-weaker c.pass_planned.result _ _ (λ fault part. (
       print_heads hs ++ (print_response h ++ part.0),
       before ++ (text ++ part.1),

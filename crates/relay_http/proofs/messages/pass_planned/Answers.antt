@@ -7,12 +7,13 @@ use Rattle.relay_http.specs.Messages.{NoBody}
 use Rattle.relay_http.specs.Texts.{answer_text}
 use Rattle.relay_http.proofs.Failing.{moves_fails, moves_put, moves_halts, fails_put, fails_of, fails_as}
 use Rattle.relay_http.proofs.Passing.{part_none, body_part}
+use Rattle.relay_http.specs.declared.persistence.Persistence.TheVariants.{Close}
 use Rattle.relay_http.proofs.messages.pass_planned.Goals as goal
 
 pub returns-in_err-put_answer-clause-err : goal.returns-in_err-put_answer-clause-err
 returns-in_err-put_answer-clause-err g c =
     let plan = c.args.planned.now.plan in
-    let text = answer_text c.args.framed c.args.planned.now.head plan in
+    let text = answer_text Close c.args.framed c.args.planned.now.head plan in
     at_exit _ _ _ c.from_residual.ensures.1 (
       [],
       [],
@@ -37,7 +38,7 @@ returns-in_err-pass_body-clause-err g c =
 pub returns-in_err-send-clause-err : goal.returns-in_err-send-clause-err
 returns-in_err-send-clause-err g c =
     let plan = c.args.planned.now.plan in
-    let text = answer_text c.args.framed c.args.planned.now.head plan in
+    let text = answer_text Close c.args.framed c.args.planned.now.head plan in
     let put = moves_put (g.S.Source.stream c.args.source.now) c.in_ok-put_answer.ensures.ok in
     let passed = c.in_ok-pass_body.ensures.ok in
     at_exit _ _ _ c.from_residual-in_err-send.ensures.1 (
@@ -51,7 +52,7 @@ returns-in_err-send-clause-err g c =
 pub returns-clause-ok : goal.returns-clause-ok
 returns-clause-ok g c =
     let plan = c.args.planned.now.plan in
-    let text = answer_text c.args.framed c.args.planned.now.head plan in
+    let text = answer_text Close c.args.framed c.args.planned.now.head plan in
     let put = moves_put (g.S.Source.stream c.args.source.now) c.in_ok-put_answer.ensures.ok in
     let passed = c.in_ok-pass_body.ensures.ok in
     let sent = moves_put (g.S.Source.stream c.pass_body.new.source) c.in_ok-send.ensures.ok in (

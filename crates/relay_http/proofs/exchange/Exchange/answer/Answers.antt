@@ -3,6 +3,7 @@ use Rattle.relay_http.specs.Messages.{PartOfAnswered, LacksAnswer}
 use Rattle.relay_http.specs.Texts.{framed_for}
 use Rattle.std.proofs.lemmas.Grind.{common_steps}
 use Rattle.relay_http.proofs.Thinning.{thin_answer, thin_both_fault, thin_same}
+use Rattle.relay_http.specs.declared.persistence.Persistence.TheVariants.{Close}
 use Rattle.relay_http.proofs.exchange.Exchange.answer.Goals as goal
 
 pub returns-clause-ok : goal.returns-clause-ok
@@ -13,7 +14,7 @@ returns-clause-ok g c =
 
 pub returns-clause-err : goal.returns-clause-err
 returns-clause-err g c = λ open_still.
-    thin_both_fault _ (PartOfAnswered c.args.view.now.method (framed_for c.args.view.now.version)) (LacksAnswer c.args.view.now.method) _ _ _ _ _ _
+    thin_both_fault _ (PartOfAnswered Close c.args.view.now.method (framed_for c.args.view.now.version)) (LacksAnswer c.args.view.now.method) _ _ _ _ _ _
     (search rules) (search rules) (search rules) (search rules)
     c.args.self.now.drained (c.answer_between.ensures.err open_still)
 

@@ -32,19 +32,20 @@ impl<
             if underway.rest.left().is_empty() {
                 self.read_answer(underway);
             } else {
-                self.send_rest(underway);
+                self.send_and_read(underway);
             }
             self.go_on();
         }
     }
 
-    // The server takes more of the request.
-    fn send_rest(&mut self, underway: Underway<N>) {
+    // The server may take more of the request, and may answer before it has all of it: the poll tells of both once.
+    fn send_and_read(&mut self, underway: Underway<N>) {
         let now = self.gate.moment();
         let (underway, count) = underway.send(now);
-        match count {
-            None => self.lose(underway),
-            Some(_) => self.keep(underway),
+        if count.is_none() && !underway.sent {
+            self.lose(underway);
+        } else {
+            self.read_answer(underway);
         }
     }
 

@@ -9,13 +9,14 @@ ghost use Rattle.verdict.specs.declared.Verdict.TheVariants.{Serve};
 
 use crate::jobs::Job;
 use crate::looping::Looper;
-use crate::parts::{Granted, Underway, Waiting};
+use crate::parts::{Granted, Request, Underway, Waiting};
 use crate::rest::Rest;
+use crate::sockets::say;
 use crate::watching::{Subject, watch};
 use grant_board::BoardName;
 use mio::Interest;
 use place_set::PlaceSet;
-use relay_http::{Aside, Code};
+use relay_http::{Aside, Code, given_leave};
 use relay_workers::{Gate, Outcome};
 use std::mem;
 use std::net::{Net, SocketAddr, TcpListener, TcpStream};
@@ -60,7 +61,10 @@ impl<
             &mut self.request,
         );
         match made {
-            Progress::Whole(aside) => self.dial(granted, server, address, aside),
+            Progress::Whole(aside) => {
+                let granted = with_leave(granted);
+                self.dial(granted, server, address, aside);
+            }
             Progress::More => self.hand_to_runner(Job::Finish(granted)),
             Progress::Refused(fault) => self.end(granted, Outcome::after_forwarding(fault)),
         }
@@ -157,4 +161,19 @@ impl<
             }
         }
     }
+}
+
+// A client that waits for leave to send its body is given it, also where the body came without it.
+fn with_leave<N: BoardName>(granted: Granted<N>) -> Granted<N>
+    ensures pass { result.held ≡ granted.held }
+    ensures request { result.waiting.request.view ≡ granted.waiting.request.view }
+{
+    let mut granted = granted;
+    let Request { client, view, .. } = &mut granted.waiting.request;
+    let leave = given_leave(view);
+    if !leave.is_empty() {
+        // 25 bytes, the first that are written: a client that doesn't take them has gone.
+        let _ = say(client, leave);
+    }
+    granted
 }

@@ -5,6 +5,7 @@ ghost use Rattle.event_loops.specs.Handed.{IsRestOfAnswer};
 use crate::looping::Looper;
 use crate::parts::Delivery;
 use crate::rest::Rest;
+use crate::sockets::part_from;
 use crate::watching::{Subject, watch};
 use grant_board::BoardName;
 use mio::Interest;
@@ -33,12 +34,19 @@ impl<
         };
         let (delivery, count) = delivery.send(since);
         if count.is_none() || delivery.rest.left().is_empty() {
-            self.hall.note_end(self.rt);
-            delivery.into_buffer()
+            self.end_delivery(delivery)
         } else {
             self.keep_delivery(delivery);
             Vec::new(alloc)
         }
+    }
+
+    // Its client is through. The buffer comes back.
+    fn end_delivery(&mut self, delivery: Delivery) -> Vec<u8> {
+        let (client, buffer) = delivery.into_parts();
+        part_from(client, self.input.as_mut_slice());
+        self.hall.note_end(self.rt);
+        buffer
     }
 
     /// The poll told of a client that takes more of its answer, or is gone.
@@ -49,7 +57,7 @@ impl<
         let now = self.gate.moment();
         let (delivery, count) = delivery.send(now);
         if count.is_none() || delivery.rest.left().is_empty() {
-            self.hall.note_end(self.rt);
+            self.end_delivery(delivery);
         } else {
             self.keep_delivery(delivery);
         }

@@ -266,7 +266,7 @@ impl<N: BoardName> Hall<'_, N> {
         }
     }
 
-    /// A request whose server a runner found none lies down anew, and its place is looked at.
+    /// A request for which a runner reached no server lies down anew. A loop looks at its place, and watches its client.
     pub(crate) fn wait_anew<R: Wait>(
         &self,
         rt: &R,
@@ -289,8 +289,10 @@ impl<N: BoardName> Hall<'_, N> {
                 at,
                 request,
                 failed,
+                watched: false,
             },
         );
+        self.note_wait();
         let mut here = PlaceSet::new();
         if at.place < 4096 {
             here.insert(at.place);

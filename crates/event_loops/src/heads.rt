@@ -185,6 +185,7 @@ impl<
             at,
             request,
             failed: None,
+            watched: false,
         };
         self.hall.lie_down(self.rt, waiting);
         match self.hall.look(self.rt, at.place) {

@@ -55,14 +55,16 @@ impl<
             return;
         }
         self.looked = now;
+        // What the looks find short stays noted, so that it is tried again.
+        let was_short = self.short;
+        self.short = false;
         if self.home == 0 && self.hall.has_waits() {
             self.look_at_queues(now);
         }
         self.look_at_heads(now);
         self.look_at_exchanges(now);
         self.look_at_deliveries(now);
-        if self.short {
-            self.short = false;
+        if was_short {
             self.more = true;
         }
     }

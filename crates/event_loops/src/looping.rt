@@ -2,7 +2,7 @@ ghost use Rattle.grant_board.specs.BoardWords.{MayEnd};
 
 use crate::hall::Hall;
 use crate::parts::{Delivery, Reading, Underway};
-use crate::sockets::say;
+use crate::sockets::{part_from, say};
 use crate::table::Table;
 use crate::watching::Subject;
 use due_key::Moment;
@@ -153,8 +153,9 @@ impl<
             let Some(place) = next else {
                 return;
             };
-            if let Some(granted) = self.hall.look(self.rt, place) {
-                self.begin(granted);
+            match self.hall.look(self.rt, place) {
+                Some(granted) => self.begin(granted),
+                None => self.watch_place(place),
             }
             next = woken.next(place.saturating_add(1));
         }
@@ -179,6 +180,7 @@ impl<
             self.request.clear();
             if refusal(&mut self.exchange, code, &mut self.request).is_ok() {
                 let _ = say(&mut client, self.request.as_slice());
+                part_from(client, self.input.as_mut_slice());
             }
         }
         self.hall.note_end(self.rt);

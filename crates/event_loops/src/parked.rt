@@ -15,21 +15,26 @@ impl<
     N: BoardName,
     R: Net<Listener = TcpListener, Stream = TcpStream> + Clock + Print + Wait,
 > Looper<'a, N, R> {
-    /// A client that waits is watched for its leaving alone. Another loop may serve it meanwhile; then nothing is watched.
+    /// The request with this ticket waits at its place. Another loop may serve it meanwhile; then nothing is watched.
     pub(crate) fn watch_waiting(&mut self, at: Ticketed) {
         self.hall.note_wait();
-        let Some(spot) = self.hall.spots.as_slice().get(at.place) else {
+        self.watch_place(at.place);
+    }
+
+    /// A client that waits is watched for its leaving alone, by one loop.
+    pub(crate) fn watch_place(&mut self, place: usize) {
+        let Some(spot) = self.hall.spots.as_slice().get(place) else {
             return;
         };
-        let spot = spot.lock(self.rt);
-        if let Some(waiting) = &*spot {
-            if waiting.at.ticket == at.ticket {
+        let mut spot = spot.lock(self.rt);
+        if let Some(waiting) = &mut *spot {
+            if !waiting.watched {
                 let subject = Subject::Waiting {
-                    place: at.place,
-                    ticket: at.ticket,
+                    place,
+                    ticket: waiting.at.ticket,
                 };
                 let connection = waiting.request.client.as_raw_fd();
-                watch(&self.registry, connection, subject, Interest::READABLE);
+                waiting.watched = watch(&self.registry, connection, subject, Interest::READABLE);
             }
         }
     }

@@ -51,6 +51,8 @@ pub struct Waiting {
     pub(crate) request: Request,
     /// The server that was last tried for it in vain.
     pub(crate) failed: Option<usize>,
+    /// Some loop's poll tells of its client.
+    pub(crate) watched: bool,
 }
 
 /// One that has its pass. It has no `Drop`: the pass is posted.
@@ -105,11 +107,12 @@ impl<N: BoardName> Underway<N> {
             rest,
             sent,
             got,
-            since: _,
+            since,
             key,
         } = self;
         let (mut server, mut rest) = (server, rest);
         let count = rest.send(&mut server);
+        let since = if 0 < count.unwrap_or(0) { now } else { since };
         let underway = Underway {
             granted,
             number,
@@ -118,7 +121,7 @@ impl<N: BoardName> Underway<N> {
             rest,
             sent: sent || 0 < count.unwrap_or(0),
             got,
-            since: now,
+            since,
             key,
         };
         (underway, count)
@@ -134,11 +137,16 @@ impl<N: BoardName> Underway<N> {
             rest,
             sent,
             got,
-            since: _,
+            since,
             key,
         } = self;
         let mut server = server;
         let heard = hear(&mut server, buffer);
+        let since = if let Heard::Bytes(_) = heard {
+            now
+        } else {
+            since
+        };
         let underway = Underway {
             granted,
             number,
@@ -147,7 +155,7 @@ impl<N: BoardName> Underway<N> {
             rest,
             sent,
             got,
-            since: now,
+            since,
             key,
         };
         (underway, heard)
@@ -222,15 +230,15 @@ impl Delivery {
         (delivery, count)
     }
 
-    /// The buffer of what was left. Its client's connection is closed.
-    pub(crate) fn into_buffer(self) -> Vec<u8> {
+    /// Its client, and the buffer of what was left.
+    pub(crate) fn into_parts(self) -> (TcpStream, Vec<u8>) {
         let Delivery {
-            client: _,
+            client,
             rest,
             since: _,
             key: _,
         } = self;
-        rest.into_buffer()
+        (client, rest.into_buffer())
     }
 }
 

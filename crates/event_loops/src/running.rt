@@ -7,7 +7,7 @@ use crate::jobs::Job;
 use crate::parts::{Granted, Underway, Waiting};
 use grant_board::BoardName;
 use pass_seat::Idle;
-use relay_http::{Code, Exchange};
+use relay_http::Exchange;
 use relay_workers as workers;
 use relay_workers::{Admitted, Gate, Outcome, Runner, finish};
 use socket_gate::{SocketGate, within};
@@ -54,6 +54,7 @@ fn finish_job<
         at,
         request,
         failed,
+        watched: _,
     } = waiting;
     if let Some(server) = failed {
         hands.gate.note_failure(at.ticket, server);
@@ -112,17 +113,14 @@ fn answer_job<
     exchange.resume(&aside);
     let alloc = hall.proxy.alloc;
     let view = &waiting.request.view;
-    let sent = server.write_all(rest.left());
-    if sent.is_ok() {
-        let mut reader = got.as_slice().chain(server);
-        let answered = exchange.answer(alloc, held.pass(), view, &mut reader, &mut client);
-        if let Err(fault) = answered {
-            if !exchange.begun() {
-                refuse(exchange, &mut client, Outcome::after_answering(fault));
-            }
+    // A server may answer and take no more of the request, so what it sent is read either way.
+    let _ = server.write_all(rest.left());
+    let mut reader = got.as_slice().chain(server);
+    let answered = exchange.answer(alloc, held.pass(), view, &mut reader, &mut client);
+    if let Err(fault) = answered {
+        if !exchange.begun() {
+            refuse(exchange, &mut client, Outcome::after_answering(fault));
         }
-    } else {
-        refuse(exchange, &mut client, Outcome::Refused(Code::BadGateway));
     }
     let place = held.place();
     let idle = held.post(hall.proxy.desk.board(), Ending::Done);

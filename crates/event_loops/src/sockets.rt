@@ -3,7 +3,7 @@
 ghost use Rattle.std.specs.Prelude.{◌≡◌, ◌≤◌, ℕ, length, IfSome};
 
 use std::io::{ErrorKind, Read, Write};
-use std::net::TcpStream;
+use std::net::{Shutdown, TcpStream};
 
 /// What a read gave.
 #[derive(Clone, Copy)]
@@ -29,6 +29,24 @@ pub(crate) fn hear(stream: &mut TcpStream, buffer: &mut [u8]) -> Heard
             } else {
                 Heard::Ended { well: false }
             }
+        }
+    }
+}
+
+/// So many buffers of what a client sent beside are thrown away.
+const MOST_THROWN: usize = 16;
+
+/// Closes a client's connection. What it sent that nobody read is read first, as far as it is there: a close with bytes unread
+/// resets the connection, and so may cut the answer (RFC 9112, section 9.6).
+pub(crate) fn part_from(client: TcpStream, buffer: &mut [u8]) {
+    let mut client = client;
+    if client.shutdown(Shutdown::Write).is_err() {
+        return;
+    }
+    for _ in 0..MOST_THROWN {
+        match hear(&mut client, buffer) {
+            Heard::Bytes(_) => {}
+            Heard::Nothing | Heard::Ended { .. } => return,
         }
     }
 }

@@ -22,9 +22,20 @@ struct Row {
     // What each client says, and what it gets.
     says: &'static [u8],
     gets: &'static [u8],
-    // The server answers this once so many clients are there; the last one first.
+    // The server answers this so often.
     answer: &'static [u8],
     answers: u32,
+    order: Order,
+    places: u32,
+}
+
+// When a server answers.
+#[derive(Clone, Copy)]
+enum Order {
+    // Once as many clients as it answers are there, the last one first.
+    Together,
+    // Each client before the next comes.
+    InTurn,
 }
 
 const WHOLE: &[u8] = b"HTTP/1.1 200 OK\r\nContent-Length: 2\r\n\r\nhi";
@@ -45,6 +56,26 @@ fn answer_all(listener: &TcpListener, count: u32, text: &[u8]) -> bool {
         return false;
     };
     answer_all(listener, count - 1, text) && answer(client, text)
+}
+
+fn answer_each(listener: &TcpListener, count: u32, text: &[u8]) -> bool {
+    for _ in 0..count {
+        let is_answered = match listener.accept() {
+            Ok((client, _)) => answer(client, text),
+            Err(_) => false,
+        };
+        if !is_answered {
+            return false;
+        }
+    }
+    true
+}
+
+fn answer_in(order: Order, listener: &TcpListener, count: u32, text: &[u8]) -> bool {
+    match order {
+        Order::Together => answer_all(listener, count, text),
+        Order::InTurn => answer_each(listener, count, text),
+    }
 }
 
 fn come<R: Abort + Net<Stream = TcpStream>>(
@@ -72,11 +103,11 @@ fn serve_text<
         + Threads
         + Wait
         + Sync,
->(rt: &R, text: &str, listener: TcpListener, clients: u32) -> bool {
+>(rt: &R, text: &str, listener: TcpListener, clients: u32, places: u32) -> bool {
     let Ok(config) = read(rt.alloc(), text.as_bytes()) else {
         return false;
     };
-    match Sizes::new(Some(clients), Some(2), 8, clients) {
+    match Sizes::new(Some(clients), Some(2), places, clients) {
         Some(sizes) => serve_at(rt, config, listener, sizes).is_ok(),
         None => false,
     }
@@ -93,11 +124,13 @@ fn serve_between<
         + Wait
         + Sync,
 >(rt: &R, text: &str, near: TcpListener, far: &TcpListener, row: &Row) -> bool {
-    let (answers, answer) = (row.answers, row.answer);
-    let clients = row.clients;
+    let (answers, answer, order) = (row.answers, row.answer, row.order);
+    let (clients, places) = (row.clients, row.places);
     thread::scope(thread::scope_env(), rt, |scope| {
-        let answering = scope.spawn(move || answer_all(far, answers, answer)).ok();
-        let ended = serve_text(rt, text, near, clients);
+        let answering = scope
+            .spawn(move || answer_in(order, far, answers, answer))
+            .ok();
+        let ended = serve_text(rt, text, near, clients, places);
         match answering {
             Some(handle) => handle.join(rt) && ended,
             None => false,
@@ -152,6 +185,8 @@ fn one_request(rt: HostRuntime) {
         gets: ANSWER,
         answer: WHOLE,
         answers: 1,
+        order: Order::Together,
+        places: 8,
     };
     play(&rt, &row);
 }
@@ -165,6 +200,8 @@ fn two_at_once(rt: HostRuntime) {
         gets: ANSWER,
         answer: WHOLE,
         answers: 2,
+        order: Order::Together,
+        places: 8,
     };
     play(&rt, &row);
 }
@@ -178,6 +215,8 @@ fn a_silent_server_is_a_bad_gateway(rt: HostRuntime) {
         gets: b"HTTP/1.1 502 Bad Gateway\r\nContent-Length: 0\r\nConnection: close\r\n\r\n",
         answer: WHOLE,
         answers: 0,
+        order: Order::Together,
+        places: 8,
     };
     play(&rt, &row);
 }
@@ -191,6 +230,8 @@ fn a_part_of_an_answer_is_handed_on_while_its_server_pauses(rt: HostRuntime) {
         gets: b"HTTP/1.1 200 OK\r\nContent-Length: 2\r\nConnection: close\r\n\r\nh",
         answer: b"HTTP/1.1 200 OK\r\nContent-Length: 2\r\n\r\nh",
         answers: 1,
+        order: Order::Together,
+        places: 8,
     };
     play(&rt, &row);
 }
@@ -204,6 +245,38 @@ fn a_silent_client_gets_nothing(rt: HostRuntime) {
         gets: b"",
         answer: WHOLE,
         answers: 0,
+        order: Order::Together,
+        places: 8,
+    };
+    play(&rt, &row);
+}
+
+#[test]
+fn two_clients_share_one_place(rt: HostRuntime) {
+    let row = Row {
+        settings: "",
+        clients: 2,
+        says: REQUEST,
+        gets: ANSWER,
+        answer: WHOLE,
+        answers: 2,
+        order: Order::InTurn,
+        places: 1,
+    };
+    play(&rt, &row);
+}
+
+#[test]
+fn leave_is_given_where_the_body_came_with_its_head(rt: HostRuntime) {
+    let row = Row {
+        settings: "",
+        clients: 1,
+        says: b"PUT / HTTP/1.1\r\nHost: h\r\nExpect: 100-continue\r\nContent-Length: 2\r\n\r\nab",
+        gets: b"HTTP/1.1 100 Continue\r\n\r\nHTTP/1.1 200 OK\r\nContent-Length: 2\r\nConnection: close\r\n\r\nhi",
+        answer: WHOLE,
+        answers: 1,
+        order: Order::InTurn,
+        places: 8,
     };
     play(&rt, &row);
 }

@@ -7,6 +7,8 @@ prove_program() {
         return
     fi
     begin_work "${TMPDIR:-/tmp}"
+    # Where root runs rt ci, it runs what it built as nobody, who has to get there.
+    chmod 711 "$work" "$work/tmp"
     log=$work/log
     copy_own
     total=$(wc -l <"$work/copy/crates.txt" | tr -d ' ')
@@ -59,6 +61,7 @@ tell_progress() {
     while IFS= read -r line; do
         echo "$line" >>"$log"
         case $line in
+        'rt: '*': '*' proved') say "${line#rt: }" ;;
         'rt: '*' proved' | 'rt: '*' is kept: '*)
             ended=$((ended + 1))
             say "$ended of $total: ${line#rt: }"

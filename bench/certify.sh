@@ -6,6 +6,7 @@
 times=20
 input=$folder/script
 program=$here/crates/bench_certify/out/bench_certify
+proved=$(proved_program)
 
 # Requests that arrive with offsets by a fixed sequence of numbers, of as many classes. Each server takes one request at a
 # time and has a queue of its own; after the first ones a request is over and another one bound to its server arrives.
@@ -55,7 +56,6 @@ compare() {
     }'
 }
 
-"$here/dueproxy" replay </dev/null
 write_script 1 1 62 43600
 build bench_certify 0 "$input"
 compare "1 server, 1 class"

@@ -2,7 +2,7 @@
 # Prints how long `dueproxy check` takes for a configuration of 1 MB with 64 servers, 256 rules and 256 lines of ACLs,
 # and for one of half that length, beside `wc -w` on the same bytes, each the best of several runs, and the ratios.
 . "$(dirname "$0")/common.sh"
-program=$here/crates/dueproxy/out/dueproxy
+program=$(proved_program)
 
 # A configuration of at most so many bytes: its ACL lines have so many values that it is nearly full.
 write_configuration() {
@@ -34,6 +34,5 @@ compare() {
     awk -v a="$checked" -v b="$counted" 'BEGIN { printf "ratio %.2f\n", a / b }'
 }
 
-"$here/dueproxy" check "$here/examples/shop.cfg" >"$folder/out"
 compare 524288
 compare 1048576

@@ -6,6 +6,12 @@ folder=$(mktemp -d)
 trap 'rm -rf "$folder"' EXIT
 input=/dev/null
 
+# The proved program, or the one that PROGRAM names. What ./dueproxy runs else is compiled in another way and slower, so that its
+# figures would tell nothing: it is refused.
+proved_program() {
+    if [ -n "${PROGRAM:-}" ]; then echo "$PROGRAM"; else "$here/dueproxy" --where; fi
+}
+
 # The least time of the runs of a command over the input, in microseconds. What the last run wrote is in the folder.
 best_of() {
     local least= start end took
@@ -19,9 +25,9 @@ best_of() {
     echo "$least"
 }
 
-# The same of `dueproxy replay`, which is to refuse no event.
+# The same of `replay` by the proved program, which is to refuse no event.
 best_of_replay() {
-    best_of "$here/crates/dueproxy/out/dueproxy" replay
+    best_of "$proved" replay
     if grep -q '^refused' "$folder/out"; then
         echo "an event was refused: the script is not what it should be" >&2
         exit 1

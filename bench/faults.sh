@@ -2,7 +2,7 @@
 # Puts `dueproxy run` before peers that are silent, go or aren't there, lets it run out of files, and has it serve so many clients that its log is full more than once; then one proxy stands while its peers break
 # (bench/standing.py, with a minute of load on a server that comes and goes, or LOAD_SECONDS). Prints a line for each thing that was tried, and fails where one failed. It needs ab (apache2-utils) and python3.
 . "$(dirname "$0")/common.sh"
-program=${PROGRAM:-$here/dueproxy}
+program=$(proved_program)
 clients=${CLIENTS:-140000}
 failed=0
 trap 'kill $(jobs -p) 2>/dev/null || :; wait 2>/dev/null; rm -rf "$folder"' EXIT

@@ -2,7 +2,7 @@
 # Prints the greatest number of requests that two servers with the limits 4 and 2 had at once, of 20,000 requests by 100 clients, while the second server goes
 # down and comes up; with `dueproxy run`, which fails where it passed a limit, and, where it is there, with HAProxy.
 . "$(dirname "$0")/common.sh"
-program=${PROGRAM:-$here/dueproxy}
+program=$(proved_program)
 cat >"$folder/proxy.cfg" <<'CONF'
 defaults
     timeout connect 1s

@@ -2,7 +2,7 @@
 # Puts `dueproxy run` between programs that others wrote: curl, wrk, ab and Python's http.client before it, nginx and Python's server behind it. Prints a line
 # for each thing that was tried, and fails where one failed. It needs curl, wrk, ab (apache2-utils), nginx and python3.
 . "$(dirname "$0")/common.sh"
-program=${PROGRAM:-$here/dueproxy}
+program=$(proved_program)
 web=18081 python=18082 proxy=18080
 failed=0
 trap 'kill $(jobs -p) 2>/dev/null || :; wait 2>/dev/null; rm -rf "$folder"' EXIT

@@ -5,6 +5,7 @@
 . "$(dirname "$0")/common.sh"
 . "$(dirname "$0")/scripts.sh"
 input=$folder/script
+proved=$(proved_program)
 
 compare() {
     local replayed zipped
@@ -16,7 +17,6 @@ compare() {
     awk -v a="$replayed" -v b="$zipped" 'BEGIN { printf "ratio %.2f\n", a / b }'
 }
 
-"$here/dueproxy" replay </dev/null
 write_one_server >"$input"
 compare "1 server, 64 places"
 write_many_servers >"$input"

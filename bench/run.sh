@@ -4,7 +4,7 @@
 # second and processor time of 200 clients before a limit of 4 and 5 ms of service, requests a second over one slot that is handed on, and 64 MiB bodies. It needs
 # haproxy, nginx, wrk, curl and python3. OTHER names one more program that is run by the same words as dueproxy, and stands beside it too.
 . "$(dirname "$0")/common.sh"
-program=${PROGRAM:-$here/dueproxy}
+program=$(proved_program)
 seconds=${SECONDS_EACH:-2}
 web=18281 slow=18282
 trap 'kill $(jobs -p) 2>/dev/null || :; wait 2>/dev/null; rm -rf "$folder"' EXIT

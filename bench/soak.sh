@@ -2,7 +2,7 @@
 # A million requests (REQUESTS) of 200 clients through `dueproxy run` and four servers: mixed classes and due dates, two servers that fall every two seconds, and one client in fifty that leaves early.
 # Prints what both ends counted, and the proxy's memory, files and threads after a tenth and at the end; fails where the counts don't agree. It needs a C compiler.
 . "$(dirname "$0")/common.sh"
-program=${PROGRAM:-$here/dueproxy}
+program=$(proved_program)
 requests=${REQUESTS:-1000000}
 clients=${CLIENTS:-200}
 trap 'kill $(jobs -p) 2>/dev/null || :; wait 2>/dev/null; rm -rf "$folder"' EXIT

@@ -2,7 +2,7 @@
 # Prints of `dueproxy run`, and of HAProxy where it is there, how many pairs of 1,000 and of 4,000 clients that wait at one slot are served out of due-date order, and what the
 # proxy takes meanwhile. Fails where `dueproxy run` serves a pair out of order or leaves a client without an answer. It needs python3.
 . "$(dirname "$0")/common.sh"
-program=${PROGRAM:-$here/dueproxy}
+program=$(proved_program)
 ulimit -n 16384
 cat >"$folder/proxy.cfg" <<'CONF'
 defaults

@@ -1,4 +1,5 @@
 use crate::running::run;
+use crate::version::VERSION;
 use clap::{Arg, ArgAction, Command};
 use std::alloc::{AllocError, Global};
 
@@ -80,7 +81,9 @@ pub(crate) fn told<'a>(alloc: Global, name: &'a str, about: &'a str, help: &'a s
 
 fn dueproxy<'a>(alloc: Global) -> Command<'a> {
     let about = "Queues requests by class and due date";
-    told(alloc, "dueproxy", about, SCRIPT_HELP).subcommand_required(true)
+    told(alloc, "dueproxy", about, SCRIPT_HELP)
+        .version(VERSION)
+        .subcommand_required(true)
 }
 
 fn replay<'a>(alloc: Global) -> Command<'a> {

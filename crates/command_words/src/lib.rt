@@ -3,6 +3,7 @@
 
 mod commands;
 mod running;
+mod version;
 mod words;
 
 pub use running::{Numbers, RANGES};

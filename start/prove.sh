@@ -71,14 +71,14 @@ tell_progress() {
     done
 }
 
-# As old as the beginning, so that what was changed since counts as newer.
+# It is kept twice: by what it was made of, for each checkout of the same sources, and in this one, where that can be written to. There it is
+# as old as the beginning, so that what was changed since counts as newer.
 keep_proved() {
     made=$work/copy/crates/dueproxy/out/dueproxy
     touch -r "$work/begun" "$made"
-    program=$here/crates/dueproxy/out/dueproxy
-    if move_to "$program" 2>/dev/null; then return; fi
     program=$kept/proved/dueproxy
     move_to "$program" || exit 1
+    ! move_to "$here/crates/dueproxy/out/dueproxy" 2>/dev/null || program=$here/crates/dueproxy/out/dueproxy
 }
 
 move_to() {

@@ -12,7 +12,7 @@ prove_program() {
     log=$work/log
     copy_own
     total=$(wc -l <"$work/copy/crates.txt" | tr -d ' ')
-    say "proving the program and its libraries, $total crates: about an hour on 4 processors. After an interrupt it goes on with what isn't proved yet"
+    say "proving the program and its libraries, $total crates: about an hour on 4 processors. What is proved before an interrupt counts the next time, where the kit can keep it"
     run_gate || {
         tail -n 40 "$log" >&2
         say "the program was not proved, as the lines above say"
@@ -62,7 +62,7 @@ tell_progress() {
         echo "$line" >>"$log"
         case $line in
         'rt: '*': '*' proved') say "${line#rt: }" ;;
-        'rt: '*' proved' | 'rt: '*' is kept: '*)
+        'rt: '*' proved' | 'rt: '*' is kept: an earlier run '*)
             ended=$((ended + 1))
             say "$ended of $total: ${line#rt: }"
             ;;
@@ -71,14 +71,14 @@ tell_progress() {
     done
 }
 
-# As old as the beginning, so that what was changed since counts as newer.
+# It is kept twice: by what it was made of, for each checkout of the same sources, and in this one, where that can be written to. There it is
+# as old as the beginning, so that what was changed since counts as newer.
 keep_proved() {
     made=$work/copy/crates/dueproxy/out/dueproxy
     touch -r "$work/begun" "$made"
-    program=$here/crates/dueproxy/out/dueproxy
-    if move_to "$program" 2>/dev/null; then return; fi
     program=$kept/proved/dueproxy
     move_to "$program" || exit 1
+    ! move_to "$here/crates/dueproxy/out/dueproxy" 2>/dev/null || program=$here/crates/dueproxy/out/dueproxy
 }
 
 move_to() {

@@ -37,7 +37,9 @@ take_crates() {
         start=$(date +%s)
         run_quietly try_crate "$name"
         status=$?
-        [ -e "$work/ending" ] || tell_crate "$name" "$status" "$(($(date +%s) - start))" >"$work/$name.told"
+        if [ -e "$work/ending" ]; then return; fi
+        # Written at once, so that the lines of two crates don't mix.
+        tell_crate "$name" "$status" "$(($(date +%s) - start))" >"$work/$name.told"
         cat "$work/$name.told"
     done <"$work/crates"
 }

@@ -2,7 +2,7 @@
 
 # Makes that folder in another one. An interrupt ends the commands and removes it.
 begin_work() {
-    work=$(mktemp -d "$1/making.XXXXXX") && mkdir "$work/running" "$work/tmp" || exit 1
+    work=$(mktemp -d "$1/dueproxy-making.XXXXXX") && mkdir "$work/running" "$work/tmp" || exit 1
     trap 'end_work; exit 129' HUP
     trap 'end_work; exit 130' INT
     trap 'end_work; exit 143' TERM

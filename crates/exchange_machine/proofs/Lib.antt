@@ -1,0 +1,6 @@
+pub mod EventLemmas
+pub mod RepeatLemmas
+pub mod SettlingLemmas
+pub mod SideLemmas
+pub mod WayLemmas
+pub mod HeadEnds

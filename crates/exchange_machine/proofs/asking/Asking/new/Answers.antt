@@ -1,0 +1,5 @@
+use Rattle.exchange_machine.proofs.EventLemmas.{asking_new}
+use Rattle.exchange_machine.proofs.asking.Asking.new.Goals as goal
+
+pub returns : goal.returns
+returns c = asking_new _ c.in_ok-with_capacity.ensures.items

@@ -1,0 +1,78 @@
+-- The law of an exchange: after any interleaving of reads, writes, ends and times-out.
+use Rattle.std.specs.Prelude.{◌≡◌, ◌≢◌, ℕ, List, [], ◌∷◌, ◌++◌}
+use Rattle.std.specs.List.{AllByRecursion}
+use Rattle.grant_board.specs.Views.{Grant}
+use Rattle.list_facts.specs.Fronts.{IsFront}
+use Rattle.relay_http.specs.Messages.{PartOfForwarded, PartOfAnswered}
+use Rattle.relay_http.specs.Replies.{leave_text, refusal_text}
+use Rattle.relay_http.specs.Texts.{framed_for}
+use Rattle.relay_http.specs.declared.persistence.Persistence.{Persistence}
+use Rattle.relay_http.specs.declared.fault.Fault.{Fault}
+use Rattle.relay_http.specs.declared.fault.Fault.TheVariants as Faulty
+use Rattle.relay_http.specs.declared.refusing.Code.{Code}
+use Rattle.relay_http.specs.declared.refusing.Code.TheVariants.{BadRequest, Unavailable}
+use Rattle.req_view.specs.Heads.{HasNoHead}
+use Rattle.req_view.specs.Request.{Request}
+use Rattle.verdict.specs.declared.Ending.TheVariants.{Failed}
+use Rattle.exchange_machine.specs.Histories.{Post, History, passes_of}
+use Rattle.exchange_machine.specs.Reasons.{Reason, Shows}
+use Rattle.exchange_machine.specs.Repeats.{IsTry}
+use Rattle.exchange_machine.specs.Requests.{IsAskedBy, IsNoRequest}
+use Rattle.exchange_machine.specs.declared.signs.Sign.TheVariants.{ClientOver, NoMemory}
+
+-- a front of what a part became that stands at the front of the input, where Part says which input is a part and what it becomes
+pub record IsOfPart (Part : List ℕ → List ℕ → Type 0) (input sent : List ℕ) : Type 0 where
+  pub used : List ℕ
+  pub rest : List ℕ
+  pub text : List ℕ
+  pub input_is : input ≡ used ++ rest
+  pub part : Part used text
+  pub front : IsFront sent text
+
+-- the server was sent a front of the forwarded text of what the client sent
+pub data ToServer (h : History) : Type 0 where
+  nothing : h.to_server ≡ [] → ToServer h
+  of_request : (asks : Persistence) (r : Request) (behind : List ℕ) → IsAskedBy h.client_in r behind → IsOfPart (PartOfForwarded asks r) behind h.to_server
+      → ToServer h
+
+-- What the client is told: nothing yet; or that what it sent begins with no request, or that its time for one is over, or that memory is wanting; or one
+-- refusal, which has its reason, before a server was reached; or leave to go on, and then the answered text of what the server sent, or one such refusal,
+-- and never both.
+pub data ClientText (h : History) : List ℕ → Type 0 where
+  silent : ClientText h []
+  refused_unread : (fault : Fault) → fault ≢ Faulty.NoMemory → IsNoRequest fault h.client_in → ClientText h (refusal_text BadRequest)
+  late : Shows h.signs ClientOver → HasNoHead h.client_in → h.grants ≡ [] → ClientText h (refusal_text BadRequest)
+  starved : Shows h.signs NoMemory → h.grants ≡ [] → ClientText h (refusal_text Unavailable)
+  unserved : (r : Request) (behind : List ℕ) (code : Code) → IsAskedBy h.client_in r behind → Reason h.signs r behind h.server_in code
+      → ClientText h (refusal_text code)
+  refused : (r : Request) (behind : List ℕ) (code : Code) → IsAskedBy h.client_in r behind → Reason h.signs r behind h.server_in code
+      → ClientText h (leave_text r ++ refusal_text code)
+  answered : (says : Persistence) (r : Request) (behind text : List ℕ) → IsAskedBy h.client_in r behind
+      → IsOfPart (PartOfAnswered says r.method (framed_for r.version)) h.server_in text → ClientText h (leave_text r ++ text)
+
+-- the client was sent a front of it
+pub record ToClient (h : History) : Type 0 where
+  pub text : List ℕ
+  pub is : ClientText h text
+  pub front : IsFront h.to_client text
+
+-- a pass is posted as failed only where no byte reached its server
+abbrev pub IsFair : Post → Type 0
+IsFair p = p.ending ≡ Failed → p.reached ≡ []
+
+-- each pass is posted once, in the order in which they were handed in, but for the one that is held
+pub data ArePosted (h : History) : Type 0 where
+  all_posted : h.grants ≡ passes_of h.posts → ArePosted h
+  one_held : (pass : Grant) → h.grants ≡ passes_of h.posts ++ pass ∷ [] → ArePosted h
+
+-- what broken connections were sent is fronts of the client's request, which may be sent once more
+pub data AreTries (h : History) : Type 0 where
+  none : h.tries ≡ [] → AreTries h
+  of_request : (r : Request) (behind : List ℕ) → IsAskedBy h.client_in r behind → AllByRecursion (IsTry r) h.tries → AreTries h
+
+pub record Sound (h : History) : Type 0 where
+  pub server : ToServer h
+  pub client : ToClient h
+  pub once : ArePosted h
+  pub fair : AllByRecursion IsFair h.posts
+  pub tried : AreTries h

@@ -1,0 +1,12 @@
+pub mod Headline
+pub mod Histories
+pub mod Reasons
+pub mod Repeatables
+pub mod Repeats
+pub mod Requests
+pub mod Roles
+pub mod Settlings
+pub mod Sides
+pub mod Stages
+pub mod Ways
+pub mod Wholes

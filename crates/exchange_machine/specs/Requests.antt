@@ -1,0 +1,41 @@
+-- What a client sent: a request, or what is none that the proxy takes.
+use Rattle.std.specs.Prelude.{◌≡◌, ◌⊎◌, ℕ, List, ◌++◌, Some}
+use Rattle.httparse.specs.Grammar.{RequestHead, print_request}
+use Rattle.relay_body.specs.Framings.{LacksBody}
+use Rattle.relay_body.specs.declared.framing.Framing as Framed
+use Rattle.relay_http.specs.Framings.{request_framing}
+use Rattle.relay_http.specs.Heads.{IsRequest, FramedBadly}
+use Rattle.relay_http.specs.declared.fault.Fault.{Fault}
+use Rattle.relay_http.specs.declared.fault.Fault.TheVariants.{NoMemory, Head, Framing, Read, Write, Turns, Closed}
+use Rattle.req_view.specs.Heads.{NeverHasHead}
+use Rattle.req_view.specs.Request.{Request, request_of}
+
+-- the request that the client sent, and what it sent behind its head
+pub record IsAskedBy (input : List ℕ) (r : Request) (behind : List ℕ) : Type 0 where
+  pub head : RequestHead
+  pub is : IsRequest head
+  pub request_is : r ≡ request_of head
+  pub input_is : input ≡ print_request head ++ behind
+
+-- what came behind the head of a request begins with no body as it frames it, whatever follows
+pub record BreaksBody (r : Request) (behind : List ℕ) : Type 0 where
+  pub framing : Framed.Framing
+  pub framed : request_framing r ≡ Some framing
+  pub breaks : (more : List ℕ) → LacksBody framing (behind ++ more)
+
+-- a request came whose body is none
+pub record IsBroken (input : List ℕ) : Type 0 where
+  pub request : Request
+  pub behind : List ℕ
+  pub asked : IsAskedBy input request behind
+  pub breaks : BreaksBody request behind
+
+-- what is wrong with an input that is refused before a pass is asked for; with half a head nothing is
+abbrev pub IsNoRequest : Fault → List ℕ → Type 0
+IsNoRequest Head input = NeverHasHead input
+IsNoRequest Framing input = FramedBadly input ⊎ IsBroken input
+IsNoRequest NoMemory input = Unit {0}
+IsNoRequest Read input = ⊥
+IsNoRequest Write input = ⊥
+IsNoRequest Turns input = ⊥
+IsNoRequest Closed input = ⊥

@@ -1,0 +1,130 @@
+-- What an exchange at each stage is, after a history.
+use Rattle.std.specs.Prelude.{◌≡◌, ℕ, false, true, List, [], ◌∷◌, ◌++◌, length, Some}
+use Rattle.std.specs.List.{AllByRecursion}
+use Rattle.relay_http.specs.Framings.{request_framing}
+use Rattle.relay_http.specs.Replies.{leave_text}
+use Rattle.relay_http.specs.Texts.{framed_for}
+use Rattle.relay_http.specs.declared.fault.Fault.{Fault}
+use Rattle.req_view.specs.Heads.{HasNoHead}
+use Rattle.exchange_machine.specs.Headline.{AreTries, IsFair, ClientText, ToClient, ToServer}
+use Rattle.exchange_machine.specs.Histories.{History, passes_of, reached_by}
+use Rattle.exchange_machine.specs.Reasons.{HasEnded}
+use Rattle.exchange_machine.specs.Repeats.{IsTry}
+use Rattle.exchange_machine.specs.Requests.{IsAskedBy, IsNoRequest}
+use Rattle.exchange_machine.specs.Sides.{IsUp, IsDown}
+use Rattle.exchange_machine.specs.declared.waiting.Asked.{Asked}
+use Rattle.exchange_machine.specs.declared.asking.Asking.{Asking}
+use Rattle.exchange_machine.specs.declared.waiting.Waiting.{Waiting}
+use Rattle.exchange_machine.specs.declared.dialing.Dialing.{Dialing}
+use Rattle.exchange_machine.specs.declared.passing.Passing.{Passing}
+use Rattle.exchange_machine.specs.declared.leaving.Leaving.{Leaving}
+use Rattle.exchange_machine.specs.declared.telling.Telling.{Telling}
+use Rattle.exchange_machine.specs.declared.asking.Turn.{Turn}
+use Rattle.exchange_machine.specs.declared.asking.Turn.TheVariants as Turns
+
+-- no server was sent anything, and none sent anything
+pub record IsUnsent (h : History) : Type 0 where
+  pub server : h.to_server ≡ []
+  pub answer : h.server_in ≡ []
+
+-- nothing happened but that bytes of the client came
+pub record IsFresh (h : History) : Type 0 where
+  pub unsent : IsUnsent h
+  pub silent : h.to_client ≡ []
+  pub grants : h.grants ≡ []
+  pub posts : h.posts ≡ []
+  pub untried : h.tries ≡ []
+
+-- the head isn't whole yet
+pub record IsAsking (a : Asking) (h : History) : Type 0 where
+  pub fresh : IsFresh h
+  pub held : h.client_in ≡ a.held.items
+  pub none : HasNoHead h.client_in
+
+-- the head was read, and these bytes behind it
+pub record IsAsked (a : Asked) (h : History) : Type 0 where
+  pub asked : IsAskedBy h.client_in a.view a.held.items
+  pub framed : request_framing a.view ≡ Some a.framing
+
+-- nothing goes out before a pass is there
+pub record IsWaiting (w : Waiting) (h : History) : Type 0 where
+  pub unsent : IsUnsent h
+  pub asked : IsAsked w.asked h
+  pub silent : h.to_client ≡ []
+  pub grants : h.grants ≡ passes_of h.posts
+  pub fair : AllByRecursion IsFair h.posts
+  pub tries : AllByRecursion (IsTry w.asked.view) h.tries
+
+pub record IsDialing (d : Dialing) (h : History) : Type 0 where
+  pub unsent : IsUnsent h
+  pub asked : IsAsked d.waiting.asked h
+  pub silent : h.to_client ≡ []
+  pub grants : h.grants ≡ passes_of h.posts ++ d.pass ∷ []
+  pub fair : AllByRecursion IsFair h.posts
+  pub tries : AllByRecursion (IsTry d.waiting.asked.view) h.tries
+  pub unreached : d.reached ≡ false → reached_by h ≡ []
+
+-- of the leave so many bytes are still at the front of what waits, and nothing behind it went out
+pub record HasLeave (count : ℕ) (leave went out : List ℕ) : Type 0 where
+  pub left : List ℕ
+  pub behind : List ℕ
+  pub count_is : count ≡ length left
+  pub leave_is : leave ≡ went ++ left
+  pub out_is : out ≡ left ++ behind
+
+-- both sides run
+pub record IsPassing (p : Passing) (h : History) : Type 0 where
+  pub behind : List ℕ
+  pub asked : IsAskedBy h.client_in p.view behind
+  pub request : List ℕ
+  pub up : IsUp p.asks p.view p.up.coding p.up_held.items behind request
+  pub sent : request ≡ h.to_server ++ p.up.out
+  pub answer : List ℕ
+  pub down : IsDown p.says p.kept p.view.method (framed_for p.view.version) p.phase p.down.coding p.down_held.items h.server_in answer
+  pub told : leave_text p.view ++ answer ≡ h.to_client ++ p.down.out
+  pub unreached : p.reached ≡ false → reached_by h ≡ []
+  pub grants : h.grants ≡ passes_of h.posts ++ p.pass ∷ []
+  pub fair : AllByRecursion IsFair h.posts
+  pub tries : AllByRecursion (IsTry p.view) h.tries
+  pub framed : request_framing p.view ≡ Some p.framing
+  pub ended : p.ended ≡ true → HasEnded h.signs
+  pub leave : p.begun ≡ false → HasLeave p.leave_left (leave_text p.view) h.to_client p.down.out
+
+-- its pass was posted, and what the client is still told waits
+pub record IsLeaving (l : Leaving) (h : History) : Type 0 where
+  pub server : ToServer h
+  pub text : List ℕ
+  pub client : ClientText h text
+  pub told : text ≡ h.to_client ++ l.out.out
+  pub grants : h.grants ≡ passes_of h.posts
+  pub fair : AllByRecursion IsFair h.posts
+  pub tried : AreTries h
+
+-- what came is refused before a pass is asked for, for this reason
+pub record IsUnread (why : Fault) (h : History) : Type 0 where
+  pub reason : IsNoRequest why h.client_in
+  pub fresh : IsFresh h
+
+-- what became of a head that was read further
+abbrev pub IsTurn : Turn → History → Type 0
+IsTurn (Turns.More a) h = IsAsking a h
+IsTurn (Turns.Whole w) h = IsWaiting w h
+IsTurn (Turns.Refused held why) h = IsUnread why h
+
+-- a refusal goes out of which no outbox holds a byte
+pub record IsTelling (t : Telling) (h : History) : Type 0 where
+  pub server : ToServer h
+  pub text : List ℕ
+  pub client : ClientText h text
+  pub told : text ≡ h.to_client ++ t.rest.now
+  pub grants : h.grants ≡ passes_of h.posts
+  pub fair : AllByRecursion IsFair h.posts
+  pub tried : AreTries h
+
+-- nothing more is done
+pub record IsOver (h : History) : Type 0 where
+  pub server : ToServer h
+  pub client : ToClient h
+  pub grants : h.grants ≡ passes_of h.posts
+  pub fair : AllByRecursion IsFair h.posts
+  pub tried : AreTries h

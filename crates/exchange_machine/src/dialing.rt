@@ -1,0 +1,122 @@
+ghost use Rattle.std.specs.Prelude.{◌≡◌, [], IfOk, IfErr};
+ghost use Rattle.exchange_machine.specs.Histories.{History, posted};
+ghost use Rattle.exchange_machine.specs.Stages as stages;
+
+use crate::ending::ending_of;
+use crate::passing::Passing;
+use crate::sides::Down;
+use crate::texts::{put_leave, put_request};
+use crate::waiting::{Asked, Waiting};
+use crate::way::Way;
+use grant_board::Pass;
+use relay_http::Persistence;
+use std::alloc::Global;
+use verdict::Ending;
+
+/// Its pass is there, and a server is being connected to.
+pub struct Dialing {
+    pub(crate) waiting: Waiting,
+    pub(crate) pass: Pass,
+    /// A byte of the request reached the server, on a connection that broke.
+    pub(crate) reached: bool,
+}
+
+/// How a server's connection is used.
+#[derive(Clone, Copy, Debug, PartialEq, Eq)]
+pub struct Terms {
+    /// What the server is told of its connection.
+    pub asks: Persistence,
+    /// Whether the proxy would serve its client further.
+    pub willing: bool,
+    /// Whether the connection was opened for this request.
+    pub fresh: bool,
+}
+
+impl Dialing {
+    /// Its client has gone: the pass goes back as done, since the server isn't to blame.
+    pub fn abandon(self) -> (Pass, Ending)
+        ensures { (h : History) → stages.IsDialing self h → stages.IsOver (posted h result.0 result.1) }
+    {
+        let Dialing {
+            waiting: _,
+            pass,
+            reached: _,
+        } = self;
+        (pass, Ending::Done)
+    }
+
+    /// The server can't be reached: the pass goes back, as failed where no byte reached it before, and another may be waited for.
+    pub fn failed(self) -> (Waiting, Pass, Ending)
+        ensures { (h : History) → stages.IsDialing self h → stages.IsWaiting result.0 (posted h result.1 result.2) }
+    {
+        let Dialing {
+            waiting,
+            pass,
+            reached,
+        } = self;
+        (waiting, pass, ending_of(reached))
+    }
+
+    /// The server was reached: its head goes out, and both sides run from here on. Where there is no memory or no room for the head, nothing changes.
+    pub fn connected(
+        self,
+        alloc: Global,
+        mut up: Way,
+        mut down: Way,
+        terms: Terms,
+    ) -> Result<Passing, Dialing>
+        requires up { up.out ≡ [] }
+        requires down { down.out ≡ [] }
+        ensures passes { IfOk result (λ passing. (h : History) → stages.IsDialing self h → stages.IsPassing passing h) }
+        ensures said { IfOk result (λ passing. (passing.asks ≡ terms.asks) × (passing.willing ≡ terms.willing) × (passing.fresh ≡ terms.fresh)) }
+        ensures same { IfErr result (λ dialing. dialing ≡ self) }
+    {
+        let fits = put_request(
+            &mut up,
+            alloc,
+            &self.waiting.asked.view,
+            self.waiting.asked.framing,
+            terms.asks,
+        );
+        if !fits {
+            return Err(self);
+        }
+        if !put_leave(&mut down, &self.waiting.asked.view) {
+            return Err(self);
+        }
+        up.begin(self.waiting.asked.framing, true);
+        let leave_left = down.waiting().len();
+        let Dialing {
+            waiting,
+            pass,
+            reached,
+        } = self;
+        let Waiting { asked } = waiting;
+        let Asked {
+            view,
+            framing,
+            held,
+        } = asked;
+        Ok(Passing {
+            view,
+            pass,
+            up,
+            up_held: held,
+            cut: false,
+            phase: Down::Heads(0),
+            down,
+            down_held: Vec::new(alloc),
+            reached,
+            framing,
+            fresh: terms.fresh,
+            asks: terms.asks,
+            willing: terms.willing,
+            says: Persistence::Close,
+            kept: false,
+            ended: false,
+            looks: false,
+            begun: false,
+            leave_left,
+        })
+    }
+}

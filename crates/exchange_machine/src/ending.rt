@@ -1,0 +1,282 @@
+//! How an exchange ends at which both sides ran: its pass goes out, and what is left.
+
+ghost use Rattle.std.specs.Prelude.{◌≡◌, ◌≢◌, [], true, false, IsTrue};
+ghost use Rattle.body_coder.specs.Stops.{is_bad, is_done};
+ghost use Rattle.exchange_machine.specs.Histories.{History, posted, retried};
+ghost use Rattle.exchange_machine.specs.Reasons.{Reason};
+ghost use Rattle.exchange_machine.specs.Repeatables as repeats;
+ghost use Rattle.exchange_machine.specs.Settlings as settling;
+ghost use Rattle.exchange_machine.specs.Stages as stages;
+
+use crate::dialing::Dialing;
+use crate::leaving::Leaving;
+use crate::passing::Passing;
+use crate::repeating::{is_bare, is_idempotent};
+use crate::settling::Settling;
+use crate::sides::Down;
+use crate::telling::refusal;
+use crate::texts::put_text;
+use crate::waiting::{Asked, Waiting};
+use grant_board::Pass;
+use relay_http::{Code, Persistence};
+use verdict::Ending;
+
+/// What is left of an exchange whose pass is to be posted.
+#[derive(Drop)]
+pub enum Rest {
+    /// Its client may ask again.
+    Settling(Settling),
+    /// Its client is left once all is told.
+    Leaving(Leaving),
+}
+
+/// A pass to be posted, and what is left.
+pub struct Settled {
+    pub pass: Pass,
+    pub ending: Ending,
+    pub rest: Rest,
+}
+
+/// A pass to be posted, and what is left.
+pub struct Ended {
+    pub pass: Pass,
+    pub ending: Ending,
+    pub rest: Leaving,
+}
+
+impl Passing {
+    /// The client is told this in place of an answer of which it took no byte, for this reason, behind what it took of the leave.
+    pub fn refuse(self, code: Code) -> Ended
+        requires { self.begun ≡ false }
+        ensures { (h : History) → (is : stages.IsPassing self h) → Reason h.signs self.view is.behind h.server_in code
+            → stages.IsLeaving result.rest (posted h result.pass result.ending) }
+    {
+        let leave_left = self.leave_left;
+        let Ended { pass, ending, rest } = self.end();
+        let Leaving { mut out } = rest;
+        out.keep_front(leave_left);
+        let _ = put_text(&mut out, refusal(code));
+        Ended {
+            pass,
+            ending,
+            rest: Leaving { out },
+        }
+    }
+
+    /// The server's input came to its end before the answer's: 502.
+    pub fn refuse_unanswered(self) -> Ended
+        requires none { self.begun ≡ false }
+        requires ended { self.ended ≡ true }
+        ensures { (h : History) → stages.IsPassing self h → stages.IsLeaving result.rest (posted h result.pass result.ending) }
+    {
+        self.refuse(Code::BadGateway)
+    }
+
+    /// What came behind the answer's head is none of its bodies: 502.
+    pub fn refuse_broken(self) -> Ended
+        requires none { self.begun ≡ false }
+        requires body { self.phase ≡ Down.Body }
+        requires bad { is_bad self.down.coding ≡ true }
+        ensures { (h : History) → stages.IsPassing self h → stages.IsLeaving result.rest (posted h result.pass result.ending) }
+    {
+        self.refuse(Code::BadGateway)
+    }
+
+    /// What came behind the request's head is none of its bodies: 400.
+    pub fn refuse_request(self) -> Ended
+        requires none { self.begun ≡ false }
+        requires bad { is_bad self.up.coding ≡ true }
+        ensures { (h : History) → stages.IsPassing self h → stages.IsLeaving result.rest (posted h result.pass result.ending) }
+    {
+        self.refuse(Code::BadRequest)
+    }
+
+    /// Its client has gone: nothing more is written, and the pass goes back as done, since the server isn't to blame.
+    pub fn abandon(self) -> (Pass, Ending)
+        ensures { (h : History) → stages.IsPassing self h → stages.IsOver (posted h result.0 result.1) }
+    {
+        let Ended {
+            pass,
+            ending: _,
+            rest: _,
+        } = self.end();
+        (pass, Ending::Done)
+    }
+
+    /// May the request be sent once more, on another connection? No byte of an answer came and it has no body; and no byte of it reached a server, or the
+    /// connection at hand was used before and the request is one that may be served twice.
+    pub fn can_repeat(&self) -> bool
+        ensures may { IsTrue result → repeats.IsRepeatable self.now }
+        ensures each { repeats.IsRepeatable self.now → self.now.fresh ≡ false → IsTrue result }
+    {
+        (!self.reached || !self.fresh && is_idempotent(self.view.method()))
+            && self.phase == Down::Heads(0)
+            && self.down_held.is_empty()
+            && is_bare(self.framing)
+    }
+
+    /// The server's connection broke: the same request goes out on another, on the same pass.
+    pub fn again(self) -> Dialing
+        requires { repeats.IsRepeatable self }
+        ensures { (h : History) → stages.IsPassing self h → (h.server_in ≡ []) × stages.IsDialing result (retried h) }
+    {
+        let Passing {
+            view,
+            pass,
+            up: _,
+            up_held,
+            cut: _,
+            phase: _,
+            down: _,
+            down_held: _,
+            reached,
+            framing,
+            fresh: _,
+            asks: _,
+            willing: _,
+            says: _,
+            kept: _,
+            ended: _,
+            looks: _,
+            begun: _,
+            leave_left: _,
+        } = self;
+        Dialing {
+            waiting: Waiting {
+                asked: Asked {
+                    view,
+                    framing,
+                    held: up_held,
+                },
+            },
+            pass,
+            reached,
+        }
+    }
+
+    /// Were both messages read to their ends, and was the client told that it may ask again?
+    pub fn is_whole(&self) -> bool
+        ensures whole { IsTrue result → (self.now.phase ≡ Down.Body) × (is_done self.now.up.coding ≡ true) × (is_done self.now.down.coding ≡ true)
+            × (self.now.says ≢ Persistence.Close) }
+        ensures each { self.now.phase ≡ Down.Body → is_done self.now.up.coding ≡ true → is_done self.now.down.coding ≡ true
+            → self.now.says ≢ Persistence.Close → IsTrue result }
+    {
+        if self.says == Persistence::Close {
+            return false;
+        }
+        match self.phase {
+            Down::Heads(_) => false,
+            Down::Body => self.up.is_whole() && self.down.is_whole(),
+        }
+    }
+
+    /// Was all of the request sent, and did nothing come behind the answer?
+    pub fn is_clean(&self) -> bool
+        ensures clean { IsTrue result
+            → (self.now.up.out ≡ []) × (self.now.down_held.items ≡ []) × (self.now.asks ≡ Persistence.Persist) × (self.now.kept ≡ true) }
+        ensures each { self.now.up.out ≡ [] → self.now.down_held.items ≡ [] → self.now.asks ≡ Persistence.Persist → self.now.kept ≡ true → IsTrue result }
+    {
+        self.asks == Persistence::Persist
+            && self.kept
+            && self.up.waiting().is_empty()
+            && self.down_held.is_empty()
+    }
+
+    /// It is over: its pass is to be posted. Where both messages were whole the client may ask again.
+    pub fn settle(self) -> Settled
+        ensures { (h : History) → stages.IsPassing self h → settling.IsRest result.rest (posted h result.pass result.ending) }
+    {
+        if self.is_whole() {
+            return self.settle_whole();
+        }
+        let Ended { pass, ending, rest } = self.end();
+        Settled {
+            pass,
+            ending,
+            rest: Rest::Leaving(rest),
+        }
+    }
+
+    fn settle_whole(self) -> Settled
+        requires { (self.phase ≡ Down.Body) × (is_done self.up.coding ≡ true) × (is_done self.down.coding ≡ true) × (self.says ≢ Persistence.Close) }
+        ensures { (h : History) → stages.IsPassing self h → settling.IsRest result.rest (posted h result.pass result.ending) }
+    {
+        let clean = self.is_clean();
+        let Passing {
+            view: _,
+            pass,
+            up: _,
+            up_held,
+            cut: _,
+            phase: _,
+            down,
+            down_held: _,
+            reached,
+            framing: _,
+            fresh: _,
+            asks: _,
+            willing: _,
+            says: _,
+            kept: _,
+            ended: _,
+            looks: _,
+            begun: _,
+            leave_left: _,
+        } = self;
+        let ending = ending_of(reached);
+        Settled {
+            pass,
+            ending,
+            rest: Rest::Settling(Settling {
+                out: down,
+                behind: up_held,
+                clean,
+            }),
+        }
+    }
+
+    /// It is over, however far it is: its pass is to be posted, as failed only where no byte reached the server.
+    pub fn end(self) -> Ended
+        ensures ends { (h : History) → stages.IsPassing self h → stages.IsLeaving result.rest (posted h result.pass result.ending) }
+        ensures pass { result.pass ≡ self.pass }
+        ensures rest { result.rest.out ≡ self.down }
+    {
+        let Passing {
+            view: _,
+            pass,
+            up: _,
+            up_held: _,
+            cut: _,
+            phase: _,
+            down,
+            down_held: _,
+            reached,
+            framing: _,
+            fresh: _,
+            asks: _,
+            willing: _,
+            says: _,
+            kept: _,
+            ended: _,
+            looks: _,
+            begun: _,
+            leave_left: _,
+        } = self;
+        let ending = ending_of(reached);
+        Ended {
+            pass,
+            ending,
+            rest: Leaving { out: down },
+        }
+    }
+}
+
+pub(crate) fn ending_of(reached: bool) -> Ending
+    ensures { result ≡ Ending.Failed → reached ≡ false }
+{
+    if reached {
+        Ending::Done
+    } else {
+        Ending::Failed
+    }
+}

@@ -1,0 +1,30 @@
+ghost use Rattle.std.specs.Prelude.{◌≡◌, ◌==◌, drop};
+ghost use Rattle.std.specs.List.{list_any};
+
+/// The most bytes of a head.
+pub(crate) const HEAD_BYTES: usize = 16_384;
+
+/// Does a line end in it?
+pub(crate) fn has_feed(bytes: &[u8]) -> bool
+    ensures { result ≡ list_any (λ byte. byte == 10) bytes.now }
+{
+    bytes.iter().any(|&byte| byte == b'\n')
+}
+
+// Forgets the first bytes. `O(n)`.
+pub(crate) fn forget(held: &mut Vec<u8>, count: usize)
+    ensures { held.new.items ≡ drop count held.old.items }
+{
+    let len = held.len();
+    if count >= len {
+        held.clear();
+        return;
+    }
+    held.copy_within(count..len, 0);
+    held.truncate(len - count);
+}
+
+/// Is a head to be looked for in what is held, now that this came?
+pub(crate) fn looks_again(looks: bool, came: &[u8], held: usize) -> bool {
+    looks || has_feed(came) || held >= HEAD_BYTES
+}

@@ -1,0 +1,66 @@
+ghost use Rattle.std.specs.Prelude.{◌≡◌, ◌++◌, ℕ, List, [], Bool, true};
+ghost use Rattle.list_facts.specs.Fronts.{IsFront};
+ghost use Rattle.relay_body.specs.Framings.{IsBody};
+ghost use Rattle.relay_body.specs.declared.framing.Framing as framings;
+ghost use Rattle.body_coder.specs.Readings.{start_of};
+ghost use Rattle.body_coder.specs.Runs.{IsSent};
+ghost use Rattle.body_coder.specs.Stops.{is_done};
+ghost use Rattle.body_coder.specs.declared.coding.Coding as codings;
+ghost use Rattle.relay_http.specs.Messages.{PartOfForwarded, PartOfAnswered, IsForwarded, IsAnswered};
+ghost use Rattle.relay_http.specs.declared.persistence.Persistence as words;
+ghost use Rattle.relay_http.specs.declared.fault.Fault as faults;
+ghost use Rattle.req_view.specs.Request.{Request};
+ghost use Rattle.exchange_machine.specs.Sides.{IsUp, IsDown};
+ghost use Rattle.exchange_machine.specs.Ways.{Hears};
+ghost use Rattle.exchange_machine.specs.declared.sides.Down as downs;
+ghost use Rattle.body_coder.specs.Runs.{IsLongest};
+ghost use Rattle.exchange_machine.specs.Headline.{Sound};
+ghost use Rattle.exchange_machine.specs.Histories.{History};
+ghost use Rattle.exchange_machine.specs.Settlings.{IsSettling};
+ghost use Rattle.exchange_machine.specs.Stages.{IsUnread, IsAsking, IsWaiting, IsDialing, IsPassing, IsLeaving, IsTelling, IsOver};
+ghost use Rattle.exchange_machine.specs.declared.asking.Asking as asking;
+ghost use Rattle.exchange_machine.specs.declared.waiting.Waiting as waiting;
+ghost use Rattle.exchange_machine.specs.declared.dialing.Dialing as dialing;
+ghost use Rattle.exchange_machine.specs.declared.passing.Passing as passing;
+ghost use Rattle.exchange_machine.specs.declared.leaving.Leaving as leaving;
+ghost use Rattle.exchange_machine.specs.declared.settling.Settling as settling;
+ghost use Rattle.exchange_machine.specs.declared.telling.Telling as telling;
+
+use crate::sides::Down;
+
+/// What went out of a way is a front of the head's text and the text of the body that came, whatever more comes of it; and where the body
+/// is whole and nothing waits, it is all of it.
+pub fn what_a_way_sends()
+    ensures front { (framing : framings.Framing) (framed : Bool) (c : codings.Coding) (text waiting came went more sent : List ℕ)
+        → Hears (start_of framing framed) c text waiting came went → IsSent framing framed (came ++ more) sent → IsFront went (text ++ sent) }
+    ensures all { (framing : framings.Framing) (framed : Bool) (c : codings.Coding) (text came went : List ℕ)
+        → Hears (start_of framing framed) c text [] came went → is_done c ≡ true → (body : List ℕ) × IsBody framing framed came body × (went ≡ text ++ body) }
+{}
+
+/// What a side gave is a front of what the message becomes of which these bytes came, by the definitions of whole messages.
+pub fn what_sides_send()
+    ensures up { (asks : words.Persistence) (r : Request) (c : codings.Coding) (held came given more text : List ℕ) → IsUp asks r c held came given
+        → IsLongest (PartOfForwarded asks r) (came ++ more) text → IsFront given text }
+    ensures whole_up { (asks : words.Persistence) (r : Request) (c : codings.Coding) (held came given : List ℕ) → IsUp asks r c held came given
+        → is_done c ≡ true
+        → (used : List ℕ) × (came ≡ used ++ held) × IsForwarded asks r used given }
+    ensures down { (says : words.Persistence) (kept : Bool) (method : List ℕ) (framed : Bool) (phase : downs.Down) (c : codings.Coding)
+        (held came given more text : List ℕ)
+        → IsDown says kept method framed phase c held came given → IsLongest (PartOfAnswered says method framed) (came ++ more) text → IsFront given text }
+    ensures whole_down { (says : words.Persistence) (kept : Bool) (method : List ℕ) (framed : Bool) (c : codings.Coding) (held came given : List ℕ)
+        → IsDown says kept method framed Down.Body c held came given
+        → is_done c ≡ true → (used : List ℕ) × (came ≡ used ++ held) × IsAnswered says method framed used given }
+{}
+
+/// The headline, at each stage: with the calls' clauses, after any interleaving of them.
+pub fn what_holds()
+    ensures asking { (a : asking.Asking) (h : History) → IsAsking a h → Sound h }
+    ensures waiting { (w : waiting.Waiting) (h : History) → IsWaiting w h → Sound h }
+    ensures dialing { (d : dialing.Dialing) (h : History) → IsDialing d h → Sound h }
+    ensures passing { (p : passing.Passing) (h : History) → IsPassing p h → Sound h }
+    ensures settling { (s : settling.Settling) (h : History) → IsSettling s h → Sound h }
+    ensures unread { (fault : faults.Fault) (h : History) → IsUnread fault h → Sound h }
+    ensures leaving { (l : leaving.Leaving) (h : History) → IsLeaving l h → Sound h }
+    ensures telling { (t : telling.Telling) (h : History) → IsTelling t h → Sound h }
+    ensures over { (h : History) → IsOver h → Sound h }
+{}

@@ -1,0 +1,28 @@
+ghost use Rattle.std.specs.Prelude.{◌≡◌, ◌≤◌, length, take};
+ghost use Rattle.exchange_machine.specs.Histories.{History, client_got};
+ghost use Rattle.exchange_machine.specs.Stages as stages;
+
+use crate::way::Way;
+
+/// What is still to be sent to the client before it is left.
+#[derive(Drop)]
+pub struct Leaving {
+    pub(crate) out: Way,
+}
+
+impl Leaving {
+    /// What the client is still to be sent.
+    pub fn to_client(&self) -> &[u8]
+        ensures { result.now ≡ self.now.out.out }
+    {
+        self.out.waiting()
+    }
+
+    /// It took so many bytes of it.
+    pub fn client_took(&mut self, count: usize)
+        requires { count ≤ length self.old.out.out }
+        ensures { (h : History) → stages.IsLeaving self.old h → stages.IsLeaving self.new (client_got h (take count self.old.out.out)) }
+    {
+        self.out.went(count);
+    }
+}

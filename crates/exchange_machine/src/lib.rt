@@ -1,0 +1,34 @@
+//! One request and its answer as a value. It holds no socket: what came goes in, what is to be sent comes out, both ways at once.
+#![tactic(auto)]
+
+mod asking;
+mod dialing;
+mod ending;
+mod heading;
+mod held;
+mod laws;
+mod leaving;
+mod passing;
+mod repeating;
+mod roles;
+mod settling;
+mod sides;
+mod signs;
+mod telling;
+mod texts;
+mod waiting;
+mod way;
+
+pub use asking::{Asking, Turn};
+pub use dialing::{Dialing, Terms};
+pub use ending::{Ended, Rest, Settled};
+pub use heading::Headed;
+pub use laws::{what_a_way_sends, what_holds, what_sides_send};
+pub use leaving::Leaving;
+pub use passing::Passing;
+pub use settling::Settling;
+pub use sides::Down;
+pub use signs::Sign;
+pub use telling::Telling;
+pub use waiting::{Asked, Waiting};
+pub use way::Way;

@@ -1,0 +1,246 @@
+ghost use Rattle.std.specs.Prelude.{◌≡◌, ◌-◌, ◌≤◌, ◌++◌, [], length, take, drop, IfOk, OnErr, false, true, IsTrue};
+ghost use Rattle.body_coder.specs.Stops.{is_bad, is_done};
+ghost use Rattle.exchange_machine.specs.Histories.{History, client_came, server_came, server_got, client_got};
+ghost use Rattle.exchange_machine.specs.Reasons.{HasEnded};
+ghost use Rattle.exchange_machine.specs.Stages as stages;
+
+use crate::held::{HEAD_BYTES, forget, looks_again};
+use crate::sides::Down;
+use crate::way::Way;
+use grant_board::Pass;
+use relay_body::Framing;
+use relay_http::Persistence;
+use req_view::View;
+use std::alloc::AllocError;
+
+/// Both sides run at once: the request to the server and the answer to the client.
+pub struct Passing {
+    pub(crate) view: View,
+    pub(crate) pass: Pass,
+    pub(crate) up: Way,
+    pub(crate) up_held: Vec<u8>,
+    /// The server takes no more of the request, which goes on unread.
+    pub(crate) cut: bool,
+    pub(crate) phase: Down,
+    pub(crate) down: Way,
+    pub(crate) down_held: Vec<u8>,
+    pub(crate) reached: bool,
+    pub(crate) framing: Framing,
+    /// Whether the server's connection was opened for this request.
+    pub(crate) fresh: bool,
+    /// What the server is told of its connection.
+    pub(crate) asks: Persistence,
+    /// Whether the proxy would serve its client further.
+    pub(crate) willing: bool,
+    /// What the client is told of its own.
+    pub(crate) says: Persistence,
+    /// Whether the server keeps its connection.
+    pub(crate) kept: bool,
+    /// Whether the server's input was read to its end.
+    pub(crate) ended: bool,
+    /// Whether a line ended in what is held since a head was looked for in it.
+    pub(crate) looks: bool,
+    /// Whether the client took a byte behind the leave.
+    pub(crate) begun: bool,
+    /// How many bytes of the leave the client is still to take.
+    pub(crate) leave_left: usize,
+}
+
+impl Passing {
+    /// What came of the client: how much was taken. No more is taken than there is room for.
+    pub fn client_bytes(&mut self, input: &[u8]) -> usize
+        ensures within { result ≤ length input.now }
+        ensures passes { (h : History) → stages.IsPassing self.old h → self.old.up_held.items ≡ []
+            → stages.IsPassing self.new (client_came h (take result input.now)) }
+    {
+        if self.cut {
+            return 0;
+        }
+        let fed = self.up.take(input);
+        fed.used
+    }
+
+    /// Is anything held that came behind the request's head?
+    pub fn holds_none(&self) -> bool
+        ensures { IsTrue result → self.now.up_held.items ≡ [] }
+    {
+        self.up_held.is_empty()
+    }
+
+    /// What came behind the request's head goes first.
+    pub fn use_held(&mut self)
+        ensures { (h : History) → stages.IsPassing self.old h → stages.IsPassing self.new h }
+    {
+        let fed = self.up.take(self.up_held.as_slice());
+        forget(&mut self.up_held, fed.used);
+    }
+
+    /// What came behind the answer's head goes first.
+    pub fn use_answer_held(&mut self)
+        requires { self.old.phase ≡ Down.Body }
+        ensures passes { (h : History) → stages.IsPassing self.old h → stages.IsPassing self.new h }
+        ensures body { self.new.phase ≡ Down.Body }
+    {
+        let fed = self.down.take(self.down_held.as_slice());
+        forget(&mut self.down_held, fed.used);
+    }
+
+    /// The server takes no more: nothing more of the request is sent or taken.
+    pub fn cut_off(&mut self)
+        ensures { (h : History) → stages.IsPassing self.old h → stages.IsPassing self.new h }
+    {
+        self.cut = true;
+    }
+
+    /// Does the server take no more?
+    pub fn is_cut(&self) -> bool
+        ensures { result ≡ self.now.cut }
+    {
+        self.cut
+    }
+
+    /// The server sends no more, or its connection can't be read: all that came was taken before.
+    pub fn server_ended(&mut self)
+        ensures { (h : History) → stages.IsPassing self.old h → HasEnded h.signs → stages.IsPassing self.new h }
+    {
+        self.ended = true;
+    }
+
+    /// Was the server's input read to its end?
+    pub fn has_ended(&self) -> bool
+        ensures { result ≡ self.now.ended }
+    {
+        self.ended
+    }
+
+    /// Was the request read to its end?
+    pub fn is_asked(&self) -> bool
+        ensures { result ≡ is_done self.now.up.coding }
+    {
+        self.up.is_whole()
+    }
+
+    /// Is what came of the request's body no front of one?
+    pub fn is_asked_badly(&self) -> bool
+        ensures { result ≡ is_bad self.now.up.coding }
+    {
+        self.up.is_broken()
+    }
+
+    /// Is what came of the answer's body no front of one?
+    pub fn is_answered_badly(&self) -> bool
+        ensures { result ≡ is_bad self.now.down.coding }
+    {
+        self.down.is_broken()
+    }
+
+    /// Did the client take a byte of the answer, or of a head before it?
+    pub fn has_begun(&self) -> bool
+        ensures { result ≡ self.now.begun }
+    {
+        self.begun
+    }
+
+    /// Does the answer go on to the end of the server's input?
+    pub fn goes_to_end(&self) -> bool {
+        self.phase == Down::Body && self.down.goes_to_end()
+    }
+
+    /// Was the answer's head handed on?
+    pub fn is_at_body(&self) -> bool
+        ensures { IsTrue result → self.now.phase ≡ Down.Body }
+    {
+        self.phase == Down::Body
+    }
+
+    /// Was the answer read to its end?
+    pub fn is_answered(&self) -> bool
+        ensures { IsTrue result → (self.now.phase ≡ Down.Body) × (is_done self.now.down.coding ≡ true) }
+    {
+        match self.phase {
+            Down::Heads(_) => false,
+            Down::Body => self.down.is_whole(),
+        }
+    }
+
+    /// Is nothing held of what came of the server?
+    pub fn holds_no_answer(&self) -> bool
+        ensures { IsTrue result → self.now.down_held.items ≡ [] }
+    {
+        self.down_held.is_empty()
+    }
+
+    /// What the server is to be sent.
+    pub fn to_server(&self) -> &[u8]
+        ensures { result.now ≡ self.now.up.out }
+    {
+        self.up.waiting()
+    }
+
+    /// It took so many bytes of it.
+    pub fn server_took(&mut self, count: usize)
+        requires { count ≤ length self.old.up.out }
+        ensures { (h : History) → stages.IsPassing self.old h → stages.IsPassing self.new (server_got h (take count self.old.up.out)) }
+    {
+        self.reached = true;
+        self.up.went(count);
+    }
+
+    /// What the client is to be sent.
+    pub fn to_client(&self) -> &[u8]
+        ensures { result.now ≡ self.now.down.out }
+    {
+        self.down.waiting()
+    }
+
+    /// It took so many bytes of it.
+    pub fn client_took(&mut self, count: usize)
+        requires { count ≤ length self.old.down.out }
+        ensures { (h : History) → stages.IsPassing self.old h → stages.IsPassing self.new (client_got h (take count self.old.down.out)) }
+    {
+        let (begun, leave_left) = leave_told(self.begun, self.leave_left, count);
+        self.begun = begun;
+        self.leave_left = leave_left;
+        self.down.went(count);
+    }
+
+    /// What came of the answer's body: how much was taken. It is taken whether or not the request was sent whole.
+    pub fn server_bytes(&mut self, input: &[u8]) -> usize
+        requires body { self.old.phase ≡ Down.Body }
+        requires first { self.old.down_held.items ≡ [] }
+        ensures within { result ≤ length input.now }
+        ensures passes { (h : History) → stages.IsPassing self.old h → stages.IsPassing self.new (server_came h (take result input.now)) }
+    {
+        let fed = self.down.take(input);
+        fed.used
+    }
+
+    /// What came of the heads before the answer's body: how much was taken. 16 KiB at most are held.
+    pub fn server_head_bytes(&mut self, input: &[u8]) -> Result<usize, AllocError>
+        ensures within { IfOk result (λ used. used ≤ length input.now) }
+        ensures passes { IfOk result (λ used. (h : History) → stages.IsPassing self.old h → stages.IsPassing self.new (server_came h (take used input.now))) }
+        ensures err { OnErr result ((h : History) → stages.IsPassing self.old h → stages.IsPassing self.new h) }
+    {
+        let room = HEAD_BYTES.saturating_sub(self.down_held.len());
+        let used = input.len().min(room);
+        let came = &input[..used];
+        match self.down_held.extend_from_slice(came) {
+            Ok(()) => {
+                self.looks = looks_again(self.looks, came, self.down_held.len());
+                Ok(used)
+            }
+            Err(_) => Err(AllocError),
+        }
+    }
+}
+
+// Whether more than the leave was taken, and how many bytes of it weren't, once so many more were.
+fn leave_told(begun: bool, left: usize, count: usize) -> (bool, usize)
+    ensures { result.0 ≡ false → (begun ≡ false) × (count ≤ left) × (result.1 ≡ left - count) }
+{
+    if count <= left {
+        (begun, left - count)
+    } else {
+        (true, 0)
+    }
+}

@@ -1,0 +1,51 @@
+ghost use Rattle.std.specs.Prelude.{◌≡◌, ◌≤◌, length, take, drop};
+ghost use Rattle.exchange_machine.specs.Histories.{History, client_got};
+ghost use Rattle.exchange_machine.specs.Settlings as settling;
+ghost use Rattle.exchange_machine.specs.Stages as stages;
+ghost use Rattle.exchange_machine.specs.Wholes.{begun};
+
+use crate::asking::{Turn, look};
+use crate::way::Way;
+use std::alloc::Global;
+
+/// Both messages were whole. What the client is still told waits, and behind it the next request may stand.
+#[derive(Drop)]
+pub struct Settling {
+    pub(crate) out: Way,
+    pub(crate) behind: Vec<u8>,
+    pub(crate) clean: bool,
+}
+
+impl Settling {
+    /// Can its server's connection be used again? All of the request was sent, and nothing came behind the answer.
+    pub fn is_clean(&self) -> bool
+        ensures { result ≡ self.now.clean }
+    {
+        self.clean
+    }
+
+    /// What the client is still to be sent.
+    pub fn to_client(&self) -> &[u8]
+        ensures { result.now ≡ self.now.out.out }
+    {
+        self.out.waiting()
+    }
+
+    /// It took so many bytes of it.
+    pub fn client_took(&mut self, count: usize)
+        requires { count ≤ length self.old.out.out }
+        ensures took { (h : History) → settling.IsSettling self.old h → settling.IsSettling self.new (client_got h (take count self.old.out.out)) }
+        ensures behind { self.new.behind ≡ self.old.behind }
+        ensures out { self.new.out.out ≡ drop count self.old.out.out }
+    {
+        self.out.went(count);
+    }
+
+    /// All was told: the next request is looked for in what came behind the last one.
+    pub fn next(self, alloc: Global) -> Turn
+        ensures { stages.IsTurn result (begun self.behind.items) }
+    {
+        let Settling { behind, .. } = self;
+        look(alloc, behind)
+    }
+}

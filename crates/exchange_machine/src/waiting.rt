@@ -1,0 +1,45 @@
+ghost use Rattle.std.specs.Prelude.{◌≡◌};
+ghost use Rattle.exchange_machine.specs.Histories.{History, granted};
+ghost use Rattle.exchange_machine.specs.Reasons.{Reason};
+ghost use Rattle.exchange_machine.specs.Stages as stages;
+
+use crate::dialing::Dialing;
+use crate::telling::Telling;
+use grant_board::Pass;
+use relay_body::Framing;
+use relay_http::Code;
+use req_view::View;
+
+/// A request whose head was read, and what came behind it.
+#[derive(Drop)]
+pub struct Asked {
+    pub(crate) view: View,
+    pub(crate) framing: Framing,
+    pub(crate) held: Vec<u8>,
+}
+
+/// It waits for a pass. Nothing more is read but the end of the client's input.
+#[derive(Drop)]
+pub struct Waiting {
+    pub(crate) asked: Asked,
+}
+
+impl Waiting {
+    /// A pass came.
+    pub fn grant(self, pass: Pass) -> Dialing
+        ensures { (h : History) → stages.IsWaiting self h → stages.IsDialing result (granted h pass) }
+    {
+        Dialing {
+            waiting: self,
+            pass,
+            reached: false,
+        }
+    }
+
+    /// No pass comes, for this reason.
+    pub fn refuse(self, code: Code) -> Telling
+        ensures { (h : History) → stages.IsWaiting self h → Reason h.signs self.asked.view self.asked.held.items h.server_in code → stages.IsTelling result h }
+    {
+        Telling::of(code)
+    }
+}

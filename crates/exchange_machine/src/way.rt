@@ -1,0 +1,107 @@
+ghost use Rattle.std.specs.Prelude.{◌≡◌, ◌==◌, ◌+◌, ◌≤◌, ◌<◌, ◌++◌, ℕ, List, [], length, take, drop, IfOk, OnOk, IsTrue};
+ghost use Rattle.body_coder.specs.Readings.{start_of};
+ghost use Rattle.body_coder.specs.Stops.{Tells, is_bad, is_done};
+ghost use Rattle.body_coder.specs.declared.coding.Coding as codings;
+ghost use Rattle.exchange_machine.specs.Ways.{Hears};
+ghost use Rattle.list_facts.specs.Fronts.{IsFront};
+
+use body_coder::{Coding, Fed, OUTBOX_BYTES, Outbox, State};
+use relay_body::Framing;
+use std::alloc::{AllocError, Global};
+
+/// One direction of an exchange: a head's text, and then a body. What comes of the body is taken as far as there is room for what it becomes, and
+/// what is to be sent waits.
+#[derive(Drop)]
+pub struct Way {
+    coding: Coding,
+    out: Outbox,
+}
+
+impl Way {
+    /// A way that takes nothing and sends nothing yet. It takes 16 KiB, once for its life.
+    pub fn new(alloc: Global) -> Result<Way, AllocError>
+        ensures { IfOk result (λ way. way.out ≡ []) }
+    {
+        let out = Outbox::new(alloc)?;
+        Ok(Way {
+            coding: Coding::Length(0),
+            out,
+        })
+    }
+
+    /// Puts text behind what waits: that of a head, or of a refusal.
+    pub fn put(&mut self, text: &[u8])
+        requires { length self.old.out + length text.now ≤ OUTBOX_BYTES }
+        ensures out { self.new.out ≡ self.old.out ++ text.now }
+        ensures coding { self.new.coding ≡ self.old.coding }
+    {
+        self.out.push(text);
+    }
+
+    /// Begins a body behind it.
+    pub fn begin(&mut self, framing: Framing, framed: bool)
+        ensures coding { self.new.coding ≡ start_of framing framed }
+        ensures out { self.new.out ≡ self.old.out }
+        ensures hears { (text went : List ℕ) → text ≡ went ++ self.old.out → Hears (start_of framing framed) self.new.coding text self.new.out [] went }
+    {
+        self.coding = Coding::new(framing, framed);
+    }
+
+    /// Takes what came of the body, up to its end and as far as there is room. `O(n)`.
+    pub fn take(&mut self, input: &[u8]) -> Fed
+        ensures within { result.used ≤ length input.now }
+        ensures hears { (start : codings.Coding) (text came went : List ℕ) → Hears start self.old.coding text self.old.out came went
+            → Hears start self.new.coding text self.new.out (came ++ take result.used input.now) went }
+        ensures state { Tells self.new.coding (result.used == length input.now) result.state }
+        ensures grows { IsFront self.old.out self.new.out }
+        ensures full { result.state ≡ State.Full → OUTBOX_BYTES < length self.new.out + 18 }
+    {
+        self.coding.feed(input, &mut self.out)
+    }
+
+    /// Is the body whole?
+    pub fn is_whole(&self) -> bool
+        ensures { result ≡ is_done self.now.coding }
+    {
+        self.coding.is_whole()
+    }
+
+    /// Is what came no front of a body?
+    pub fn is_broken(&self) -> bool
+        ensures { result ≡ is_bad self.now.coding }
+    {
+        self.coding.is_broken()
+    }
+
+    /// Does the body go on to the end of the input?
+    pub fn goes_to_end(&self) -> bool
+        ensures { IsTrue result → self.now.coding ≡ Coding.ToEnd }
+    {
+        self.coding == Coding::ToEnd
+    }
+
+    /// What is to be sent next.
+    pub fn waiting(&self) -> &[u8]
+        ensures { result.now ≡ self.now.out }
+    {
+        self.out.as_slice()
+    }
+
+    /// So many bytes of it were sent.
+    pub fn went(&mut self, count: usize)
+        requires { count ≤ length self.old.out }
+        ensures hears { (start : codings.Coding) (text came went : List ℕ) → Hears start self.old.coding text self.old.out came went
+            → Hears start self.new.coding text self.new.out came (went ++ take count self.old.out) }
+        ensures out { self.new.out ≡ drop count self.old.out }
+        ensures coding { self.new.coding ≡ self.old.coding }
+    {
+        self.out.sent(count);
+    }
+
+    /// Takes back what stands behind so many bytes of it.
+    pub fn keep_front(&mut self, count: usize)
+        ensures { self.new.out ≡ take count self.old.out }
+    {
+        self.out.keep_front(count);
+    }
+}

@@ -1,0 +1,291 @@
+//! What becomes of an exchange over events, with all bytes in pieces of one size.
+ghost use Rattle.std.specs.Prelude.{◌<◌};
+
+use crate::till::Till;
+use grant_board::Pass;
+use mixed_exchange::{Clock, Event, Exchange, Outcome, Rules, Step};
+use relay_http::Persistence;
+use std::alloc::Global;
+use std::process::Abort;
+use verdict::Ending;
+
+/// What happens.
+#[derive(Clone, Copy)]
+pub(crate) enum Move {
+    /// The client sends these bytes.
+    Client(&'static [u8]),
+    /// The server sends these bytes.
+    Server(&'static [u8]),
+    Grant,
+    Unserved,
+    /// The server was reached, on a connection that is new or was used before.
+    Connected(bool),
+    Unreachable,
+    ClientEnd,
+    ClientFailed,
+    ServerEnd,
+    ServerDeaf,
+    Over(Clock),
+    /// The client takes no more bytes.
+    Stall,
+    /// It takes them again.
+    Flow,
+}
+
+/// How far an exchange is.
+#[derive(Clone, Copy, Debug, PartialEq, Eq)]
+pub(crate) enum Stage {
+    Asking,
+    Waiting,
+    Dialing,
+    Passing,
+    Settling,
+    Leaving,
+    Telling,
+    Over,
+}
+
+/// What both sides got, and how often a pass came back as done and as failed, and a request went out anew.
+#[derive(Drop)]
+pub(crate) struct Wire {
+    pub(crate) sent: Vec<u8>,
+    pub(crate) told: Vec<u8>,
+    pub(crate) done: u64,
+    pub(crate) failed: u64,
+    pub(crate) retries: u64,
+}
+
+// Bytes that a side sends, and how many of them were taken.
+#[derive(Drop)]
+struct Queue {
+    bytes: Vec<u8>,
+    taken: usize,
+}
+
+impl Queue {
+    // At most so many of those that come next.
+    fn piece(&self, most: usize) -> &[u8] {
+        let rest = self.bytes.as_slice().get(self.taken..).unwrap_or(b"");
+        &rest[..most.min(rest.len())]
+    }
+}
+
+/// A client, its proxy and a server.
+#[derive(Drop)]
+pub(crate) struct Table {
+    alloc: Global,
+    rules: Rules,
+    piece: usize,
+    stalled: bool,
+    till: Option<Till>,
+    client: Queue,
+    server: Queue,
+    pub(crate) wire: Wire,
+}
+
+impl Table {
+    pub(crate) fn new(alloc: Global, aborts: bool, piece: usize) -> Table {
+        Table {
+            alloc,
+            rules: Rules {
+                aborts,
+                asks: Persistence::Persist,
+                willing: true,
+            },
+            piece,
+            stalled: false,
+            till: None,
+            client: Queue {
+                bytes: Vec::new(alloc),
+                taken: 0,
+            },
+            server: Queue {
+                bytes: Vec::new(alloc),
+                taken: 0,
+            },
+            wire: Wire {
+                sent: Vec::new(alloc),
+                told: Vec::new(alloc),
+                done: 0,
+                failed: 0,
+                retries: 0,
+            },
+        }
+    }
+
+    /// All that happens, and after each move what follows of it: where the exchange is at the end.
+    pub(crate) fn play(&mut self, rt: &impl Abort, moves: &[Move]) -> Stage {
+        let mut exchange = Exchange::new(self.alloc).expect(rt, "memory");
+        for each in moves {
+            exchange = self.happens(rt, exchange, *each);
+            exchange = self.flush(rt, exchange);
+            exchange = self.deliver(rt, exchange);
+        }
+        self.end(rt, exchange)
+    }
+
+    fn happens(&mut self, rt: &impl Abort, exchange: Exchange, each: Move) -> Exchange {
+        let event = match each {
+            Move::Client(bytes) => {
+                self.client
+                    .bytes
+                    .extend_from_slice(bytes)
+                    .expect(rt, "memory");
+                return exchange;
+            }
+            Move::Server(bytes) => {
+                self.server
+                    .bytes
+                    .extend_from_slice(bytes)
+                    .expect(rt, "memory");
+                return exchange;
+            }
+            Move::Stall | Move::Flow => {
+                self.stalled = matches!(each, Move::Stall);
+                return exchange;
+            }
+            Move::Grant => Event::Granted(self.grant(rt)),
+            Move::Unserved => Event::Unserved,
+            Move::Connected(fresh) => Event::Connected(fresh),
+            Move::Unreachable => Event::Unreachable,
+            Move::ClientEnd => Event::ClientEnd,
+            Move::ClientFailed => Event::ClientFailed,
+            Move::ServerEnd => Event::ServerEnd,
+            Move::ServerDeaf => Event::ServerDeaf,
+            Move::Over(clock) => Event::TimeOver(clock),
+        };
+        self.tell(rt, exchange, event).0
+    }
+
+    fn grant(&mut self, rt: &impl Abort) -> Pass {
+        let (till, pass) = Till::open(rt, self.alloc);
+        self.till = Some(till);
+        pass
+    }
+
+    // Tells it one thing: how it goes on, and how many bytes it took.
+    fn tell(&mut self, rt: &impl Abort, exchange: Exchange, event: Event) -> (Exchange, usize) {
+        let Step {
+            next,
+            used,
+            outcome,
+        } = exchange.step(self.alloc, self.rules, event);
+        self.give(rt, outcome);
+        (next, used)
+    }
+
+    fn give(&mut self, rt: &impl Abort, outcome: Outcome) {
+        match outcome {
+            Outcome::Quiet => {}
+            Outcome::Posts(pass, ending) => self.post(rt, pass, ending),
+            Outcome::Retries => self.wire.retries = self.wire.retries.wrapping_add(1),
+            Outcome::Starved => panic!(rt; "no memory for a request"),
+            Outcome::StarvedPosts(_pass, _ending) => panic!(rt; "no memory for a head"),
+            Outcome::Returns(_pass) => panic!(rt; "a pass that wasn't waited for"),
+        }
+    }
+
+    fn post(&mut self, rt: &impl Abort, pass: Pass, ending: Ending) {
+        if ending == Ending::Done {
+            self.wire.done = self.wire.done.wrapping_add(1);
+        } else {
+            self.wire.failed = self.wire.failed.wrapping_add(1);
+        }
+        match &mut self.till {
+            Some(till) => till.post(rt, pass, ending),
+            None => panic!(rt; "a pass of no board"),
+        }
+    }
+
+    // Both sides take what is for them.
+    fn flush(&mut self, rt: &impl Abort, mut exchange: Exchange) -> Exchange {
+        for _ in 0..10_000u64 {
+            let wants = exchange.wants();
+            if wants.writes_client && !self.stalled {
+                exchange = self.to_client(rt, exchange);
+            } else if wants.writes_server {
+                exchange = self.to_server(rt, exchange);
+            } else {
+                return exchange;
+            }
+        }
+        exchange
+    }
+
+    fn to_client(&mut self, rt: &impl Abort, exchange: Exchange) -> Exchange {
+        let waiting = exchange.to_client();
+        let count = waiting.len().min(self.piece);
+        self.wire
+            .told
+            .extend_from_slice(&waiting[..count])
+            .expect(rt, "memory");
+        self.tell(rt, exchange, Event::ClientTook(count)).0
+    }
+
+    fn to_server(&mut self, rt: &impl Abort, exchange: Exchange) -> Exchange {
+        let waiting = exchange.to_server();
+        let count = waiting.len().min(self.piece);
+        self.wire
+            .sent
+            .extend_from_slice(&waiting[..count])
+            .expect(rt, "memory");
+        self.tell(rt, exchange, Event::ServerTook(count)).0
+    }
+
+    // What both sides sent comes, as far as it is taken.
+    fn deliver(&mut self, rt: &impl Abort, mut exchange: Exchange) -> Exchange {
+        for _ in 0..10_000u64 {
+            let (of_client, used) = self.of_client(rt, exchange);
+            let (of_server, also) = self.of_server(rt, of_client);
+            exchange = self.flush(rt, of_server);
+            if used == 0 && also == 0 {
+                return exchange;
+            }
+        }
+        exchange
+    }
+
+    fn of_client(&mut self, rt: &impl Abort, exchange: Exchange) -> (Exchange, usize) {
+        let piece = self.client.piece(self.piece);
+        if piece.is_empty() {
+            return (exchange, 0);
+        }
+        let copy = Vec::from_slice(self.alloc, piece).expect(rt, "memory");
+        let (next, used) = self.tell(rt, exchange, Event::ClientBytes(copy.as_slice()));
+        self.client.taken = self.client.taken.saturating_add(used);
+        (next, used)
+    }
+
+    fn of_server(&mut self, rt: &impl Abort, exchange: Exchange) -> (Exchange, usize) {
+        let piece = self.server.piece(self.piece);
+        if piece.is_empty() {
+            return (exchange, 0);
+        }
+        let copy = Vec::from_slice(self.alloc, piece).expect(rt, "memory");
+        let (next, used) = self.tell(rt, exchange, Event::ServerBytes(copy.as_slice()));
+        self.server.taken = self.server.taken.saturating_add(used);
+        (next, used)
+    }
+
+    // Where it is; a pass that it still has goes back.
+    fn end(&mut self, rt: &impl Abort, exchange: Exchange) -> Stage {
+        match exchange {
+            Exchange::Asking(_) => Stage::Asking,
+            Exchange::Waiting(_) => Stage::Waiting,
+            Exchange::Dialing(dialing) => {
+                let (pass, ending) = dialing.abandon();
+                self.post(rt, pass, ending);
+                Stage::Dialing
+            }
+            Exchange::Passing(passing) => {
+                let (pass, ending) = passing.abandon();
+                self.post(rt, pass, ending);
+                Stage::Passing
+            }
+            Exchange::Settling(_) => Stage::Settling,
+            Exchange::Leaving(_) => Stage::Leaving,
+            Exchange::Telling(_) => Stage::Telling,
+            Exchange::Over => Stage::Over,
+        }
+    }
+}

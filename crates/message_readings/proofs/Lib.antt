@@ -1,0 +1,5 @@
+pub mod Answering
+pub mod Bodies
+pub mod Reading
+pub mod Replying
+pub mod Rereading

@@ -1,0 +1,4 @@
+pub mod Alike
+pub mod Found
+pub mod Messages
+pub mod Replies

@@ -1,0 +1,56 @@
+ghost use Rattle.std.specs.Prelude.{◌≡◌, ◌++◌, ℕ, List, Some, Bool, true};
+ghost use Rattle.std.specs.List.{flat_map, AllByRecursion};
+ghost use Rattle.httparse.specs.Grammar.{RequestHead, ResponseHead};
+ghost use Rattle.list_facts.specs.Fronts.{AreComparable};
+ghost use Rattle.relay_body.specs.declared.framing.Framing as framings;
+ghost use Rattle.relay_http.specs.Framings.{request_framing};
+ghost use Rattle.relay_http.specs.Heads.{IsRequest};
+ghost use Rattle.relay_http.specs.Messages.{IsFinal, IsForwarded, IsAnswered};
+ghost use Rattle.relay_http.specs.Persistences.{is_delimited};
+ghost use Rattle.relay_http.specs.Replies.{leave_text};
+ghost use Rattle.relay_http.specs.Texts.{framed_for};
+ghost use Rattle.relay_http.specs.declared.persistence.Persistence as persistences;
+ghost use Rattle.relay_http.specs.declared.plans.Plan as plans;
+ghost use Rattle.req_view.specs.Answer.{answer_of};
+ghost use Rattle.req_view.specs.Request.{Request, request_of};
+ghost use Rattle.message_readings.specs.Alike.{AnswersAlike, ReadsAlike};
+ghost use Rattle.message_readings.specs.Found.{FindsAnswer, FindsRequest};
+ghost use Rattle.message_readings.specs.Messages.{Message, IsMessage, print_message};
+ghost use Rattle.message_readings.specs.Replies.{Reply, AreReplies, print_reply};
+
+/// Requests one after another are read in one way only: no byte of one is another's.
+pub fn one_reading()
+    ensures { (some others : List Message) (rest behind : List ℕ) → AllByRecursion IsMessage some → AllByRecursion IsMessage others
+        → flat_map print_message some ++ rest ≡ flat_map print_message others ++ behind → AreComparable some others }
+{}
+
+/// And so are answers, by who knows what was asked.
+pub fn one_answering()
+    ensures { (methods : List (List ℕ)) (some others : List Reply) (rest behind : List ℕ) → AreReplies methods some → AreReplies methods others
+        → flat_map print_reply some ++ rest ≡ flat_map print_reply others ++ behind → (some ≡ others) × (rest ≡ behind) }
+{}
+
+/// A head that is handed on is read by its server as what it is: one head, which asks for the same and frames its body as the client's did.
+pub fn a_server_reads_alike()
+    ensures { (asks : persistences.Persistence) (h : RequestHead) (framing : framings.Framing) → IsRequest h → request_framing (request_of h) ≡ Some framing
+        → ReadsAlike asks (request_of h) framing }
+{}
+
+/// And so is an answer's by its client, where its end shows.
+pub fn a_client_reads_alike()
+    ensures { (says : persistences.Persistence) (framed : Bool) (method : List ℕ) (h : ResponseHead) (plan : plans.Plan) → IsFinal method h plan
+        → is_delimited framed plan.body ≡ true → AnswersAlike says framed method (answer_of h) plan }
+{}
+
+/// A request that was handed on whole is one request, with the body that it was sent with, and no byte more. By `one_reading` it is read in no other way.
+pub fn a_server_finds_the_request()
+    ensures { (asks : persistences.Persistence) (h : RequestHead) (used text : List ℕ) → IsRequest h
+        → (sent : IsForwarded asks (request_of h) used text) → FindsRequest (request_of h) sent.body text }
+{}
+
+/// And so is an answer, with the leave and the heads before it, where its end shows. By `one_answering` it is read in no other way.
+pub fn a_client_finds_the_answer()
+    ensures { (says : persistences.Persistence) (r : Request) (used text : List ℕ)
+        → (told : IsAnswered says r.method (framed_for r.version) used text) → is_delimited (framed_for r.version) told.plan.body ≡ true
+        → FindsAnswer r.method (answer_of told.head) told.plan told.passed (leave_text r ++ text) }
+{}

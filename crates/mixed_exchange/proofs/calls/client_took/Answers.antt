@@ -1,0 +1,18 @@
+use Rattle.std.proofs.Common.{sym, subst, take}
+use Rattle.exchange_machine.specs.Histories.{client_got}
+use Rattle.mixed_exchange.specs.Steps.{IsAt, ended, to_client}
+use Rattle.mixed_exchange.specs.declared.exchange.Exchange.{Exchange}
+use Rattle.mixed_exchange.proofs.StepLemmas.{at_as}
+use Rattle.mixed_exchange.proofs.calls.client_took.Goals as goal
+
+pub returns-in-Dialing : goal.returns-in-Dialing
+returns-in-Dialing c h is =
+    let r = c.unmoved-in-Dialing.result in
+    subst (λ (x : Exchange). IsAt r.next (ended r.outcome (client_got h (take c.args.count (to_client x))))) (sym c.in-Dialing.is)
+    (c.unmoved-in-Dialing.ensures.client_took h c.args.count (at_as h c.in-Dialing.is is))
+
+pub returns-in-Over : goal.returns-in-Over
+returns-in-Over c h is =
+    let r = c.unmoved-in-Over.result in
+    subst (λ (x : Exchange). IsAt r.next (ended r.outcome (client_got h (take c.args.count (to_client x))))) (sym c.in-Over.is)
+    (c.unmoved-in-Over.ensures.client_took h c.args.count (at_as h c.in-Over.is is))

@@ -1,0 +1,13 @@
+use Rattle.std.proofs.Common.{refl}
+use Rattle.exchange_machine.specs.Reasons.Reason.{of_sign}
+use Rattle.exchange_machine.proofs.EventLemmas.{passing_signed, shows_last}
+use Rattle.exchange_machine.specs.Histories.{signed}
+use Rattle.exchange_machine.specs.declared.signs.Sign.TheVariants.{ServerOver}
+use Rattle.relay_http.specs.declared.refusing.Code.TheVariants.{BadGateway}
+use Rattle.mixed_exchange.proofs.relaying.refused_late.Goals as goal
+
+pub returns : goal.returns
+returns c h is =
+    let late = signed h ServerOver in
+    c.left.ensures late
+    (c.refuse.ensures late (passing_signed c.args.passing h ServerOver is) (of_sign ServerOver BadGateway (shows_last h.signs ServerOver) refl))

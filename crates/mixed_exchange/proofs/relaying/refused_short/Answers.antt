@@ -1,0 +1,11 @@
+use Rattle.exchange_machine.specs.declared.signs.Sign.TheVariants.{NoMemory}
+use Rattle.relay_http.specs.declared.refusing.Code.TheVariants.{Unavailable}
+use Rattle.std.proofs.Common.{refl}
+use Rattle.exchange_machine.specs.Reasons.Reason.{of_sign}
+use Rattle.exchange_machine.proofs.EventLemmas.{passing_signed, shows_last}
+use Rattle.exchange_machine.specs.Histories.{signed}
+use Rattle.mixed_exchange.proofs.relaying.refused_short.Goals as goal
+
+pub returns : goal.returns
+returns c h is = c.refuse-pass.ensures (signed h NoMemory) (passing_signed c.args.passing h NoMemory is) (of_sign NoMemory Unavailable
+    (shows_last h.signs NoMemory) refl)

@@ -1,0 +1,124 @@
+-- What an exchange is after a history, and what an event makes of a history.
+use Rattle.std.specs.Prelude.{ℕ, zero, suc, Bool, true, false, ◌||◌, not, List, [], ◌∷◌, take, Option, Some, None}
+use Rattle.body_coder.specs.Stops.{is_done}
+use Rattle.grant_board.specs.Views.{Grant}
+use Rattle.exchange_machine.specs.Histories.{History, client_came, server_came, server_got, client_got, granted, posted, retried, signed}
+use Rattle.exchange_machine.specs.Settlings.{IsSettling}
+use Rattle.exchange_machine.specs.Stages.{IsAsking, IsWaiting, IsDialing, IsPassing, IsLeaving, IsTelling, IsOver}
+use Rattle.exchange_machine.specs.declared.signs.Sign.{Sign}
+use Rattle.exchange_machine.specs.declared.signs.Sign.TheVariants as Signs
+use Rattle.mixed_exchange.specs.declared.event.Clock.{Clock}
+use Rattle.mixed_exchange.specs.declared.event.Clock.TheVariants as Clocks
+use Rattle.mixed_exchange.specs.declared.event.Event.{Event}
+use Rattle.mixed_exchange.specs.declared.event.Event.TheVariants as Events
+use Rattle.mixed_exchange.specs.declared.exchange.Exchange.{Exchange}
+use Rattle.mixed_exchange.specs.declared.exchange.Exchange.TheVariants.{Asking, Waiting, Dialing, Passing, Settling, Leaving, Telling, Over}
+use Rattle.mixed_exchange.specs.declared.exchange.Outcome.{Outcome}
+use Rattle.mixed_exchange.specs.declared.exchange.Outcome.TheVariants as Outcomes
+
+-- the stage that it is at
+abbrev pub IsAt : Exchange → History → Type 0
+IsAt (Asking a) h = IsAsking a h
+IsAt (Waiting w) h = IsWaiting w h
+IsAt (Dialing d) h = IsDialing d h
+IsAt (Passing p) h = IsPassing p h
+IsAt (Settling s) h = IsSettling s h
+IsAt (Leaving l) h = IsLeaving l h
+IsAt (Telling t) h = IsTelling t h
+IsAt Over h = IsOver h
+
+-- what its client is to be sent next
+abbrev pub to_client : Exchange → List ℕ
+to_client (Asking a) = []
+to_client (Waiting w) = []
+to_client (Dialing d) = []
+to_client (Passing p) = p.down.out
+to_client (Settling s) = s.out.out
+to_client (Leaving l) = l.out.out
+to_client (Telling t) = t.rest.now
+to_client Over = []
+
+-- and its server
+abbrev pub to_server : Exchange → List ℕ
+to_server (Asking a) = []
+to_server (Waiting w) = []
+to_server (Dialing d) = []
+to_server (Passing p) = p.up.out
+to_server (Settling s) = []
+to_server (Leaving l) = []
+to_server (Telling t) = []
+to_server Over = []
+
+-- an exchange is over whose client sends no more: where its request isn't whole, and else where the configuration says so
+abbrev pub is_left : Bool → Exchange → Bool
+is_left aborts (Asking a) = true
+is_left aborts (Waiting w) = aborts
+is_left aborts (Dialing d) = aborts
+is_left aborts (Passing p) = aborts || not (is_done p.up.coding)
+is_left aborts (Settling s) = false
+is_left aborts (Leaving l) = false
+is_left aborts (Telling t) = false
+is_left aborts Over = false
+
+-- which limit's time runs where both sides go on, by whether anything waits for each, and whether the request is whole: that of the side that is waited for
+abbrev pub passing_clock : Bool → Bool → Bool → Clock
+passing_clock true for_server asked = Clocks.Client
+passing_clock false true asked = Clocks.Server
+passing_clock false false true = Clocks.Server
+passing_clock false false false = Clocks.Client
+
+abbrev pub waits : List ℕ → Bool
+waits [] = false
+waits (b ∷ bytes) = true
+
+-- which limit's time runs
+abbrev pub clock_of : Exchange → Option Clock
+clock_of (Asking a) = Some Clocks.Client
+clock_of (Waiting w) = Some Clocks.Queue
+clock_of (Dialing d) = Some Clocks.Connect
+clock_of (Passing p) = Some (passing_clock (waits p.down.out) (waits p.up.out) (is_done p.up.coding))
+clock_of (Settling s) = Some Clocks.Client
+clock_of (Leaving l) = Some Clocks.Client
+clock_of (Telling t) = Some Clocks.Client
+clock_of Over = None
+
+-- the sign that a time is over
+abbrev pub over : Clock → Sign
+over Clocks.Client = Signs.ClientOver
+over Clocks.Queue = Signs.QueueOver
+over Clocks.Connect = Signs.ConnectOver
+over Clocks.Server = Signs.ServerOver
+
+-- a pass counts where it was taken
+abbrev pub came_pass : ℕ → Grant → History → History
+came_pass zero pass h = h
+came_pass (suc n) pass h = granted h pass
+
+-- the history, with what an event told, of which so much was taken; what a side took it took
+abbrev pub heard : Exchange → Event → ℕ → History → History
+heard x (Events.ClientBytes input) used h = client_came h (take used input.now)
+heard x (Events.ServerBytes input) used h = server_came h (take used input.now)
+heard x (Events.ClientTook count) used h = client_got h (take count (to_client x))
+heard x (Events.ServerTook count) used h = server_got h (take count (to_server x))
+heard x (Events.Granted pass) used h = came_pass used pass h
+heard x Events.Unserved used h = signed h Signs.Unserved
+heard x (Events.Connected fresh) used h = h
+heard x Events.Unreachable used h = signed h Signs.Unreachable
+heard x Events.ClientEnd used h = signed h Signs.ClientEnded
+heard x Events.ClientFailed used h = signed h Signs.ClientFailed
+heard x Events.ServerEnd used h = signed h Signs.ServerEnded
+heard x Events.ServerFailed used h = signed h Signs.ServerFailed
+heard x Events.ServerDeaf used h = signed h Signs.ServerDeaf
+heard x (Events.TimeOver clock) used h = signed h (over clock)
+
+-- and with what was given away
+abbrev pub ended : Outcome → History → History
+ended Outcomes.Quiet h = h
+ended (Outcomes.Posts pass ending) h = posted h pass ending
+ended Outcomes.Starved h = signed h Signs.NoMemory
+ended (Outcomes.StarvedPosts pass ending) h = posted (signed h Signs.NoMemory) pass ending
+ended Outcomes.Retries h = retried h
+ended (Outcomes.Returns pass) h = h
+
+abbrev pub after : Exchange → Event → ℕ → Outcome → History → History
+after x event used outcome h = ended outcome (heard x event used h)

@@ -1,0 +1,458 @@
+ghost use Rattle.std.specs.Prelude.{◌≡◌, ◌≤◌, ℕ, List, [], false, true, Some, length, take};
+ghost use Rattle.exchange_machine.specs.Histories.{History, client_came, server_came, server_got, client_got, signed};
+ghost use Rattle.exchange_machine.specs.Reasons.{told_for};
+ghost use Rattle.exchange_machine.specs.declared.signs.Sign.{Sign};
+ghost use Rattle.exchange_machine.specs.Stages.{IsAsking, IsDialing, IsPassing, IsTurn, IsUnread};
+ghost use Rattle.mixed_exchange.specs.Steps as steps;
+ghost use Rattle.relay_http.specs.declared.refusing.Code as codes;
+
+use crate::event::{Clock, Rules};
+use crate::exchange::{Exchange, Outcome, Step};
+use crate::relaying::{Turned, go_on, refused_late};
+use exchange_machine::{Asking, Dialing, Passing, Sign, Telling, Terms, Turn, Way};
+use grant_board::Pass;
+use relay_http::{Code, Fault};
+use std::alloc::Global;
+
+fn quiet(next: Exchange, used: usize) -> Step
+    ensures used { result.used ≡ used }
+    ensures same { result.next ≡ next }
+    ensures at { (h : History) → steps.IsAt next h → steps.IsAt result.next (steps.ended result.outcome h) }
+{
+    Step {
+        next,
+        used,
+        outcome: Outcome::Quiet,
+    }
+}
+
+// Nothing of what is told moves it.
+fn unmoved(exchange: Exchange) -> Step
+    ensures same { result.next ≡ exchange }
+    ensures none { result.used ≡ 0 }
+    ensures signs { (h : History) (sign : Sign) → steps.IsAt exchange h → steps.IsAt result.next (steps.ended result.outcome (signed h sign)) }
+    ensures client_bytes { (h : History) (bytes : List ℕ) → steps.IsAt exchange h
+        → steps.IsAt result.next (steps.ended result.outcome (client_came h (take result.used bytes))) }
+    ensures server_bytes { (h : History) (bytes : List ℕ) → steps.IsAt exchange h
+        → steps.IsAt result.next (steps.ended result.outcome (server_came h (take result.used bytes))) }
+    ensures client_took { (h : History) (count : ℕ) → steps.IsAt exchange h
+        → steps.IsAt result.next (steps.ended result.outcome (client_got h (take count []))) }
+    ensures server_took { (h : History) (count : ℕ) → steps.IsAt exchange h
+        → steps.IsAt result.next (steps.ended result.outcome (server_got h (take count []))) }
+    ensures unseen { (h : History) → steps.IsAt exchange h → steps.IsAt result.next (steps.ended result.outcome h) }
+{
+    Step {
+        next: exchange,
+        used: 0,
+        outcome: Outcome::Quiet,
+    }
+}
+
+pub(crate) fn client_bytes(exchange: Exchange, alloc: Global, input: &[u8]) -> Step
+    ensures within { result.used ≤ length input.now }
+    ensures at { (h : History) → steps.IsAt exchange h → steps.IsAt result.next (steps.ended result.outcome (client_came h (take result.used input.now))) }
+{
+    match exchange {
+        Exchange::Asking(asking) => asking_bytes(asking, alloc, input),
+        Exchange::Passing(passing) => request_bytes(passing, alloc, input),
+        other => unmoved(other),
+    }
+}
+
+fn asking_bytes(asking: Asking, alloc: Global, input: &[u8]) -> Step
+    ensures within { result.used ≤ length input.now }
+    ensures at { (h : History) → IsAsking asking h → steps.IsAt result.next (steps.ended result.outcome (client_came h (take result.used input.now))) }
+{
+    let (used, turn) = asking.client_bytes(alloc, input);
+    let Turned { next, outcome } = begun(turn);
+    Step {
+        next,
+        used,
+        outcome,
+    }
+}
+
+fn begun(turn: Turn) -> Turned
+    ensures { (h : History) → IsTurn turn h → steps.IsAt result.next (steps.ended result.outcome h) }
+{
+    match turn {
+        Turn::More(asking) => Turned {
+            next: Exchange::Asking(asking),
+            outcome: Outcome::Quiet,
+        },
+        Turn::Whole(waiting) => Turned {
+            next: Exchange::Waiting(waiting),
+            outcome: Outcome::Quiet,
+        },
+        Turn::Refused(_, why) => unread(why),
+    }
+}
+
+fn unread(why: Fault) -> Turned
+    ensures { (h : History) → IsUnread why h → steps.IsAt result.next (steps.ended result.outcome h) }
+{
+    if why == Fault::NoMemory {
+        return Turned {
+            next: Exchange::Telling(Telling::starved()),
+            outcome: Outcome::Starved,
+        };
+    }
+    Turned {
+        next: Exchange::Telling(Telling::of_fault(why)),
+        outcome: Outcome::Quiet,
+    }
+}
+
+fn request_bytes(mut passing: Passing, alloc: Global, input: &[u8]) -> Step
+    ensures within { result.used ≤ length input.now }
+    ensures at { (h : History) → IsPassing passing h → steps.IsAt result.next (steps.ended result.outcome (client_came h (take result.used input.now))) }
+{
+    let used = take_request(&mut passing, input);
+    let Turned { next, outcome } = go_on(passing, alloc);
+    Step {
+        next,
+        used,
+        outcome,
+    }
+}
+
+fn take_request(passing: &mut Passing, input: &[u8]) -> usize
+    ensures within { result ≤ length input.now }
+    ensures passes { (h : History) → IsPassing passing.old h → IsPassing passing.new (client_came h (take result input.now)) }
+{
+    passing.use_held();
+    if !passing.holds_none() {
+        return 0;
+    }
+    passing.client_bytes(input)
+}
+
+pub(crate) fn server_bytes(exchange: Exchange, alloc: Global, input: &[u8]) -> Step
+    ensures within { result.used ≤ length input.now }
+    ensures at { (h : History) → steps.IsAt exchange h → steps.IsAt result.next (steps.ended result.outcome (server_came h (take result.used input.now))) }
+{
+    match exchange {
+        Exchange::Passing(passing) => answer_bytes(passing, alloc, input),
+        other => unmoved(other),
+    }
+}
+
+fn answer_bytes(mut passing: Passing, alloc: Global, input: &[u8]) -> Step
+    ensures within { result.used ≤ length input.now }
+    ensures at { (h : History) → IsPassing passing h → steps.IsAt result.next (steps.ended result.outcome (server_came h (take result.used input.now))) }
+{
+    let used = take_answer(&mut passing, input);
+    let Turned { next, outcome } = go_on(passing, alloc);
+    Step {
+        next,
+        used,
+        outcome,
+    }
+}
+
+fn take_answer(passing: &mut Passing, input: &[u8]) -> usize
+    ensures within { result ≤ length input.now }
+    ensures passes { (h : History) → IsPassing passing.old h → IsPassing passing.new (server_came h (take result input.now)) }
+{
+    if passing.is_at_body() && passing.holds_no_answer() {
+        return passing.server_bytes(input);
+    }
+    match passing.server_head_bytes(input) {
+        Ok(used) => used,
+        Err(_) => 0,
+    }
+}
+
+// So many bytes, or all of them.
+fn fitting(count: usize, waiting: &[u8]) -> usize
+    ensures within { result ≤ length waiting.now }
+    ensures same { take result waiting.now ≡ take count waiting.now }
+{
+    if count < waiting.len() {
+        count
+    } else {
+        waiting.len()
+    }
+}
+
+pub(crate) fn client_took(exchange: Exchange, alloc: Global, count: usize) -> Step
+    ensures { (h : History) → steps.IsAt exchange h
+        → steps.IsAt result.next (steps.ended result.outcome (client_got h (take count (steps.to_client exchange)))) }
+{
+    match exchange {
+        Exchange::Passing(mut passing) => {
+            let used = fitting(count, passing.to_client());
+            passing.client_took(used);
+            let Turned { next, outcome } = go_on(passing, alloc);
+            Step {
+                next,
+                used,
+                outcome,
+            }
+        }
+        Exchange::Settling(mut settling) => {
+            let used = fitting(count, settling.to_client());
+            settling.client_took(used);
+            quiet(Exchange::Settling(settling), used)
+        }
+        Exchange::Leaving(mut leaving) => {
+            let used = fitting(count, leaving.to_client());
+            leaving.client_took(used);
+            quiet(Exchange::Leaving(leaving), used)
+        }
+        Exchange::Telling(mut telling) => {
+            let used = fitting(count, telling.to_client());
+            telling.client_took(used);
+            quiet(Exchange::Telling(telling), used)
+        }
+        Exchange::Asking(asking) => unmoved(Exchange::Asking(asking)),
+        Exchange::Waiting(waiting) => unmoved(Exchange::Waiting(waiting)),
+        Exchange::Dialing(dialing) => unmoved(Exchange::Dialing(dialing)),
+        Exchange::Over => unmoved(Exchange::Over),
+    }
+}
+
+pub(crate) fn server_took(exchange: Exchange, alloc: Global, count: usize) -> Step
+    ensures { (h : History) → steps.IsAt exchange h
+        → steps.IsAt result.next (steps.ended result.outcome (server_got h (take count (steps.to_server exchange)))) }
+{
+    match exchange {
+        Exchange::Passing(mut passing) => {
+            let used = fitting(count, passing.to_server());
+            passing.server_took(used);
+            let Turned { next, outcome } = go_on(passing, alloc);
+            Step {
+                next,
+                used,
+                outcome,
+            }
+        }
+        Exchange::Asking(asking) => unmoved(Exchange::Asking(asking)),
+        Exchange::Waiting(waiting) => unmoved(Exchange::Waiting(waiting)),
+        Exchange::Dialing(dialing) => unmoved(Exchange::Dialing(dialing)),
+        Exchange::Settling(settling) => unmoved(Exchange::Settling(settling)),
+        Exchange::Leaving(leaving) => unmoved(Exchange::Leaving(leaving)),
+        Exchange::Telling(telling) => unmoved(Exchange::Telling(telling)),
+        Exchange::Over => unmoved(Exchange::Over),
+    }
+}
+
+pub(crate) fn granted(exchange: Exchange, pass: Pass) -> Step
+    ensures { (h : History) → steps.IsAt exchange h → steps.IsAt result.next (steps.ended result.outcome (steps.came_pass result.used pass h)) }
+{
+    match exchange {
+        Exchange::Waiting(waiting) => quiet(Exchange::Dialing(waiting.grant(pass)), 1),
+        other => Step {
+            next: other,
+            used: 0,
+            outcome: Outcome::Returns(pass),
+        },
+    }
+}
+
+pub(crate) fn unserved(exchange: Exchange, sign: Sign) -> Step
+    requires { told_for sign ≡ Some codes.Code.Unavailable }
+    ensures { (h : History) → steps.IsAt exchange h → steps.IsAt result.next (steps.ended result.outcome (signed h sign)) }
+{
+    match exchange {
+        Exchange::Waiting(waiting) => {
+            quiet(Exchange::Telling(waiting.refuse(Code::Unavailable)), 0)
+        }
+        other => unmoved(other),
+    }
+}
+
+pub(crate) fn connected(exchange: Exchange, alloc: Global, rules: Rules, fresh: bool) -> Step
+    ensures { (h : History) → steps.IsAt exchange h → steps.IsAt result.next (steps.ended result.outcome h) }
+{
+    match exchange {
+        Exchange::Dialing(dialing) => begin(dialing, alloc, rules, fresh),
+        other => unmoved(other),
+    }
+}
+
+fn begin(dialing: Dialing, alloc: Global, rules: Rules, fresh: bool) -> Step
+    ensures { (h : History) → IsDialing dialing h → steps.IsAt result.next (steps.ended result.outcome h) }
+{
+    let Ok(up) = Way::new(alloc) else {
+        return short(dialing);
+    };
+    let Ok(down) = Way::new(alloc) else {
+        return short(dialing);
+    };
+    let terms = Terms {
+        asks: rules.asks,
+        willing: rules.willing,
+        fresh,
+    };
+    match dialing.connected(alloc, up, down, terms) {
+        Ok(passing) => {
+            let Turned { next, outcome } = go_on(passing, alloc);
+            Step {
+                next,
+                used: 0,
+                outcome,
+            }
+        }
+        Err(dialing) => short(dialing),
+    }
+}
+
+fn short(dialing: Dialing) -> Step
+    ensures { (h : History) → IsDialing dialing h → steps.IsAt result.next (steps.ended result.outcome h) }
+{
+    let (waiting, pass, ending) = dialing.failed();
+    Step {
+        next: Exchange::Telling(waiting.refuse(Code::Unavailable)),
+        used: 0,
+        outcome: Outcome::StarvedPosts(pass, ending),
+    }
+}
+
+pub(crate) fn unreachable(exchange: Exchange, sign: Sign) -> Step
+    ensures { (h : History) → steps.IsAt exchange h → steps.IsAt result.next (steps.ended result.outcome (signed h sign)) }
+{
+    match exchange {
+        Exchange::Dialing(dialing) => {
+            let (waiting, pass, ending) = dialing.failed();
+            Step {
+                next: Exchange::Waiting(waiting),
+                used: 0,
+                outcome: Outcome::Posts(pass, ending),
+            }
+        }
+        other => unmoved(other),
+    }
+}
+
+/// The client has gone: nothing more is written, and a pass goes back as done.
+pub(crate) fn gone(exchange: Exchange, sign: Sign) -> Step
+    ensures over { result.next ≡ Exchange.Over }
+    ensures at { (h : History) → steps.IsAt exchange h → steps.IsAt result.next (steps.ended result.outcome (signed h sign)) }
+{
+    match exchange {
+        Exchange::Dialing(dialing) => {
+            let (pass, ending) = dialing.abandon();
+            Step {
+                next: Exchange::Over,
+                used: 0,
+                outcome: Outcome::Posts(pass, ending),
+            }
+        }
+        Exchange::Passing(passing) => {
+            let (pass, ending) = passing.abandon();
+            Step {
+                next: Exchange::Over,
+                used: 0,
+                outcome: Outcome::Posts(pass, ending),
+            }
+        }
+        Exchange::Asking(_asking) => quiet(Exchange::Over, 0),
+        Exchange::Waiting(_waiting) => quiet(Exchange::Over, 0),
+        Exchange::Settling(_settling) => quiet(Exchange::Over, 0),
+        Exchange::Leaving(_leaving) => quiet(Exchange::Over, 0),
+        Exchange::Telling(_telling) => quiet(Exchange::Over, 0),
+        Exchange::Over => quiet(Exchange::Over, 0),
+    }
+}
+
+pub(crate) fn client_ended(exchange: Exchange, aborts: bool) -> Step
+    ensures at { (h : History) → steps.IsAt exchange h → steps.IsAt result.next (steps.ended result.outcome (signed h Sign.ClientEnded)) }
+    ensures leaves { steps.is_left aborts exchange ≡ true → result.next ≡ Exchange.Over }
+    ensures stays { steps.is_left aborts exchange ≡ false → result.next ≡ exchange }
+{
+    if is_left(&exchange, aborts) {
+        gone(exchange, Sign::ClientEnded)
+    } else {
+        unmoved(exchange)
+    }
+}
+
+// Is an exchange over whose client sends no more?
+fn is_left(exchange: &Exchange, aborts: bool) -> bool
+    ensures { result ≡ steps.is_left aborts exchange.now }
+{
+    match exchange {
+        Exchange::Asking(_) => true,
+        Exchange::Waiting(_) => aborts,
+        Exchange::Dialing(_) => aborts,
+        Exchange::Passing(passing) => aborts || !passing.is_asked(),
+        Exchange::Settling(_) => false,
+        Exchange::Leaving(_) => false,
+        Exchange::Telling(_) => false,
+        Exchange::Over => false,
+    }
+}
+
+pub(crate) fn server_ended(exchange: Exchange, alloc: Global, sign: Sign) -> Step
+    requires { told_for sign ≡ Some codes.Code.BadGateway }
+    ensures { (h : History) → steps.IsAt exchange h → steps.IsAt result.next (steps.ended result.outcome (signed h sign)) }
+{
+    match exchange {
+        Exchange::Passing(mut passing) => {
+            passing.server_ended();
+            let Turned { next, outcome } = go_on(passing, alloc);
+            Step {
+                next,
+                used: 0,
+                outcome,
+            }
+        }
+        other => unmoved(other),
+    }
+}
+
+pub(crate) fn server_deaf(exchange: Exchange, alloc: Global) -> Step
+    ensures { (h : History) → steps.IsAt exchange h → steps.IsAt result.next (steps.ended result.outcome (signed h Sign.ServerDeaf)) }
+{
+    match exchange {
+        Exchange::Passing(mut passing) => {
+            passing.cut_off();
+            let Turned { next, outcome } = go_on(passing, alloc);
+            Step {
+                next,
+                used: 0,
+                outcome,
+            }
+        }
+        other => unmoved(other),
+    }
+}
+
+pub(crate) fn time_over(exchange: Exchange, clock: Clock) -> Step
+    ensures { (h : History) → steps.IsAt exchange h → steps.IsAt result.next (steps.ended result.outcome (signed h (steps.over clock))) }
+{
+    match clock {
+        Clock::Client => client_over(exchange),
+        Clock::Queue => unserved(exchange, Sign::QueueOver),
+        Clock::Connect => unreachable(exchange, Sign::ConnectOver),
+        Clock::Server => server_over(exchange),
+    }
+}
+
+fn client_over(exchange: Exchange) -> Step
+    ensures { (h : History) → steps.IsAt exchange h → steps.IsAt result.next (steps.ended result.outcome (signed h Sign.ClientOver)) }
+{
+    match exchange {
+        Exchange::Asking(asking) => quiet(Exchange::Telling(asking.late()), 0),
+        Exchange::Waiting(waiting) => unmoved(Exchange::Waiting(waiting)),
+        Exchange::Dialing(dialing) => unmoved(Exchange::Dialing(dialing)),
+        other => gone(other, Sign::ClientOver),
+    }
+}
+
+fn server_over(exchange: Exchange) -> Step
+    ensures { (h : History) → steps.IsAt exchange h → steps.IsAt result.next (steps.ended result.outcome (signed h Sign.ServerOver)) }
+{
+    match exchange {
+        Exchange::Passing(passing) => {
+            let Turned { next, outcome } = refused_late(passing);
+            Step {
+                next,
+                used: 0,
+                outcome,
+            }
+        }
+        other => unmoved(other),
+    }
+}

@@ -1,0 +1,197 @@
+ghost use Rattle.std.specs.Prelude.{◌≡◌, ◌≢◌, [], true, false, IfOk, IsFalse, IsTrue};
+ghost use Rattle.exchange_machine.specs.Histories.{History, nothing_yet};
+ghost use Rattle.mixed_exchange.specs.Steps as steps;
+
+use crate::calls::{
+    client_bytes, client_ended, client_took, connected, gone, granted, server_bytes, server_deaf,
+    server_ended, server_took, time_over, unreachable, unserved,
+};
+use crate::event::{Clock, Event, Rules};
+use exchange_machine::{Asking, Dialing, Leaving, Passing, Settling, Sign, Telling, Waiting};
+use grant_board::Pass;
+use std::alloc::{AllocError, Global};
+use verdict::Ending;
+
+/// One request and its answer, how far they are.
+pub enum Exchange {
+    Asking(Asking),
+    Waiting(Waiting),
+    Dialing(Dialing),
+    Passing(Passing),
+    /// Both messages were whole, and its client may ask again once all is told.
+    Settling(Settling),
+    /// Its client is left once all is told.
+    Leaving(Leaving),
+    /// It is told a refusal, and left.
+    Telling(Telling),
+    /// Nothing more is done.
+    Over,
+}
+
+/// What a step gives away.
+pub enum Outcome {
+    Quiet,
+    /// The pass is to be posted.
+    Posts(Pass, Ending),
+    /// There is no memory for the request.
+    Starved,
+    /// There is no memory or no room for its head or its answer's: the pass is to be posted.
+    StarvedPosts(Pass, Ending),
+    /// The server's connection is to be given up, and another one opened on the same pass.
+    Retries,
+    /// This pass wasn't waited for.
+    Returns(Pass),
+}
+
+/// What became of an exchange that was told something, and how much of it was taken.
+pub struct Step {
+    pub next: Exchange,
+    pub used: usize,
+    pub outcome: Outcome,
+}
+
+/// Which bytes it waits for, which it has for a side that takes them, and which limit's time runs.
+#[derive(Clone, Copy, Debug, PartialEq, Eq)]
+pub struct Wants {
+    pub clock: Option<Clock>,
+    pub reads_client: bool,
+    pub writes_client: bool,
+    pub reads_server: bool,
+    pub writes_server: bool,
+}
+
+impl Exchange {
+    /// Of whom no pass, no connection and no byte was told yet.
+    pub fn new(alloc: Global) -> Result<Exchange, AllocError>
+        ensures { IfOk result (λ exchange. steps.IsAt exchange nothing_yet) }
+    {
+        Ok(Exchange::Asking(Asking::new(alloc)?))
+    }
+
+    /// What its client is to be sent next.
+    pub fn to_client(&self) -> &[u8]
+        ensures { result.now ≡ steps.to_client self.now }
+    {
+        match self {
+            Exchange::Asking(_) | Exchange::Waiting(_) | Exchange::Dialing(_) | Exchange::Over => {
+                b""
+            }
+            Exchange::Passing(passing) => passing.to_client(),
+            Exchange::Settling(settling) => settling.to_client(),
+            Exchange::Leaving(leaving) => leaving.to_client(),
+            Exchange::Telling(telling) => telling.to_client(),
+        }
+    }
+
+    /// What its server is to be sent next.
+    pub fn to_server(&self) -> &[u8]
+        ensures { result.now ≡ steps.to_server self.now }
+    {
+        match self {
+            Exchange::Passing(passing) => passing.to_server(),
+            Exchange::Asking(_)
+            | Exchange::Waiting(_)
+            | Exchange::Dialing(_)
+            | Exchange::Settling(_)
+            | Exchange::Leaving(_)
+            | Exchange::Telling(_)
+            | Exchange::Over => b"",
+        }
+    }
+
+    /// Which bytes it waits for.
+    pub fn wants(&self) -> Wants
+        ensures client { IsFalse result.writes_client → steps.to_client self.now ≡ [] }
+        ensures some { IsTrue result.writes_client → steps.to_client self.now ≢ [] }
+        ensures clock { result.clock ≡ steps.clock_of self.now }
+    {
+        let writes_client = !self.to_client().is_empty();
+        let (reads_client, reads_server, writes_server) = self.others();
+        Wants {
+            clock: self.clock(),
+            reads_client,
+            writes_client,
+            reads_server,
+            writes_server,
+        }
+    }
+
+    // Which limit's time runs: that of the side that is waited for.
+    fn clock(&self) -> Option<Clock>
+        ensures { result ≡ steps.clock_of self.now }
+    {
+        match self {
+            Exchange::Asking(_) => Some(Clock::Client),
+            Exchange::Waiting(_) => Some(Clock::Queue),
+            Exchange::Dialing(_) => Some(Clock::Connect),
+            Exchange::Passing(passing) => Some(passing_clock(
+                waits(passing.to_client()),
+                waits(passing.to_server()),
+                passing.is_asked(),
+            )),
+            Exchange::Settling(_) => Some(Clock::Client),
+            Exchange::Leaving(_) => Some(Clock::Client),
+            Exchange::Telling(_) => Some(Clock::Client),
+            Exchange::Over => None,
+        }
+    }
+
+    fn others(&self) -> (bool, bool, bool) {
+        match self {
+            Exchange::Asking(_) => (true, false, false),
+            Exchange::Passing(passing) => (
+                !passing.is_cut() && !passing.is_asked() && passing.holds_none(),
+                !passing.has_ended(),
+                !passing.is_cut() && !passing.to_server().is_empty(),
+            ),
+            Exchange::Waiting(_)
+            | Exchange::Dialing(_)
+            | Exchange::Settling(_)
+            | Exchange::Leaving(_)
+            | Exchange::Telling(_)
+            | Exchange::Over => (false, false, false),
+        }
+    }
+
+    /// Of a client's request, whatever happens: what is true of the history before is true of it with this event.
+    pub fn step(self, alloc: Global, rules: Rules, event: Event) -> Step
+        ensures at { (h : History) → steps.IsAt self h → steps.IsAt result.next (steps.after self event.entry result.used result.outcome h) }
+        ensures leaves { event.entry ≡ Event.ClientEnd → steps.is_left rules.aborts self ≡ true → result.next ≡ Exchange.Over }
+        ensures stays { event.entry ≡ Event.ClientEnd → steps.is_left rules.aborts self ≡ false → result.next ≡ self }
+    {
+        match event {
+            Event::ClientBytes(input) => client_bytes(self, alloc, input),
+            Event::ServerBytes(input) => server_bytes(self, alloc, input),
+            Event::ClientTook(count) => client_took(self, alloc, count),
+            Event::ServerTook(count) => server_took(self, alloc, count),
+            Event::Granted(pass) => granted(self, pass),
+            Event::Unserved => unserved(self, Sign::Unserved),
+            Event::Connected(fresh) => connected(self, alloc, rules, fresh),
+            Event::Unreachable => unreachable(self, Sign::Unreachable),
+            Event::ClientEnd => client_ended(self, rules.aborts),
+            Event::ClientFailed => gone(self, Sign::ClientFailed),
+            Event::ServerEnd => server_ended(self, alloc, Sign::ServerEnded),
+            Event::ServerFailed => server_ended(self, alloc, Sign::ServerFailed),
+            Event::ServerDeaf => server_deaf(self, alloc),
+            Event::TimeOver(clock) => time_over(self, clock),
+        }
+    }
+}
+
+fn waits(bytes: &[u8]) -> bool
+    ensures { result ≡ steps.waits bytes.now }
+{
+    !bytes.is_empty()
+}
+
+fn passing_clock(for_client: bool, for_server: bool, asked: bool) -> Clock
+    ensures { result ≡ steps.passing_clock for_client for_server asked }
+{
+    if for_client {
+        Clock::Client
+    } else if for_server || asked {
+        Clock::Server
+    } else {
+        Clock::Client
+    }
+}

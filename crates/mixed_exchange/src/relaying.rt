@@ -1,0 +1,214 @@
+ghost use Rattle.std.specs.Prelude.{◌≡◌, true};
+ghost use Rattle.body_coder.specs.Stops.{is_bad};
+ghost use Rattle.exchange_machine.specs.Histories.{History, posted, signed};
+ghost use Rattle.exchange_machine.specs.Reasons.{LacksAnswer};
+ghost use Rattle.exchange_machine.specs.Repeatables.{IsRepeatable};
+ghost use Rattle.exchange_machine.specs.Settlings.{IsRest};
+ghost use Rattle.exchange_machine.specs.Stages.{IsLeaving, IsPassing};
+ghost use Rattle.mixed_exchange.specs.Steps as steps;
+
+use crate::exchange::{Exchange, Outcome};
+use exchange_machine::{Down, Ended, Headed, Passing, Rest, Settled, Sign};
+use relay_http::Code;
+use std::alloc::Global;
+
+/// How an exchange goes on, and what it gives away.
+pub(crate) struct Turned {
+    pub(crate) next: Exchange,
+    pub(crate) outcome: Outcome,
+}
+
+/// What is held goes on as far as it may, and where the server's side is over it is judged.
+pub(crate) fn go_on(mut passing: Passing, alloc: Global) -> Turned
+    ensures { (h : History) → IsPassing passing h → steps.IsAt result.next (steps.ended result.outcome h) }
+{
+    passing.use_held();
+    match read_heads(&mut passing, alloc, 9) {
+        Headed::Answer => body_goes_on(passing),
+        Headed::More => head_goes_on(passing),
+        Headed::Interim => stays(passing),
+        Headed::Full => no_room(passing),
+        Headed::Short => refused_short(passing),
+        Headed::Refused => refused_badly(passing),
+    }
+}
+
+fn read_heads(passing: &mut Passing, alloc: Global, left: u8) -> Headed
+    ensures passes { (h : History) → IsPassing passing.old h → IsPassing passing.new h }
+    ensures refused { result ≡ Headed.Refused → (h : History) → IsPassing passing.old h → LacksAnswer passing.new.view.method h.server_in }
+{
+    let headed = passing.read_head(alloc);
+    if headed == Headed::Interim && left > 0 {
+        return read_heads(passing, alloc, left - 1);
+    }
+    headed
+}
+
+fn stays(passing: Passing) -> Turned
+    ensures { (h : History) → IsPassing passing h → steps.IsAt result.next (steps.ended result.outcome h) }
+{
+    Turned {
+        next: Exchange::Passing(passing),
+        outcome: Outcome::Quiet,
+    }
+}
+
+// A head's text waits for room, where anything is to be sent before it; else there is never room for it.
+fn no_room(passing: Passing) -> Turned
+    ensures { (h : History) → IsPassing passing h → steps.IsAt result.next (steps.ended result.outcome h) }
+{
+    if passing.to_client().is_empty() {
+        refused_short(passing)
+    } else {
+        stays(passing)
+    }
+}
+
+fn head_goes_on(passing: Passing) -> Turned
+    ensures { (h : History) → IsPassing passing h → steps.IsAt result.next (steps.ended result.outcome h) }
+{
+    if passing.is_asked_badly() {
+        return asked_badly(passing);
+    }
+    if !passing.has_ended() {
+        return stays(passing);
+    }
+    if passing.can_repeat() {
+        return again(passing);
+    }
+    breaks_off(passing)
+}
+
+// The server's input came to its end before the answer's.
+fn breaks_off(passing: Passing) -> Turned
+    requires { passing.ended ≡ true }
+    ensures { (h : History) → IsPassing passing h → steps.IsAt result.next (steps.ended result.outcome h) }
+{
+    if passing.has_begun() {
+        return ends(passing);
+    }
+    left(passing.refuse_unanswered())
+}
+
+fn asked_badly(passing: Passing) -> Turned
+    requires { is_bad passing.up.coding ≡ true }
+    ensures { (h : History) → IsPassing passing h → steps.IsAt result.next (steps.ended result.outcome h) }
+{
+    if passing.has_begun() {
+        return ends(passing);
+    }
+    left(passing.refuse_request())
+}
+
+fn left(ended: Ended) -> Turned
+    ensures { (h : History) → IsLeaving ended.rest (posted h ended.pass ended.ending) → steps.IsAt result.next (steps.ended result.outcome h) }
+{
+    let Ended { pass, ending, rest } = ended;
+    Turned {
+        next: Exchange::Leaving(rest),
+        outcome: Outcome::Posts(pass, ending),
+    }
+}
+
+fn again(passing: Passing) -> Turned
+    requires { IsRepeatable passing }
+    ensures { (h : History) → IsPassing passing h → steps.IsAt result.next (steps.ended result.outcome h) }
+{
+    let dialing = passing.again();
+    Turned {
+        next: Exchange::Dialing(dialing),
+        outcome: Outcome::Retries,
+    }
+}
+
+fn body_goes_on(mut passing: Passing) -> Turned
+    ensures { (h : History) → IsPassing passing h → steps.IsAt result.next (steps.ended result.outcome h) }
+{
+    if !passing.is_at_body() {
+        return stays(passing);
+    }
+    passing.use_answer_held();
+    if passing.is_answered_badly() {
+        return answered_badly(passing);
+    }
+    if passing.is_answered() {
+        return settles(passing);
+    }
+    if !passing.has_ended() || !passing.holds_no_answer() {
+        return stays(passing);
+    }
+    if passing.goes_to_end() {
+        return settles(passing);
+    }
+    breaks_off(passing)
+}
+
+// What came behind the answer's head is no body.
+fn answered_badly(passing: Passing) -> Turned
+    requires body { passing.phase ≡ Down.Body }
+    requires bad { is_bad passing.down.coding ≡ true }
+    ensures { (h : History) → IsPassing passing h → steps.IsAt result.next (steps.ended result.outcome h) }
+{
+    if passing.has_begun() {
+        return ends(passing);
+    }
+    left(passing.refuse_broken())
+}
+
+fn settles(passing: Passing) -> Turned
+    ensures { (h : History) → IsPassing passing h → steps.IsAt result.next (steps.ended result.outcome h) }
+{
+    let Settled { pass, ending, rest } = passing.settle();
+    Turned {
+        next: rested(rest),
+        outcome: Outcome::Posts(pass, ending),
+    }
+}
+
+fn rested(rest: Rest) -> Exchange
+    ensures { (h : History) → IsRest rest h → steps.IsAt result h }
+{
+    match rest {
+        Rest::Settling(settling) => Exchange::Settling(settling),
+        Rest::Leaving(leaving) => Exchange::Leaving(leaving),
+    }
+}
+
+/// The answer can't go on: what was handed on of it still goes out.
+pub(crate) fn ends(passing: Passing) -> Turned
+    ensures { (h : History) → IsPassing passing h → steps.IsAt result.next (steps.ended result.outcome h) }
+{
+    left(passing.end())
+}
+
+fn refused_short(passing: Passing) -> Turned
+    ensures { (h : History) → IsPassing passing h → steps.IsAt result.next (steps.ended result.outcome h) }
+{
+    if passing.has_begun() {
+        return ends(passing);
+    }
+    let Ended { pass, ending, rest } = passing.refuse(Code::Unavailable);
+    Turned {
+        next: Exchange::Leaving(rest),
+        outcome: Outcome::StarvedPosts(pass, ending),
+    }
+}
+
+fn refused_badly(passing: Passing) -> Turned
+    ensures { (h : History) → IsPassing passing h → LacksAnswer passing.view.method h.server_in → steps.IsAt result.next (steps.ended result.outcome h) }
+{
+    if passing.has_begun() {
+        return ends(passing);
+    }
+    left(passing.refuse(Code::BadGateway))
+}
+
+/// The server is silent for too long.
+pub(crate) fn refused_late(passing: Passing) -> Turned
+    ensures { (h : History) → IsPassing passing h → steps.IsAt result.next (steps.ended result.outcome (signed h Sign.ServerOver)) }
+{
+    if passing.has_begun() {
+        return ends(passing);
+    }
+    left(passing.refuse(Code::BadGateway))
+}

@@ -2,7 +2,7 @@
 
 use crate::colour::Looks;
 use crate::conducting::{Seen, conduct};
-use crate::ending::tell_end;
+use crate::ending::{Telling, tell_end};
 use crate::fault::DemoFault;
 use crate::keeping::keep_on;
 use crate::plan::VISITS;
@@ -48,7 +48,7 @@ pub(crate) fn act<
         + Threads
         + Wait
         + Sync,
->(rt: &R, stage: Stage, looks: Looks, keep: bool) -> Result<(), DemoFault> {
+>(rt: &R, stage: Stage, telling: Telling<'_>, keep: bool) -> Result<(), DemoFault> {
     let Stage {
         servers: (first, second, third),
         address,
@@ -68,7 +68,7 @@ pub(crate) fn act<
         let second = scope.spawn(move || second.run(rt, alloc, told)).ok();
         let third = scope.spawn(move || third.run(rt, alloc, told)).ok();
         let played = if first.is_some() && second.is_some() && third.is_some() {
-            play(rt, front, looks, keep)
+            play(rt, front, telling, keep)
         } else {
             Err(DemoFault::NoThread)
         };
@@ -87,13 +87,14 @@ fn play<
         + Threads
         + Wait
         + Sync,
->(rt: &R, front: Front, looks: Looks, keep: bool) -> Result<(), DemoFault> {
+>(rt: &R, front: Front, telling: Telling<'_>, keep: bool) -> Result<(), DemoFault> {
     let listener = match front.listener.try_clone() {
         Ok(listener) => listener,
         Err(error) => return Err(DemoFault::Socket(error)),
     };
+    let looks = telling.looks;
     let played = serve_visits(rt, &front, listener, looks)?;
-    let ended = tell_end(rt, &played, looks);
+    let ended = tell_end(rt, &played, telling);
     if keep {
         if let Err(fault) = &ended {
             println!(rt; "{fault}").or(Err(DemoFault::Write))?;
@@ -119,7 +120,7 @@ fn serve_visits<
     };
     let address = front.address;
     println!(rt;
-        "three servers, a, b and c, each takes one request at a time and needs some 300 ms;\nthe proxy before them is at {address}; {VISITS} requests come\n"
+        "Three servers, a, b and c: each takes one request at a time, and needs some 300 ms for it.\nBefore them the proxy, at {address}. {VISITS} requests come:\n"
     ).or(Err(DemoFault::Write))?;
     let alloc = rt.alloc();
     let record = Record::new(alloc);

@@ -3,35 +3,42 @@
 use crate::acting::Played;
 use crate::colour::{Looks, Tone};
 use crate::fault::DemoFault;
-use crate::order::{are_in_order, stayed_in};
-use crate::picture::{FILE, write_picture};
+use crate::picture::write_picture;
 use crate::plan::{VISITS, names_of};
-use crate::table::rows_in;
 use crate::words::{push_reports, push_table};
 use log_stretches::Course;
+use log_waits::{are_in_order, services_in, stays_in};
 use std::alloc::Global;
 use std::rt::Files;
+
+/// How it is told, and the file that the picture is drawn into.
+#[derive(Clone, Copy)]
+pub(crate) struct Telling<'a> {
+    pub(crate) looks: Looks,
+    pub(crate) file: &'a str,
+}
 
 /// Prints who waited how long and what the proxy reports, draws it, and says whether all went as it should.
 pub(crate) fn tell_end<R: Files + Print + AllocGlobal>(
     rt: &R,
     played: &Played,
-    looks: Looks,
+    telling: Telling<'_>,
 ) -> Result<(), DemoFault> {
     let alloc = rt.alloc();
+    let Telling { looks, file } = telling;
     let course = Course::new(alloc, played.seen.entries.as_slice())?;
     print(rt, tables_of(alloc, played, &course, looks)?.as_str())?;
     judge(alloc, played, &course)?;
     let before = looks.before(Tone::Served);
     let after = looks.after();
     let praise = format!(in alloc;
-        "\n{before}All {VISITS} were answered, and of any two that waited together the one with the smaller key (class, due date) got its slot first.{after}\n"
+        "\n{before}All {VISITS} were answered. Of any two that waited together the one with the smaller key,\nclass and then due date, got its slot first.{after}\n"
     )?;
     print(rt, praise.as_str())?;
-    write_picture(rt, course.entries(), played.reports.as_slice())?;
+    write_picture(rt, file, course.entries(), played.reports.as_slice())?;
     print(
         rt,
-        format!(in alloc; "The picture of it is in {FILE}: open it in a browser.\n")?.as_str(),
+        format!(in alloc; "{file} is the picture of it: open it in a browser.\n")?.as_str(),
     )
 }
 
@@ -49,9 +56,9 @@ fn tables_of(
     looks: Looks,
 ) -> Result<String, DemoFault> {
     let names = names_of(alloc)?;
-    let rows = rows_in(alloc, course)?;
+    let services = services_in(alloc, course)?;
     let mut text = String::new(alloc);
-    push_table(&mut text, &names, rows.as_slice(), looks)?;
+    push_table(&mut text, &names, services.as_slice(), looks)?;
     push_reports(&mut text, &names, played.reports.as_slice(), looks)?;
     Ok(text)
 }
@@ -62,7 +69,7 @@ fn judge(alloc: Global, played: &Played, course: &Course) -> Result<(), DemoFaul
     if answered < VISITS {
         return Err(DemoFault::Unanswered(answered));
     }
-    let stays = stayed_in(alloc, course)?;
+    let stays = stays_in(alloc, course)?;
     if !are_in_order(stays.as_slice()) {
         return Err(DemoFault::OutOfOrder);
     }

@@ -12,13 +12,13 @@ pub enum DemoFault {
     NoThread,
     #[error("write fault: what is printed was refused")]
     Write,
-    #[error("no socket of 127.0.0.1 is to be had: {0}")]
+    #[error("no socket of 127.0.0.1 is to be had: {0}; the demo wants some 40 open files (ulimit -n)")]
     Socket(io::Error),
     #[error("the clock can't be read: {0}")]
     Clock(io::Error),
     #[error("the proxy ended: {0}")]
     Proxy(ServeFault),
-    #[error("dueproxy-demo.svg can't be written: {0}; try again in a directory that you may write")]
+    #[error("the picture can't be written: {0}; try again in a directory that you may write")]
     Picture(io::Error),
     #[error("only {0} of 12 requests were answered in seven seconds: try again when the machine has less to do")]
     Unanswered(usize),

@@ -6,7 +6,7 @@ use crate::fault::DemoFault;
 use crate::watcher::Watcher;
 use proxy_service::Record;
 use std::alloc::Global;
-use std::net::{Net, TcpListener, TcpStream};
+use std::net::{Net, SocketAddr, TcpListener, TcpStream};
 use std::sync::Wait;
 use std::thread;
 use std::thread::Threads;
@@ -30,9 +30,7 @@ pub(crate) fn keep_on<
         listener,
         config,
     } = front;
-    println!(rt;
-        "\nThe proxy and its servers go on, and tickets count anew; Ctrl-C ends them. In another terminal, once or several times at once:\n  curl -H 'X-Class: 0' -H 'X-Due: 500' http://{address}/hello\n"
-    ).or(Err(DemoFault::Write))?;
+    invite(rt, address)?;
     let alloc = rt.alloc();
     let record = Record::new(alloc);
     let shared = &record;
@@ -49,6 +47,21 @@ pub(crate) fn keep_on<
             Err(fault) => Err(DemoFault::Proxy(fault)),
         }
     })
+}
+
+fn invite(rt: &(impl Print + AllocGlobal), address: SocketAddr) -> Result<(), DemoFault> {
+    let alloc = rt.alloc();
+    let mut text = format!(in alloc;
+        "\nProxy and servers go on, with tickets from 1 again; Ctrl-C ends them. In another terminal:\n  curl -H 'X-Class: 0' -H 'X-Due: 500' http://{address}/hello\n"
+    )?;
+    text.push_str(
+        "or six at once, of which the last one is due first:\n  for n in 1 2 3 4 5 6; do curl -s -H \"X-Due: -${n}000\" ",
+    )?;
+    writeln!(text, "http://{address}/$n & done; wait\n")?;
+    match rt.print(text.as_str()) {
+        Ok(()) => Ok(()),
+        Err(_) => Err(DemoFault::Write),
+    }
 }
 
 // Tells what comes into the log, until no more does.

@@ -10,17 +10,15 @@ use std::fs;
 use std::rt::Files;
 use trace_lines::trace_of_window;
 
-/// Where the picture is written to.
-pub(crate) const FILE: &str = "dueproxy-demo.svg";
-
-/// Draws a log and its reports, as `dueproxy draw` does, into a file of the working directory.
+/// Draws a log and its reports, as `dueproxy draw` does, into a file.
 pub(crate) fn write_picture<R: Files + AllocGlobal>(
     rt: &R,
+    file: &str,
     entries: &[Entry],
     reports: &[Report],
 ) -> Result<(), DemoFault> {
     let picture = picture_of(rt.alloc(), entries, reports)?;
-    match fs::write(rt, FILE, picture.as_str()) {
+    match fs::write(rt, file, picture.as_str()) {
         Ok(()) => Ok(()),
         Err(error) => Err(DemoFault::Picture(error)),
     }

@@ -19,62 +19,62 @@ pub(crate) static PLAN: [Visit; VISITS] = [
     Visit {
         class: 0,
         due: 600,
-        pause: 60,
+        pause: 40,
     },
     Visit {
         class: 0,
         due: 600,
-        pause: 60,
+        pause: 40,
     },
     Visit {
         class: 1,
         due: 2000,
-        pause: 60,
+        pause: 40,
     },
     Visit {
         class: 0,
-        due: 1500,
-        pause: 60,
-    },
-    Visit {
-        class: 0,
-        due: 900,
-        pause: 60,
-    },
-    Visit {
-        class: 0,
-        due: 300,
-        pause: 60,
-    },
-    Visit {
-        class: 1,
-        due: 400,
-        pause: 60,
-    },
-    Visit {
-        class: 0,
-        due: 1200,
-        pause: 60,
-    },
-    Visit {
-        class: -1,
-        due: 1000,
-        pause: 60,
-    },
-    Visit {
-        class: 0,
-        due: 200,
-        pause: 60,
-    },
-    Visit {
-        class: 1,
-        due: 100,
-        pause: 60,
+        due: 700,
+        pause: 40,
     },
     Visit {
         class: 0,
         due: 500,
-        pause: 60,
+        pause: 40,
+    },
+    Visit {
+        class: 0,
+        due: 150,
+        pause: 40,
+    },
+    Visit {
+        class: 1,
+        due: 400,
+        pause: 40,
+    },
+    Visit {
+        class: 0,
+        due: 500,
+        pause: 40,
+    },
+    Visit {
+        class: -1,
+        due: 1000,
+        pause: 40,
+    },
+    Visit {
+        class: 0,
+        due: 80,
+        pause: 40,
+    },
+    Visit {
+        class: 1,
+        due: 100,
+        pause: 40,
+    },
+    Visit {
+        class: 0,
+        due: 150,
+        pause: 40,
     },
 ];
 

@@ -1,24 +1,36 @@
-//! Times in words.
+//! Times in words: seconds, to two places.
 
+use due_key::Due;
 use std::alloc::AllocError;
 
 const SECOND: u64 = 1000;
 
 const HUNDREDTH: u64 = 10;
 
-/// Writes so many milliseconds in seconds, to two places.
+/// Writes so many milliseconds.
 pub(crate) fn push_seconds(text: &mut String, millis: u64) -> Result<(), AllocError> {
     let whole = millis / SECOND;
     let hundredths = millis % SECOND / HUNDREDTH;
     write!(text, "{whole}.{hundredths:02} s")
 }
 
-/// Writes how late something was, in milliseconds: early, where that is below 0.
+/// Writes so many milliseconds, which stand below others.
+pub(crate) fn push_moment(text: &mut String, millis: u64) -> Result<(), AllocError> {
+    let whole = millis / SECOND;
+    let hundredths = millis % SECOND / HUNDREDTH;
+    write!(text, "{whole:>3}.{hundredths:02} s")
+}
+
+/// Writes a due date, which may lie before the beginning.
+pub(crate) fn push_due(text: &mut String, due: Due) -> Result<(), AllocError> {
+    if due.get() < 0 {
+        text.push_str("-")?;
+    }
+    push_seconds(text, due.get().unsigned_abs())
+}
+
+/// Writes by how many milliseconds something was late: early, where that is below 0.
 pub(crate) fn push_lateness(text: &mut String, late: i64) -> Result<(), AllocError> {
     push_seconds(text, late.unsigned_abs())?;
-    if 0 < late {
-        write!(text, " late")
-    } else {
-        write!(text, " before it was due")
-    }
+    text.push_str(if 0 < late { " late" } else { " early" })
 }

@@ -2,6 +2,7 @@
 
 use crate::acting::act;
 use crate::colour::Looks;
+use crate::ending::Telling;
 use crate::fault::DemoFault;
 use crate::server::Server;
 use std::alloc::{AllocError, Global};
@@ -22,7 +23,7 @@ pub(crate) struct Stage {
     pub(crate) config: String,
 }
 
-/// Plays the demo: prints what happens, and what came of it, and draws it to `dueproxy-demo.svg`. Well only where each request was answered, and of any two that
+/// Plays the demo: prints what happens and what came of it, and draws it into this file. It ends well only where each request was answered, and of any two that
 /// waited together the one with the smaller key got its slot first. With `keep` proxy and servers then go on for whoever comes, without an end.
 pub fn demo<
     R: Files
@@ -33,12 +34,12 @@ pub fn demo<
         + Threads
         + Wait
         + Sync,
->(rt: &R, looks: Looks, keep: bool) -> Result<(), DemoFault> {
+>(rt: &R, looks: Looks, file: &str, keep: bool) -> Result<(), DemoFault> {
     let stage = match stage_of(rt, rt.alloc()) {
         Ok(stage) => stage,
         Err(error) => return Err(DemoFault::Socket(error)),
     };
-    act(rt, stage, looks, keep)
+    act(rt, stage, Telling { looks, file }, keep)
 }
 
 fn stage_of<R: Net<Listener = TcpListener, Stream = TcpStream>>(

@@ -1,17 +1,17 @@
 use crate::colour::{Looks, Tone};
-use crate::seconds::push_seconds;
+use crate::seconds::{push_moment, push_seconds};
 use dispatch_log::{Arrival, Entry, Queue};
 use due_key::{Key, Moment};
 use script::Names;
 use std::alloc::{AllocError, Global};
-use std::cmp::Ordering;
 
 /// A request that came and isn't over.
 #[derive(Clone, Copy)]
 struct Live {
     key: Key,
     came: Moment,
-    waits: bool,
+    /// The queue that it waits in.
+    waits: Option<Queue>,
 }
 
 /// Tells of a log, entry by entry, in a line each: who comes, who waits, and who goes next and why.
@@ -49,7 +49,7 @@ impl Teller {
             }
             Entry::Direct(ticket, server) => self.push_direct(text, ticket, server),
             Entry::Joined(ticket, queue) => self.push_joined(text, ticket, queue),
-            Entry::Granted(ticket, _, server) => self.push_granted(text, ticket, server),
+            Entry::Granted(ticket, queue, server) => self.push_granted(text, ticket, queue, server),
             Entry::Left(ticket, cause) => {
                 self.push_front(text, Tone::Wrong)?;
                 write!(
@@ -71,7 +71,7 @@ impl Teller {
         self.live.push(Live {
             key: arrival.key(),
             came: moment,
-            waits: false,
+            waits: None,
         })?;
         Ok(())
     }
@@ -93,16 +93,16 @@ impl Teller {
         ticket: u64,
         queue: Queue,
     ) -> Result<(), AllocError> {
-        self.set_waits(ticket, true);
+        self.set_waits(ticket, Some(queue));
         self.push_front(text, Tone::Waits)?;
         self.push_request(text, ticket)?;
         match queue {
-            Queue::Backend => write!(text, " waits in *: ")?,
+            Queue::Backend => text.push_str(" waits in *: ")?,
             Queue::Server(server) => write!(text, " waits for {}: ", self.names.of(server))?,
         }
         match self.count_before(ticket) {
-            0 => write!(text, "it is next")?,
-            1 => write!(text, "1 goes before it")?,
+            0 => text.push_str("it is next")?,
+            1 => text.push_str("1 goes before it")?,
             count => write!(text, "{count} go before it")?,
         }
         self.push_end(text)
@@ -112,44 +112,39 @@ impl Teller {
         &mut self,
         text: &mut String,
         ticket: u64,
+        queue: Queue,
         server: usize,
     ) -> Result<(), AllocError> {
-        self.set_waits(ticket, false);
+        self.set_waits(ticket, None);
         self.push_front(text, Tone::Next)?;
         let name = self.names.of(server);
         write!(text, "{name} is free: request {ticket} goes next, ")?;
         if let Some(live) = self.of(ticket) {
-            self.push_reason(text, live)?;
+            self.push_reason(text, live, queue)?;
         }
         self.push_end(text)
     }
 
-    // Why this request goes before the first of those that still wait.
-    fn push_reason(&self, text: &mut String, live: Live) -> Result<(), AllocError> {
-        let Some(other) = self.first_waiting() else {
-            return write!(text, "nobody else waits");
+    // Why this request goes before the first of those that still wait in its queue.
+    fn push_reason(&self, text: &mut String, live: Live, queue: Queue) -> Result<(), AllocError> {
+        let Some(other) = self.first_in(queue) else {
+            return text.push_str("nobody else waits there");
         };
         let ticket = other.key.ticket;
         let class = live.key.class;
-        match class.cmp(&other.key.class) {
-            Ordering::Equal => {}
-            _ => {
-                let after = other.key.class;
-                return write!(
-                    text,
-                    "class {class} goes before class {after} of request {ticket}"
-                );
-            }
+        let after = other.key.class;
+        if class != after {
+            return write!(
+                text,
+                "class {class} goes before class {after} of request {ticket}"
+            );
         }
-        let sooner = live
-            .key
-            .due
-            .lateness(self.now)
-            .saturating_sub(other.key.due.lateness(self.now));
+        let late = live.key.due.lateness(self.now);
+        let sooner = late.saturating_sub(other.key.due.lateness(self.now));
         if sooner == 0 {
             return write!(text, "due with request {ticket}, and came before it");
         }
-        write!(text, "due ")?;
+        text.push_str("due ")?;
         push_seconds(text, sooner.unsigned_abs())?;
         write!(text, " before request {ticket}")
     }
@@ -164,19 +159,18 @@ impl Teller {
         let late = live.key.due.lateness(live.came);
         write!(text, " (class {class}, due ")?;
         if late <= 0 {
-            write!(text, "in ")?;
+            text.push_str("in ")?;
         }
         push_seconds(text, late.unsigned_abs())?;
         if 0 < late {
-            write!(text, " before it came")?;
+            text.push_str(" before it came")?;
         }
-        write!(text, ")")
+        text.push_str(")")
     }
 
     fn push_front(&self, text: &mut String, tone: Tone) -> Result<(), AllocError> {
         let colour = self.looks.before(tone);
-        write!(text, "  ")?;
-        push_seconds(text, self.now.get())?;
+        push_moment(text, self.now.get())?;
         write!(text, "  {colour}")
     }
 
@@ -192,7 +186,7 @@ impl Teller {
             .copied()
     }
 
-    fn set_waits(&mut self, ticket: u64, waits: bool) {
+    fn set_waits(&mut self, ticket: u64, waits: Option<Queue>) {
         for live in self.live.iter_mut() {
             if live.key.ticket == ticket {
                 live.waits = waits;
@@ -200,21 +194,21 @@ impl Teller {
         }
     }
 
-    // How many wait and go before it.
+    // How many wait where it waits, and go before it.
     fn count_before(&self, ticket: u64) -> usize {
         let Some(it) = self.of(ticket) else {
             return 0;
         };
         self.live
             .iter()
-            .filter(|live| live.waits && live.key < it.key)
+            .filter(|live| live.waits.is_some() && live.waits == it.waits && live.key < it.key)
             .count()
     }
 
-    fn first_waiting(&self) -> Option<Live> {
+    fn first_in(&self, queue: Queue) -> Option<Live> {
         self.live
             .iter()
-            .filter(|live| live.waits)
+            .filter(|live| live.waits == Some(queue))
             .min_by_key(|live| live.key)
             .copied()
     }

@@ -1,11 +1,14 @@
 //! `dueproxy demo`.
 
-use demo::{Looks, demo};
+use demo::{DemoFault, Looks, demo};
 use std::net::{Net, TcpListener, TcpStream};
 use std::rt::Files;
 use std::sync::Wait;
 use std::thread::Threads;
 use std::time::Clock;
+
+/// Where the picture is drawn.
+const FILE: &str = "dueproxy-demo.svg";
 
 /// Plays the demo, and answers the status: 1 where it didn't go well.
 pub(crate) fn show<
@@ -19,11 +22,13 @@ pub(crate) fn show<
         + Wait
         + Sync,
 >(rt: &R, looks: Looks, keep: bool) -> u8 {
-    match demo(rt, looks, keep) {
-        Ok(()) => 0,
-        Err(fault) => {
-            let _ = rt.eprintln(fault);
-            1
-        }
+    let Err(fault) = demo(rt, looks, FILE, keep) else {
+        return 0;
+    };
+    if let DemoFault::Picture(_) = fault {
+        let _ = rt.eprint(FILE);
+        let _ = rt.eprint(": ");
     }
+    let _ = rt.eprintln(fault);
+    1
 }

@@ -1,16 +1,16 @@
-//! Who waited how long.
+//! When requests came and when they got their slots.
 
 ghost use Rattle.std.specs.Prelude.{◌≡◌, IfOk, filter_map};
-ghost use Rattle.demo.specs.Rows.{row_in};
+ghost use Rattle.log_waits.specs.Services.{service_in};
 ghost use Rattle.log_stretches.specs.Stretches.{stretches_of};
 
 use due_key::{Class, Due, Moment};
 use log_stretches::{Course, Lane, Stretch};
 use std::alloc::{AllocError, Global};
 
-/// A request that got a slot.
+/// A request that got a slot, as it came.
 #[derive(Clone, Copy, Debug, PartialEq, Eq)]
-pub struct Row {
+pub struct Served {
     pub ticket: u64,
     pub class: Class,
     pub due: Due,
@@ -20,28 +20,25 @@ pub struct Row {
     pub server: usize,
 }
 
-/// A row for each slot that a request of a log got, in the order in which they got them.
-pub fn rows_in(alloc: Global, course: &Course) -> Result<Vec<Row>, AllocError>
-    ensures { IfOk result (λ rows. rows.items ≡ filter_map (row_in course.now) (stretches_of course.now)) }
+/// The requests of a log that got a slot, in the order in which they got them; one that got two stands there twice.
+pub fn services_in(alloc: Global, course: &Course) -> Result<Vec<Served>, AllocError>
+    ensures { IfOk result (λ services. services.items ≡ filter_map (service_in course.now) (stretches_of course.now)) }
 {
-    let stretches = course.stretches();
-    let mut rows = Vec::new(alloc);
-    for stretch in stretches {
-        if let Some(row) = row_in(course, stretch) {
-            rows.push(row)?;
-        }
-    }
-    Ok(rows)
+    course
+        .stretches()
+        .iter()
+        .filter_map(|stretch| service_in(course, stretch))
+        .collect(alloc)
 }
 
-fn row_in(course: &Course, stretch: &Stretch) -> Option<Row>
-    ensures { result ≡ row_in course.now stretch.now }
+fn service_in(course: &Course, stretch: &Stretch) -> Option<Served>
+    ensures { result ≡ service_in course.now stretch.now }
 {
     let Lane::Server(server) = stretch.lane else {
         return None;
     };
     let came = course.arrival(stretch.ticket)?;
-    Some(Row {
+    Some(Served {
         ticket: stretch.ticket,
         class: came.arrival.class,
         due: came.arrival.due,

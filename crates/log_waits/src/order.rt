@@ -1,7 +1,8 @@
 //! Whether those that wait together get their slots in the order of their keys.
 
 ghost use Rattle.std.specs.Prelude.{◌≡◌, ◌↔◌, All, IfOk, IsTrue, filter_map};
-ghost use Rattle.demo.specs.Orders.{stay_in, KeepOrder, AreInOrder};
+ghost use Rattle.log_waits.specs.Orders.{stay_in, WaitedTogether, KeepOrder, AreInOrder};
+ghost use Rattle.due_key.specs.Order.{ComesBefore};
 ghost use Rattle.log_stretches.specs.Stretches.{stretches_of};
 
 use dispatch_log::Queue;
@@ -21,17 +22,14 @@ pub struct Stayed {
 }
 
 /// The waits of a log that are over, in the order in which they began.
-pub fn stayed_in(alloc: Global, course: &Course) -> Result<Vec<Stayed>, AllocError>
+pub fn stays_in(alloc: Global, course: &Course) -> Result<Vec<Stayed>, AllocError>
     ensures { IfOk result (λ stays. stays.items ≡ filter_map (stay_in course.now) (stretches_of course.now)) }
 {
-    let stretches = course.stretches();
-    let mut stays = Vec::new(alloc);
-    for stretch in stretches {
-        if let Some(stay) = stay_in(course, stretch) {
-            stays.push(stay)?;
-        }
-    }
-    Ok(stays)
+    course
+        .stretches()
+        .iter()
+        .filter_map(|stretch| stay_in(course, stretch))
+        .collect(alloc)
 }
 
 fn stay_in(course: &Course, stretch: &Stretch) -> Option<Stayed>
@@ -65,8 +63,17 @@ fn keeps_order_with(stay: &Stayed, others: &[Stayed]) -> bool
 fn keep_order(stay: &Stayed, other: &Stayed) -> bool
     ensures { IsTrue result ↔ KeepOrder stay.now other.now }
 {
-    let together = stay.queue == other.queue
-        && stay.joined < other.left
-        && other.joined < stay.left;
-    !together || other.key <= stay.key || stay.left < other.left
+    !waited_together(stay, other) || !comes_before(stay.key, other.key) || stay.left < other.left
+}
+
+fn waited_together(stay: &Stayed, other: &Stayed) -> bool
+    ensures { IsTrue result ↔ WaitedTogether stay.now other.now }
+{
+    stay.queue == other.queue && stay.joined < other.left && other.joined < stay.left
+}
+
+fn comes_before(key: Key, other: Key) -> bool
+    ensures { IsTrue result ↔ ComesBefore key other }
+{
+    key < other
 }

@@ -1,5 +1,5 @@
 -- Whether those that wait together get their slots in the order of their keys.
-use Rattle.std.specs.Prelude.{◌≡◌, ◌<◌, ℕ, List, Option, None, All}
+use Rattle.std.specs.Prelude.{◌≡◌, ◌<◌, List, Option, None, All}
 use Rattle.std.specs.Option.{option_map, option_and_then}
 use Rattle.dispatch_log.specs.declared.entry.Entry.{Entry}
 use Rattle.dispatch_log.specs.States.{key_of}
@@ -8,7 +8,7 @@ use Rattle.log_stretches.specs.declared.stretch.Stretch.{Stretch}
 use Rattle.log_stretches.specs.declared.stretch.Lane.{Lane}
 use Rattle.log_stretches.specs.declared.stretch.Lane.TheVariants.{Queue, Server}
 use Rattle.log_stretches.specs.Courses.{came_in}
-use Rattle.demo.specs.declared.order.Stayed.{Stayed}
+use Rattle.log_waits.specs.declared.order.Stayed.{Stayed}
 
 -- the stay of a request in a queue, where it came and its stay is over
 abbrev pub stay_at : List Entry → Stretch → Lane → Option Stayed

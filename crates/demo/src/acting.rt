@@ -94,14 +94,11 @@ fn play<
     };
     let looks = telling.looks;
     let played = serve_visits(rt, &front, listener, looks)?;
-    let ended = tell_end(rt, &played, telling);
+    tell_end(rt, &played, telling)?;
     if keep {
-        if let Err(fault) = &ended {
-            println!(rt; "{fault}").or(Err(DemoFault::Write))?;
-        }
         return keep_on(rt, front, looks);
     }
-    ended
+    Ok(())
 }
 
 // The clients connect before the proxy begins, so that as many come as it counts, whatever becomes of them.

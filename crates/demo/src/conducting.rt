@@ -2,7 +2,7 @@
 
 use crate::colour::Looks;
 use crate::fault::DemoFault;
-use crate::plan::{PLAN, VISITS, request_of};
+use crate::plan::{GAP, PLAN, VISITS, request_of};
 use crate::watcher::Watcher;
 use dispatch_log::Entry;
 use proxy_service::Record;
@@ -99,7 +99,7 @@ impl<R: Clock + Print + Wait> Conductor<'_, R> {
         // Where it can't be written, it doesn't come, and isn't answered.
         let _ = client.write_all(request.as_bytes());
         self.wait_for(Awaited::Came(count))?;
-        let until = self.passed().saturating_add(visit.pause);
+        let until = self.passed().saturating_add(GAP);
         self.wait_for(Awaited::Passed(until))
     }
 

@@ -3,79 +3,39 @@
 use script::Names;
 use std::alloc::{AllocError, Global};
 
-/// A request: its class, how many milliseconds after it came it is due, and after how many the next one comes.
+/// A request: its class, and how many milliseconds after it came it is due.
 pub(crate) struct Visit {
     class: i32,
     due: i32,
-    pub(crate) pause: u64,
 }
 
 /// So many there are.
 pub(crate) const VISITS: usize = 12;
 
-/// More than three servers can take at once: some that are due soon come behind others that aren't, two come in a class that goes last, and one in a class
-/// that goes first.
+/// The next one comes so many milliseconds later.
+pub(crate) const GAP: u64 = 40;
+
+/// More than three servers can take at once: some that are due soon come behind others that aren't, two wait in a class that goes last, and one in a class that goes
+/// first.
 pub(crate) static PLAN: [Visit; VISITS] = [
-    Visit {
-        class: 0,
-        due: 600,
-        pause: 40,
-    },
-    Visit {
-        class: 0,
-        due: 600,
-        pause: 40,
-    },
+    Visit { class: 0, due: 600 },
+    Visit { class: 0, due: 600 },
     Visit {
         class: 1,
         due: 2000,
-        pause: 40,
     },
-    Visit {
-        class: 0,
-        due: 700,
-        pause: 40,
-    },
-    Visit {
-        class: 0,
-        due: 500,
-        pause: 40,
-    },
-    Visit {
-        class: 0,
-        due: 150,
-        pause: 40,
-    },
-    Visit {
-        class: 1,
-        due: 400,
-        pause: 40,
-    },
-    Visit {
-        class: 0,
-        due: 500,
-        pause: 40,
-    },
+    Visit { class: 0, due: 700 },
+    Visit { class: 0, due: 500 },
+    Visit { class: 0, due: 150 },
+    Visit { class: 1, due: 400 },
+    Visit { class: 0, due: 500 },
     Visit {
         class: -1,
         due: 1000,
-        pause: 40,
     },
-    Visit {
-        class: 0,
-        due: 80,
-        pause: 40,
-    },
-    Visit {
-        class: 1,
-        due: 100,
-        pause: 40,
-    },
-    Visit {
-        class: 0,
-        due: 150,
-        pause: 40,
-    },
+    Visit { class: 0, due: 80 },
+    Visit { class: 1, due: 100 },
+    Visit { class: 0, due: 150 },
 ];
 
 /// The bytes of a request; its path is its number.

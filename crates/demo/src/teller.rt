@@ -119,28 +119,29 @@ impl Teller {
         self.push_front(text, Tone::Next)?;
         let name = self.names.of(server);
         write!(text, "{name} is free: request {ticket} goes next, ")?;
-        if let Some(live) = self.of(ticket) {
-            self.push_reason(text, live, queue)?;
+        match (self.of(ticket), self.first_in(queue)) {
+            (Some(live), Some(other)) => self.push_reason(text, live.key, other)?,
+            _ => text.push_str("nobody else waits there")?,
         }
         self.push_end(text)
     }
 
-    // Why this request goes before the first of those that still wait in its queue.
-    fn push_reason(&self, text: &mut String, live: Live, queue: Queue) -> Result<(), AllocError> {
-        let Some(other) = self.first_in(queue) else {
-            return text.push_str("nobody else waits there");
-        };
-        let ticket = other.key.ticket;
-        let class = live.key.class;
-        let after = other.key.class;
-        if class != after {
+    // Why a request with this key goes before the first of those that still wait in its queue.
+    fn push_reason(&self, text: &mut String, key: Key, other: Key) -> Result<(), AllocError> {
+        let Key { class, due, .. } = key;
+        let Key {
+            class: other_class,
+            due: other_due,
+            ticket,
+        } = other;
+        if class != other_class {
             return write!(
                 text,
-                "class {class} goes before class {after} of request {ticket}"
+                "class {class} goes before class {other_class} of request {ticket}"
             );
         }
-        let late = live.key.due.lateness(self.now);
-        let sooner = late.saturating_sub(other.key.due.lateness(self.now));
+        let late = due.lateness(self.now);
+        let sooner = late.saturating_sub(other_due.lateness(self.now));
         if sooner == 0 {
             return write!(text, "due with request {ticket}, and came before it");
         }
@@ -205,11 +206,11 @@ impl Teller {
             .count()
     }
 
-    fn first_in(&self, queue: Queue) -> Option<Live> {
+    fn first_in(&self, queue: Queue) -> Option<Key> {
         self.live
             .iter()
             .filter(|live| live.waits == Some(queue))
-            .min_by_key(|live| live.key)
-            .copied()
+            .map(|live| live.key)
+            .min()
     }
 }

@@ -1,24 +1,22 @@
-//! Times in words: seconds, to two places.
+//! Times in words: seconds, to three places.
 
 use due_key::Due;
 use std::alloc::AllocError;
 
 const SECOND: u64 = 1000;
 
-const HUNDREDTH: u64 = 10;
-
 /// Writes so many milliseconds.
 pub(crate) fn push_seconds(text: &mut String, millis: u64) -> Result<(), AllocError> {
     let whole = millis / SECOND;
-    let hundredths = millis % SECOND / HUNDREDTH;
-    write!(text, "{whole}.{hundredths:02} s")
+    let part = millis % SECOND;
+    write!(text, "{whole}.{part:03} s")
 }
 
 /// Writes so many milliseconds, which stand below others.
 pub(crate) fn push_moment(text: &mut String, millis: u64) -> Result<(), AllocError> {
     let whole = millis / SECOND;
-    let hundredths = millis % SECOND / HUNDREDTH;
-    write!(text, "{whole:>3}.{hundredths:02} s")
+    let part = millis % SECOND;
+    write!(text, "{whole:>3}.{part:03} s")
 }
 
 /// Writes a due date, which may lie before the beginning.

@@ -71,19 +71,18 @@ fn each_decision_has_its_line(rt: HostRuntime) {
     let text = told(&rt, rt.alloc(), &entries, Looks::Plain);
     assert_eq!(rt;
         text.as_str(),
-        "\
-  0.00 s  request 1 (class 0, due in 0.60 s) comes: a is free and takes it
-  0.10 s  request 2 (class 0, due in 1.50 s) waits in *: it is next
-  0.15 s  request 3 (class 1, due in 0.00 s) waits for b: it is next
-  0.20 s  request 4 (class 0, due 0.30 s before it came) waits in *: it is next
-  0.30 s  a is free: request 4 goes next, due 1.70 s before request 2
-  0.40 s  request 5 (class -1, due in 0.00 s) waits in *: it is next
-  0.50 s  request 6 (class 0, due in 1.10 s) waits in *: 2 go before it
-  0.50 s  a is free: request 5 goes next, class -1 goes before class 0 of request 2
-  0.50 s  a is free: request 2 goes next, due with request 6, and came before it
- 12.34 s  a is free: request 6 goes next, nobody else waits there
- 12.34 s  b is free: request 3 goes next, nobody else waits there
- 12.34 s  request 3 is told that it isn't served: timeout
+        "  0.000 s  request 1 (class 0, due in 0.600 s) comes: a is free and takes it
+  0.100 s  request 2 (class 0, due in 1.500 s) waits in *: it is next
+  0.150 s  request 3 (class 1, due in 0.005 s) waits for b: it is next
+  0.200 s  request 4 (class 0, due 0.300 s before it came) waits in *: it is next
+  0.300 s  a is free: request 4 goes next, due 1.700 s before request 2
+  0.400 s  request 5 (class -1, due in 0.000 s) waits in *: it is next
+  0.500 s  request 6 (class 0, due in 1.100 s) waits in *: 2 go before it
+  0.500 s  a is free: request 5 goes next, class -1 goes before class 0 of request 2
+  0.500 s  a is free: request 2 goes next, due with request 6, and came before it
+ 12.345 s  a is free: request 6 goes next, nobody else waits there
+ 12.345 s  b is free: request 3 goes next, nobody else waits there
+ 12.345 s  request 3 is told that it isn't served: timeout
 "
     );
 }
@@ -94,6 +93,6 @@ fn colours_stand_round_what_happened(rt: HostRuntime) {
     let text = told(&rt, rt.alloc(), &entries, Looks::Coloured);
     assert_eq!(rt;
         text.as_str(),
-        "  0.00 s  \x1b[32mrequest 1 (class 0, due in 0.60 s) comes: b is free and takes it\x1b[0m\n"
+        "  0.000 s  \x1b[32mrequest 1 (class 0, due in 0.600 s) comes: b is free and takes it\x1b[0m\n"
     );
 }

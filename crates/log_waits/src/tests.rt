@@ -9,45 +9,53 @@ const HERE: Queue = Queue::Backend;
 
 const THERE: Queue = Queue::Server(0);
 
-static ROWS: [(&str, [Stay; 2], bool); 8] = [
+static ROWS: [(&str, Stay, Stay, bool); 8] = [
     (
         "due earlier, left earlier",
-        [(0, 9, 1, HERE, 1, 6), (0, 5, 2, HERE, 2, 5)],
+        (0, 9, 1, HERE, 1, 6),
+        (0, 5, 2, HERE, 2, 5),
         true,
     ),
     (
         "due earlier, left later",
-        [(0, 9, 1, HERE, 1, 5), (0, 5, 2, HERE, 2, 6)],
+        (0, 9, 1, HERE, 1, 5),
+        (0, 5, 2, HERE, 2, 6),
         false,
     ),
     (
         "of a lower class, left later",
-        [(1, 5, 1, HERE, 1, 5), (0, 9, 2, HERE, 2, 6)],
+        (1, 5, 1, HERE, 1, 5),
+        (0, 9, 2, HERE, 2, 6),
         false,
     ),
     (
         "of a higher class, left later",
-        [(0, 9, 1, HERE, 1, 5), (1, 5, 2, HERE, 2, 6)],
+        (0, 9, 1, HERE, 1, 5),
+        (1, 5, 2, HERE, 2, 6),
         true,
     ),
     (
         "due together, the first one left later",
-        [(0, 5, 1, HERE, 1, 6), (0, 5, 2, HERE, 2, 5)],
+        (0, 5, 1, HERE, 1, 6),
+        (0, 5, 2, HERE, 2, 5),
         false,
     ),
     (
         "one left as the other joined",
-        [(0, 9, 1, HERE, 1, 4), (0, 5, 2, HERE, 4, 6)],
+        (0, 9, 1, HERE, 1, 4),
+        (0, 5, 2, HERE, 4, 6),
         true,
     ),
     (
         "they overlap by an entry",
-        [(0, 9, 1, HERE, 1, 5), (0, 5, 2, HERE, 4, 6)],
+        (0, 9, 1, HERE, 1, 5),
+        (0, 5, 2, HERE, 4, 6),
         false,
     ),
     (
         "in two queues",
-        [(0, 9, 1, HERE, 1, 5), (0, 5, 2, THERE, 2, 6)],
+        (0, 9, 1, HERE, 1, 5),
+        (0, 5, 2, THERE, 2, 6),
         true,
     ),
 ];
@@ -69,9 +77,9 @@ fn stayed(stay: Stay) -> Stayed {
 
 #[test]
 fn of_two_that_wait_together_the_smaller_key_leaves_first(rt: HostRuntime) {
-    for (name, [one, other], answer) in &ROWS {
-        let stays = [stayed(*one), stayed(*other)];
-        assert_eq!(rt; are_in_order(&stays), *answer, "{name}");
+    for &(name, one, other, answer) in &ROWS {
+        let stays = [stayed(one), stayed(other)];
+        assert_eq!(rt; are_in_order(&stays), answer, "{name}");
     }
     assert!(rt; are_in_order(&[]));
 }

@@ -18,6 +18,8 @@ pub enum Asked {
     /// Serve as the configuration in the file of this name says, with so many of each.
     Run(String, Numbers),
     Replay,
+    /// Show the proxy at work; whether it then goes on.
+    Demo(bool),
     /// Look at the configuration in the file of this name.
     Check(String),
     /// The same, with every faulty line and what takes its place.
@@ -62,6 +64,7 @@ fn asked_of(rt: &(impl Eprint + AllocGlobal), name: &str, words: &ArgMatches) ->
     match name {
         "run" => run_of(rt, words),
         "replay" => Asked::Replay,
+        "demo" => Asked::Demo(words.get_flag("keep")),
         "check" => check_of(rt, words),
         "draw" => draw_of(rt, words),
         "explain" => tell_of(rt, words),

@@ -8,13 +8,16 @@ ghost use Rattle.std.specs.Prelude.{◌≡◌};
 ghost use Rattle.replay.specs.Statuses.{status_of};
 
 mod serve;
+mod show;
 
 use command_words::{Asked, Only, ask};
 use config_check::{check, check_in_full};
+use demo::Looks;
 use replay::{Fault, replay, status_of};
 use serve::serve_file;
+use show::show;
 use std::env;
-use std::io::{Read, Write};
+use std::io::{IsTerminal, Read, Write};
 use std::process::ExitCode;
 use trace_views::{DrawFault, TellFault, draw, tell};
 
@@ -30,6 +33,7 @@ fn main(rt: HostRuntime) -> ExitCode {
     };
     let status = match ask(&rt, &words) {
         Asked::Run(file, numbers) => serve_file(&rt, &file, numbers),
+        Asked::Demo(keep) => show(&rt, looks_of(&rt), keep),
         Asked::Replay => replay_streams(&rt, &mut rt.stdin(), &mut rt.stdout()),
         Asked::Check(file) => check(&rt, &file),
         Asked::Explain(file) => check_in_full(&rt, &file),
@@ -38,6 +42,19 @@ fn main(rt: HostRuntime) -> ExitCode {
         Asked::Nothing(status) => status,
     };
     ExitCode::from(status)
+}
+
+// Colours, where standard output is a terminal and the user didn't refuse them.
+fn looks_of(rt: &HostRuntime) -> Looks {
+    let refused = match env::var(rt, "NO_COLOR") {
+        Ok(word) => !word.is_empty(),
+        Err(_) => false,
+    };
+    if rt.stdout().is_terminal() && !refused {
+        Looks::Coloured
+    } else {
+        Looks::Plain
+    }
 }
 
 // Replays the script of a stream onto another, and answers the status.

@@ -1,4 +1,4 @@
-ghost use Rattle.std.specs.Prelude.{◌≡◌, ◌<◌, ◌↔◌, [], length, IfSome, IfNone, IfOk, IfErr, OnOk, OnErr, IsTrue, Some, pos, ◌+ℤ◌, true};
+ghost use Rattle.std.specs.Prelude.{◌≡◌, ◌<◌, ◌↔◌, [], length, drop, IfSome, IfNone, IfOk, IfErr, OnOk, OnErr, IsTrue, Some, pos, ◌+ℤ◌, true};
 ghost use Rattle.std.specs.Sync.Mutex.{mutex_guard_value};
 ghost use Rattle.dispatch_log.specs.declared.entry.Entry.TheVariants.{Arrive, Abort, Tick, Check, Limit};
 ghost use Rattle.dispatch_log.specs.declared.refusal.Refusal.TheVariants.{LogFull};
@@ -21,7 +21,7 @@ ghost use Rattle.outstanding.specs.Turns.{Turns, VisitsSome};
 
 use binom_queue::BinomQueue;
 use dispatch_core::Core;
-use dispatch_log::{Intake, Queue, Refusal};
+use dispatch_log::{Entry, Intake, Queue, Refusal};
 use dispatch_trace::Ticketed;
 use due_key::{Class, Key, Moment};
 use grant_board::{Board, BoardName, Closing, KeeperSeat, RelaySeat, Return};
@@ -195,6 +195,18 @@ impl<N: BoardName> Desk<N> {
         ensures { IfOk result (λ lines. SomeHeld N.terms (λ held. AreLines held.history lines.items)) }
     {
         self.enter(rt).servers(alloc)
+    }
+
+    /// The entries of the present window after the first so many. Fails only where memory is refused.
+    pub fn entries_after<R: Wait>(
+        &self,
+        rt: &R,
+        alloc: Global,
+        count: usize,
+    ) -> Result<Vec<Entry>, AllocError>
+        ensures { IfOk result (λ entries. SomeHeld N.terms (λ held. entries.items ≡ drop count held.history.log)) }
+    {
+        self.enter(rt).entries_after(alloc, count)
     }
 
     /// The greatest lateness of a queue and class in the present window, in milliseconds; `None` only where none of them was granted a slot.

@@ -1,4 +1,4 @@
-ghost use Rattle.std.specs.Prelude.{◌≡◌, ℕ, ◌+◌, ◌*◌, ◌<◌, ◌≤◌, ◌↔◌, List, [], length, IfSome, IfNone, IfOk, IfErr, OnOk, OnErr, IsTrue, Some, pos, ◌+ℤ◌};
+ghost use Rattle.std.specs.Prelude.{◌≡◌, ℕ, ◌+◌, ◌*◌, ◌<◌, ◌≤◌, ◌↔◌, List, [], length, drop, IfSome, IfNone, IfOk, IfErr, OnOk, OnErr, IsTrue, Some, pos, ◌+ℤ◌};
 ghost use Rattle.dispatch_log.specs.declared.entry.Entry.TheVariants.{Arrive, Abort, Tick, Check, Limit};
 ghost use Rattle.dispatch_log.specs.declared.refusal.Refusal.TheVariants.{LogFull};
 ghost use Rattle.dispatch_log.specs.Rows.{served};
@@ -21,7 +21,7 @@ ghost use Rattle.outstanding.specs.Calls.{event_of, CarriesOut, TakesBack, SetsB
 use crate::keeping::Keeping;
 use crate::offering::offer_from;
 use dispatch_core::Core;
-use dispatch_log::{Intake, Queue, Refusal};
+use dispatch_log::{Entry, Intake, Queue, Refusal};
 use dispatch_trace::Ticketed;
 use due_key::{Class, Key, Moment, Offset};
 use grant_board::{Board, BoardName, KeeperSeat, RelaySeat, Return};
@@ -245,6 +245,15 @@ impl<Q: PendQueue<Key, usize>, N: BoardName> Book<Q, N> {
         ensures { IfOk result (λ lines. AreLines self.now.history lines.items) }
     {
         self.core.servers(alloc)
+    }
+
+    /// The entries of the present window after the first so many. `O(1)` for each; fails only where memory is refused.
+    pub fn entries_after(&self, alloc: Global, count: usize) -> Result<Vec<Entry>, AllocError>
+        ensures { IfOk result (λ entries. entries.items ≡ drop count self.now.history.log) }
+    {
+        let entries = self.core.log().entries();
+        let count = count.min(entries.len());
+        Vec::from_slice(alloc, &entries[count..])
     }
 
     /// The greatest lateness of a queue and class in the present window, in milliseconds; `None` only where none of them was granted a slot.

@@ -6,9 +6,13 @@ mod fault;
 mod opening;
 mod parts;
 mod preparing;
+mod record;
+mod recording;
 mod serving;
 mod sharing;
 mod telling;
 
 pub use fault::ServeFault;
+pub use record::Record;
+pub use recording::serve_recorded;
 pub use serving::{listen_and_serve, serve_at};

@@ -17,6 +17,7 @@ use relay_loops::serve;
 use relay_workers::Proxy;
 use run_sizes::Sizes;
 use socket_gate::Front;
+use std::alloc::Global;
 use std::marker::Brand;
 use std::net::{Net, TcpListener, TcpStream};
 use std::sync::Wait;
@@ -74,18 +75,7 @@ fn serve_on<
     requires parts { (setup : Setup) × AreNew setup parts × (N.terms ≡ terms_of setup) × (setup.places ≡ crew.threads.places) }
 {
     let alloc = rt.alloc();
-    let Parts {
-        core,
-        running,
-        board,
-        keeper,
-        relay,
-    } = parts;
-    let proxy: Proxy<N> = Proxy {
-        alloc,
-        desk: Desk::new(core, board, keeper, running),
-        config,
-    };
+    let (proxy, relay) = proxy_of::<N>(alloc, config, parts);
     let front = front_of(alloc, rt, &proxy.config, listener, crew.requests)?;
     let ended = serve_clients(rt, &proxy, &front, relay, crew.threads);
     let Front { names, told, .. } = front;
@@ -93,8 +83,35 @@ fn serve_on<
     ended
 }
 
-// Until no more clients come.
-fn serve_clients<
+/// A proxy that did nothing so far, of these parts, and the seat of its relays.
+pub(crate) fn proxy_of<N: BoardName>(
+    alloc: Global,
+    config: Config,
+    parts: Parts,
+) -> (Proxy<N>, RelaySeat)
+    requires named { parts.board ≡ N.board }
+    requires parts { (setup : Setup) × AreNew setup parts × (N.terms ≡ terms_of setup) }
+    ensures named { (result.1.board ≡ N.board) × (result.1.view.terms ≡ N.terms) }
+    ensures first { result.1.view.first ≡ true }
+    ensures idle { result.1.view.passes ≡ [] }
+{
+    let Parts {
+        core,
+        running,
+        board,
+        keeper,
+        relay,
+    } = parts;
+    let proxy = Proxy {
+        alloc,
+        desk: Desk::new(core, board, keeper, running),
+        config,
+    };
+    (proxy, relay)
+}
+
+/// Until no more clients come.
+pub(crate) fn serve_clients<
     N: BoardName + Send + Sync,
     R: Net<Listener = TcpListener, Stream = TcpStream> + Clock + Print + Threads + Wait + Sync,
 >(

@@ -1,0 +1,43 @@
+/// Whether what is printed has colours.
+#[derive(Clone, Copy, Debug, PartialEq, Eq)]
+pub enum Looks {
+    Plain,
+    Coloured,
+}
+
+/// What a line tells of, which its colour shows.
+#[derive(Clone, Copy, Debug, PartialEq, Eq)]
+pub(crate) enum Tone {
+    /// A request is served at once.
+    Served,
+    /// A request waits.
+    Waits,
+    /// A request goes next.
+    Next,
+    /// Something went wrong.
+    Wrong,
+    /// What stands above other lines.
+    Title,
+}
+
+impl Looks {
+    /// What stands before a text of this tone.
+    pub(crate) fn before(self, tone: Tone) -> &'static str {
+        match (self, tone) {
+            (Looks::Plain, _) => "",
+            (Looks::Coloured, Tone::Served) => "\x1b[32m",
+            (Looks::Coloured, Tone::Waits) => "\x1b[33m",
+            (Looks::Coloured, Tone::Next) => "\x1b[1;36m",
+            (Looks::Coloured, Tone::Wrong) => "\x1b[1;31m",
+            (Looks::Coloured, Tone::Title) => "\x1b[1m",
+        }
+    }
+
+    /// What stands behind it.
+    pub(crate) fn after(self) -> &'static str {
+        match self {
+            Looks::Plain => "",
+            Looks::Coloured => "\x1b[0m",
+        }
+    }
+}

@@ -1,0 +1,163 @@
+//! The twelve clients, one after the other, and what is told meanwhile.
+
+use crate::colour::Looks;
+use crate::fault::DemoFault;
+use crate::plan::{GAP, PLAN, VISITS, request_of};
+use crate::watcher::Watcher;
+use dispatch_log::Entry;
+use proxy_service::Record;
+use std::alloc::Global;
+use std::io::{Read, Write};
+use std::net::TcpStream;
+use std::sync::Wait;
+use std::thread;
+use std::time::{Clock, Duration, Instant};
+
+/// The log is looked at whenever so many milliseconds have passed, and at most so often.
+const PAUSE: u64 = 5;
+
+const LOOKS: u64 = 2000;
+
+/// So many milliseconds all may take.
+const MOST: u64 = 7000;
+
+/// An answer is waited for so many milliseconds. It is there as soon as its request is over.
+const PATIENCE: u64 = 200;
+
+/// An answer begins so where the request was served.
+const SERVED: &[u8] = b"HTTP/1.1 200 ";
+
+/// The log, and how many requests were answered.
+#[derive(Drop)]
+pub(crate) struct Seen {
+    pub(crate) entries: Vec<Entry>,
+    pub(crate) answered: usize,
+}
+
+/// What is waited for.
+#[derive(Clone, Copy)]
+enum Awaited {
+    /// So many requests came.
+    Came(usize),
+    /// So many requests are over.
+    Ended(usize),
+    /// So many milliseconds have passed.
+    Passed(u64),
+}
+
+/// What was seen since the beginning.
+#[derive(Drop)]
+struct Conductor<'a, R> {
+    rt: &'a R,
+    watcher: Watcher<'a, R>,
+    start: Instant,
+    entries: Vec<Entry>,
+}
+
+/// Sends one request after the other, each once the log has the one before, and tells what comes into the log until all are over. A request that is never over is
+/// left alone in the end.
+pub(crate) fn conduct<R: Clock + Print + Wait>(
+    rt: &R,
+    alloc: Global,
+    record: &Record,
+    clients: Vec<TcpStream>,
+    looks: Looks,
+) -> Result<Seen, DemoFault> {
+    let mut clients = clients;
+    let start = match Instant::now(rt) {
+        Ok(start) => start,
+        Err(error) => return Err(DemoFault::Clock(error)),
+    };
+    let mut conductor = Conductor {
+        rt,
+        watcher: Watcher::new(rt, alloc, record, looks)?,
+        start,
+        entries: Vec::new(alloc),
+    };
+    for (number, client) in clients.iter_mut().enumerate() {
+        conductor.send(alloc, number, client)?;
+    }
+    conductor.wait_for(Awaited::Ended(VISITS))?;
+    let answered = answers_of(&mut clients);
+    let Conductor { entries, .. } = conductor;
+    Ok(Seen { entries, answered })
+}
+
+impl<R: Clock + Print + Wait> Conductor<'_, R> {
+    // Sends the request with this number, counted from 0, and waits until it came and it is the next one's turn.
+    fn send(
+        &mut self,
+        alloc: Global,
+        number: usize,
+        client: &mut TcpStream,
+    ) -> Result<(), DemoFault> {
+        let Some(visit) = PLAN.get(number) else {
+            return Ok(());
+        };
+        let count = number.saturating_add(1);
+        let request = request_of(alloc, count, visit)?;
+        // Where it can't be written, it doesn't come, and isn't answered.
+        let _ = client.write_all(request.as_bytes());
+        self.wait_for(Awaited::Came(count))?;
+        let until = self.passed().saturating_add(GAP);
+        self.wait_for(Awaited::Passed(until))
+    }
+
+    // Tells what comes into the log until then, until the proxy has ended or until all took too long.
+    fn wait_for(&mut self, awaited: Awaited) -> Result<(), DemoFault> {
+        for _ in 0..LOOKS {
+            let is_over = self.watcher.is_over();
+            let later = self.watcher.look()?;
+            self.entries.extend_from_slice(later.as_slice())?;
+            if is_over || self.is_there(awaited) || MOST <= self.passed() {
+                return Ok(());
+            }
+            thread::sleep(self.rt, Duration::from_millis(PAUSE));
+        }
+        Ok(())
+    }
+
+    fn is_there(&self, awaited: Awaited) -> bool {
+        match awaited {
+            Awaited::Came(count) => count
+                <= self.entries.iter().filter(|entry| comes(entry)).count(),
+            Awaited::Ended(count) => count
+                <= self.entries.iter().filter(|entry| ends(entry)).count(),
+            Awaited::Passed(millis) => millis <= self.passed(),
+        }
+    }
+
+    fn passed(&self) -> u64 {
+        match self.start.elapsed(self.rt) {
+            Ok(passed) => u64::try_from(passed.as_millis()).unwrap_or(MOST),
+            Err(_) => MOST,
+        }
+    }
+}
+
+fn comes(entry: &Entry) -> bool {
+    matches!(entry, Entry::Arrive(..))
+}
+
+fn ends(entry: &Entry) -> bool {
+    matches!(entry, Entry::Ended(_))
+}
+
+// How many got an answer of a server.
+fn answers_of(clients: &mut [TcpStream]) -> usize {
+    let mut answered = 0usize;
+    for client in clients.iter_mut() {
+        if is_answered(client) {
+            answered = answered.saturating_add(1);
+        }
+    }
+    answered
+}
+
+fn is_answered(client: &mut TcpStream) -> bool {
+    let mut front = [0u8; SERVED.len()];
+    let limit = Some(Duration::from_millis(PATIENCE));
+    client.set_read_timeout(limit).is_ok()
+        && client.read_exact(&mut front).is_ok()
+        && &front[..] == SERVED
+}

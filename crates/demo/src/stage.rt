@@ -1,0 +1,118 @@
+//! What is there before the first request: sockets, and what the proxy is told of them.
+
+use crate::acting::act;
+use crate::colour::Looks;
+use crate::ending::Telling;
+use crate::fault::DemoFault;
+use crate::server::Server;
+use std::alloc::{AllocError, Global};
+use std::io;
+use std::net::{Ipv4Addr, Net, SocketAddr, TcpListener, TcpStream};
+use std::rt::Files;
+use std::sync::Wait;
+use std::thread::Threads;
+use std::time::Clock;
+
+/// The servers, and where clients come to the proxy before them.
+#[derive(Drop)]
+pub(crate) struct Stage {
+    pub(crate) servers: (Server, Server, Server),
+    pub(crate) address: SocketAddr,
+    pub(crate) listener: TcpListener,
+    /// The proxy's configuration.
+    pub(crate) config: String,
+}
+
+/// Plays the demo: prints what happens and what came of it, and draws it into this file. It ends well only where each request was answered, and of any two that
+/// waited together the one with the smaller key got its slot first. With `keep` proxy and servers then go on for whoever comes, without an end.
+pub fn demo<
+    R: Files
+        + Net<Listener = TcpListener, Stream = TcpStream>
+        + Clock
+        + Print
+        + AllocGlobal
+        + Threads
+        + Wait
+        + Sync,
+>(rt: &R, looks: Looks, file: &str, keep: bool) -> Result<(), DemoFault> {
+    let stage = match stage_of(rt, rt.alloc()) {
+        Ok(stage) => stage,
+        Err(error) => return Err(DemoFault::Socket(error)),
+    };
+    act(rt, stage, Telling { looks, file }, keep)
+}
+
+fn stage_of<R: Net<Listener = TcpListener, Stream = TcpStream>>(
+    rt: &R,
+    alloc: Global,
+) -> io::Result<Stage> {
+    let listener = listening(rt)?;
+    let address = listener.local_addr()?;
+    let servers = (
+        server(rt, "a", 300)?,
+        server(rt, "b", 340)?,
+        server(rt, "c", 380)?,
+    );
+    let config = config_of(
+        alloc,
+        address.port(),
+        [
+            port_of(&servers.0)?,
+            port_of(&servers.1)?,
+            port_of(&servers.2)?,
+        ],
+    )?;
+    Ok(Stage {
+        servers,
+        address,
+        listener,
+        config,
+    })
+}
+
+// At a free port of this machine.
+fn listening<R: Net<Listener = TcpListener, Stream = TcpStream>>(
+    rt: &R,
+) -> io::Result<TcpListener> {
+    TcpListener::bind(rt, (Ipv4Addr::LOCALHOST, 0))
+}
+
+fn server<R: Net<Listener = TcpListener, Stream = TcpStream>>(
+    rt: &R,
+    name: &'static str,
+    millis: u64,
+) -> io::Result<Server> {
+    let listener = listening(rt)?;
+    listener.set_nonblocking(true)?;
+    Ok(Server {
+        name,
+        millis,
+        listener,
+    })
+}
+
+fn port_of(server: &Server) -> io::Result<u16> {
+    Ok(server.listener.local_addr()?.port())
+}
+
+// No wait is longer than the demo may be.
+fn config_of(alloc: Global, proxy: u16, servers: [u16; 3]) -> Result<String, AllocError> {
+    let [a, b, c] = servers;
+    format!(in alloc;
+        "\
+defaults
+    timeout connect 2s
+    timeout queue 8s
+    timeout client 8s
+    timeout server 8s
+
+listen demo
+    bind 127.0.0.1:{proxy}
+    http-request set-priority-class req.hdr_val(x-class)
+    http-request set-priority-offset req.hdr_val(x-due)
+    server a 127.0.0.1:{a} maxconn 1
+    server b 127.0.0.1:{b} maxconn 1
+    server c 127.0.0.1:{c} maxconn 1
+"
+    )
+}

@@ -1,0 +1,51 @@
+use crate::colour::Looks;
+use crate::fault::DemoFault;
+use crate::plan::names_of;
+use crate::teller::Teller;
+use dispatch_log::Entry;
+use proxy_service::Record;
+use std::alloc::Global;
+use std::sync::Wait;
+
+/// Prints what comes into a log.
+#[derive(Drop)]
+pub(crate) struct Watcher<'a, R> {
+    rt: &'a R,
+    alloc: Global,
+    record: &'a Record,
+    teller: Teller,
+}
+
+impl<'a, R: Print + Wait> Watcher<'a, R> {
+    pub(crate) fn new(
+        rt: &'a R,
+        alloc: Global,
+        record: &'a Record,
+        looks: Looks,
+    ) -> Result<Watcher<'a, R>, DemoFault> {
+        Ok(Watcher {
+            rt,
+            alloc,
+            record,
+            teller: Teller::new(alloc, names_of(alloc)?, looks),
+        })
+    }
+
+    /// Whether no more comes than is there now.
+    pub(crate) fn is_over(&self) -> bool {
+        self.record.is_over()
+    }
+
+    /// Prints what came since it last looked, and answers it.
+    pub(crate) fn look(&mut self) -> Result<Vec<Entry>, DemoFault> {
+        let later = self.record.take(self.rt);
+        let mut text = String::new(self.alloc);
+        for entry in later.as_slice() {
+            self.teller.tell(&mut text, *entry)?;
+        }
+        match self.rt.print(text.as_str()) {
+            Ok(()) => Ok(later),
+            Err(_) => Err(DemoFault::Write),
+        }
+    }
+}

@@ -1,0 +1,34 @@
+//! `dueproxy demo`.
+
+use demo::{DemoFault, Looks, demo};
+use std::net::{Net, TcpListener, TcpStream};
+use std::rt::Files;
+use std::sync::Wait;
+use std::thread::Threads;
+use std::time::Clock;
+
+/// Where the picture is drawn.
+const FILE: &str = "dueproxy-demo.svg";
+
+/// Plays the demo, and answers the status: 1 where it didn't go well.
+pub(crate) fn show<
+    R: Files
+        + Net<Listener = TcpListener, Stream = TcpStream>
+        + Clock
+        + Print
+        + Eprint
+        + AllocGlobal
+        + Threads
+        + Wait
+        + Sync,
+>(rt: &R, looks: Looks, keep: bool) -> u8 {
+    let Err(fault) = demo(rt, looks, FILE, keep) else {
+        return 0;
+    };
+    if let DemoFault::Picture(_) = fault {
+        let _ = rt.eprint(FILE);
+        let _ = rt.eprint(": ");
+    }
+    let _ = rt.eprintln(fault);
+    1
+}

@@ -1,0 +1,177 @@
+//! A service whose log is copied while it serves.
+
+ghost use Rattle.std.specs.Prelude.{◌≡◌, ◌≤◌, true, []};
+ghost use Rattle.dispatch_log.specs.declared.setup.Setup.{Setup};
+ghost use Rattle.outstanding.specs.Books.{terms_of};
+ghost use Rattle.proxy_config.specs.Sound.{IsSoundConfig};
+ghost use Rattle.proxy_service.specs.Parts.{AreNew};
+
+use crate::crew::{Crew, crew_of};
+use crate::fault::ServeFault;
+use crate::parts::{Parts, parts_of};
+use crate::record::Record;
+use crate::serving::{proxy_of, serve_clients};
+use crate::sharing::front_of;
+use grant_board::{BoardName, RelaySeat};
+use late_cert::Reports;
+use proxy_config::Config;
+use relay_workers::Proxy;
+use run_sizes::Sizes;
+use socket_gate::Front;
+use std::marker::Brand;
+use std::net::{Net, TcpListener, TcpStream};
+use std::sync::Wait;
+use std::sync::atomic::{AtomicBool, Ordering};
+use std::thread;
+use std::thread::Threads;
+use std::time::{Clock, Duration};
+
+/// The log is copied whenever so many milliseconds have passed.
+const PAUSE: u64 = 5;
+
+/// By whom it is served, and where its log is copied to.
+#[derive(Clone, Copy)]
+struct Watched<'a> {
+    crew: Crew,
+    record: &'a Record,
+}
+
+/// Serves as a configuration says where clients come already. What the dispatcher decides in the log's first window is copied to a record meanwhile, and the
+/// reports of the last window are answered, in place of what `listen_and_serve` prints.
+pub fn serve_recorded<
+    R: Net<Listener = TcpListener, Stream = TcpStream>
+        + Clock
+        + Print
+        + AllocGlobal
+        + Threads
+        + Wait
+        + Sync,
+>(
+    rt: &R,
+    config: Config,
+    listener: TcpListener,
+    sizes: Sizes,
+    record: &Record,
+) -> Result<Reports, ServeFault>
+    requires config { IsSoundConfig config }
+{
+    let served = serve_all(rt, config, listener, sizes, record);
+    record.end();
+    served
+}
+
+fn serve_all<
+    R: Net<Listener = TcpListener, Stream = TcpStream>
+        + Clock
+        + Print
+        + AllocGlobal
+        + Threads
+        + Wait
+        + Sync,
+>(
+    rt: &R,
+    config: Config,
+    listener: TcpListener,
+    sizes: Sizes,
+    record: &Record,
+) -> Result<Reports, ServeFault>
+    requires config { IsSoundConfig config }
+{
+    let crew = crew_of(rt, &config, sizes);
+    let parts = parts_of(rt.alloc(), &config, crew.threads.places)?;
+    serve_on::<Brand, _>(rt, config, parts, listener, Watched { crew, record })
+}
+
+// The same at a desk that is made of these parts.
+fn serve_on<
+    N: BoardName + Send + Sync,
+    R: Net<Listener = TcpListener, Stream = TcpStream>
+        + Clock
+        + Print
+        + AllocGlobal
+        + Threads
+        + Wait
+        + Sync,
+>(
+    rt: &R,
+    config: Config,
+    parts: Parts,
+    listener: TcpListener,
+    watched: Watched<'_>,
+) -> Result<Reports, ServeFault>
+    requires named { parts.board ≡ N.board }
+    requires parts { (setup : Setup) × AreNew setup parts × (N.terms ≡ terms_of setup) × (setup.places ≡ watched.crew.threads.places) }
+{
+    let alloc = rt.alloc();
+    let (proxy, relay) = proxy_of::<N>(alloc, config, parts);
+    let front = front_of(alloc, rt, &proxy.config, listener, watched.crew.requests)?;
+    serve_watched(rt, &proxy, &front, relay, watched)?;
+    Ok(proxy.desk.report(rt, alloc)?)
+}
+
+// Until no more clients come. What is decided last is copied when all have ended.
+fn serve_watched<
+    N: BoardName + Send + Sync,
+    R: Net<Listener = TcpListener, Stream = TcpStream> + Clock + Print + Threads + Wait + Sync,
+    S: Lends<N> + Sync,
+>(
+    rt: &R,
+    shared: &S,
+    front: &Front<'_>,
+    relay: RelaySeat,
+    watched: Watched<'_>,
+) -> Result<(), ServeFault>
+    requires named { (relay.board ≡ N.board) × (relay.view.terms ≡ N.terms) }
+    requires first { relay.view.first ≡ true }
+    requires idle { relay.view.passes ≡ [] }
+    requires places { watched.crew.threads.places ≤ N.terms.places }
+{
+    let Watched { crew, record } = watched;
+    let over = AtomicBool::new(false);
+    let told = &over;
+    thread::scope(thread::scope_env(), rt, move |scope| {
+        let copying = scope
+            .spawn(move || copy_all(rt, shared.proxy(), record, told))
+            .ok();
+        let served = serve_clients(rt, shared.proxy(), front, relay, crew.threads);
+        told.store(true, Ordering::SeqCst);
+        match copying {
+            Some(handle) => {
+                handle.join(rt);
+                served
+            }
+            None => Err(ServeFault::NoMemory),
+        }
+    })
+}
+
+// Copies the log as it grows, until no more is decided.
+fn copy_all<N: BoardName, R: Clock + Wait>(
+    rt: &R,
+    proxy: &Proxy<N>,
+    record: &Record,
+    over: &AtomicBool,
+) {
+    let mut copied = 0;
+    for _ in rt.forever() {
+        let is_last = over.load(Ordering::SeqCst);
+        if let Ok(later) = proxy.desk.entries_after(rt, proxy.alloc, copied) {
+            copied = copied.saturating_add(record.add(rt, later.as_slice()));
+        }
+        if is_last {
+            return;
+        }
+        thread::sleep(rt, Duration::from_millis(PAUSE));
+    }
+}
+
+// What lends a proxy to threads. Of a type parameter it is known by a bound alone that it may be shared, so that it is shown of `Proxy` once.
+trait Lends<N: BoardName> {
+    fn proxy(&self) -> &Proxy<N>;
+}
+
+impl<N: BoardName> Lends<N> for Proxy<N> {
+    fn proxy(&self) -> &Proxy<N> {
+        self
+    }
+}

@@ -73,7 +73,7 @@ signed_client h s text (answered says r behind t asked part) = answered says r b
 
 signed_server : (h : History) (s : Sign) → ToServer h → ToServer (signed h s)
 signed_server h s (nothing none) = nothing none
-signed_server h s (of_request asks r behind asked part) = of_request asks r behind asked part
+signed_server h s (of_request r behind asked part) = of_request r behind asked part
 
 signed_tried : (h : History) (s : Sign) → AreTries h → AreTries (signed h s)
 signed_tried h s (untried is) = untried is
@@ -128,6 +128,7 @@ passing_signed p h s is = record {
   tries = is.tries;
   framed = is.framed;
   ended = λ on. ended_more h.signs s (is.ended on);
+  asks = is.asks;
   leave = is.leave;
 }
 
@@ -382,11 +383,12 @@ passing_ended p q h is ends same = subst (λ (r : Passing). IsPassing r h) (sym 
   tries = is.tries;
   framed = is.framed;
   ended = λ on. ends;
+  asks = is.asks;
   leave = is.leave;
 })
 
-pub passing_cut : (p q : Passing) (h : History) → IsPassing p h → q ≡ record p { cut = q.cut } → IsPassing q h
-passing_cut p q h is same = subst (λ (r : Passing). IsPassing r h) (sym same) (record {
+pub passing_marked : (p q : Passing) (h : History) → IsPassing p h → q ≡ record p { cut = q.cut; fresh = q.fresh; dialing = q.dialing } → IsPassing q h
+passing_marked p q h is same = subst (λ (r : Passing). IsPassing r h) (sym same) (record {
   behind = is.behind;
   asked = is.asked;
   request = is.request;
@@ -401,5 +403,6 @@ passing_cut p q h is same = subst (λ (r : Passing). IsPassing r h) (sym same) (
   tries = is.tries;
   framed = is.framed;
   ended = is.ended;
+  asks = is.asks;
   leave = is.leave;
 })

@@ -1,5 +1,5 @@
 -- A request that is sent once more.
-use Rattle.std.proofs.Common.{◌≡◌, ◌∙◌, ◌&&◌, ℕ, Bool, true, false, ◌⊎◌, inl, inr, cond, Some, List, [], ◌∷◌, ◌++◌, length, refl, sym, ap, arith, append-nil, subst}
+use Rattle.std.proofs.Common.{◌≡◌, ◌∙◌, ◌&&◌, ℕ, Bool, true, false, true≢false, inl, inr, cond, Some, List, [], ◌∷◌, ◌++◌, length, refl, sym, ap, arith, append-nil, subst}
 use Rattle.std.proofs.lemmas.Bool.Decides.{nat_tests}
 use Rattle.std.proofs.lemmas.Grind.{flat_map-append}
 use Rattle.std.specs.List.{flat_map}
@@ -19,8 +19,10 @@ use Rattle.body_coder.specs.declared.coding.Coding.TheVariants.{Length}
 use Rattle.body_coder.proofs.Running.{read_nothing}
 use Rattle.exchange_machine.specs.Requests.{IsAskedBy}
 use Rattle.exchange_machine.specs.Histories.{History, retried, reached_by}
-use Rattle.exchange_machine.specs.Repeatables.{IsRepeatable}
-use Rattle.exchange_machine.specs.Repeats.{is_bare, is_idempotent, IsTry}
+use Rattle.exchange_machine.specs.Repeatables.{IsRepeatable, IsUntouched}
+use Rattle.exchange_machine.specs.Repeats.{is_bare, IsTry}
+use Rattle.exchange_machine.specs.Repeats.IsTry.{unsent, repeated}
+use Rattle.exchange_machine.specs.Sides.{IsDown}
 use Rattle.exchange_machine.specs.Stages.{IsPassing, IsDialing}
 use Rattle.exchange_machine.specs.declared.sides.Down.TheVariants.{Heads}
 use Rattle.exchange_machine.specs.declared.passing.Passing.{Passing}
@@ -77,10 +79,20 @@ right_nil : {A : Type 0} (xs ys : List A) → xs ++ ys ≡ [] → ys ≡ []
 right_nil [] ys e = e
 right_nil (x ∷ xs) ys e = absurd cc
 
-try_safe : (method : List ℕ) (reached : Bool) (h : History) → (is_idempotent method ≡ true) ⊎ (reached ≡ false) → (reached ≡ false → reached_by h ≡ [])
-    → (is_idempotent method ≡ true) ⊎ (h.to_server ≡ [])
-try_safe method reached h (inl safe) none = inl safe
-try_safe method reached h (inr far) none = inr (right_nil (flat_map (λ (t : List ℕ). t) h.tries) h.to_server (none far))
+-- nothing came of the server of which no head was read and nothing is held
+none_came : (p : Passing) (h : History) → IsPassing p h → p.phase ≡ Heads 0 → p.down_held.items ≡ [] → h.server_in ≡ []
+none_came p h is heads none =
+    let at = down_as {p = p} {h = h} (Heads 0) heads is in
+    at.came_is ∙ ap (λ l. print_heads at.interims ++ l) none ∙ append-nil (print_heads at.interims) ∙ no_heads at.interims at.count_is
+
+-- a connection more is among those that broke, and no byte more reached a server
+all_reached : (h : History) → reached_by (retried h) ≡ reached_by h
+all_reached h =
+    append-nil (flat_map (λ (t : List ℕ). t) (h.tries ++ h.to_server ∷ [])) ∙ flat_map-append (λ (t : List ℕ). t) h.tries (h.to_server ∷ [])
+    ∙ ap (λ l. flat_map (λ (t : List ℕ). t) h.tries ++ l) (append-nil h.to_server)
+
+none_sent : (h : History) → reached_by h ≡ [] → h.to_server ≡ []
+none_sent h none = right_nil (flat_map (λ (t : List ℕ). t) h.tries) h.to_server none
 
 pub passing_again : (p : Passing) (h : History) → IsPassing p h → IsRepeatable p
     → (h.server_in ≡ []) × IsDialing
@@ -89,8 +101,6 @@ pub passing_again : (p : Passing) (h : History) → IsPassing p h → IsRepeatab
 passing_again p h is may =
     let u = is.up in
     let at = down_as {p = p} {h = h} (Heads 0) may.heads is in
-    let silent_server : h.server_in ≡ [] = at.came_is ∙ ap (λ l. print_heads at.interims ++ l) may.none ∙ append-nil (print_heads at.interims)
-    ∙ no_heads at.interims at.count_is in
     let answer : is.answer ≡ [] = at.given_is ∙ no_interims at.interims (framed_for p.view.version) at.count_is in
     let leave = no_leave p.view p.framing is.framed may.bare in
     let nothing : [] ≡ h.to_client ++ p.down.out = ap (λ l. l ++ []) (sym leave) ∙ ap (λ l. leave_text p.view ++ l) (sym answer) ∙ is.told in
@@ -102,18 +112,12 @@ passing_again p h is may =
     let text : request_text p.asks p.view p.framing ≡ h.to_server ++ p.up.out =
     ap (request_text p.asks p.view) (sym framings) ∙ sym (append-nil (request_text p.asks p.view u.framing))
     ∙ ap (λ l. request_text p.asks p.view u.framing ++ l) (sym fed.1) ∙ sym u.given_is ∙ is.sent in
-    let last : IsTry p.view h.to_server = record {
-      asks = p.asks;
-      framing = p.framing;
-      framed = is.framed;
-      bare = may.bare;
-      safe = try_safe p.view.method p.reached h may.safe is.unreached;
-      front = record { rest = p.up.out; is = text };
-    } in
-    let all : reached_by (retried h) ≡ reached_by h =
-    append-nil (flat_map (λ (t : List ℕ). t) (h.tries ++ h.to_server ∷ [])) ∙ flat_map-append (λ (t : List ℕ). t) h.tries (h.to_server ∷ [])
-    ∙ ap (λ l. flat_map (λ (t : List ℕ). t) h.tries ++ l) (append-nil h.to_server) in (
-      silent_server,
+    let last : IsTry p.view h.to_server =
+    elim may.safe [
+      | inl safe ↦ repeated p.asks p.framing is.framed may.bare safe (record { rest = p.up.out; is = text })
+      | inr far ↦ unsent (none_sent h (is.unreached far))
+    ] in (
+      none_came p h is may.heads may.none,
       record {
         unsent = record { server = refl; answer = refl };
         asked = record { asked = subst (λ (l : List ℕ). IsAskedBy h.client_in p.view l) behind is.asked; framed = is.framed };
@@ -121,6 +125,33 @@ passing_again p h is may =
         grants = is.grants;
         fair = is.fair;
         tries = all_append (IsTry p.view) h.tries (h.to_server ∷ []) is.tries (last, tt);
-        unreached = λ far. all ∙ is.unreached far;
+        unreached = λ far. all_reached h ∙ is.unreached far;
       },
+    )
+
+pub passing_redialed : (p q : Passing) (h : History) → IsPassing p h → IsUntouched p → q ≡ record p { cut = q.cut; ended = false; dialing = q.dialing }
+    → (h.server_in ≡ []) × IsPassing q (retried h)
+passing_redialed p q h is may same =
+    let silent_server = none_came p h is may.heads may.none in
+    let none = none_sent h (is.unreached may.unreached) in (
+      silent_server,
+      subst (λ (r : Passing). IsPassing r (retried h)) (sym same) (record {
+        behind = is.behind;
+        asked = is.asked;
+        request = is.request;
+        up = is.up;
+        sent = is.sent ∙ ap (λ l. l ++ p.up.out) none;
+        answer = is.answer;
+        down = subst (λ (l : List ℕ). IsDown p.says p.kept p.view.method (framed_for p.view.version) p.phase p.down.coding p.down_held.items l is.answer)
+            silent_server is.down;
+        told = is.told;
+        unreached = λ far. all_reached h ∙ is.unreached far;
+        grants = is.grants;
+        fair = is.fair;
+        tries = all_append (IsTry p.view) h.tries (h.to_server ∷ []) is.tries (unsent none, tt);
+        framed = is.framed;
+        ended = λ on. absurd (true≢false (sym on));
+        asks = is.asks;
+        leave = is.leave;
+      }),
     )

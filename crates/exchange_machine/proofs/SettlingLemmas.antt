@@ -78,7 +78,7 @@ got_client h bytes text (answered says r behind t asked part) = answered says r 
 
 pub got_server : (h : History) (bytes : List ℕ) → ToServer h → ToServer (client_got h bytes)
 got_server h bytes (nothing none) = nothing none
-got_server h bytes (of_request asks r behind asked part) = of_request asks r behind asked part
+got_server h bytes (of_request r behind asked part) = of_request r behind asked part
 
 pub got_tried : (h : History) (bytes : List ℕ) → AreTries h → AreTries (client_got h bytes)
 got_tried h bytes (untried is) = untried is

@@ -46,7 +46,7 @@ use Rattle.exchange_machine.specs.Headline.{AreTries, IsOfPart, IsFair, ClientTe
 use Rattle.exchange_machine.specs.Headline.ToServer.{nothing, of_request}
 use Rattle.exchange_machine.specs.Headline.ClientText.{silent, refused_unread, late, starved, unserved, refused, answered}
 use Rattle.exchange_machine.specs.Headline.ArePosted.{all_posted, one_held}
-use Rattle.exchange_machine.specs.Histories.{Post, History, client_came, server_came, client_got, posted, passes_of, reached_by}
+use Rattle.exchange_machine.specs.Histories.{Post, History, client_came, server_came, client_got, connected_on, posted, passes_of, reached_by}
 use Rattle.exchange_machine.specs.Requests.{IsAskedBy, BreaksBody, IsNoRequest}
 use Rattle.exchange_machine.specs.Stages.{IsFresh, IsAsking, IsWaiting, IsDialing, IsPassing, IsLeaving, HasLeave}
 use Rattle.exchange_machine.specs.declared.leaving.Leaving.{Leaving}
@@ -247,6 +247,7 @@ passing_more p way h bytes is none step =
       tries = is.tries;
       framed = is.framed;
       ended = is.ended;
+      asks = is.asks;
       leave = is.leave;
     }
 
@@ -364,7 +365,7 @@ pub dialing_passes : (d : Dialing) (p : Passing) (h : History) → IsDialing d h
     → p.up.coding ≡ start_of d.waiting.asked.framing true → p.up.out ≡ request_text p.asks d.waiting.asked.view d.waiting.asked.framing
     → p.up_held.items ≡ d.waiting.asked.held.items → p.phase ≡ Heads 0 → p.down_held.items ≡ []
     → p.down.out ≡ leave_text d.waiting.asked.view → p.ended ≡ false
-    → p.leave_left ≡ length p.down.out → IsPassing p h
+    → p.leave_left ≡ length p.down.out → IsPassing p (connected_on h p.asks)
 dialing_passes d p h is view pass reach framing coding out held phase empty leave running left =
     let r = d.waiting.asked.view in
     let f = d.waiting.asked.framing in
@@ -398,6 +399,7 @@ dialing_passes d p h is view pass reach framing coding out held phase empty leav
       tries = subst (λ (v : Request). AllByRecursion (IsTry v) h.tries) (sym view) is.tries;
       framed = ap request_framing view ∙ is.asked.framed ∙ ap Some (sym framing);
       ended = λ on. absurd (true≢false (sym on ∙ running));
+      asks = refl;
       leave = λ none. record {
         left = p.down.out;
         behind = [];
@@ -408,8 +410,11 @@ dialing_passes d p h is view pass reach framing coding out held phase empty leav
     }
 
 pub passing_server : (p : Passing) (h : History) → IsPassing p h → ToServer h
-passing_server p h is = of_request p.asks p.view is.behind is.asked (front_part p.up.out is.sent
-    (up_part p.asks p.view p.up.coding p.up_held.items is.behind is.request is.up))
+passing_server p h is =
+    of_request p.view is.behind is.asked
+    (front_part p.up.out is.sent
+    (subst (λ (a : Persistence). IsOfPart (PartOfForwarded a p.view) is.behind is.request) is.asks
+    (up_part p.asks p.view p.up.coding p.up_held.items is.behind is.request is.up)))
 
 pub passing_client : (p : Passing) (h : History) → (is : IsPassing p h) → ClientText h (leave_text p.view ++ is.answer)
 passing_client p h is =
@@ -449,7 +454,7 @@ posted_client h pass ending text (answered says r behind t asked part) = answere
 
 pub posted_server : (h : History) (pass : Grant) (ending : Ending) → ToServer h → ToServer (posted h pass ending)
 posted_server h pass ending (nothing none) = nothing none
-posted_server h pass ending (of_request asks r behind asked part) = of_request asks r behind asked part
+posted_server h pass ending (of_request r behind asked part) = of_request r behind asked part
 
 pub posted_tried : (h : History) (pass : Grant) (ending : Ending) → AreTries h → AreTries (posted h pass ending)
 posted_tried h pass ending (untried is) = untried is
@@ -534,6 +539,7 @@ passing_answer p way h bytes is body none step grows =
       tries = is.tries;
       framed = is.framed;
       ended = is.ended;
+      asks = is.asks;
       leave = λ none. leave_grows grows (is.leave none);
     }
 
@@ -645,6 +651,7 @@ passing_final p way held h count a len plan q is phase stood planned final told 
       tries = is.tries;
       framed = is.framed;
       ended = is.ended;
+      asks = is.asks;
       leave = λ none. leave_grows (record { rest = text; is = out }) (is.leave none);
     })
 
@@ -676,6 +683,7 @@ passing_interim p way held h count a len q is phase says planned interim few out
       tries = is.tries;
       framed = is.framed;
       ended = is.ended;
+      asks = is.asks;
       leave = λ none. leave_grows (record { rest = interim_text framed a; is = out }) (is.leave none);
     })
 
@@ -754,6 +762,7 @@ passing_used p way q h used seen is same step rest here =
       tries = is.tries;
       framed = is.framed;
       ended = is.ended;
+      asks = is.asks;
       leave = is.leave;
     })
 
@@ -821,6 +830,7 @@ passing_answer_used p way q h used seen is body same step grows rest here =
       tries = is.tries;
       framed = is.framed;
       ended = is.ended;
+      asks = is.asks;
       leave = λ none. leave_grows grows (is.leave none);
     })
 
@@ -891,6 +901,7 @@ passing_told p q h count is out coding still same =
       tries = is.tries;
       framed = is.framed;
       ended = is.ended;
+      asks = is.asks;
       leave = λ none.
           let was = still none in
           subst (λ (l : List ℕ). HasLeave q.leave_left (leave_text p.view) (h.to_client ++ front) l) (sym out)
@@ -948,6 +959,7 @@ passing_held p q h bytes is held same =
       tries = is.tries;
       framed = is.framed;
       ended = is.ended;
+      asks = is.asks;
       leave = is.leave;
     })
 
@@ -974,7 +986,8 @@ passing_breaks p h is broken =
       framed = u.framed;
       breaks = λ more.
           subst (λ (l : List ℕ). LacksBody u.framing l)
-          (ap (λ l. l ++ (p.up_held.items ++ more)) (append-nil u.taken) ∙ sym (append_assoc u.taken p.up_held.items more) ∙ ap (λ l. l ++ more) (sym u.came_is))
+          (ap (λ l. l ++ (p.up_held.items ++ more)) (append-nil u.taken) ∙ sym (append_assoc u.taken p.up_held.items more)
+          ∙ ap (λ l. l ++ more) (sym u.came_is))
           (run_bad u.framing true ((u.taken, u.passed) ∷ []) p.up.coding (p.up.coding, u.feeds, refl) (p.up_held.items ++ more) broken);
     }
 

@@ -32,8 +32,7 @@ pub record IsOfPart (Part : List ℕ → List ℕ → Type 0) (input sent : List
 -- the server was sent a front of the forwarded text of what the client sent
 pub data ToServer (h : History) : Type 0 where
   nothing : h.to_server ≡ [] → ToServer h
-  of_request : (asks : Persistence) (r : Request) (behind : List ℕ) → IsAskedBy h.client_in r behind → IsOfPart (PartOfForwarded asks r) behind h.to_server
-      → ToServer h
+  of_request : (r : Request) (behind : List ℕ) → IsAskedBy h.client_in r behind → IsOfPart (PartOfForwarded h.asks r) behind h.to_server → ToServer h
 
 -- What the client is told: nothing yet; or that what it sent begins with no request, or that its time for one is over, or that memory is wanting; or one
 -- refusal, which has its reason, before a server was reached; or leave to go on, and then the answered text of what the server sent, or one such refusal,

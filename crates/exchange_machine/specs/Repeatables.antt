@@ -4,8 +4,15 @@ use Rattle.exchange_machine.specs.Repeats.{is_bare, is_idempotent}
 use Rattle.exchange_machine.specs.declared.sides.Down.TheVariants.{Heads}
 use Rattle.exchange_machine.specs.declared.passing.Passing.{Passing}
 
+-- it has no body, and may be served twice, or nothing of it reached a server; and nothing of an answer came
 pub record IsRepeatable (p : Passing) : Type 0 where
   pub heads : p.phase ≡ Heads 0
   pub none : p.down_held.items ≡ []
   pub bare : is_bare p.framing ≡ true
   pub safe : (is_idempotent p.view.method ≡ true) ⊎ (p.reached ≡ false)
+
+-- nothing of it reached a server, and nothing of an answer came: what waits for the server may go to another one as it stands
+pub record IsUntouched (p : Passing) : Type 0 where
+  pub heads : p.phase ≡ Heads 0
+  pub none : p.down_held.items ≡ []
+  pub unreached : p.reached ≡ false

@@ -88,6 +88,7 @@ pub record IsPassing (p : Passing) (h : History) : Type 0 where
   pub tries : AllByRecursion (IsTry p.view) h.tries
   pub framed : request_framing p.view ≡ Some p.framing
   pub ended : p.ended ≡ true → HasEnded h.signs
+  pub asks : p.asks ≡ h.asks
   pub leave : p.begun ≡ false → HasLeave p.leave_left (leave_text p.view) h.to_client p.down.out
 
 -- its pass was posted, and what the client is still told waits

@@ -1,6 +1,8 @@
 ghost use Rattle.std.specs.Prelude.{◌≡◌, [], IfOk, IfErr};
-ghost use Rattle.exchange_machine.specs.Histories.{History, posted};
+ghost use Rattle.exchange_machine.specs.Histories.{History, connected_on, posted};
 ghost use Rattle.exchange_machine.specs.Stages as stages;
+ghost use Rattle.relay_http.specs.Replies.{leave_text};
+ghost use Rattle.relay_http.specs.Texts.{request_text};
 
 use crate::ending::ending_of;
 use crate::passing::Passing;
@@ -67,7 +69,7 @@ impl Dialing {
     ) -> Result<Passing, Dialing>
         requires up { up.out ≡ [] }
         requires down { down.out ≡ [] }
-        ensures passes { IfOk result (λ passing. (h : History) → stages.IsDialing self h → stages.IsPassing passing h) }
+        ensures passes { IfOk result (λ passing. (h : History) → stages.IsDialing self h → stages.IsPassing passing (connected_on h terms.asks)) }
         ensures said { IfOk result (λ passing. (passing.asks ≡ terms.asks) × (passing.willing ≡ terms.willing) × (passing.fresh ≡ terms.fresh)) }
         ensures same { IfErr result (λ dialing. dialing ≡ self) }
     {
@@ -84,6 +86,16 @@ impl Dialing {
         if !put_leave(&mut down, &self.waiting.asked.view) {
             return Err(self);
         }
+        Ok(self.begin(alloc, up, down, terms))
+    }
+
+    // Both sides begin, behind the request's head and the leave.
+    fn begin(self, alloc: Global, mut up: Way, down: Way, terms: Terms) -> Passing
+        requires up { up.out ≡ request_text terms.asks self.waiting.asked.view self.waiting.asked.framing }
+        requires down { down.out ≡ leave_text self.waiting.asked.view }
+        ensures passes { (h : History) → stages.IsDialing self h → stages.IsPassing result (connected_on h terms.asks) }
+        ensures said { (result.asks ≡ terms.asks) × (result.willing ≡ terms.willing) × (result.fresh ≡ terms.fresh) }
+    {
         up.begin(self.waiting.asked.framing, true);
         let leave_left = down.waiting().len();
         let Dialing {
@@ -97,7 +109,7 @@ impl Dialing {
             framing,
             held,
         } = asked;
-        Ok(Passing {
+        Passing {
             view,
             pass,
             up,
@@ -117,6 +129,7 @@ impl Dialing {
             looks: false,
             begun: false,
             leave_left,
-        })
+            dialing: false,
+        }
     }
 }

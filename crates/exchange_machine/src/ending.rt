@@ -140,6 +140,7 @@ impl Passing {
             looks: _,
             begun: _,
             leave_left: _,
+            dialing: _,
         } = self;
         Dialing {
             waiting: Waiting {
@@ -152,6 +153,24 @@ impl Passing {
             pass,
             reached,
         }
+    }
+
+    /// Did nothing of it reach a server, and nothing of an answer come?
+    pub fn is_untouched(&self) -> bool
+        ensures may { IsTrue result → repeats.IsUntouched self.now }
+        ensures each { repeats.IsUntouched self.now → IsTrue result }
+    {
+        !self.reached && self.phase == Down::Heads(0) && self.down_held.is_empty()
+    }
+
+    /// The server's connection broke before it was handed a byte: what waits for the server goes out on another as it stands, on the same pass.
+    pub fn redial(&mut self)
+        requires { repeats.IsUntouched self.old }
+        ensures { (h : History) → stages.IsPassing self.old h → (h.server_in ≡ []) × stages.IsPassing self.new (retried h) }
+    {
+        self.cut = false;
+        self.ended = false;
+        self.dialing = true;
     }
 
     /// Were both messages read to their ends, and was the client told that it may ask again?
@@ -222,6 +241,7 @@ impl Passing {
             looks: _,
             begun: _,
             leave_left: _,
+            dialing: _,
         } = self;
         let ending = ending_of(reached);
         Settled {
@@ -261,6 +281,7 @@ impl Passing {
             looks: _,
             begun: _,
             leave_left: _,
+            dialing: _,
         } = self;
         let ending = ending_of(reached);
         Ended {

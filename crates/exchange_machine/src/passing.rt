@@ -44,6 +44,8 @@ pub struct Passing {
     pub(crate) begun: bool,
     /// How many bytes of the leave the client is still to take.
     pub(crate) leave_left: usize,
+    /// Whether a connection is awaited, in place of one that broke.
+    pub(crate) dialing: bool,
 }
 
 impl Passing {
@@ -90,6 +92,21 @@ impl Passing {
         ensures { (h : History) → stages.IsPassing self.old h → stages.IsPassing self.new h }
     {
         self.cut = true;
+    }
+
+    /// Is a connection awaited, in place of one that broke?
+    pub fn is_dialing(&self) -> bool
+        ensures { result ≡ self.now.dialing }
+    {
+        self.dialing
+    }
+
+    /// The server was reached, on a connection that is new or was used before.
+    pub fn connect(&mut self, fresh: bool)
+        ensures { (h : History) → stages.IsPassing self.old h → stages.IsPassing self.new h }
+    {
+        self.fresh = fresh;
+        self.dialing = false;
     }
 
     /// Does the server take no more?

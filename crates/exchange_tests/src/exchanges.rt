@@ -22,6 +22,8 @@ const GET: &[u8] = b"GET /a HTTP/1.1\r\nHost: h\r\n\r\n";
 
 const POST: &[u8] = b"POST /a HTTP/1.1\r\nHost: h\r\nContent-Length: 5\r\n\r\nab";
 
+const UPLOAD: &[u8] = b"POST /a HTTP/1.1\r\nHost: h\r\nContent-Length: 5\r\n\r\nabcde";
+
 const EXPECTS: &[u8] =
     b"POST /a HTTP/1.1\r\nHost: h\r\nContent-Length: 2\r\nExpect: 100-continue\r\n\r\n";
 
@@ -439,6 +441,45 @@ static BROKEN: [Row; 6] = [
     },
 ];
 
+// a connection that broke before the server took a byte of it
+static AGAIN: [Row; 2] = [
+    Row {
+        name: "a request with a body goes out on another connection as it stands",
+        moves: &[
+            Move::Hold,
+            Move::Client(UPLOAD),
+            Move::Grant,
+            Move::Connected(true),
+            Move::ServerEnd,
+            Move::Free,
+            Move::Connected(true),
+            Move::Server(HI),
+        ],
+        aborts: false,
+        sent: UPLOAD,
+        told: HI,
+        counts: (1, 0, 1),
+        stage: Stage::Settling,
+    },
+    Row {
+        name: "and is refused where there is none",
+        moves: &[
+            Move::Hold,
+            Move::Client(UPLOAD),
+            Move::Grant,
+            Move::Connected(true),
+            Move::ServerEnd,
+            Move::Free,
+            Move::Over(Clock::Connect),
+        ],
+        aborts: false,
+        sent: b"",
+        told: UNAVAILABLE,
+        counts: (0, 1, 1),
+        stage: Stage::Leaving,
+    },
+];
+
 // Where a row fails: its name, and the size of the pieces.
 fn first_fault(
     rt: &impl Abort,
@@ -489,6 +530,13 @@ fn refusals(rt: HostRuntime) -> Result<(), Fail> {
 #[test]
 fn refusals_of_what_was_begun(rt: HostRuntime) -> Result<(), Fail> {
     let fault = first_fault(&rt, rt.alloc(), &BROKEN);
+    assert_eq!(rt; fault, None);
+    Ok(())
+}
+
+#[test]
+fn requests_that_go_out_anew(rt: HostRuntime) -> Result<(), Fail> {
+    let fault = first_fault(&rt, rt.alloc(), &AGAIN);
     assert_eq!(rt; fault, None);
     Ok(())
 }

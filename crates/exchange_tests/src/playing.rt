@@ -2,6 +2,7 @@
 ghost use Rattle.std.specs.Prelude.{◌<◌};
 
 use crate::till::Till;
+use exchange_machine::Terms;
 use grant_board::Pass;
 use mixed_exchange::{Clock, Event, Exchange, Outcome, Rules, Step};
 use relay_http::Persistence;
@@ -30,6 +31,10 @@ pub(crate) enum Move {
     Stall,
     /// It takes them again.
     Flow,
+    /// The server takes no bytes yet.
+    Hold,
+    /// It takes them.
+    Free,
 }
 
 /// How far an exchange is.
@@ -77,6 +82,7 @@ pub(crate) struct Table {
     rules: Rules,
     piece: usize,
     stalled: bool,
+    held: bool,
     till: Option<Till>,
     client: Queue,
     server: Queue,
@@ -87,13 +93,10 @@ impl Table {
     pub(crate) fn new(alloc: Global, aborts: bool, piece: usize) -> Table {
         Table {
             alloc,
-            rules: Rules {
-                aborts,
-                asks: Persistence::Persist,
-                willing: true,
-            },
+            rules: Rules { aborts },
             piece,
             stalled: false,
+            held: false,
             till: None,
             client: Queue {
                 bytes: Vec::new(alloc),
@@ -144,9 +147,17 @@ impl Table {
                 self.stalled = matches!(each, Move::Stall);
                 return exchange;
             }
+            Move::Hold | Move::Free => {
+                self.held = matches!(each, Move::Hold);
+                return exchange;
+            }
             Move::Grant => Event::Granted(self.grant(rt)),
             Move::Unserved => Event::Unserved,
-            Move::Connected(fresh) => Event::Connected(fresh),
+            Move::Connected(fresh) => Event::Connected(Terms {
+                asks: Persistence::Persist,
+                willing: true,
+                fresh,
+            }),
             Move::Unreachable => Event::Unreachable,
             Move::ClientEnd => Event::ClientEnd,
             Move::ClientFailed => Event::ClientFailed,
@@ -203,7 +214,7 @@ impl Table {
             let wants = exchange.wants();
             if wants.writes_client && !self.stalled {
                 exchange = self.to_client(rt, exchange);
-            } else if wants.writes_server {
+            } else if wants.writes_server && !self.held {
                 exchange = self.to_server(rt, exchange);
             } else {
                 return exchange;

@@ -1,8 +1,9 @@
 -- What an exchange is after a history, and what an event makes of a history.
-use Rattle.std.specs.Prelude.{ℕ, zero, suc, Bool, true, false, ◌||◌, not, List, [], ◌∷◌, take, Option, Some, None}
+use Rattle.std.specs.Prelude.{ℕ, zero, suc, Bool, true, false, ◌||◌, not, if◌then◌else◌, List, [], ◌∷◌, take, Option, Some, None}
 use Rattle.body_coder.specs.Stops.{is_done}
 use Rattle.grant_board.specs.Views.{Grant}
-use Rattle.exchange_machine.specs.Histories.{History, client_came, server_came, server_got, client_got, granted, posted, retried, signed}
+use Rattle.relay_http.specs.declared.persistence.Persistence.{Persistence}
+use Rattle.exchange_machine.specs.Histories.{History, connected_on, client_came, server_came, server_got, client_got, granted, posted, retried, signed}
 use Rattle.exchange_machine.specs.Settlings.{IsSettling}
 use Rattle.exchange_machine.specs.Stages.{IsAsking, IsWaiting, IsDialing, IsPassing, IsLeaving, IsTelling, IsOver}
 use Rattle.exchange_machine.specs.declared.signs.Sign.{Sign}
@@ -76,7 +77,7 @@ abbrev pub clock_of : Exchange → Option Clock
 clock_of (Asking a) = Some Clocks.Client
 clock_of (Waiting w) = Some Clocks.Queue
 clock_of (Dialing d) = Some Clocks.Connect
-clock_of (Passing p) = Some (passing_clock (waits p.down.out) (waits p.up.out) (is_done p.up.coding))
+clock_of (Passing p) = Some (if p.dialing then Clocks.Connect else passing_clock (waits p.down.out) (waits p.up.out) (is_done p.up.coding))
 clock_of (Settling s) = Some Clocks.Client
 clock_of (Leaving l) = Some Clocks.Client
 clock_of (Telling t) = Some Clocks.Client
@@ -94,6 +95,11 @@ abbrev pub came_pass : ℕ → Grant → History → History
 came_pass zero pass h = h
 came_pass (suc n) pass h = granted h pass
 
+-- what a server is told of its connection counts where its head was made for it
+abbrev pub connected_with : ℕ → Persistence → History → History
+connected_with zero asks h = h
+connected_with (suc n) asks h = connected_on h asks
+
 -- the history, with what an event told, of which so much was taken; what a side took it took
 abbrev pub heard : Exchange → Event → ℕ → History → History
 heard x (Events.ClientBytes input) used h = client_came h (take used input.now)
@@ -102,7 +108,7 @@ heard x (Events.ClientTook count) used h = client_got h (take count (to_client x
 heard x (Events.ServerTook count) used h = server_got h (take count (to_server x))
 heard x (Events.Granted pass) used h = came_pass used pass h
 heard x Events.Unserved used h = signed h Signs.Unserved
-heard x (Events.Connected fresh) used h = h
+heard x (Events.Connected terms) used h = connected_with used terms.asks h
 heard x Events.Unreachable used h = signed h Signs.Unreachable
 heard x Events.ClientEnd used h = signed h Signs.ClientEnded
 heard x Events.ClientFailed used h = signed h Signs.ClientFailed

@@ -4,11 +4,12 @@ ghost use Rattle.exchange_machine.specs.Reasons.{told_for};
 ghost use Rattle.exchange_machine.specs.declared.signs.Sign.{Sign};
 ghost use Rattle.exchange_machine.specs.Stages.{IsAsking, IsDialing, IsPassing, IsTurn, IsUnread};
 ghost use Rattle.mixed_exchange.specs.Steps as steps;
+ghost use Rattle.relay_http.specs.declared.persistence.Persistence as words;
 ghost use Rattle.relay_http.specs.declared.refusing.Code as codes;
 
-use crate::event::{Clock, Rules};
+use crate::event::Clock;
 use crate::exchange::{Exchange, Outcome, Step};
-use crate::relaying::{Turned, go_on, refused_late};
+use crate::relaying::{Turned, go_on, not_redialed, refused_late};
 use exchange_machine::{Asking, Dialing, Passing, Sign, Telling, Terms, Turn, Way};
 use grant_board::Pass;
 use relay_http::{Code, Fault};
@@ -39,7 +40,8 @@ fn unmoved(exchange: Exchange) -> Step
         → steps.IsAt result.next (steps.ended result.outcome (client_got h (take count []))) }
     ensures server_took { (h : History) (count : ℕ) → steps.IsAt exchange h
         → steps.IsAt result.next (steps.ended result.outcome (server_got h (take count []))) }
-    ensures unseen { (h : History) → steps.IsAt exchange h → steps.IsAt result.next (steps.ended result.outcome h) }
+    ensures connected { (h : History) (asks : words.Persistence) → steps.IsAt exchange h
+        → steps.IsAt result.next (steps.ended result.outcome (steps.connected_with result.used asks h)) }
 {
     Step {
         next: exchange,
@@ -262,17 +264,37 @@ pub(crate) fn unserved(exchange: Exchange, sign: Sign) -> Step
     }
 }
 
-pub(crate) fn connected(exchange: Exchange, alloc: Global, rules: Rules, fresh: bool) -> Step
-    ensures { (h : History) → steps.IsAt exchange h → steps.IsAt result.next (steps.ended result.outcome h) }
+pub(crate) fn connected(exchange: Exchange, alloc: Global, terms: Terms) -> Step
+    ensures { (h : History) → steps.IsAt exchange h
+        → steps.IsAt result.next (steps.ended result.outcome (steps.connected_with result.used terms.asks h)) }
 {
     match exchange {
-        Exchange::Dialing(dialing) => begin(dialing, alloc, rules, fresh),
+        Exchange::Dialing(dialing) => begin(dialing, alloc, terms),
+        Exchange::Passing(passing) => reconnected(passing, alloc, terms),
         other => unmoved(other),
     }
 }
 
-fn begin(dialing: Dialing, alloc: Global, rules: Rules, fresh: bool) -> Step
-    ensures { (h : History) → IsDialing dialing h → steps.IsAt result.next (steps.ended result.outcome h) }
+// On a connection in place of one that broke what waits goes out as it stands.
+fn reconnected(mut passing: Passing, alloc: Global, terms: Terms) -> Step
+    ensures { (h : History) → IsPassing passing h
+        → steps.IsAt result.next (steps.ended result.outcome (steps.connected_with result.used terms.asks h)) }
+{
+    if !passing.is_dialing() {
+        return unmoved(Exchange::Passing(passing));
+    }
+    passing.connect(terms.fresh);
+    let Turned { next, outcome } = go_on(passing, alloc);
+    Step {
+        next,
+        used: 0,
+        outcome,
+    }
+}
+
+fn begin(dialing: Dialing, alloc: Global, terms: Terms) -> Step
+    ensures { (h : History) → IsDialing dialing h
+        → steps.IsAt result.next (steps.ended result.outcome (steps.connected_with result.used terms.asks h)) }
 {
     let Ok(up) = Way::new(alloc) else {
         return short(dialing);
@@ -280,17 +302,12 @@ fn begin(dialing: Dialing, alloc: Global, rules: Rules, fresh: bool) -> Step
     let Ok(down) = Way::new(alloc) else {
         return short(dialing);
     };
-    let terms = Terms {
-        asks: rules.asks,
-        willing: rules.willing,
-        fresh,
-    };
     match dialing.connected(alloc, up, down, terms) {
         Ok(passing) => {
             let Turned { next, outcome } = go_on(passing, alloc);
             Step {
                 next,
-                used: 0,
+                used: 1,
                 outcome,
             }
         }
@@ -299,7 +316,8 @@ fn begin(dialing: Dialing, alloc: Global, rules: Rules, fresh: bool) -> Step
 }
 
 fn short(dialing: Dialing) -> Step
-    ensures { (h : History) → IsDialing dialing h → steps.IsAt result.next (steps.ended result.outcome h) }
+    ensures { (h : History) (asks : words.Persistence) → IsDialing dialing h
+        → steps.IsAt result.next (steps.ended result.outcome (steps.connected_with result.used asks h)) }
 {
     let (waiting, pass, ending) = dialing.failed();
     Step {
@@ -310,6 +328,7 @@ fn short(dialing: Dialing) -> Step
 }
 
 pub(crate) fn unreachable(exchange: Exchange, sign: Sign) -> Step
+    requires { told_for sign ≡ Some codes.Code.Unavailable }
     ensures { (h : History) → steps.IsAt exchange h → steps.IsAt result.next (steps.ended result.outcome (signed h sign)) }
 {
     match exchange {
@@ -321,7 +340,23 @@ pub(crate) fn unreachable(exchange: Exchange, sign: Sign) -> Step
                 outcome: Outcome::Posts(pass, ending),
             }
         }
+        Exchange::Passing(passing) => unreached(passing, sign),
         other => unmoved(other),
+    }
+}
+
+fn unreached(passing: Passing, sign: Sign) -> Step
+    requires { told_for sign ≡ Some codes.Code.Unavailable }
+    ensures { (h : History) → IsPassing passing h → steps.IsAt result.next (steps.ended result.outcome (signed h sign)) }
+{
+    if !passing.is_dialing() {
+        return unmoved(Exchange::Passing(passing));
+    }
+    let Turned { next, outcome } = not_redialed(passing, sign);
+    Step {
+        next,
+        used: 0,
+        outcome,
     }
 }
 

@@ -1,4 +1,4 @@
-ghost use Rattle.std.specs.Prelude.{◌≡◌, ◌≢◌, [], true, false, IfOk, IsFalse, IsTrue};
+ghost use Rattle.std.specs.Prelude.{◌≡◌, ◌≢◌, [], true, false, Some, IfOk, IsFalse, IsTrue};
 ghost use Rattle.exchange_machine.specs.Histories.{History, nothing_yet};
 ghost use Rattle.mixed_exchange.specs.Steps as steps;
 
@@ -124,11 +124,7 @@ impl Exchange {
             Exchange::Asking(_) => Some(Clock::Client),
             Exchange::Waiting(_) => Some(Clock::Queue),
             Exchange::Dialing(_) => Some(Clock::Connect),
-            Exchange::Passing(passing) => Some(passing_clock(
-                waits(passing.to_client()),
-                waits(passing.to_server()),
-                passing.is_asked(),
-            )),
+            Exchange::Passing(passing) => Some(clock_between(passing)),
             Exchange::Settling(_) => Some(Clock::Client),
             Exchange::Leaving(_) => Some(Clock::Client),
             Exchange::Telling(_) => Some(Clock::Client),
@@ -141,8 +137,8 @@ impl Exchange {
             Exchange::Asking(_) => (true, false, false),
             Exchange::Passing(passing) => (
                 !passing.is_cut() && !passing.is_asked() && passing.holds_none(),
-                !passing.has_ended(),
-                !passing.is_cut() && !passing.to_server().is_empty(),
+                !passing.has_ended() && !passing.is_dialing(),
+                !passing.is_cut() && !passing.is_dialing() && !passing.to_server().is_empty(),
             ),
             Exchange::Waiting(_)
             | Exchange::Dialing(_)
@@ -166,7 +162,7 @@ impl Exchange {
             Event::ServerTook(count) => server_took(self, alloc, count),
             Event::Granted(pass) => granted(self, pass),
             Event::Unserved => unserved(self, Sign::Unserved),
-            Event::Connected(fresh) => connected(self, alloc, rules, fresh),
+            Event::Connected(terms) => connected(self, alloc, terms),
             Event::Unreachable => unreachable(self, Sign::Unreachable),
             Event::ClientEnd => client_ended(self, rules.aborts),
             Event::ClientFailed => gone(self, Sign::ClientFailed),
@@ -176,6 +172,19 @@ impl Exchange {
             Event::TimeOver(clock) => time_over(self, clock),
         }
     }
+}
+
+fn clock_between(passing: &Passing) -> Clock
+    ensures { Some result ≡ steps.clock_of (Exchange.Passing passing.now) }
+{
+    if passing.is_dialing() {
+        return Clock::Connect;
+    }
+    passing_clock(
+        waits(passing.to_client()),
+        waits(passing.to_server()),
+        passing.is_asked(),
+    )
 }
 
 fn waits(bytes: &[u8]) -> bool

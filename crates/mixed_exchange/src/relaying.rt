@@ -1,11 +1,12 @@
-ghost use Rattle.std.specs.Prelude.{◌≡◌, true};
+ghost use Rattle.std.specs.Prelude.{◌≡◌, Some, true};
 ghost use Rattle.body_coder.specs.Stops.{is_bad};
 ghost use Rattle.exchange_machine.specs.Histories.{History, posted, signed};
-ghost use Rattle.exchange_machine.specs.Reasons.{LacksAnswer};
-ghost use Rattle.exchange_machine.specs.Repeatables.{IsRepeatable};
+ghost use Rattle.exchange_machine.specs.Reasons.{LacksAnswer, told_for};
+ghost use Rattle.exchange_machine.specs.Repeatables.{IsRepeatable, IsUntouched};
 ghost use Rattle.exchange_machine.specs.Settlings.{IsRest};
 ghost use Rattle.exchange_machine.specs.Stages.{IsLeaving, IsPassing};
 ghost use Rattle.mixed_exchange.specs.Steps as steps;
+ghost use Rattle.relay_http.specs.declared.refusing.Code as codes;
 
 use crate::exchange::{Exchange, Outcome};
 use exchange_machine::{Down, Ended, Headed, Passing, Rest, Settled, Sign};
@@ -76,7 +77,22 @@ fn head_goes_on(passing: Passing) -> Turned
     if passing.can_repeat() {
         return again(passing);
     }
+    if passing.is_untouched() {
+        return redials(passing);
+    }
     breaks_off(passing)
+}
+
+// What waits for the server goes out on another connection as it stands.
+fn redials(mut passing: Passing) -> Turned
+    requires { IsUntouched passing }
+    ensures { (h : History) → IsPassing passing h → steps.IsAt result.next (steps.ended result.outcome h) }
+{
+    passing.redial();
+    Turned {
+        next: Exchange::Passing(passing),
+        outcome: Outcome::Retries,
+    }
 }
 
 // The server's input came to its end before the answer's.
@@ -211,4 +227,15 @@ pub(crate) fn refused_late(passing: Passing) -> Turned
         return ends(passing);
     }
     left(passing.refuse(Code::BadGateway))
+}
+
+/// No connection came about in place of one that broke, for this reason.
+pub(crate) fn not_redialed(passing: Passing, sign: Sign) -> Turned
+    requires { told_for sign ≡ Some codes.Code.Unavailable }
+    ensures { (h : History) → IsPassing passing h → steps.IsAt result.next (steps.ended result.outcome (signed h sign)) }
+{
+    if passing.has_begun() {
+        return ends(passing);
+    }
+    left(passing.refuse(Code::Unavailable))
 }

@@ -7,5 +7,5 @@ use Rattle.exchange_machine.specs.Histories.{signed, posted}
 use Rattle.mixed_exchange.proofs.calls.short.Goals as goal
 
 pub returns : goal.returns
-returns c h is = c.refuse.ensures (posted (signed h NoMemory) c.failed-waiting.result.1 c.failed-waiting.result.2) (c.failed-waiting.ensures
+returns c h asks is = c.refuse.ensures (posted (signed h NoMemory) c.failed-waiting.result.1 c.failed-waiting.result.2) (c.failed-waiting.ensures
     (signed h NoMemory) (dialing_signed c.args.dialing h NoMemory is)) (of_sign NoMemory Unavailable (shows_last h.signs NoMemory) refl)

@@ -1,10 +1,9 @@
-ghost use Rattle.std.specs.Prelude.{◌≡◌, [], IfOk, IfErr};
+ghost use Rattle.std.specs.Prelude.{◌≡◌, [], false, IfOk, IfErr};
 ghost use Rattle.exchange_machine.specs.Histories.{History, connected_on, posted};
 ghost use Rattle.exchange_machine.specs.Stages as stages;
 ghost use Rattle.relay_http.specs.Replies.{leave_text};
 ghost use Rattle.relay_http.specs.Texts.{request_text};
 
-use crate::ending::ending_of;
 use crate::passing::Passing;
 use crate::sides::Down;
 use crate::texts::{put_leave, put_request};
@@ -37,7 +36,8 @@ pub struct Terms {
 impl Dialing {
     /// Its client has gone: the pass goes back as done, since the server isn't to blame.
     pub fn abandon(self) -> (Pass, Ending)
-        ensures { (h : History) → stages.IsDialing self h → stages.IsOver (posted h result.0 result.1) }
+        ensures ends { (h : History) → stages.IsDialing self h → stages.IsOver (posted h result.0 result.1) }
+        ensures done { result.1 ≡ Ending.Done }
     {
         let Dialing {
             waiting: _,
@@ -47,16 +47,36 @@ impl Dialing {
         (pass, Ending::Done)
     }
 
-    /// The server can't be reached: the pass goes back, as failed where no byte reached it before, and another may be waited for.
-    pub fn failed(self) -> (Waiting, Pass, Ending)
-        ensures { (h : History) → stages.IsDialing self h → stages.IsWaiting result.0 (posted h result.1 result.2) }
+    /// Did a byte of the request reach a server, on a connection before this one?
+    pub fn has_reached(&self) -> bool
+        ensures { result ≡ self.now.reached }
+    {
+        self.reached
+    }
+
+    /// The server can't be reached, and nothing reached one before: the pass goes back as failed, and another may be waited for.
+    pub fn fail(self) -> (Waiting, Pass)
+        requires { self.reached ≡ false }
+        ensures { (h : History) → stages.IsDialing self h → stages.IsWaiting result.0 (posted h result.1 Ending.Failed) }
     {
         let Dialing {
             waiting,
             pass,
-            reached,
+            reached: _,
         } = self;
-        (waiting, pass, ending_of(reached))
+        (waiting, pass)
+    }
+
+    /// Nothing is tried any more: the pass goes back as done, and its client is to be told why.
+    pub fn give_up(self) -> (Waiting, Pass)
+        ensures { (h : History) → stages.IsDialing self h → stages.IsWaiting result.0 (posted h result.1 Ending.Done) }
+    {
+        let Dialing {
+            waiting,
+            pass,
+            reached: _,
+        } = self;
+        (waiting, pass)
     }
 
     /// The server was reached: its head goes out, and both sides run from here on. Where there is no memory or no room for the head, nothing changes.

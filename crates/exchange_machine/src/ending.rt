@@ -48,8 +48,9 @@ impl Passing {
     /// The client is told this in place of an answer of which it took no byte, for this reason, behind what it took of the leave.
     pub fn refuse(self, code: Code) -> Ended
         requires { self.begun ≡ false }
-        ensures { (h : History) → (is : stages.IsPassing self h) → Reason h.signs self.view is.behind h.server_in code
+        ensures ends { (h : History) → (is : stages.IsPassing self h) → Reason h.signs self.view is.behind h.server_in code
             → stages.IsLeaving result.rest (posted h result.pass result.ending) }
+        ensures done { result.ending ≡ Ending.Done }
     {
         let leave_left = self.leave_left;
         let Ended { pass, ending, rest } = self.end();
@@ -67,7 +68,8 @@ impl Passing {
     pub fn refuse_unanswered(self) -> Ended
         requires none { self.begun ≡ false }
         requires ended { self.ended ≡ true }
-        ensures { (h : History) → stages.IsPassing self h → stages.IsLeaving result.rest (posted h result.pass result.ending) }
+        ensures ends { (h : History) → stages.IsPassing self h → stages.IsLeaving result.rest (posted h result.pass result.ending) }
+        ensures done { result.ending ≡ Ending.Done }
     {
         self.refuse(Code::BadGateway)
     }
@@ -77,7 +79,8 @@ impl Passing {
         requires none { self.begun ≡ false }
         requires body { self.phase ≡ Down.Body }
         requires bad { is_bad self.down.coding ≡ true }
-        ensures { (h : History) → stages.IsPassing self h → stages.IsLeaving result.rest (posted h result.pass result.ending) }
+        ensures ends { (h : History) → stages.IsPassing self h → stages.IsLeaving result.rest (posted h result.pass result.ending) }
+        ensures done { result.ending ≡ Ending.Done }
     {
         self.refuse(Code::BadGateway)
     }
@@ -86,14 +89,16 @@ impl Passing {
     pub fn refuse_request(self) -> Ended
         requires none { self.begun ≡ false }
         requires bad { is_bad self.up.coding ≡ true }
-        ensures { (h : History) → stages.IsPassing self h → stages.IsLeaving result.rest (posted h result.pass result.ending) }
+        ensures ends { (h : History) → stages.IsPassing self h → stages.IsLeaving result.rest (posted h result.pass result.ending) }
+        ensures done { result.ending ≡ Ending.Done }
     {
         self.refuse(Code::BadRequest)
     }
 
     /// Its client has gone: nothing more is written, and the pass goes back as done, since the server isn't to blame.
     pub fn abandon(self) -> (Pass, Ending)
-        ensures { (h : History) → stages.IsPassing self h → stages.IsOver (posted h result.0 result.1) }
+        ensures ends { (h : History) → stages.IsPassing self h → stages.IsOver (posted h result.0 result.1) }
+        ensures done { result.1 ≡ Ending.Done }
     {
         let Ended {
             pass,
@@ -203,7 +208,8 @@ impl Passing {
 
     /// It is over: its pass is to be posted. Where both messages were whole the client may ask again.
     pub fn settle(self) -> Settled
-        ensures { (h : History) → stages.IsPassing self h → settling.IsRest result.rest (posted h result.pass result.ending) }
+        ensures ends { (h : History) → stages.IsPassing self h → settling.IsRest result.rest (posted h result.pass result.ending) }
+        ensures done { result.ending ≡ Ending.Done }
     {
         if self.is_whole() {
             return self.settle_whole();
@@ -218,7 +224,8 @@ impl Passing {
 
     fn settle_whole(self) -> Settled
         requires { (self.phase ≡ Down.Body) × (is_done self.up.coding ≡ true) × (is_done self.down.coding ≡ true) × (self.says ≢ Persistence.Close) }
-        ensures { (h : History) → stages.IsPassing self h → settling.IsRest result.rest (posted h result.pass result.ending) }
+        ensures ends { (h : History) → stages.IsPassing self h → settling.IsRest result.rest (posted h result.pass result.ending) }
+        ensures done { result.ending ≡ Ending.Done }
     {
         let clean = self.is_clean();
         let Passing {
@@ -230,7 +237,7 @@ impl Passing {
             phase: _,
             down,
             down_held: _,
-            reached,
+            reached: _,
             framing: _,
             fresh: _,
             asks: _,
@@ -243,10 +250,9 @@ impl Passing {
             leave_left: _,
             dialing: _,
         } = self;
-        let ending = ending_of(reached);
         Settled {
             pass,
-            ending,
+            ending: Ending::Done,
             rest: Rest::Settling(Settling {
                 out: down,
                 behind: up_held,
@@ -255,10 +261,11 @@ impl Passing {
         }
     }
 
-    /// It is over, however far it is: its pass is to be posted, as failed only where no byte reached the server.
+    /// It is over, however far it is: its pass is to be posted as done, since nothing is tried again.
     pub fn end(self) -> Ended
         ensures ends { (h : History) → stages.IsPassing self h → stages.IsLeaving result.rest (posted h result.pass result.ending) }
         ensures pass { result.pass ≡ self.pass }
+        ensures done { result.ending ≡ Ending.Done }
         ensures rest { result.rest.out ≡ self.down }
     {
         let Passing {
@@ -270,7 +277,7 @@ impl Passing {
             phase: _,
             down,
             down_held: _,
-            reached,
+            reached: _,
             framing: _,
             fresh: _,
             asks: _,
@@ -283,21 +290,10 @@ impl Passing {
             leave_left: _,
             dialing: _,
         } = self;
-        let ending = ending_of(reached);
         Ended {
             pass,
-            ending,
+            ending: Ending::Done,
             rest: Leaving { out: down },
         }
-    }
-}
-
-pub(crate) fn ending_of(reached: bool) -> Ending
-    ensures { result ≡ Ending.Failed → reached ≡ false }
-{
-    if reached {
-        Ending::Done
-    } else {
-        Ending::Failed
     }
 }

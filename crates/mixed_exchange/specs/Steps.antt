@@ -8,6 +8,7 @@ use Rattle.exchange_machine.specs.Settlings.{IsSettling}
 use Rattle.exchange_machine.specs.Stages.{IsAsking, IsWaiting, IsDialing, IsPassing, IsLeaving, IsTelling, IsOver}
 use Rattle.exchange_machine.specs.declared.signs.Sign.{Sign}
 use Rattle.exchange_machine.specs.declared.signs.Sign.TheVariants as Signs
+use Rattle.verdict.specs.declared.Ending.TheVariants.{Done, Failed}
 use Rattle.mixed_exchange.specs.declared.event.Clock.{Clock}
 use Rattle.mixed_exchange.specs.declared.event.Clock.TheVariants as Clocks
 use Rattle.mixed_exchange.specs.declared.event.Event.{Event}
@@ -125,6 +126,14 @@ ended Outcomes.Starved h = signed h Signs.NoMemory
 ended (Outcomes.StarvedPosts pass ending) h = posted (signed h Signs.NoMemory) pass ending
 ended Outcomes.Retries h = retried h
 ended (Outcomes.Returns pass) h = h
+
+-- a pass goes back as failed just where another one is waited for
+abbrev pub FailsInTurn : Outcome → Exchange → Type 0
+FailsInTurn (Outcomes.Posts pass Failed) (Waiting w) = Unit {0}
+FailsInTurn (Outcomes.Posts pass Failed) x = ⊥
+FailsInTurn (Outcomes.Posts pass Done) (Waiting w) = ⊥
+FailsInTurn (Outcomes.StarvedPosts pass Failed) x = ⊥
+FailsInTurn outcome x = Unit {0}
 
 abbrev pub after : Exchange → Event → ℕ → Outcome → History → History
 after x event used outcome h = ended outcome (heard x event used h)

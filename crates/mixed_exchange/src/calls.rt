@@ -14,11 +14,13 @@ use exchange_machine::{Asking, Dialing, Passing, Sign, Telling, Terms, Turn, Way
 use grant_board::Pass;
 use relay_http::{Code, Fault};
 use std::alloc::Global;
+use verdict::Ending;
 
 fn quiet(next: Exchange, used: usize) -> Step
     ensures used { result.used ≡ used }
     ensures same { result.next ≡ next }
     ensures at { (h : History) → steps.IsAt next h → steps.IsAt result.next (steps.ended result.outcome h) }
+    ensures fails { steps.FailsInTurn result.outcome result.next }
 {
     Step {
         next,
@@ -42,6 +44,7 @@ fn unmoved(exchange: Exchange) -> Step
         → steps.IsAt result.next (steps.ended result.outcome (server_got h (take count []))) }
     ensures connected { (h : History) (asks : words.Persistence) → steps.IsAt exchange h
         → steps.IsAt result.next (steps.ended result.outcome (steps.connected_with result.used asks h)) }
+    ensures fails { steps.FailsInTurn result.outcome result.next }
 {
     Step {
         next: exchange,
@@ -53,6 +56,7 @@ fn unmoved(exchange: Exchange) -> Step
 pub(crate) fn client_bytes(exchange: Exchange, alloc: Global, input: &[u8]) -> Step
     ensures within { result.used ≤ length input.now }
     ensures at { (h : History) → steps.IsAt exchange h → steps.IsAt result.next (steps.ended result.outcome (client_came h (take result.used input.now))) }
+    ensures fails { steps.FailsInTurn result.outcome result.next }
 {
     match exchange {
         Exchange::Asking(asking) => asking_bytes(asking, alloc, input),
@@ -64,6 +68,7 @@ pub(crate) fn client_bytes(exchange: Exchange, alloc: Global, input: &[u8]) -> S
 fn asking_bytes(asking: Asking, alloc: Global, input: &[u8]) -> Step
     ensures within { result.used ≤ length input.now }
     ensures at { (h : History) → IsAsking asking h → steps.IsAt result.next (steps.ended result.outcome (client_came h (take result.used input.now))) }
+    ensures fails { steps.FailsInTurn result.outcome result.next }
 {
     let (used, turn) = asking.client_bytes(alloc, input);
     let Turned { next, outcome } = begun(turn);
@@ -75,7 +80,8 @@ fn asking_bytes(asking: Asking, alloc: Global, input: &[u8]) -> Step
 }
 
 fn begun(turn: Turn) -> Turned
-    ensures { (h : History) → IsTurn turn h → steps.IsAt result.next (steps.ended result.outcome h) }
+    ensures at { (h : History) → IsTurn turn h → steps.IsAt result.next (steps.ended result.outcome h) }
+    ensures fails { steps.FailsInTurn result.outcome result.next }
 {
     match turn {
         Turn::More(asking) => Turned {
@@ -91,7 +97,8 @@ fn begun(turn: Turn) -> Turned
 }
 
 fn unread(why: Fault) -> Turned
-    ensures { (h : History) → IsUnread why h → steps.IsAt result.next (steps.ended result.outcome h) }
+    ensures at { (h : History) → IsUnread why h → steps.IsAt result.next (steps.ended result.outcome h) }
+    ensures fails { steps.FailsInTurn result.outcome result.next }
 {
     if why == Fault::NoMemory {
         return Turned {
@@ -108,6 +115,7 @@ fn unread(why: Fault) -> Turned
 fn request_bytes(mut passing: Passing, alloc: Global, input: &[u8]) -> Step
     ensures within { result.used ≤ length input.now }
     ensures at { (h : History) → IsPassing passing h → steps.IsAt result.next (steps.ended result.outcome (client_came h (take result.used input.now))) }
+    ensures fails { steps.FailsInTurn result.outcome result.next }
 {
     let used = take_request(&mut passing, input);
     let Turned { next, outcome } = go_on(passing, alloc);
@@ -132,6 +140,7 @@ fn take_request(passing: &mut Passing, input: &[u8]) -> usize
 pub(crate) fn server_bytes(exchange: Exchange, alloc: Global, input: &[u8]) -> Step
     ensures within { result.used ≤ length input.now }
     ensures at { (h : History) → steps.IsAt exchange h → steps.IsAt result.next (steps.ended result.outcome (server_came h (take result.used input.now))) }
+    ensures fails { steps.FailsInTurn result.outcome result.next }
 {
     match exchange {
         Exchange::Passing(passing) => answer_bytes(passing, alloc, input),
@@ -142,6 +151,7 @@ pub(crate) fn server_bytes(exchange: Exchange, alloc: Global, input: &[u8]) -> S
 fn answer_bytes(mut passing: Passing, alloc: Global, input: &[u8]) -> Step
     ensures within { result.used ≤ length input.now }
     ensures at { (h : History) → IsPassing passing h → steps.IsAt result.next (steps.ended result.outcome (server_came h (take result.used input.now))) }
+    ensures fails { steps.FailsInTurn result.outcome result.next }
 {
     let used = take_answer(&mut passing, input);
     let Turned { next, outcome } = go_on(passing, alloc);
@@ -178,8 +188,9 @@ fn fitting(count: usize, waiting: &[u8]) -> usize
 }
 
 pub(crate) fn client_took(exchange: Exchange, alloc: Global, count: usize) -> Step
-    ensures { (h : History) → steps.IsAt exchange h
+    ensures at { (h : History) → steps.IsAt exchange h
         → steps.IsAt result.next (steps.ended result.outcome (client_got h (take count (steps.to_client exchange)))) }
+    ensures fails { steps.FailsInTurn result.outcome result.next }
 {
     match exchange {
         Exchange::Passing(mut passing) => {
@@ -215,8 +226,9 @@ pub(crate) fn client_took(exchange: Exchange, alloc: Global, count: usize) -> St
 }
 
 pub(crate) fn server_took(exchange: Exchange, alloc: Global, count: usize) -> Step
-    ensures { (h : History) → steps.IsAt exchange h
+    ensures at { (h : History) → steps.IsAt exchange h
         → steps.IsAt result.next (steps.ended result.outcome (server_got h (take count (steps.to_server exchange)))) }
+    ensures fails { steps.FailsInTurn result.outcome result.next }
 {
     match exchange {
         Exchange::Passing(mut passing) => {
@@ -240,7 +252,8 @@ pub(crate) fn server_took(exchange: Exchange, alloc: Global, count: usize) -> St
 }
 
 pub(crate) fn granted(exchange: Exchange, pass: Pass) -> Step
-    ensures { (h : History) → steps.IsAt exchange h → steps.IsAt result.next (steps.ended result.outcome (steps.came_pass result.used pass h)) }
+    ensures at { (h : History) → steps.IsAt exchange h → steps.IsAt result.next (steps.ended result.outcome (steps.came_pass result.used pass h)) }
+    ensures fails { steps.FailsInTurn result.outcome result.next }
 {
     match exchange {
         Exchange::Waiting(waiting) => quiet(Exchange::Dialing(waiting.grant(pass)), 1),
@@ -254,7 +267,8 @@ pub(crate) fn granted(exchange: Exchange, pass: Pass) -> Step
 
 pub(crate) fn unserved(exchange: Exchange, sign: Sign) -> Step
     requires { told_for sign ≡ Some codes.Code.Unavailable }
-    ensures { (h : History) → steps.IsAt exchange h → steps.IsAt result.next (steps.ended result.outcome (signed h sign)) }
+    ensures at { (h : History) → steps.IsAt exchange h → steps.IsAt result.next (steps.ended result.outcome (signed h sign)) }
+    ensures fails { steps.FailsInTurn result.outcome result.next }
 {
     match exchange {
         Exchange::Waiting(waiting) => {
@@ -265,8 +279,9 @@ pub(crate) fn unserved(exchange: Exchange, sign: Sign) -> Step
 }
 
 pub(crate) fn connected(exchange: Exchange, alloc: Global, terms: Terms) -> Step
-    ensures { (h : History) → steps.IsAt exchange h
+    ensures at { (h : History) → steps.IsAt exchange h
         → steps.IsAt result.next (steps.ended result.outcome (steps.connected_with result.used terms.asks h)) }
+    ensures fails { steps.FailsInTurn result.outcome result.next }
 {
     match exchange {
         Exchange::Dialing(dialing) => begin(dialing, alloc, terms),
@@ -277,8 +292,9 @@ pub(crate) fn connected(exchange: Exchange, alloc: Global, terms: Terms) -> Step
 
 // On a connection in place of one that broke what waits goes out as it stands.
 fn reconnected(mut passing: Passing, alloc: Global, terms: Terms) -> Step
-    ensures { (h : History) → IsPassing passing h
+    ensures at { (h : History) → IsPassing passing h
         → steps.IsAt result.next (steps.ended result.outcome (steps.connected_with result.used terms.asks h)) }
+    ensures fails { steps.FailsInTurn result.outcome result.next }
 {
     if !passing.is_dialing() {
         return unmoved(Exchange::Passing(passing));
@@ -293,8 +309,9 @@ fn reconnected(mut passing: Passing, alloc: Global, terms: Terms) -> Step
 }
 
 fn begin(dialing: Dialing, alloc: Global, terms: Terms) -> Step
-    ensures { (h : History) → IsDialing dialing h
+    ensures at { (h : History) → IsDialing dialing h
         → steps.IsAt result.next (steps.ended result.outcome (steps.connected_with result.used terms.asks h)) }
+    ensures fails { steps.FailsInTurn result.outcome result.next }
 {
     let Ok(up) = Way::new(alloc) else {
         return short(dialing);
@@ -316,38 +333,56 @@ fn begin(dialing: Dialing, alloc: Global, terms: Terms) -> Step
 }
 
 fn short(dialing: Dialing) -> Step
-    ensures { (h : History) (asks : words.Persistence) → IsDialing dialing h
+    ensures at { (h : History) (asks : words.Persistence) → IsDialing dialing h
         → steps.IsAt result.next (steps.ended result.outcome (steps.connected_with result.used asks h)) }
+    ensures fails { steps.FailsInTurn result.outcome result.next }
 {
-    let (waiting, pass, ending) = dialing.failed();
+    let (waiting, pass) = dialing.give_up();
     Step {
         next: Exchange::Telling(waiting.refuse(Code::Unavailable)),
         used: 0,
-        outcome: Outcome::StarvedPosts(pass, ending),
+        outcome: Outcome::StarvedPosts(pass, Ending::Done),
     }
 }
 
 pub(crate) fn unreachable(exchange: Exchange, sign: Sign) -> Step
     requires { told_for sign ≡ Some codes.Code.Unavailable }
-    ensures { (h : History) → steps.IsAt exchange h → steps.IsAt result.next (steps.ended result.outcome (signed h sign)) }
+    ensures at { (h : History) → steps.IsAt exchange h → steps.IsAt result.next (steps.ended result.outcome (signed h sign)) }
+    ensures fails { steps.FailsInTurn result.outcome result.next }
 {
     match exchange {
-        Exchange::Dialing(dialing) => {
-            let (waiting, pass, ending) = dialing.failed();
-            Step {
-                next: Exchange::Waiting(waiting),
-                used: 0,
-                outcome: Outcome::Posts(pass, ending),
-            }
-        }
+        Exchange::Dialing(dialing) => { unreached_at_first(dialing, sign) }
         Exchange::Passing(passing) => unreached(passing, sign),
         other => unmoved(other),
     }
 }
 
+// Where no byte reached a server another pass may be waited for; else its client is told.
+fn unreached_at_first(dialing: Dialing, sign: Sign) -> Step
+    requires { told_for sign ≡ Some codes.Code.Unavailable }
+    ensures at { (h : History) → IsDialing dialing h → steps.IsAt result.next (steps.ended result.outcome (signed h sign)) }
+    ensures fails { steps.FailsInTurn result.outcome result.next }
+{
+    if dialing.has_reached() {
+        let (waiting, pass) = dialing.give_up();
+        return Step {
+            next: Exchange::Telling(waiting.refuse(Code::Unavailable)),
+            used: 0,
+            outcome: Outcome::Posts(pass, Ending::Done),
+        };
+    }
+    let (waiting, pass) = dialing.fail();
+    Step {
+        next: Exchange::Waiting(waiting),
+        used: 0,
+        outcome: Outcome::Posts(pass, Ending::Failed),
+    }
+}
+
 fn unreached(passing: Passing, sign: Sign) -> Step
     requires { told_for sign ≡ Some codes.Code.Unavailable }
-    ensures { (h : History) → IsPassing passing h → steps.IsAt result.next (steps.ended result.outcome (signed h sign)) }
+    ensures at { (h : History) → IsPassing passing h → steps.IsAt result.next (steps.ended result.outcome (signed h sign)) }
+    ensures fails { steps.FailsInTurn result.outcome result.next }
 {
     if !passing.is_dialing() {
         return unmoved(Exchange::Passing(passing));
@@ -364,6 +399,7 @@ fn unreached(passing: Passing, sign: Sign) -> Step
 pub(crate) fn gone(exchange: Exchange, sign: Sign) -> Step
     ensures over { result.next ≡ Exchange.Over }
     ensures at { (h : History) → steps.IsAt exchange h → steps.IsAt result.next (steps.ended result.outcome (signed h sign)) }
+    ensures fails { steps.FailsInTurn result.outcome result.next }
 {
     match exchange {
         Exchange::Dialing(dialing) => {
@@ -395,6 +431,7 @@ pub(crate) fn client_ended(exchange: Exchange, aborts: bool) -> Step
     ensures at { (h : History) → steps.IsAt exchange h → steps.IsAt result.next (steps.ended result.outcome (signed h Sign.ClientEnded)) }
     ensures leaves { steps.is_left aborts exchange ≡ true → result.next ≡ Exchange.Over }
     ensures stays { steps.is_left aborts exchange ≡ false → result.next ≡ exchange }
+    ensures fails { steps.FailsInTurn result.outcome result.next }
 {
     if is_left(&exchange, aborts) {
         gone(exchange, Sign::ClientEnded)
@@ -421,7 +458,8 @@ fn is_left(exchange: &Exchange, aborts: bool) -> bool
 
 pub(crate) fn server_ended(exchange: Exchange, alloc: Global, sign: Sign) -> Step
     requires { told_for sign ≡ Some codes.Code.BadGateway }
-    ensures { (h : History) → steps.IsAt exchange h → steps.IsAt result.next (steps.ended result.outcome (signed h sign)) }
+    ensures at { (h : History) → steps.IsAt exchange h → steps.IsAt result.next (steps.ended result.outcome (signed h sign)) }
+    ensures fails { steps.FailsInTurn result.outcome result.next }
 {
     match exchange {
         Exchange::Passing(mut passing) => {
@@ -438,7 +476,8 @@ pub(crate) fn server_ended(exchange: Exchange, alloc: Global, sign: Sign) -> Ste
 }
 
 pub(crate) fn server_deaf(exchange: Exchange, alloc: Global) -> Step
-    ensures { (h : History) → steps.IsAt exchange h → steps.IsAt result.next (steps.ended result.outcome (signed h Sign.ServerDeaf)) }
+    ensures at { (h : History) → steps.IsAt exchange h → steps.IsAt result.next (steps.ended result.outcome (signed h Sign.ServerDeaf)) }
+    ensures fails { steps.FailsInTurn result.outcome result.next }
 {
     match exchange {
         Exchange::Passing(mut passing) => {
@@ -455,7 +494,8 @@ pub(crate) fn server_deaf(exchange: Exchange, alloc: Global) -> Step
 }
 
 pub(crate) fn time_over(exchange: Exchange, clock: Clock) -> Step
-    ensures { (h : History) → steps.IsAt exchange h → steps.IsAt result.next (steps.ended result.outcome (signed h (steps.over clock))) }
+    ensures at { (h : History) → steps.IsAt exchange h → steps.IsAt result.next (steps.ended result.outcome (signed h (steps.over clock))) }
+    ensures fails { steps.FailsInTurn result.outcome result.next }
 {
     match clock {
         Clock::Client => client_over(exchange),
@@ -466,7 +506,8 @@ pub(crate) fn time_over(exchange: Exchange, clock: Clock) -> Step
 }
 
 fn client_over(exchange: Exchange) -> Step
-    ensures { (h : History) → steps.IsAt exchange h → steps.IsAt result.next (steps.ended result.outcome (signed h Sign.ClientOver)) }
+    ensures at { (h : History) → steps.IsAt exchange h → steps.IsAt result.next (steps.ended result.outcome (signed h Sign.ClientOver)) }
+    ensures fails { steps.FailsInTurn result.outcome result.next }
 {
     match exchange {
         Exchange::Asking(asking) => quiet(Exchange::Telling(asking.late()), 0),
@@ -477,7 +518,8 @@ fn client_over(exchange: Exchange) -> Step
 }
 
 fn server_over(exchange: Exchange) -> Step
-    ensures { (h : History) → steps.IsAt exchange h → steps.IsAt result.next (steps.ended result.outcome (signed h Sign.ServerOver)) }
+    ensures at { (h : History) → steps.IsAt exchange h → steps.IsAt result.next (steps.ended result.outcome (signed h Sign.ServerOver)) }
+    ensures fails { steps.FailsInTurn result.outcome result.next }
 {
     match exchange {
         Exchange::Passing(passing) => {

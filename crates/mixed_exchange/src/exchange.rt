@@ -152,6 +152,7 @@ impl Exchange {
     /// Of a client's request, whatever happens: what is true of the history before is true of it with this event.
     pub fn step(self, alloc: Global, rules: Rules, event: Event) -> Step
         ensures at { (h : History) → steps.IsAt self h → steps.IsAt result.next (steps.after self event.entry result.used result.outcome h) }
+        ensures fails { steps.FailsInTurn result.outcome result.next }
         ensures leaves { event.entry ≡ Event.ClientEnd → steps.is_left rules.aborts self ≡ true → result.next ≡ Exchange.Over }
         ensures stays { event.entry ≡ Event.ClientEnd → steps.is_left rules.aborts self ≡ false → result.next ≡ self }
     {

@@ -7,6 +7,7 @@ ghost use Rattle.exchange_machine.specs.Settlings.{IsRest};
 ghost use Rattle.exchange_machine.specs.Stages.{IsLeaving, IsPassing};
 ghost use Rattle.mixed_exchange.specs.Steps as steps;
 ghost use Rattle.relay_http.specs.declared.refusing.Code as codes;
+ghost use Rattle.verdict.specs.declared.Ending as endings;
 
 use crate::exchange::{Exchange, Outcome};
 use exchange_machine::{Down, Ended, Headed, Passing, Rest, Settled, Sign};
@@ -21,7 +22,8 @@ pub(crate) struct Turned {
 
 /// What is held goes on as far as it may, and where the server's side is over it is judged.
 pub(crate) fn go_on(mut passing: Passing, alloc: Global) -> Turned
-    ensures { (h : History) → IsPassing passing h → steps.IsAt result.next (steps.ended result.outcome h) }
+    ensures at { (h : History) → IsPassing passing h → steps.IsAt result.next (steps.ended result.outcome h) }
+    ensures fails { steps.FailsInTurn result.outcome result.next }
 {
     passing.use_held();
     match read_heads(&mut passing, alloc, 9) {
@@ -46,7 +48,8 @@ fn read_heads(passing: &mut Passing, alloc: Global, left: u8) -> Headed
 }
 
 fn stays(passing: Passing) -> Turned
-    ensures { (h : History) → IsPassing passing h → steps.IsAt result.next (steps.ended result.outcome h) }
+    ensures at { (h : History) → IsPassing passing h → steps.IsAt result.next (steps.ended result.outcome h) }
+    ensures fails { steps.FailsInTurn result.outcome result.next }
 {
     Turned {
         next: Exchange::Passing(passing),
@@ -56,7 +59,8 @@ fn stays(passing: Passing) -> Turned
 
 // A head's text waits for room, where anything is to be sent before it; else there is never room for it.
 fn no_room(passing: Passing) -> Turned
-    ensures { (h : History) → IsPassing passing h → steps.IsAt result.next (steps.ended result.outcome h) }
+    ensures at { (h : History) → IsPassing passing h → steps.IsAt result.next (steps.ended result.outcome h) }
+    ensures fails { steps.FailsInTurn result.outcome result.next }
 {
     if passing.to_client().is_empty() {
         refused_short(passing)
@@ -66,7 +70,8 @@ fn no_room(passing: Passing) -> Turned
 }
 
 fn head_goes_on(passing: Passing) -> Turned
-    ensures { (h : History) → IsPassing passing h → steps.IsAt result.next (steps.ended result.outcome h) }
+    ensures at { (h : History) → IsPassing passing h → steps.IsAt result.next (steps.ended result.outcome h) }
+    ensures fails { steps.FailsInTurn result.outcome result.next }
 {
     if passing.is_asked_badly() {
         return asked_badly(passing);
@@ -86,7 +91,8 @@ fn head_goes_on(passing: Passing) -> Turned
 // What waits for the server goes out on another connection as it stands.
 fn redials(mut passing: Passing) -> Turned
     requires { IsUntouched passing }
-    ensures { (h : History) → IsPassing passing h → steps.IsAt result.next (steps.ended result.outcome h) }
+    ensures at { (h : History) → IsPassing passing h → steps.IsAt result.next (steps.ended result.outcome h) }
+    ensures fails { steps.FailsInTurn result.outcome result.next }
 {
     passing.redial();
     Turned {
@@ -98,7 +104,8 @@ fn redials(mut passing: Passing) -> Turned
 // The server's input came to its end before the answer's.
 fn breaks_off(passing: Passing) -> Turned
     requires { passing.ended ≡ true }
-    ensures { (h : History) → IsPassing passing h → steps.IsAt result.next (steps.ended result.outcome h) }
+    ensures at { (h : History) → IsPassing passing h → steps.IsAt result.next (steps.ended result.outcome h) }
+    ensures fails { steps.FailsInTurn result.outcome result.next }
 {
     if passing.has_begun() {
         return ends(passing);
@@ -108,7 +115,8 @@ fn breaks_off(passing: Passing) -> Turned
 
 fn asked_badly(passing: Passing) -> Turned
     requires { is_bad passing.up.coding ≡ true }
-    ensures { (h : History) → IsPassing passing h → steps.IsAt result.next (steps.ended result.outcome h) }
+    ensures at { (h : History) → IsPassing passing h → steps.IsAt result.next (steps.ended result.outcome h) }
+    ensures fails { steps.FailsInTurn result.outcome result.next }
 {
     if passing.has_begun() {
         return ends(passing);
@@ -117,7 +125,9 @@ fn asked_badly(passing: Passing) -> Turned
 }
 
 fn left(ended: Ended) -> Turned
-    ensures { (h : History) → IsLeaving ended.rest (posted h ended.pass ended.ending) → steps.IsAt result.next (steps.ended result.outcome h) }
+    requires { ended.ending ≡ endings.Ending.Done }
+    ensures at { (h : History) → IsLeaving ended.rest (posted h ended.pass ended.ending) → steps.IsAt result.next (steps.ended result.outcome h) }
+    ensures fails { steps.FailsInTurn result.outcome result.next }
 {
     let Ended { pass, ending, rest } = ended;
     Turned {
@@ -128,7 +138,8 @@ fn left(ended: Ended) -> Turned
 
 fn again(passing: Passing) -> Turned
     requires { IsRepeatable passing }
-    ensures { (h : History) → IsPassing passing h → steps.IsAt result.next (steps.ended result.outcome h) }
+    ensures at { (h : History) → IsPassing passing h → steps.IsAt result.next (steps.ended result.outcome h) }
+    ensures fails { steps.FailsInTurn result.outcome result.next }
 {
     let dialing = passing.again();
     Turned {
@@ -138,7 +149,8 @@ fn again(passing: Passing) -> Turned
 }
 
 fn body_goes_on(mut passing: Passing) -> Turned
-    ensures { (h : History) → IsPassing passing h → steps.IsAt result.next (steps.ended result.outcome h) }
+    ensures at { (h : History) → IsPassing passing h → steps.IsAt result.next (steps.ended result.outcome h) }
+    ensures fails { steps.FailsInTurn result.outcome result.next }
 {
     if !passing.is_at_body() {
         return stays(passing);
@@ -163,7 +175,8 @@ fn body_goes_on(mut passing: Passing) -> Turned
 fn answered_badly(passing: Passing) -> Turned
     requires body { passing.phase ≡ Down.Body }
     requires bad { is_bad passing.down.coding ≡ true }
-    ensures { (h : History) → IsPassing passing h → steps.IsAt result.next (steps.ended result.outcome h) }
+    ensures at { (h : History) → IsPassing passing h → steps.IsAt result.next (steps.ended result.outcome h) }
+    ensures fails { steps.FailsInTurn result.outcome result.next }
 {
     if passing.has_begun() {
         return ends(passing);
@@ -172,33 +185,33 @@ fn answered_badly(passing: Passing) -> Turned
 }
 
 fn settles(passing: Passing) -> Turned
-    ensures { (h : History) → IsPassing passing h → steps.IsAt result.next (steps.ended result.outcome h) }
+    ensures at { (h : History) → IsPassing passing h → steps.IsAt result.next (steps.ended result.outcome h) }
+    ensures fails { steps.FailsInTurn result.outcome result.next }
 {
     let Settled { pass, ending, rest } = passing.settle();
-    Turned {
-        next: rested(rest),
-        outcome: Outcome::Posts(pass, ending),
-    }
-}
-
-fn rested(rest: Rest) -> Exchange
-    ensures { (h : History) → IsRest rest h → steps.IsAt result h }
-{
     match rest {
-        Rest::Settling(settling) => Exchange::Settling(settling),
-        Rest::Leaving(leaving) => Exchange::Leaving(leaving),
+        Rest::Settling(settling) => Turned {
+            next: Exchange::Settling(settling),
+            outcome: Outcome::Posts(pass, ending),
+        },
+        Rest::Leaving(leaving) => Turned {
+            next: Exchange::Leaving(leaving),
+            outcome: Outcome::Posts(pass, ending),
+        },
     }
 }
 
 /// The answer can't go on: what was handed on of it still goes out.
 pub(crate) fn ends(passing: Passing) -> Turned
-    ensures { (h : History) → IsPassing passing h → steps.IsAt result.next (steps.ended result.outcome h) }
+    ensures at { (h : History) → IsPassing passing h → steps.IsAt result.next (steps.ended result.outcome h) }
+    ensures fails { steps.FailsInTurn result.outcome result.next }
 {
     left(passing.end())
 }
 
 fn refused_short(passing: Passing) -> Turned
-    ensures { (h : History) → IsPassing passing h → steps.IsAt result.next (steps.ended result.outcome h) }
+    ensures at { (h : History) → IsPassing passing h → steps.IsAt result.next (steps.ended result.outcome h) }
+    ensures fails { steps.FailsInTurn result.outcome result.next }
 {
     if passing.has_begun() {
         return ends(passing);
@@ -211,7 +224,8 @@ fn refused_short(passing: Passing) -> Turned
 }
 
 fn refused_badly(passing: Passing) -> Turned
-    ensures { (h : History) → IsPassing passing h → LacksAnswer passing.view.method h.server_in → steps.IsAt result.next (steps.ended result.outcome h) }
+    ensures at { (h : History) → IsPassing passing h → LacksAnswer passing.view.method h.server_in → steps.IsAt result.next (steps.ended result.outcome h) }
+    ensures fails { steps.FailsInTurn result.outcome result.next }
 {
     if passing.has_begun() {
         return ends(passing);
@@ -221,7 +235,8 @@ fn refused_badly(passing: Passing) -> Turned
 
 /// The server is silent for too long.
 pub(crate) fn refused_late(passing: Passing) -> Turned
-    ensures { (h : History) → IsPassing passing h → steps.IsAt result.next (steps.ended result.outcome (signed h Sign.ServerOver)) }
+    ensures at { (h : History) → IsPassing passing h → steps.IsAt result.next (steps.ended result.outcome (signed h Sign.ServerOver)) }
+    ensures fails { steps.FailsInTurn result.outcome result.next }
 {
     if passing.has_begun() {
         return ends(passing);
@@ -232,7 +247,8 @@ pub(crate) fn refused_late(passing: Passing) -> Turned
 /// No connection came about in place of one that broke, for this reason.
 pub(crate) fn not_redialed(passing: Passing, sign: Sign) -> Turned
     requires { told_for sign ≡ Some codes.Code.Unavailable }
-    ensures { (h : History) → IsPassing passing h → steps.IsAt result.next (steps.ended result.outcome (signed h sign)) }
+    ensures at { (h : History) → IsPassing passing h → steps.IsAt result.next (steps.ended result.outcome (signed h sign)) }
+    ensures fails { steps.FailsInTurn result.outcome result.next }
 {
     if passing.has_begun() {
         return ends(passing);

@@ -4,8 +4,8 @@ use Rattle.exchange_machine.proofs.EventLemmas.{asking_signed, shows_last}
 use Rattle.mixed_exchange.proofs.StepLemmas.{at_as}
 use Rattle.mixed_exchange.proofs.calls.client_over.Goals as goal
 
-pub returns-in-Asking : goal.returns-in-Asking
-returns-in-Asking c h is =
+pub returns-in-Asking-clause-at : goal.returns-in-Asking-clause-at
+returns-in-Asking-clause-at c h is =
     let asking = c.in-Asking.asking in
     c.quiet.ensures.at (signed h ClientOver)
     (c.late.ensures (signed h ClientOver) (asking_signed asking h ClientOver (at_as h c.in-Asking.is is)) (shows_last h.signs ClientOver))

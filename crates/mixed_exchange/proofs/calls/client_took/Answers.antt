@@ -5,14 +5,14 @@ use Rattle.mixed_exchange.specs.declared.exchange.Exchange.{Exchange}
 use Rattle.mixed_exchange.proofs.StepLemmas.{at_as}
 use Rattle.mixed_exchange.proofs.calls.client_took.Goals as goal
 
-pub returns-in-Dialing : goal.returns-in-Dialing
-returns-in-Dialing c h is =
+pub returns-in-Dialing-clause-at : goal.returns-in-Dialing-clause-at
+returns-in-Dialing-clause-at c h is =
     let r = c.unmoved-in-Dialing.result in
     subst (λ (x : Exchange). IsAt r.next (ended r.outcome (client_got h (take c.args.count (to_client x))))) (sym c.in-Dialing.is)
     (c.unmoved-in-Dialing.ensures.client_took h c.args.count (at_as h c.in-Dialing.is is))
 
-pub returns-in-Over : goal.returns-in-Over
-returns-in-Over c h is =
+pub returns-in-Over-clause-at : goal.returns-in-Over-clause-at
+returns-in-Over-clause-at c h is =
     let r = c.unmoved-in-Over.result in
     subst (λ (x : Exchange). IsAt r.next (ended r.outcome (client_got h (take c.args.count (to_client x))))) (sym c.in-Over.is)
     (c.unmoved-in-Over.ensures.client_took h c.args.count (at_as h c.in-Over.is is))

@@ -4,10 +4,10 @@ use Rattle.mixed_exchange.proofs.StepLemmas.{at_as}
 use Rattle.mixed_exchange.proofs.calls.gone.Goals as goal
 
 pub returns-in-Dialing-clause-at : goal.returns-in-Dialing-clause-at
-returns-in-Dialing-clause-at c h is = c.abandon-pass.ensures (signed h c.args.sign) (dialing_signed c.in-Dialing.dialing h c.args.sign (at_as h c.in-Dialing.is is))
+returns-in-Dialing-clause-at c h is = c.abandon-pass.ensures.ends (signed h c.args.sign) (dialing_signed c.in-Dialing.dialing h c.args.sign (at_as h c.in-Dialing.is is))
 
 pub returns-in-Passing-clause-at : goal.returns-in-Passing-clause-at
-returns-in-Passing-clause-at c h is = c.abandon-pass-in-Passing.ensures (signed h c.args.sign) (passing_signed c.in-Passing.passing h c.args.sign
+returns-in-Passing-clause-at c h is = c.abandon-pass-in-Passing.ensures.ends (signed h c.args.sign) (passing_signed c.in-Passing.passing h c.args.sign
     (at_as h c.in-Passing.is is))
 
 pub returns-in-Asking-clause-at : goal.returns-in-Asking-clause-at

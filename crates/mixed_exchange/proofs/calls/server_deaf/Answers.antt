@@ -4,6 +4,6 @@ use Rattle.mixed_exchange.proofs.StepLemmas.{at_as}
 use Rattle.exchange_machine.specs.declared.signs.Sign.TheVariants.{ServerDeaf}
 use Rattle.mixed_exchange.proofs.calls.server_deaf.Goals as goal
 
-pub returns-in-Passing : goal.returns-in-Passing
-returns-in-Passing c h is = c.go_on-next.ensures (signed h ServerDeaf) (c.cut_off.ensures (signed h ServerDeaf)
+pub returns-in-Passing-clause-at : goal.returns-in-Passing-clause-at
+returns-in-Passing-clause-at c h is = c.go_on-next.ensures.at (signed h ServerDeaf) (c.cut_off.ensures (signed h ServerDeaf)
     (passing_signed c.in-Passing.passing h ServerDeaf (at_as h c.in-Passing.is is)))

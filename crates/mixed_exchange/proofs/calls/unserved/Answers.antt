@@ -5,7 +5,7 @@ use Rattle.mixed_exchange.proofs.StepLemmas.{at_as}
 use Rattle.relay_http.specs.declared.refusing.Code.TheVariants.{Unavailable}
 use Rattle.mixed_exchange.proofs.calls.unserved.Goals as goal
 
-pub returns-in-Waiting : goal.returns-in-Waiting
-returns-in-Waiting c h is = c.quiet.ensures.at (signed h c.args.sign) (c.refuse.ensures (signed h c.args.sign)
+pub returns-in-Waiting-clause-at : goal.returns-in-Waiting-clause-at
+returns-in-Waiting-clause-at c h is = c.quiet.ensures.at (signed h c.args.sign) (c.refuse.ensures (signed h c.args.sign)
     (waiting_signed c.in-Waiting.waiting h c.args.sign (at_as h c.in-Waiting.is is)) (of_sign c.args.sign Unavailable
     (shows_last h.signs c.args.sign) c.requires))

@@ -6,8 +6,8 @@ use Rattle.exchange_machine.specs.declared.signs.Sign.TheVariants.{ServerOver}
 use Rattle.relay_http.specs.declared.refusing.Code.TheVariants.{BadGateway}
 use Rattle.mixed_exchange.proofs.relaying.refused_late.Goals as goal
 
-pub returns : goal.returns
-returns c h is =
+pub returns-clause-at : goal.returns-clause-at
+returns-clause-at c h is =
     let late = signed h ServerOver in
-    c.left.ensures late
-    (c.refuse.ensures late (passing_signed c.args.passing h ServerOver is) (of_sign ServerOver BadGateway (shows_last h.signs ServerOver) refl))
+    c.left.ensures.at late
+    (c.refuse.ensures.ends late (passing_signed c.args.passing h ServerOver is) (of_sign ServerOver BadGateway (shows_last h.signs ServerOver) refl))

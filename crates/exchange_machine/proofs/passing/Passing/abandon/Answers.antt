@@ -6,5 +6,5 @@ use Rattle.exchange_machine.specs.Stages.{IsOver}
 use Rattle.exchange_machine.proofs.EventLemmas.{passing_left}
 use Rattle.exchange_machine.proofs.passing.Passing.abandon.Goals as goal
 
-pub returns : goal.returns
-returns c h is = subst (λ (g : Grant). IsOver (posted h g Done)) (sym c.end-pass.ensures.pass) (passing_left c.args.self h is)
+pub returns-clause-ends : goal.returns-clause-ends
+returns-clause-ends c h is = subst (λ (g : Grant). IsOver (posted h g Done)) (sym c.end-pass.ensures.pass) (passing_left c.args.self h is)

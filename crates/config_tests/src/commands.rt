@@ -10,6 +10,7 @@ use std::process::Abort;
 enum Expected {
     Run(&'static str, Numbers),
     Replay,
+    Demo(bool),
     Check(&'static str),
     Explain(&'static str),
     DrawAll,
@@ -28,7 +29,7 @@ const SIZES: Numbers = Numbers {
     requests: 0,
 };
 
-static COMMANDS: [CommandRow; 16] = [
+static COMMANDS: [CommandRow; 19] = [
     // What runs has its sizes.
     (
         "dueproxy run file --workers 7",
@@ -41,6 +42,10 @@ static COMMANDS: [CommandRow; 16] = [
     ("dueproxy draw --of * -1", Expected::DrawOnly("*", -1)),
     ("dueproxy draw --of *", Expected::Nothing(2)),
     ("dueproxy draw --of * x", Expected::Nothing(2)),
+    // The demo ends, or goes on.
+    ("dueproxy demo", Expected::Demo(false)),
+    ("dueproxy demo --keep", Expected::Demo(true)),
+    ("dueproxy demo more", Expected::Nothing(2)),
     // Subcommands are told apart.
     ("dueproxy replay", Expected::Replay),
     ("dueproxy check file", Expected::Check("file")),
@@ -66,6 +71,7 @@ fn is_asked(asked: &Asked, expected: &Expected) -> bool {
     match expected {
         Expected::Run(name, numbers) => is_run(asked, name, numbers),
         Expected::Replay => matches!(asked, Asked::Replay),
+        Expected::Demo(goes_on) => matches!(asked, Asked::Demo(keep) if keep == goes_on),
         Expected::Check(name) => is_check(asked, name),
         Expected::Explain(name) => is_explain(asked, name),
         Expected::DrawAll => matches!(asked, Asked::Draw(None)),

@@ -11,6 +11,7 @@ use std::sync::{Mutex, Wait};
 pub struct Record {
     alloc: Global,
     entries: Mutex<Vec<Entry>>,
+    closed: AtomicBool,
     over: AtomicBool,
 }
 
@@ -20,6 +21,7 @@ impl Record {
         Record {
             alloc,
             entries: Mutex::new(Vec::new(alloc)),
+            closed: AtomicBool::new(false),
             over: AtomicBool::new(false),
         }
     }
@@ -33,6 +35,15 @@ impl Record {
     /// Whether no more come than are there now.
     pub fn is_over(&self) -> bool {
         self.over.load(Ordering::SeqCst)
+    }
+
+    /// Notes that the proxy decides no more.
+    pub(crate) fn close(&self) {
+        self.closed.store(true, Ordering::SeqCst);
+    }
+
+    pub(crate) fn is_closed(&self) -> bool {
+        self.closed.load(Ordering::SeqCst)
     }
 
     /// Notes that no more come.

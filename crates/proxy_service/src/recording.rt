@@ -21,9 +21,8 @@ use socket_gate::Front;
 use std::marker::Brand;
 use std::net::{Net, TcpListener, TcpStream};
 use std::sync::Wait;
-use std::sync::atomic::{AtomicBool, Ordering};
 use std::thread;
-use std::thread::Threads;
+use std::thread::{Scope, Threads};
 use std::time::{Clock, Duration};
 
 /// The log is copied whenever so many milliseconds have passed.
@@ -127,36 +126,65 @@ fn serve_watched<
     requires places { watched.crew.threads.places ≤ N.terms.places }
 {
     let Watched { crew, record } = watched;
-    let over = AtomicBool::new(false);
-    let told = &over;
-    thread::scope(thread::scope_env(), rt, move |scope| {
-        let copying = scope
-            .spawn(move || copy_all(rt, shared.proxy(), record, told))
-            .ok();
-        let served = serve_clients(rt, shared.proxy(), front, relay, crew.threads);
-        told.store(true, Ordering::SeqCst);
-        match copying {
-            Some(handle) => {
-                handle.join(rt);
-                served
+    thread::scope(
+        thread::scope_env(),
+        rt,
+        move |scope|
+            requires named { (relay.board ≡ N.board) × (relay.view.terms ≡ N.terms) }
+            requires first { relay.view.first ≡ true }
+            requires idle { relay.view.passes ≡ [] }
+            requires places { crew.threads.places ≤ N.terms.places }
+        {
+            if !start_copying(scope, rt, shared, record) {
+                return Err(ServeFault::NoMemory);
             }
-            None => Err(ServeFault::NoMemory),
-        }
-    })
+            let served = serve_lent(rt, shared, front, relay, crew.threads);
+            record.close();
+            served
+        },
+    )
+}
+
+fn serve_lent<
+    N: BoardName + Send + Sync,
+    R: Net<Listener = TcpListener, Stream = TcpStream> + Clock + Print + Threads + Wait + Sync,
+    S: Lends<N>,
+>(
+    rt: &R,
+    shared: &S,
+    front: &Front<'_>,
+    relay: RelaySeat,
+    threads: relay_loops::Sizes,
+) -> Result<(), ServeFault>
+    requires named { (relay.board ≡ N.board) × (relay.view.terms ≡ N.terms) }
+    requires first { relay.view.first ≡ true }
+    requires idle { relay.view.passes ≡ [] }
+    requires places { threads.places ≤ N.terms.places }
+{
+    serve_clients(rt, shared.proxy(), front, relay, threads)
+}
+
+// Has a thread of the scope copy the log, and answers whether it could be started.
+fn start_copying<
+    's,
+    E,
+    R: Clock + Threads + Wait + Sync,
+    N: BoardName + Send + Sync + 's,
+    S: Lends<N> + Sync + 's,
+>(scope: &Scope<'s, E>, rt: &'s R, shared: &'s S, record: &'s Record) -> bool {
+    let started = scope
+        .spawn(move || copy_all(rt, shared.proxy(), record))
+        .ok();
+    started.is_some()
 }
 
 // Copies the log as it grows, until no more is decided.
-fn copy_all<N: BoardName, R: Clock + Wait>(
-    rt: &R,
-    proxy: &Proxy<N>,
-    record: &Record,
-    over: &AtomicBool,
-) {
+fn copy_all<N: BoardName, R: Clock + Wait>(rt: &R, proxy: &Proxy<N>, record: &Record) {
     let mut copied = 0;
     for _ in rt.forever() {
-        let is_last = over.load(Ordering::SeqCst);
+        let is_last = record.is_closed();
         if let Ok(later) = proxy.desk.entries_after(rt, proxy.alloc, copied) {
-            copied = copied.saturating_add(record.add(rt, later.as_slice()));
+            copied = record.add(rt, later.as_slice()).saturating_add(copied);
         }
         if is_last {
             return;

@@ -1,6 +1,6 @@
-//! Exchanges, each in pieces of some sizes on both ways in and out.
+//! Exchanges, each cut in many ways on both ways in and out, with the sides in many orders.
 
-use crate::playing::{Move, Stage, Table};
+use crate::playing::{Cut, Move, Stage, Table};
 use mixed_exchange::Clock;
 use std::alloc::Global;
 use std::process::Abort;
@@ -480,24 +480,46 @@ static AGAIN: [Row; 2] = [
     },
 ];
 
-// Where a row fails: its name, and the size of the pieces.
+// Where a row fails: its name, and how the bytes were cut.
 fn first_fault(
     rt: &impl Abort,
     alloc: Global,
     rows: &'static [Row],
-) -> Option<(&'static str, usize)> {
+) -> Option<(&'static str, Cut)> {
     for row in rows {
-        for piece in [1usize, 2, 3, 7, 4096] {
-            if !holds(rt, alloc, row, piece) {
-                return Some((row.name, piece));
-            }
+        let fault = fault_of(rt, alloc, row);
+        if let Some(cut) = fault {
+            return Some((row.name, cut));
         }
     }
     None
 }
 
-fn holds(rt: &impl Abort, alloc: Global, row: &Row, piece: usize) -> bool {
-    let mut table = Table::new(alloc, row.aborts, piece);
+fn fault_of(rt: &impl Abort, alloc: Global, row: &Row) -> Option<Cut> {
+    for number in 0..120usize {
+        let cut = cut_of(number);
+        if !holds(rt, alloc, row, cut) {
+            return Some(cut);
+        }
+    }
+    None
+}
+
+// Pieces of some sizes, each cut into two up to 70 bytes, and random ones.
+fn cut_of(number: usize) -> Cut {
+    match number {
+        0 => Cut::Pieces(1),
+        1 => Cut::Pieces(2),
+        2 => Cut::Pieces(3),
+        3 => Cut::Pieces(7),
+        4 => Cut::Pieces(4096),
+        _ if number < 75 => Cut::Two(number - 4),
+        _ => Cut::Random(number as u64),
+    }
+}
+
+fn holds(rt: &impl Abort, alloc: Global, row: &Row, cut: Cut) -> bool {
+    let mut table = Table::new(alloc, row.aborts, cut);
     let stage = table.play(rt, row.moves);
     let wire = &table.wire;
     wire.sent.as_slice() == row.sent
@@ -549,11 +571,11 @@ fn bad_chunks_of_a_request_are_refused(rt: HostRuntime) -> Result<(), Fail> {
         Move::Grant,
         Move::Connected(true),
     ];
-    let mut late = Table::new(rt.alloc(), false, 1);
+    let mut late = Table::new(rt.alloc(), false, Cut::Pieces(1));
     let stage = late.play(&rt, &moves);
     assert_eq!(rt; late.wire.told.as_slice(), BAD);
     assert_eq!(rt; stage, Stage::Leaving);
-    let mut early = Table::new(rt.alloc(), false, 4096);
+    let mut early = Table::new(rt.alloc(), false, Cut::Pieces(4096));
     let stage = early.play(&rt, &moves[..1]);
     assert_eq!(rt; early.wire.told.as_slice(), BAD);
     assert_eq!(rt; stage, Stage::Telling);

@@ -1,4 +1,4 @@
-//! What becomes of an exchange over events, with all bytes in pieces of one size.
+//! What becomes of an exchange over events, with all bytes cut and in some order.
 ghost use Rattle.std.specs.Prelude.{◌<◌};
 
 use crate::till::Till;
@@ -35,6 +35,47 @@ pub(crate) enum Move {
     Hold,
     /// It takes them.
     Free,
+}
+
+/// How bytes are cut, and in which order the two sides move.
+#[derive(Clone, Copy, Debug, PartialEq, Eq)]
+pub(crate) enum Cut {
+    /// In pieces of this size.
+    Pieces(usize),
+    /// What comes first of a side in two, at this byte.
+    Two(usize),
+    /// At random, and in a random order.
+    Random(u64),
+}
+
+const ALL: usize = 4096;
+
+impl Cut {
+    // The size of the next piece.
+    fn next(&mut self) -> usize {
+        match *self {
+            Cut::Pieces(size) => size,
+            Cut::Two(at) => {
+                *self = Cut::Pieces(ALL);
+                at
+            }
+            Cut::Random(seed) => {
+                let next = seed
+                    .wrapping_mul(6_364_136_223_846_793_005)
+                    .wrapping_add(1_442_695_040_888_963_407);
+                *self = Cut::Random(next);
+                (next >> 33) as usize % 9 + 1
+            }
+        }
+    }
+
+    // Whether the other side moves first.
+    fn flips(&mut self) -> bool {
+        match *self {
+            Cut::Pieces(_) | Cut::Two(_) => true,
+            Cut::Random(_) => self.next() % 2 == 0,
+        }
+    }
 }
 
 /// How far an exchange is.
@@ -80,7 +121,8 @@ impl Queue {
 pub(crate) struct Table {
     alloc: Global,
     rules: Rules,
-    piece: usize,
+    client_cut: Cut,
+    server_cut: Cut,
     stalled: bool,
     held: bool,
     till: Option<Till>,
@@ -90,11 +132,12 @@ pub(crate) struct Table {
 }
 
 impl Table {
-    pub(crate) fn new(alloc: Global, aborts: bool, piece: usize) -> Table {
+    pub(crate) fn new(alloc: Global, aborts: bool, cut: Cut) -> Table {
         Table {
             alloc,
             rules: Rules { aborts },
-            piece,
+            client_cut: cut,
+            server_cut: cut,
             stalled: false,
             held: false,
             till: None,
@@ -212,9 +255,11 @@ impl Table {
     fn flush(&mut self, rt: &impl Abort, mut exchange: Exchange) -> Exchange {
         for _ in 0..10_000u64 {
             let wants = exchange.wants();
-            if wants.writes_client && !self.stalled {
+            let client = wants.writes_client && !self.stalled;
+            let server = wants.writes_server && !self.held;
+            if client && (!server || self.client_cut.flips()) {
                 exchange = self.to_client(rt, exchange);
-            } else if wants.writes_server && !self.held {
+            } else if server {
                 exchange = self.to_server(rt, exchange);
             } else {
                 return exchange;
@@ -224,8 +269,9 @@ impl Table {
     }
 
     fn to_client(&mut self, rt: &impl Abort, exchange: Exchange) -> Exchange {
+        let most = self.client_cut.next();
         let waiting = exchange.to_client();
-        let count = waiting.len().min(self.piece);
+        let count = waiting.len().min(most);
         self.wire
             .told
             .extend_from_slice(&waiting[..count])
@@ -234,8 +280,9 @@ impl Table {
     }
 
     fn to_server(&mut self, rt: &impl Abort, exchange: Exchange) -> Exchange {
+        let most = self.server_cut.next();
         let waiting = exchange.to_server();
-        let count = waiting.len().min(self.piece);
+        let count = waiting.len().min(most);
         self.wire
             .sent
             .extend_from_slice(&waiting[..count])
@@ -246,21 +293,33 @@ impl Table {
     // What both sides sent comes, as far as it is taken.
     fn deliver(&mut self, rt: &impl Abort, mut exchange: Exchange) -> Exchange {
         for _ in 0..10_000u64 {
-            let (of_client, used) = self.of_client(rt, exchange);
-            let (of_server, also) = self.of_server(rt, of_client);
-            exchange = self.flush(rt, of_server);
-            if used == 0 && also == 0 {
+            let (next, used) = self.both(rt, exchange);
+            exchange = self.flush(rt, next);
+            if used == 0 {
                 return exchange;
             }
         }
         exchange
     }
 
+    // A piece of each side, one after the other, and how many bytes were taken.
+    fn both(&mut self, rt: &impl Abort, exchange: Exchange) -> (Exchange, usize) {
+        if self.server_cut.flips() {
+            let (next, used) = self.of_server(rt, exchange);
+            let (last, also) = self.of_client(rt, next);
+            return (last, used.saturating_add(also));
+        }
+        let (next, used) = self.of_client(rt, exchange);
+        let (last, also) = self.of_server(rt, next);
+        (last, used.saturating_add(also))
+    }
+
     fn of_client(&mut self, rt: &impl Abort, exchange: Exchange) -> (Exchange, usize) {
-        let piece = self.client.piece(self.piece);
-        if piece.is_empty() {
+        if self.client.piece(ALL).is_empty() {
             return (exchange, 0);
         }
+        let most = self.client_cut.next();
+        let piece = self.client.piece(most);
         let copy = Vec::from_slice(self.alloc, piece).expect(rt, "memory");
         let (next, used) = self.tell(rt, exchange, Event::ClientBytes(copy.as_slice()));
         self.client.taken = self.client.taken.saturating_add(used);
@@ -268,10 +327,11 @@ impl Table {
     }
 
     fn of_server(&mut self, rt: &impl Abort, exchange: Exchange) -> (Exchange, usize) {
-        let piece = self.server.piece(self.piece);
-        if piece.is_empty() {
+        if self.server.piece(ALL).is_empty() {
             return (exchange, 0);
         }
+        let most = self.server_cut.next();
+        let piece = self.server.piece(most);
         let copy = Vec::from_slice(self.alloc, piece).expect(rt, "memory");
         let (next, used) = self.tell(rt, exchange, Event::ServerBytes(copy.as_slice()));
         self.server.taken = self.server.taken.saturating_add(used);

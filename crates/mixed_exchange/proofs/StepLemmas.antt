@@ -1,6 +1,6 @@
 -- Events that change no stage.
 use Rattle.std.proofs.lemmas.List.{take_all}
-use Rattle.std.proofs.Common.{◌≡◌, ◌∙◌, ℕ, arith, List, [], ◌++◌, take, refl, sym, ap, append-nil, subst}
+use Rattle.std.proofs.Common.{◌≡◌, ◌∙◌, ℕ, Bool, arith, List, [], ◌++◌, take, refl, sym, ap, append-nil, subst}
 use Rattle.exchange_machine.specs.Histories.{History, client_came, server_came, server_got, client_got, signed}
 use Rattle.exchange_machine.specs.declared.signs.Sign.{Sign}
 use Rattle.exchange_machine.proofs.EventLemmas.{asking_signed, waiting_signed, dialing_signed, passing_signed, settling_signed, leaving_signed, telling_signed, over_signed, telling_over}
@@ -57,7 +57,8 @@ at_sound (Leaving a) h is = leaving_sound a h is
 at_sound (Telling a) h is = over_sound h (telling_over a h is)
 at_sound Over h is = over_sound h is
 
-pub ran_ends : (x : Exchange) (h : History) (events : Events) (told : List Outcome) → events ≡ End → IsAt x h → Ran x h events told told x
-ran_ends x h events told ends is =
-    subst (λ (e : Events). Ran x h e told told x) (sym ends)
+pub ran_ends : (aborts : Bool) (x : Exchange) (h : History) (events : Events) (told : List Outcome) → events ≡ End → IsAt x h
+    → Ran aborts x h events told told x
+ran_ends aborts x h events told ends is =
+    subst (λ (e : Events). Ran aborts x h e told told x) (sym ends)
     (record { given = []; told = sym (append-nil told); history = h; runs = (refl, refl, refl); at = is; sound = at_sound x h is })

@@ -1,5 +1,5 @@
 -- What an exchange is after a history, and what an event makes of a history.
-use Rattle.std.specs.Prelude.{ℕ, zero, suc, Bool, true, false, ◌||◌, not, if◌then◌else◌, List, [], ◌∷◌, take, Option, Some, None}
+use Rattle.std.specs.Prelude.{◌≡◌, ℕ, zero, suc, Bool, true, false, ◌||◌, not, if◌then◌else◌, List, [], ◌∷◌, take, Option, Some, None}
 use Rattle.body_coder.specs.Stops.{is_done}
 use Rattle.grant_board.specs.Views.{Grant}
 use Rattle.relay_http.specs.declared.persistence.Persistence.{Persistence}
@@ -61,6 +61,11 @@ is_left aborts (Settling s) = false
 is_left aborts (Leaving l) = false
 is_left aborts (Telling t) = false
 is_left aborts Over = false
+
+-- a client that sends no more is left, or nothing changes
+pub record IsRuled (aborts : Bool) (x : Exchange) (event : Event) (next : Exchange) : Type 0 where
+  pub leaves : event ≡ Events.ClientEnd → is_left aborts x ≡ true → next ≡ Over
+  pub stays : event ≡ Events.ClientEnd → is_left aborts x ≡ false → next ≡ x
 
 -- which limit's time runs where both sides go on, by whether anything waits for each, and whether the request is whole: that of the side that is waited for
 abbrev pub passing_clock : Bool → Bool → Bool → Clock

@@ -24,6 +24,7 @@ The events:
   M tick                 time has passed: stays that lasted too long end
   M check NAME up|down   a check of the server was answered, or not
   M limit NAME MAXCONN   the server may serve so many at once from now on
+  M limit NAME closed    the server takes nobody until its limit is set again
   roll                   the reports so far, and the next window of the log
 
 For example, dueproxy replay reads

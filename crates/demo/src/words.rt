@@ -16,7 +16,7 @@ pub(crate) fn push_table(
     looks: Looks,
 ) -> Result<(), AllocError> {
     push_title(text, looks, "Who waited how long")?;
-    text.push_str("  request  class       came      due     waited  got a slot of\n")?;
+    text.push_str("  request  class       came        due     waited  got a slot of\n")?;
     for service in services {
         push_service(text, names, service)?;
     }

@@ -1,5 +1,6 @@
 ghost use Rattle.std.specs.Prelude.{◌≡◌, ◌-◌, ◌≤◌, ◌++◌, [], length, take, drop, IfOk, OnErr, false, true, IsTrue};
 ghost use Rattle.body_coder.specs.Stops.{is_bad, is_done};
+ghost use Rattle.body_coder.specs.declared.coding.Coding as codings;
 ghost use Rattle.exchange_machine.specs.Histories.{History, client_came, server_came, server_got, client_got};
 ghost use Rattle.exchange_machine.specs.Reasons.{HasEnded};
 ghost use Rattle.exchange_machine.specs.Stages as stages;
@@ -64,7 +65,8 @@ impl Passing {
 
     /// Is anything held that came behind the request's head?
     pub fn holds_none(&self) -> bool
-        ensures { IsTrue result → self.now.up_held.items ≡ [] }
+        ensures none { IsTrue result → self.now.up_held.items ≡ [] }
+        ensures each { self.now.up_held.items ≡ [] → IsTrue result }
     {
         self.up_held.is_empty()
     }
@@ -89,7 +91,8 @@ impl Passing {
 
     /// The server takes no more: nothing more of the request is sent or taken.
     pub fn cut_off(&mut self)
-        ensures { (h : History) → stages.IsPassing self.old h → stages.IsPassing self.new h }
+        ensures passes { (h : History) → stages.IsPassing self.old h → stages.IsPassing self.new h }
+        ensures cut { self.new.cut ≡ true }
     {
         self.cut = true;
     }
@@ -103,7 +106,8 @@ impl Passing {
 
     /// The server was reached, on a connection that is new or was used before.
     pub fn connect(&mut self, fresh: bool)
-        ensures { (h : History) → stages.IsPassing self.old h → stages.IsPassing self.new h }
+        ensures passes { (h : History) → stages.IsPassing self.old h → stages.IsPassing self.new h }
+        ensures there { (self.new.dialing ≡ false) × (self.new.fresh ≡ fresh) }
     {
         self.fresh = fresh;
         self.dialing = false;
@@ -118,7 +122,8 @@ impl Passing {
 
     /// The server sends no more, or its connection can't be read: all that came was taken before.
     pub fn server_ended(&mut self)
-        ensures { (h : History) → stages.IsPassing self.old h → HasEnded h.signs → stages.IsPassing self.new h }
+        ensures passes { (h : History) → stages.IsPassing self.old h → HasEnded h.signs → stages.IsPassing self.new h }
+        ensures ended { self.new.ended ≡ true }
     {
         self.ended = true;
     }
@@ -159,20 +164,24 @@ impl Passing {
     }
 
     /// Does the answer go on to the end of the server's input?
-    pub fn goes_to_end(&self) -> bool {
+    pub fn goes_to_end(&self) -> bool
+        ensures { IsTrue result → (self.now.phase ≡ Down.Body) × (self.now.down.coding ≡ codings.Coding.ToEnd) }
+    {
         self.phase == Down::Body && self.down.goes_to_end()
     }
 
     /// Was the answer's head handed on?
     pub fn is_at_body(&self) -> bool
-        ensures { IsTrue result → self.now.phase ≡ Down.Body }
+        ensures body { IsTrue result → self.now.phase ≡ Down.Body }
+        ensures each { self.now.phase ≡ Down.Body → IsTrue result }
     {
         self.phase == Down::Body
     }
 
     /// Was the answer read to its end?
     pub fn is_answered(&self) -> bool
-        ensures { IsTrue result → (self.now.phase ≡ Down.Body) × (is_done self.now.down.coding ≡ true) }
+        ensures whole { IsTrue result → (self.now.phase ≡ Down.Body) × (is_done self.now.down.coding ≡ true) }
+        ensures each { self.now.phase ≡ Down.Body → is_done self.now.down.coding ≡ true → IsTrue result }
     {
         match self.phase {
             Down::Heads(_) => false,
@@ -182,7 +191,8 @@ impl Passing {
 
     /// Is nothing held of what came of the server?
     pub fn holds_no_answer(&self) -> bool
-        ensures { IsTrue result → self.now.down_held.items ≡ [] }
+        ensures none { IsTrue result → self.now.down_held.items ≡ [] }
+        ensures each { self.now.down_held.items ≡ [] → IsTrue result }
     {
         self.down_held.is_empty()
     }

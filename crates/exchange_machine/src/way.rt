@@ -75,7 +75,8 @@ impl Way {
 
     /// Does the body go on to the end of the input?
     pub fn goes_to_end(&self) -> bool
-        ensures { IsTrue result → self.now.coding ≡ Coding.ToEnd }
+        ensures to_end { IsTrue result → self.now.coding ≡ Coding.ToEnd }
+        ensures each { self.now.coding ≡ Coding.ToEnd → IsTrue result }
     {
         self.coding == Coding::ToEnd
     }

@@ -6,7 +6,7 @@ use Rattle.std.specs.List.{flat_map, AllByRecursion}
 use Rattle.httparse.specs.Grammar.{RequestHead, print_request}
 use Rattle.httparse.proofs.GrammarLemmas.{request_unique}
 use Rattle.list_facts.specs.Fronts.{AreComparable}
-use Rattle.list_facts.proofs.Fronts.{front_nil, front_cons}
+use Rattle.list_facts.proofs.Fronts.{front_nil, comparable_as, under}
 use Rattle.relay_body.specs.Framings.{IsBody}
 use Rattle.relay_body.specs.declared.framing.Framing.{Framing}
 use Rattle.relay_body.specs.declared.framing.Framing.TheVariants.{Empty, Length, Chunked, ToEnd}
@@ -83,10 +83,6 @@ same_message m n x y p q e =
     (subst (λ (f : Framing). IsBody f true n.body q.text) (sym framings) q.body) heads.1 in
     ((λ i. record { head = heads.0 i; body = bodies.0 i }), bodies.2)
 
-cons_both : {A : Type 0} {x y : A} {a b : List A} → x ≡ y → AreComparable a b → AreComparable (x ∷ a) (y ∷ b)
-cons_both e (inl f) = inl (front_cons e f)
-cons_both e (inr f) = inr (front_cons (sym e) f)
-
 pub one_order : (some others : List Message) (rest behind : List ℕ) → AllByRecursion IsMessage some → AllByRecursion IsMessage others
     → flat_map print_message some ++ rest ≡ flat_map print_message others ++ behind → AreComparable some others
 one_order [] others rest behind p q e = inl (front_nil others)
@@ -94,4 +90,4 @@ one_order (m ∷ some) [] rest behind p q e = inr (front_nil (m ∷ some))
 one_order (m ∷ some) (n ∷ others) rest behind p q e =
     let same = same_message m n (flat_map print_message some ++ rest) (flat_map print_message others ++ behind) p.0 q.0
     (sym (append_assoc (print_message m) (flat_map print_message some) rest) ∙ e ∙ append_assoc (print_message n) (flat_map print_message others) behind) in
-    cons_both same.0 (one_order some others rest behind p.1 q.1 same.1)
+    comparable_as refl (ap (λ (k : Message). k ∷ others) same.0) (under (m ∷ []) (one_order some others rest behind p.1 q.1 same.1))

@@ -4,6 +4,6 @@ use Rattle.mixed_exchange.proofs.StepLemmas.{at_as}
 use Rattle.mixed_exchange.proofs.calls.server_ended.Goals as goal
 
 pub returns-in-Passing-clause-at : goal.returns-in-Passing-clause-at
-returns-in-Passing-clause-at c h is = c.go_on-next.ensures.at (signed h c.args.sign) (c.server_ended.ensures (signed h c.args.sign)
+returns-in-Passing-clause-at c h is = c.go_on-next.ensures.at (signed h c.args.sign) (c.server_ended.ensures.passes (signed h c.args.sign)
     (passing_signed c.in-Passing.passing h c.args.sign (at_as h c.in-Passing.is is))
     (record { sign = c.args.sign; shows = shows_last h.signs c.args.sign; tells = c.requires }))

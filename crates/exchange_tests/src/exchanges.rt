@@ -475,7 +475,7 @@ static AGAIN: [Row; 2] = [
         aborts: false,
         sent: b"",
         told: UNAVAILABLE,
-        counts: (0, 1, 1),
+        counts: (1, 0, 1),
         stage: Stage::Leaving,
     },
 ];

@@ -11,6 +11,7 @@ import time
 PROGRAM, FOLDER = sys.argv[1:]
 PROXY, SERVER = 18180, 18181
 REQUEST = b"GET / HTTP/1.1\r\nHost: h\r\n\r\n"
+BAD_REQUEST = b"HTTP/1.1 400 Bad Request\r\n"
 BAD_GATEWAY = b"HTTP/1.1 502 Bad Gateway\r\n"
 UNAVAILABLE = b"HTTP/1.1 503 Service Unavailable\r\n"
 failed = False
@@ -120,8 +121,8 @@ def one(name, settings, does, says, expected, least, most):
 
 
 one("a client that says nothing is closed after `timeout client`", " timeout client 300ms\n", answer, b"", b"", 0.25, 2)
-one("a client that stops within its head too", " timeout client 300ms\n", answer, REQUEST[:-4], b"", 0.25, 2)
-one("a client that stops within its body too", " timeout client 300ms\n", answer, b"POST / HTTP/1.1\r\nHost: h\r\nContent-Length: 10\r\n\r\nhalf", b"", 0.25, 2)
+one("a client that stops within its head is a 400", " timeout client 300ms\n", answer, REQUEST[:-4], BAD_REQUEST, 0.25, 2)
+one("a client that stops within its body is closed too", " timeout client 300ms\n", lambda client: client.recv(65536) and time.sleep(2), b"POST / HTTP/1.1\r\nHost: h\r\nContent-Length: 10\r\n\r\nhalf", b"", 0.25, 2)
 one("a server that says nothing is a 502 after `timeout server`", " timeout server 300ms\n", lambda client: None, REQUEST, BAD_GATEWAY, 0.25, 2)
 one("a server that stops within its answer cuts it off", " timeout server 300ms\n", half, REQUEST, b"HTTP/1.1 200 OK\r\n", 0.25, 2)
 one("a server that goes without a byte is a 502", "", bye, REQUEST, BAD_GATEWAY, 0, 2)
@@ -202,7 +203,6 @@ def too_long():
 
 
 BAD_CHUNK = b"POST / HTTP/1.1\r\nHost: h\r\nTransfer-Encoding: chunked\r\n\r\nzz\r\n"
-BAD_REQUEST = b"HTTP/1.1 400 Bad Request\r\n"
 then_another("a head that is none is a 400", "", answer, lambda: told(b"HELLO\r\n\r\n", BAD_REQUEST), 1, 1)
 then_another("a chunk that is none is a 400", "", answer, lambda: told(BAD_CHUNK, BAD_REQUEST), 1, 1)
 then_another("an answer whose head is none is a 502", "", First(lambda client: client.sendall(b"HELLO\r\n\r\n")), lambda: told(REQUEST, BAD_GATEWAY), 1, 2)

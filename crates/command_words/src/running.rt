@@ -24,8 +24,7 @@ wait until one has a slot: by class, and then by due date. On standard error sta
   listening at ADDRESS: servers S workers W places P
 and where no server has a maxconn a second line, since then no request ever waits.
 
-Each loop is a thread for thousands of clients; what is long or comes in parts is
-handed on by a worker, so that it keeps no loop.
+Each loop is a thread for thousands of clients, from their first byte to their last.
 
 On standard output, for each 262144 entries of the log and at the end:
   window N               the reports of a window that ended follow (FORMATS)
@@ -39,8 +38,7 @@ write fault; 2 these words; 3 the configuration.
 For example, dueproxy run examples/walk.cfg --requests 5
 serves five clients, and prints what came of them.";
 
-const WORKERS: &str =
-    "Threads for what is long or comes in parts, 1 to 256 [default: as many as requests may be at servers at once]";
+const WORKERS: &str = "Has no effect; 1 to 256, as earlier versions took it";
 
 const LOOPS: &str = "Event loops, 1 to 64 [default: as many as there are processors]";
 

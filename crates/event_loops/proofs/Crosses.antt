@@ -7,9 +7,8 @@ use Rattle.std.proofs.Crossing.{crosses}
 use Rattle.std.proofs.sync.Mutex.TheSendSync as mutex
 use Rattle.grant_board.specs.declared.board.BoardName as board_name
 use Rattle.pass_seat.proofs.idle.Idle.TheSendSync as idle
-use Rattle.event_loops.proofs.jobs.Counter.TheSendSync as counter
+use Rattle.event_loops.proofs.guest.Parked.TheSendSync as parked
 use Rattle.event_loops.proofs.mail.Mailbox.TheSendSync as mailbox
-use Rattle.event_loops.proofs.parts.Waiting.TheSendSync as waiting
 use Rattle.event_loops.specs.contracts.hall.Hall as hall
 use Rattle.relay_workers.proofs.Crosses.{proxy_sync}
 use Rattle.socket_gate.proofs.front.Front.TheSendSync as front
@@ -20,15 +19,15 @@ hall_sync a N g = declared_sync (hall.the_type a N g) (
   (
     search (front.the_sync, mutex.the_sync, crosses, sendable) depth 60 fits 20000,
     (
-      search (waiting.the_send, mutex.the_sync, crosses, sendable) depth 60 fits 20000,
+      search (parked.the_send, mutex.the_sync, crosses, sendable) depth 60 fits 20000,
       (
         search (idle.the_send, mutex.the_sync, crosses, sendable) depth 60 fits 20000,
         (
-          search (counter.the_sync, mutex.the_sync, crosses, sendable) depth 60 fits 20000,
+          search (mailbox.the_sync, crosses, sendable) depth 60 fits 20000,
           (
-            search (mailbox.the_sync, crosses, sendable) depth 60 fits 20000,
+            search (crosses, sendable) depth 60 fits 20000,
             (
-              search (crosses, sendable) depth 60 fits 20000,
+              search (crosses, sendable),
               (
                 search (crosses, sendable),
                 (
@@ -38,10 +37,13 @@ hall_sync a N g = declared_sync (hall.the_type a N g) (
                     (
                       search (crosses, sendable),
                       (
-                        search (crosses, sendable),
+                        search (mutex.the_sync, crosses, sendable),
                         (
                           search (crosses, sendable),
-                          tt,
+                          (
+                            search (crosses, sendable),
+                            tt,
+                          ),
                         ),
                       ),
                     ),

@@ -10,22 +10,38 @@ const OWN: u64 = 96;
 /// What a loop has: its poll, that poll's copy, and its mailbox.
 const EACH_LOOP: u64 = 3;
 
-/// So many clients are had at a time, where so many servers' connections may be. A client has one descriptor, and one for a server at most.
-pub fn most_clients(loops: usize, connections: usize) -> u64 {
+/// How many connections of clients there may be at a time.
+#[derive(Clone, Copy, Debug, PartialEq, Eq)]
+pub struct Most {
+    /// Of those that are served, or wait.
+    pub clients: u64,
+    /// Of those that were told everything, and linger.
+    pub lingering: u64,
+}
+
+/// What the process has descriptors for, with so many loops, and where so many servers' connections may be.
+pub fn most_connections(loops: usize, servers: usize) -> Most {
     let mut limit = rlimit {
         rlim_cur: 0,
         rlim_max: 0,
     };
     if libc::getrlimit(libc::RLIMIT_NOFILE, &mut limit) != 0 {
-        return 1;
+        return most_within(0, 0);
     }
     let own = (loops as u64).saturating_mul(EACH_LOOP).saturating_add(OWN);
-    clients_within(limit.rlim_cur.saturating_sub(own), connections as u64).max(1)
+    most_within(limit.rlim_cur.saturating_sub(own), servers as u64)
 }
 
-// Of so many descriptors: all but those of the servers' connections, or half of them where that is more.
-fn clients_within(descriptors: u64, connections: u64) -> u64
-    ensures { result ≡ max (descriptors / 2) (descriptors - connections) }
+// Of so many descriptors an eighth are for those that linger. A client has one, and one for a server at most: of the others it has all but those of the servers'
+// connections, or half of them where that is more. One client there always is.
+fn most_within(descriptors: u64, servers: u64) -> Most
+    ensures lingering { result.lingering ≡ descriptors / 8 }
+    ensures clients { result.clients ≡ max 1 (max ((descriptors - descriptors / 8) / 2) (descriptors - descriptors / 8 - servers)) }
 {
-    (descriptors / 2).max(descriptors.saturating_sub(connections))
+    let lingering = descriptors / 8;
+    let others = descriptors - lingering;
+    Most {
+        clients: (others / 2).max(others.saturating_sub(servers)).max(1),
+        lingering,
+    }
 }

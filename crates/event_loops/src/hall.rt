@@ -1,31 +1,39 @@
 ghost use Rattle.std.specs.Prelude.{◌≡◌, ◌<◌, ◌≤◌, vec_len, IfSome};
 ghost use Rattle.std.specs.Bool.{OnTrue};
 
-use crate::jobs::Counter;
+use crate::descriptors::Most;
+use crate::guest::{Guest, Parked, Resident};
 use crate::mail::Mailbox;
-use crate::parts::{Granted, Request, Waiting};
 use dispatch_trace::Ticketed;
 use grant_board::BoardName;
 use pass_seat::{Asked, Held, Idle};
 use place_set::PlaceSet;
-use relay_workers::{Admitted, Proxy, Stopped};
+use relay_workers::{Proxy, Stopped};
 use socket_gate::{Front, has_left};
-use std::net::{SocketAddr, TcpStream};
+use std::net::SocketAddr;
 use std::os::fd::AsRawFd;
 use std::sync::atomic::{AtomicBool, AtomicU64, Ordering};
-use std::sync::{Mutex, Wait};
+use std::sync::{Condvar, Mutex, Wait};
 
 /// What a hall is made of.
 #[derive(Drop)]
 pub struct Rooms {
     /// One for each place.
-    pub spots: Vec<Mutex<Option<Waiting>>>,
+    pub spots: Vec<Mutex<Option<Parked>>>,
     /// One for each loop.
     pub mail: Vec<Mailbox>,
     /// Those of the servers, as they are found now.
     pub addresses: Vec<Option<SocketAddr>>,
-    /// So many clients are had at a time.
-    pub most: u64,
+    /// So many connections of clients are had at a time.
+    pub most: Most,
+}
+
+/// A request whose verdict was found at its place. It has no `Drop`: its pass is posted.
+pub(crate) struct Granted<N: BoardName> {
+    pub(crate) held: Held<N>,
+    pub(crate) parked: Parked,
+    ghost its_place: { held.pass.place ≡ parked.at.place },
+    ghost its_ticket: { held.pass.ticket ≡ parked.at.ticket },
 }
 
 /// What all threads share.
@@ -33,21 +41,23 @@ pub struct Hall<'a, N: BoardName> {
     pub(crate) proxy: &'a Proxy<N>,
     pub(crate) front: &'a Front<'a>,
     /// Where the request of each place lies until its pass is there.
-    pub(crate) spots: Vec<Mutex<Option<Waiting>>>,
+    pub(crate) spots: Vec<Mutex<Option<Parked>>>,
     /// The seats without a pass.
     pub(crate) idle: Mutex<Vec<Idle<N>>>,
-    pub(crate) counter: Counter<N>,
     pub(crate) mail: Vec<Mailbox>,
     /// The first address of each server, as it was found when all began. None: its name had none.
     pub(crate) addresses: Vec<Option<SocketAddr>>,
-    /// So many clients are had at a time: each may want a descriptor, and some want one for a server.
-    pub(crate) most: u64,
+    /// So many connections of clients are had at a time.
+    pub(crate) most: Most,
     /// So many clients came, and so many are through.
     pub(crate) came: AtomicU64,
     pub(crate) ended: AtomicU64,
     /// Requests wait that may time out, so that the first loop looks at the queues.
     pub(crate) waits: AtomicBool,
     pub(crate) over: AtomicBool,
+    /// The same, for who waits for it.
+    pub(crate) ended_all: Mutex<bool>,
+    pub(crate) bell: Condvar,
     /// It is over because memory was short, or a thread.
     pub(crate) failed: AtomicBool,
     ghost sized: { vec_len spots ≤ N.terms.places },
@@ -74,7 +84,6 @@ impl<'a, N: BoardName> Hall<'a, N> {
             front,
             spots,
             idle: Mutex::new(seats),
-            counter: Counter::new(proxy.alloc),
             mail,
             addresses,
             most,
@@ -82,6 +91,8 @@ impl<'a, N: BoardName> Hall<'a, N> {
             ended: AtomicU64::new(0),
             waits: AtomicBool::new(false),
             over: AtomicBool::new(false),
+            ended_all: Mutex::new(false),
+            bell: Condvar::new(),
             failed: AtomicBool::new(false),
         }
     }
@@ -89,11 +100,10 @@ impl<'a, N: BoardName> Hall<'a, N> {
     /// What was still to be done is over, and the seats come back.
     pub fn end(self) -> (Vec<Idle<N>>, Result<(), Stopped>) {
         let Hall {
-            proxy,
+            proxy: _,
             front: _,
             spots: _,
             idle,
-            counter,
             mail: _,
             addresses: _,
             most: _,
@@ -101,10 +111,11 @@ impl<'a, N: BoardName> Hall<'a, N> {
             ended: _,
             waits: _,
             over: _,
+            ended_all: _,
+            bell: _,
             failed,
         } = self;
-        let mut seats = idle.into_inner();
-        counter.end(proxy, &mut seats);
+        let seats = idle.into_inner();
         if failed.load(Ordering::SeqCst) {
             (seats, Err(Stopped::NoMemory))
         } else {
@@ -122,9 +133,9 @@ impl<N: BoardName> Hall<'_, N> {
     }
 
     /// A request lies down in the spot of its place. Whoever calls it looks there afterwards.
-    pub(crate) fn lie_down<R: Wait>(&self, rt: &R, waiting: Waiting) {
-        if let Some(spot) = self.spots.as_slice().get(waiting.at.place) {
-            *spot.lock(rt) = Some(waiting);
+    pub(crate) fn lie_down<R: Wait>(&self, rt: &R, parked: Parked) {
+        if let Some(spot) = self.spots.as_slice().get(parked.at.place) {
+            *spot.lock(rt) = Some(parked);
         }
     }
 
@@ -132,11 +143,11 @@ impl<N: BoardName> Hall<'_, N> {
     pub(crate) fn look<R: Wait>(&self, rt: &R, place: usize) -> Option<Granted<N>> {
         let spot = self.spots.as_slice().get(place)?;
         let mut spot = spot.lock(rt);
-        let waiting = spot.take()?;
-        match self.ask(rt, waiting.at) {
-            Some(held) => Some(Granted { held, waiting }),
+        let parked = spot.take()?;
+        match self.ask(rt, parked.at) {
+            Some(held) => Some(Granted { held, parked }),
             None => {
-                *spot = Some(waiting);
+                *spot = Some(parked);
                 None
             }
         }
@@ -172,10 +183,10 @@ impl<N: BoardName> Hall<'_, N> {
         };
         let spot = spot.lock(rt);
         match &*spot {
-            Some(waiting) if waiting.at.ticket == ticket => has_left(
-                waiting.request.client.as_raw_fd(),
-                self.front.config.abortonclose,
-            ),
+            Some(parked) if parked.at.ticket == ticket => match parked.client.socket() {
+                Some(live) => has_left(live.stream().as_raw_fd(), self.front.config.abortonclose),
+                None => false,
+            },
             _ => false,
         }
     }
@@ -220,7 +231,7 @@ impl<N: BoardName> Hall<'_, N> {
     pub(crate) fn has_room(&self) -> bool {
         let ended = self.ended.load(Ordering::SeqCst);
         let came = self.came.load(Ordering::SeqCst);
-        came.saturating_sub(ended) < self.most
+        came.saturating_sub(ended) < self.most.clients
     }
 
     /// A client came.
@@ -240,7 +251,8 @@ impl<N: BoardName> Hall<'_, N> {
     /// All is over: each thread is told.
     pub(crate) fn close<R: Wait>(&self, rt: &R) {
         self.over.store(true, Ordering::SeqCst);
-        self.counter.close(rt);
+        *self.ended_all.lock(rt) = true;
+        self.bell.notify_all();
         for mail in self.mail.as_slice() {
             mail.ring();
         }
@@ -266,46 +278,25 @@ impl<N: BoardName> Hall<'_, N> {
         }
     }
 
-    /// A request for which a runner reached no server lies down anew. A loop looks at its place, and watches its client.
-    pub(crate) fn wait_anew<R: Wait>(
-        &self,
-        rt: &R,
-        admitted: Admitted<TcpStream>,
-        behind: Vec<u8>,
-        failed: Option<usize>,
-    )
-        requires { vec_len behind ≤ 65536 }
-    {
-        let Admitted { client, view, at } = admitted;
-        let _ = client.set_nonblocking(true);
-        let request = Request {
-            client,
-            view,
-            behind,
-        };
-        self.lie_down(
-            rt,
-            Waiting {
-                at,
-                request,
-                failed,
-                watched: false,
-            },
-        );
-        self.note_wait();
-        let mut here = PlaceSet::new();
-        if at.place < 4096 {
-            here.insert(at.place);
-        }
-        self.post_places(rt, &here);
-    }
-
     /// Returns once all is over.
     pub(crate) fn wait_for_end<R: Wait>(&self, rt: &R) {
-        let _jobs = self
-            .counter
-            .closed
-            .wait_while(rt, self.counter.jobs.lock(rt), |jobs| !jobs.over);
+        let _over = self
+            .bell
+            .wait_while(rt, self.ended_all.lock(rt), |over| !*over);
+    }
+
+    /// A guest is over with all the others: its pass is posted, and its seat comes back.
+    pub(crate) fn part_with<R: Wait>(&self, rt: &R, resident: Resident<N>) {
+        match resident {
+            Resident::Lingering(_lingering) => {}
+            Resident::Guest(guest) => {
+                let Guest { seated, visit: _ } = guest;
+                match seated.abandon() {
+                    None => {}
+                    Some(posting) => self.sit_down(rt, posting.post(self.proxy.desk.board())),
+                }
+            }
+        }
     }
 
     pub(crate) fn is_over(&self) -> bool {

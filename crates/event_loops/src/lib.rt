@@ -1,36 +1,33 @@
-//! The event loops of a proxy: a client that waits costs its view and its head alone, and no thread.
+//! The event loops of a proxy: a client costs its exchange alone, and no thread.
 //!
-//! Each loop is a thread with a `Poll` of its own. It reads the heads of requests, lets them arrive, and hands those on that have their pass, with servers'
-//! connections that never block it. What isn't whole, or is long, goes to a runner: a thread that does the same over streams that wait.
+//! Each loop is a thread with a `Poll` of its own. A client is a guest of the loop that accepted it, until its request waits for a pass: then it lies in the
+//! spot of its place, and whichever loop finds its pass there goes on with it, to its last byte. Bytes go both ways as they come, by one machine.
 //!
 //! A request that arrived lies in the spot of its place, and then its place is looked at: where its pass is there, whoever looked goes on with it. Whoever is
 //! told that a verdict was offered at a place looks there afterwards. So one of the two should find the pass, in whatever order they come: that is argued here, and in no clause.
 #![tactic(auto)]
 
-mod answering;
-mod beginning;
+mod accepting;
 mod checks;
-mod delivering;
 mod descriptors;
+mod dialing;
+mod granting;
+mod guest;
 mod hall;
-mod heads;
-mod jobs;
-mod limits;
+mod keeping;
+mod lingering;
 mod looping;
 mod mail;
-mod parked;
-mod parts;
+mod parking;
 mod polls;
-mod rest;
-mod running;
-mod sockets;
-mod table;
+mod serving;
 mod threads;
+mod timing;
 mod watching;
 
-pub use descriptors::most_clients;
+pub use descriptors::{Most, most_connections};
+pub use guest::Parked;
 pub use hall::{Hall, Rooms};
 pub use mail::Mailbox;
-pub use parts::Waiting;
 pub use polls::polls_of;
-pub use threads::{Lends, Role, roles_of, run_all};
+pub use threads::{Lends, Unbegun, loops_of, run_all};

@@ -1,30 +1,24 @@
-ghost use Rattle.grant_board.specs.BoardWords.{MayEnd};
+ghost use Rattle.std.specs.Prelude.{◌<◌, vec_len};
 
+use crate::guest::Resident;
 use crate::hall::Hall;
-use crate::parts::{Delivery, Reading, Underway};
-use crate::sockets::{part_from, say};
-use crate::table::Table;
-use crate::watching::Subject;
+use crate::serving::Told;
+use crate::timing::Keywords;
 use due_key::Moment;
+use exchange_driver::Settings;
 use grant_board::BoardName;
+use loop_table::{Limits, Slots, Subject, Token};
 use mio::{Events, Poll, Registry};
-use pass_seat::Held;
-use place_set::PlaceSet;
-use relay_http::Exchange;
-use relay_workers::{Gate, Outcome};
-use slab::Slab;
+use relay_workers::Gate;
 use socket_gate::SocketGate;
+use std::collections::VecDeque;
 use std::net::{Net, TcpListener, TcpStream};
 use std::sync::Wait;
 use std::time::{Clock, Duration};
-use verdict::Ending;
-use whole_messages::refusal;
 
 const EVENTS: usize = 256;
 
-const PLACES: usize = 4096;
-
-/// One loop: a thread's clients and exchanges, and what it works with.
+/// One loop: a thread's guests, and what it works with.
 pub(crate) struct Looper<'a, N: BoardName, R> {
     pub(crate) rt: &'a R,
     pub(crate) hall: &'a Hall<'a, N>,
@@ -32,20 +26,35 @@ pub(crate) struct Looper<'a, N: BoardName, R> {
     pub(crate) home: usize,
     pub(crate) registry: Registry,
     pub(crate) gate: SocketGate<'a, R>,
-    pub(crate) exchange: Exchange,
-    pub(crate) heads: Slab<Reading>,
-    pub(crate) exchanges: Table<Underway<N>>,
-    pub(crate) deliveries: Slab<Delivery>,
-    /// What is read goes here first, and what is written is made here.
-    pub(crate) input: Vec<u8>,
-    pub(crate) request: Vec<u8>,
-    pub(crate) answer: Vec<u8>,
+    pub(crate) settings: Settings,
+    pub(crate) guests: Slots<Box<Resident<N>>>,
+    /// So many slots there are.
+    pub(crate) room: usize,
+    pub(crate) limits: Limits,
+    pub(crate) keywords: Keywords,
+    /// What is read goes here first.
+    pub(crate) buffer: Vec<u8>,
+    /// Guests with more to do once what was woken was looked at, and once others were attended to.
+    pub(crate) ready: Vec<Token>,
+    pub(crate) later: Vec<Token>,
+    /// There was no memory to note one of them.
+    pub(crate) sweeps: bool,
+    /// Guests that found no place, in the order of coming.
+    pub(crate) turned_away: VecDeque<Token>,
+    /// The first of them is tried again.
+    pub(crate) retries: bool,
     /// More clients may wait at the listener.
     pub(crate) more: bool,
-    /// Something was short: places, descriptors.
+    /// Something was short: descriptors, slots.
     pub(crate) short: bool,
-    /// When it last looked at its time limits.
-    pub(crate) looked: Moment,
+    /// When what was short was last tried again.
+    pub(crate) tried: Moment,
+    /// A place came free since then.
+    pub(crate) freed: bool,
+    /// So many clients linger, and so many may.
+    pub(crate) lingering: usize,
+    pub(crate) most_lingering: usize,
+    ghost buffered: { 0 < vec_len buffer },
 }
 
 impl<
@@ -63,29 +72,32 @@ impl<
             home: _,
             registry: _,
             gate: _,
-            exchange: _,
-            heads: _,
-            exchanges,
-            deliveries: _,
-            input: _,
-            request: _,
-            answer: _,
+            settings: _,
+            guests,
+            room: _,
+            limits: _,
+            keywords: _,
+            buffer: _,
+            ready: _,
+            later: _,
+            sweeps: _,
+            turned_away: _,
+            retries: _,
             more: _,
             short: _,
-            looked: _,
+            tried: _,
+            freed: _,
+            lingering: _,
+            most_lingering: _,
         } = looper;
-        let Table { entries, free: _ } = exchanges;
-        let mut entries = entries;
-        while let Some(entry) = entries.pop() {
-            match entry {
+        let mut residents = guests.into_values();
+        while let Some(resident) = residents.pop() {
+            match resident {
                 None => {}
-                Some(underway) => {
-                    let held = underway.into_granted().into_held();
-                    hall.sit_down(rt, held.post(hall.proxy.desk.board(), Ending::Done));
-                }
+                Some(resident) => hall.part_with(rt, Box::into_inner(resident)),
             }
         }
-        entries.destroy_empty();
+        residents.destroy_empty();
     }
 
     fn go_round(&mut self, poll: Poll) {
@@ -97,30 +109,44 @@ impl<
             if self.hall.is_over() {
                 return;
             }
-            let wait = if self.more { Some(0) } else { self.patience() };
+            let wait = self.patience();
             let _ = poll.poll(&mut events, wait.map(Duration::from_millis));
+            if events.iter().count() == 0 {
+                // A wait that a signal ended tells of nothing, whatever there is: no time is over before that was looked at.
+                let _ = poll.poll(&mut events, Some(Duration::from_millis(0)));
+            }
+            let now = self.gate.moment();
+            self.limits.look_at_clock(now);
             self.attend(&events);
             self.look_at_limits();
         }
     }
 
+    /// Whether there is something to do at once.
+    pub(crate) fn has_more(&self) -> bool {
+        self.more || self.sweeps || !self.later.is_empty()
+    }
+
     // Servers, clients and requests that wait first, then what others were told, the listener last.
     fn attend(&mut self, events: &Events) {
+        self.take_up();
         let mut has_mail = false;
         for event in events.iter() {
+            let told = Told::of(event);
             match Subject::of(event.token().0) {
                 Some(Subject::Listener) => self.more = true,
                 Some(Subject::Mailbox) => has_mail = true,
-                Some(Subject::Head(key)) => self.hear_head(key),
-                Some(Subject::Exchange(key)) => self.hear_server(key),
-                Some(Subject::Delivery(key)) => self.hear_client(key),
+                Some(Subject::Client(token)) => self.hear_client(token, told),
+                Some(Subject::Server(token)) => self.hear_server(token, told),
                 Some(Subject::Waiting { place, ticket }) => self.hear_waiting(place, ticket),
                 None => {}
             }
+            self.go_on_with_places();
         }
         if has_mail {
             self.open_mail();
         }
+        self.go_on_with_places();
         if self.more {
             self.accept_some();
         }
@@ -131,58 +157,6 @@ impl<
         if let Some(mail) = self.hall.mail.as_slice().get(self.home) {
             let places = mail.take_all(self.rt);
             self.gate.wake(&places);
-            self.go_on();
         }
-    }
-
-    /// Looks at each place of which the gate was told, until it was told of no more.
-    pub(crate) fn go_on(&mut self) {
-        for _ in self.rt.forever() {
-            let woken = self.gate.take_woken();
-            let Some(first) = woken.next(0) else {
-                return;
-            };
-            self.look_at_all(&woken, first);
-        }
-    }
-
-    // From the first of these places on.
-    fn look_at_all(&mut self, woken: &PlaceSet, first: usize) {
-        let mut next = Some(first);
-        for _ in 0..PLACES {
-            let Some(place) = next else {
-                return;
-            };
-            match self.hall.look(self.rt, place) {
-                Some(granted) => self.begin(granted),
-                None => self.watch_place(place),
-            }
-            next = woken.next(place.saturating_add(1));
-        }
-    }
-
-    /// Says how an exchange ended, and takes it back at its own place, so that what it freed is offered before anything is told to its client.
-    pub(crate) fn post(&mut self, held: Held<N>, ending: Ending)
-        requires { MayEnd held.pass.verdict ending }
-    {
-        let place = held.place();
-        let idle = held.post(self.hall.proxy.desk.board(), ending);
-        self.hall.sit_down(self.rt, idle);
-        if self.hall.has(place) {
-            self.hall.proxy.collect(self.rt, &mut self.gate, place);
-        }
-    }
-
-    /// Tells a client what it is refused with, where it is refused. It is through.
-    pub(crate) fn tell(&mut self, client: TcpStream, outcome: Outcome) {
-        let mut client = client;
-        if let Outcome::Refused(code) = outcome {
-            self.request.clear();
-            if refusal(&mut self.exchange, code, &mut self.request).is_ok() {
-                let _ = say(&mut client, self.request.as_slice());
-                part_from(client, self.input.as_mut_slice());
-            }
-        }
-        self.hall.note_end(self.rt);
     }
 }

@@ -1,7 +1,8 @@
 //! A poll for each loop, and where it is told of places.
 
 use crate::mail::Mailbox;
-use crate::watching::{Subject, watch};
+use crate::watching::watch;
+use loop_table::Subject;
 use mio::{Interest, Poll, Token, Waker};
 use place_set::PlaceSet;
 use socket_gate::Front;

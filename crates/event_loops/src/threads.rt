@@ -1,19 +1,19 @@
-//! The threads: loops, runners, and one that has servers checked.
+//! The threads: loops, and one that has servers checked.
 
 use crate::checks::Ringing;
 use crate::hall::Hall;
 use crate::looping::Looper;
-use crate::running::run_jobs;
-use crate::table::Table;
+use crate::timing::Keywords;
 use due_key::Moment;
+use exchange_driver::Settings;
 use grant_board::BoardName;
+use loop_table::{Limits, Slots};
 use mio::Poll;
-use relay_body::INBOX_BYTES;
-use relay_http::Exchange;
-use relay_workers::{Runner, TURNS, checker};
-use slab::Slab;
+use mixed_exchange::Rules;
+use relay_workers::checker;
 use socket_gate::{Pauses, SocketGate};
 use std::alloc::{AllocError, Global};
+use std::collections::VecDeque;
 use std::net::{Net, TcpListener, TcpStream};
 use std::sync::Wait;
 use std::sync::atomic::{AtomicBool, Ordering};
@@ -26,28 +26,32 @@ const CHECK_PAUSE: u64 = 10;
 
 const CHECK_PAUSES: u64 = 1 << 62;
 
-/// What a thread of a scope is.
+/// So many bytes are read at once, at most.
+const BUFFER: usize = 16_384;
+
+/// So often each direction of an exchange moves, before others are attended to.
+const TURNS: u32 = 16;
+
+/// So many guests a loop has at once, at most.
+const MOST_GUESTS: u64 = 16_384;
+
+/// So many of its clients linger at once, at most.
+const MOST_LINGERING: u64 = 4096;
+
+/// A loop that isn't begun yet.
 #[derive(Drop)]
-pub enum Role {
-    Runner,
-    Loop { poll: Poll, home: usize },
+pub struct Unbegun {
+    poll: Poll,
+    home: usize,
 }
 
-/// So many runners, and a loop for each poll.
-pub fn roles_of(alloc: Global, polls: Vec<Poll>, runners: usize) -> Result<Vec<Role>, AllocError> {
-    let mut roles = Vec::new(alloc);
+/// A loop for each poll.
+pub fn loops_of(alloc: Global, polls: Vec<Poll>) -> Result<Vec<Unbegun>, AllocError> {
+    let mut loops = Vec::new(alloc);
     for (home, poll) in polls.into_iter().enumerate() {
-        roles.push(Role::Loop { poll, home })?;
+        loops.push(Unbegun { poll, home })?;
     }
-    add_runners(&mut roles, runners)?;
-    Ok(roles)
-}
-
-fn add_runners(roles: &mut Vec<Role>, runners: usize) -> Result<(), AllocError> {
-    for _ in 0..runners {
-        roles.push(Role::Runner)?;
-    }
-    Ok(())
+    Ok(loops)
 }
 
 /// A scope with all threads in it. It returns once all is over and each thread has ended.
@@ -55,11 +59,11 @@ pub fn run_all<
     R: Net<Listener = TcpListener, Stream = TcpStream> + Clock + Print + Threads + Wait + Sync,
     N: BoardName + Send + Sync,
     S: Lends<N> + Sync,
->(rt: &R, shared: &S, roles: Vec<Role>) {
+>(rt: &R, shared: &S, loops: Vec<Unbegun>) {
     let stop = AtomicBool::new(false);
     let told = &stop;
     thread::scope(thread::scope_env(), rt, move |scope| {
-        let mut roles = roles;
+        let mut loops = loops;
         let mut checking = None;
         if shared.hall().has_checks() {
             checking = scope
@@ -69,7 +73,7 @@ pub fn run_all<
                 shared.hall().give_up(rt);
             }
         }
-        run_roles(scope, rt, shared, &mut roles);
+        begin_loops(scope, rt, shared, &mut loops);
         told.store(true, Ordering::SeqCst);
         if let Some(handle) = checking {
             handle.join(rt);
@@ -77,50 +81,25 @@ pub fn run_all<
     })
 }
 
-// A thread for each role, the last one first. Where one can't be started, all is over.
-fn run_roles<
+// A thread for each loop, the last one first. Where one can't be started, all is over.
+fn begin_loops<
     's,
     E,
     R: Net<Listener = TcpListener, Stream = TcpStream> + Clock + Print + Threads + Wait + Sync,
     N: BoardName + Send + Sync + 's,
     S: Lends<N> + Sync + 's,
->(scope: &Scope<'s, E>, rt: &'s R, shared: &'s S, roles: &mut Vec<Role>) {
-    let Some(role) = roles.pop() else {
+>(scope: &Scope<'s, E>, rt: &'s R, shared: &'s S, loops: &mut Vec<Unbegun>) {
+    let Some(next) = loops.pop() else {
         return shared.hall().wait_for_end(rt);
     };
-    let started = scope.spawn(move || play(rt, shared.hall(), role)).ok();
+    let started = scope.spawn(move || run_loop(rt, shared.hall(), next)).ok();
     if started.is_none() {
         shared.hall().give_up(rt);
     }
-    run_roles(scope, rt, shared, roles);
+    begin_loops(scope, rt, shared, loops);
     if let Some(handle) = started {
         handle.join(rt);
     }
-}
-
-fn play<R: Net<Listener = TcpListener, Stream = TcpStream> + Clock + Print + Wait, N: BoardName>(
-    rt: &R,
-    hall: &Hall<'_, N>,
-    role: Role,
-) {
-    match role {
-        Role::Runner => run_runner(rt, hall),
-        Role::Loop { poll, home } => run_loop(rt, hall, poll, home),
-    }
-}
-
-fn run_runner<
-    R: Net<Listener = TcpListener, Stream = TcpStream> + Clock + Print + Wait,
-    N: BoardName,
->(rt: &R, hall: &Hall<'_, N>) {
-    let alloc = hall.proxy.alloc;
-    let Ok(gate) = SocketGate::new(alloc, rt, hall.front) else {
-        return hall.give_up(rt);
-    };
-    let Ok(exchange) = Exchange::new(alloc, TURNS) else {
-        return hall.give_up(rt);
-    };
-    run_jobs(rt, hall, Runner { gate, exchange });
 }
 
 fn run_checks<
@@ -138,39 +117,71 @@ fn run_checks<
 fn run_loop<
     R: Net<Listener = TcpListener, Stream = TcpStream> + Clock + Print + Wait,
     N: BoardName,
->(rt: &R, hall: &Hall<'_, N>, poll: Poll, home: usize) {
+>(rt: &R, hall: &Hall<'_, N>, unbegun: Unbegun) {
+    let Unbegun { poll, home } = unbegun;
+    match looper(rt, hall, &poll, home) {
+        Err(_) => hall.give_up(rt),
+        Ok(looper) => {
+            looper.run(poll);
+            hall.close(rt);
+        }
+    }
+}
+
+// Fails where the system has no poll to spare, too.
+fn looper<
+    'a,
+    R: Net<Listener = TcpListener, Stream = TcpStream> + Clock + Print + Wait,
+    N: BoardName,
+>(
+    rt: &'a R,
+    hall: &'a Hall<'a, N>,
+    poll: &Poll,
+    home: usize,
+) -> Result<Looper<'a, N, R>, AllocError> {
     let alloc = hall.proxy.alloc;
     let Ok(registry) = poll.registry().try_clone() else {
-        return hall.give_up(rt);
+        return Err(AllocError);
     };
-    let Ok(gate) = SocketGate::new(alloc, rt, hall.front) else {
-        return hall.give_up(rt);
+    let loops = hall.mail.len().max(1) as u64;
+    let most_lingering = (hall.most.lingering / loops).min(MOST_LINGERING);
+    let room = (hall.most.clients.min(MOST_GUESTS) + most_lingering) as usize;
+    let mut limits = Limits::new(alloc);
+    let keywords = Keywords::of(alloc, &hall.proxy.config, &mut limits, room)?;
+    let rules = Rules {
+        aborts: hall.proxy.config.abortonclose,
     };
-    let Ok(exchange) = Exchange::new(alloc, TURNS) else {
-        return hall.give_up(rt);
-    };
-    let Ok(input) = vec![in alloc; 0u8; INBOX_BYTES] else {
-        return hall.give_up(rt);
-    };
-    let looper = Looper {
+    let buffer = vec![in alloc; 0u8; BUFFER]?;
+    let gate = SocketGate::new(alloc, rt, hall.front)?;
+    let guests = Slots::with_room(alloc, room)?;
+    Ok(Looper {
         rt,
         hall,
         home,
         registry,
         gate,
-        exchange,
-        heads: Slab::new(alloc),
-        exchanges: Table::new(alloc),
-        deliveries: Slab::new(alloc),
-        input,
-        request: Vec::new(alloc),
-        answer: Vec::new(alloc),
+        settings: Settings {
+            alloc,
+            rules,
+            turns: TURNS,
+        },
+        guests,
+        room,
+        limits,
+        keywords,
+        buffer,
+        ready: Vec::new(alloc),
+        later: Vec::new(alloc),
+        sweeps: false,
+        turned_away: VecDeque::new(alloc),
+        retries: false,
         more: true,
         short: false,
-        looked: Moment::zero(),
-    };
-    looper.run(poll);
-    hall.close(rt);
+        tried: Moment::zero(),
+        freed: false,
+        lingering: 0,
+        most_lingering: most_lingering as usize,
+    })
 }
 
 /// What lends the hall to threads. Of a type parameter it is known by a bound alone that it may be shared, so that it is shown of `Hall` once.

@@ -8,5 +8,6 @@ pub mod Roles
 pub mod Settlings
 pub mod Sides
 pub mod Stages
+pub mod Wants
 pub mod Ways
 pub mod Wholes

@@ -1,4 +1,4 @@
-ghost use Rattle.std.specs.Prelude.{◌≡◌, ◌≤◌, ◌++◌, List, [], length, take, drop, IfOk, false, Some};
+ghost use Rattle.std.specs.Prelude.{◌≡◌, ◌≤◌, ◌++◌, List, [], length, take, drop, false, Some};
 ghost use Rattle.exchange_machine.specs.Histories.{History, client_came, nothing_yet};
 ghost use Rattle.exchange_machine.specs.Reasons.{Shows};
 ghost use Rattle.exchange_machine.specs.Stages as stages;
@@ -14,7 +14,7 @@ use body_coder::Coding;
 use relay_body::Framing;
 use relay_http::{Code, Fault, request_framing};
 use req_view::{View, Viewed, view};
-use std::alloc::{AllocError, Global};
+use std::alloc::Global;
 
 /// The request's head is being read. What came is held, 16 KiB at most.
 #[derive(Drop)]
@@ -32,12 +32,22 @@ pub enum Turn {
 
 impl Asking {
     /// Of a new client.
-    pub fn new(alloc: Global) -> Result<Asking, AllocError>
-        ensures { IfOk result (λ asking. stages.IsAsking asking nothing_yet) }
+    pub fn new(alloc: Global) -> Asking
+        ensures { stages.IsAsking result nothing_yet }
     {
-        Ok(Asking {
-            held: Vec::with_capacity(alloc, HEAD_BYTES)?,
-        })
+        Asking {
+            held: Vec::new(alloc),
+        }
+    }
+
+    /// Did nothing come of the client yet?
+    pub fn is_silent(&self) -> bool {
+        self.held.is_empty()
+    }
+
+    /// How many bytes more are held.
+    pub fn room(&self) -> usize {
+        HEAD_BYTES.saturating_sub(self.held.len())
     }
 
     /// What came of the client: it is held, as far as 16 KiB go, and a head is looked for where a line ends. `O(n)`, and at a line's end in all that is held.

@@ -37,6 +37,7 @@ impl Dialing {
     /// Its client has gone: the pass goes back as done, since the server isn't to blame.
     pub fn abandon(self) -> (Pass, Ending)
         ensures ends { (h : History) → stages.IsDialing self h → stages.IsOver (posted h result.0 result.1) }
+        ensures pass { result.0 ≡ self.pass }
         ensures done { result.1 ≡ Ending.Done }
     {
         let Dialing {

@@ -98,6 +98,7 @@ impl Passing {
     /// Its client has gone: nothing more is written, and the pass goes back as done, since the server isn't to blame.
     pub fn abandon(self) -> (Pass, Ending)
         ensures ends { (h : History) → stages.IsPassing self h → stages.IsOver (posted h result.0 result.1) }
+        ensures pass { result.0 ≡ self.pass }
         ensures done { result.1 ≡ Ending.Done }
     {
         let Ended {

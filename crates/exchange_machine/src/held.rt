@@ -11,8 +11,8 @@ pub(crate) fn has_feed(bytes: &[u8]) -> bool
     bytes.iter().any(|&byte| byte == b'\n')
 }
 
-// Forgets the first bytes. `O(n)`.
-pub(crate) fn forget(held: &mut Vec<u8>, count: usize)
+/// Forgets the first bytes, all of them where there are no more. `O(n)`.
+pub fn forget(held: &mut Vec<u8>, count: usize)
     ensures { held.new.items ≡ drop count held.old.items }
 {
     let len = held.len();

@@ -17,12 +17,14 @@ mod signs;
 mod telling;
 mod texts;
 mod waiting;
+mod wanting;
 mod way;
 
 pub use asking::{Asking, Turn};
 pub use dialing::{Dialing, Terms};
 pub use ending::{Ended, Rest, Settled};
 pub use heading::Headed;
+pub use held::forget;
 pub use laws::{what_a_way_sends, what_holds, what_sides_send};
 pub use leaving::Leaving;
 pub use passing::Passing;

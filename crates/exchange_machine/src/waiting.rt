@@ -25,9 +25,17 @@ pub struct Waiting {
 }
 
 impl Waiting {
+    /// Its request.
+    pub fn view(&self) -> &View
+        ensures { result.now ≡ self.now.asked.view }
+    {
+        &self.asked.view
+    }
+
     /// A pass came.
     pub fn grant(self, pass: Pass) -> Dialing
-        ensures { (h : History) → stages.IsWaiting self h → stages.IsDialing result (granted h pass) }
+        ensures dials { (h : History) → stages.IsWaiting self h → stages.IsDialing result (granted h pass) }
+        ensures pass { result.pass ≡ pass }
     {
         Dialing {
             waiting: self,

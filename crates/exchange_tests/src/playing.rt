@@ -161,7 +161,7 @@ impl Table {
 
     /// All that happens, and after each move what follows of it: where the exchange is at the end.
     pub(crate) fn play(&mut self, rt: &impl Abort, moves: &[Move]) -> Stage {
-        let mut exchange = Exchange::new(self.alloc).expect(rt, "memory");
+        let mut exchange = Exchange::new(self.alloc);
         for each in moves {
             exchange = self.happens(rt, exchange, *each);
             exchange = self.flush(rt, exchange);

@@ -17,5 +17,3 @@ mod passes;
 mod repeats;
 #[cfg(test)]
 mod texts;
-#[cfg(test)]
-mod wholes;

@@ -6,7 +6,7 @@ use Rattle.grant_board.specs.Views.{Grant}
 use Rattle.relay_http.specs.declared.persistence.Persistence.{Persistence}
 use Rattle.exchange_machine.specs.Histories.{History, Post, passes_of}
 use Rattle.mixed_exchange.specs.Passes.{held_by, if_taken, came_with, gone_with}
-use Rattle.mixed_exchange.specs.Steps.{IsAt, heard, ended, after, came_pass, connected_with}
+use Rattle.mixed_exchange.specs.Steps.{IsAt, heard, ended, after, came_pass, connected_with, FailsInTurn, TellsInTurn, IsOwn, IsOwnOf}
 use Rattle.mixed_exchange.specs.declared.event.Event.{Event}
 use Rattle.mixed_exchange.specs.declared.event.Event.TheVariants as Events
 use Rattle.mixed_exchange.specs.declared.exchange.Exchange.{Exchange}
@@ -103,3 +103,37 @@ passes_go_on x y h event used outcome before behind =
     ∙ sym (ended_grants outcome mid) ∙ at_held y (after x event used outcome h) behind
     ∙ ap (λ l. l ++ held_by y) (ended_posts outcome mid ∙ ap (λ (l : List Post). passes_of l ++ gone_with outcome) (heard_posts x event used h))
     ∙ append_assoc earlier (gone_with outcome) (held_by y))
+
+-- the same of a history in which no pass came or went
+pub passes_stay : (x y : Exchange) (h now : History) (outcome : Outcome) → IsAt x h → now.grants ≡ h.grants → now.posts ≡ h.posts → IsAt y (ended outcome now)
+    → held_by x ≡ gone_with outcome ++ held_by y
+passes_stay x y h now outcome before grants posts behind =
+    let earlier = passes_of h.posts in
+    append_cancel_left earlier (held_by x) (gone_with outcome ++ held_by y)
+    (sym (at_held x h before) ∙ sym grants ∙ sym (ended_grants outcome now) ∙ at_held y (ended outcome now) behind
+    ∙ ap (λ l. l ++ held_by y) (ended_posts outcome now ∙ ap (λ (l : List Post). passes_of l ++ gone_with outcome) posts)
+    ∙ append_assoc earlier (gone_with outcome) (held_by y))
+
+pub own_of_fails : (outcome : Outcome) (x : Exchange) → FailsInTurn outcome x → IsOwn outcome
+own_of_fails Outcomes.Quiet x it = tt
+own_of_fails (Outcomes.Posts pass ending) x it = tt
+own_of_fails Outcomes.Starved x it = tt
+own_of_fails (Outcomes.StarvedPosts pass ending) x it = tt
+own_of_fails Outcomes.Retries x it = tt
+own_of_fails (Outcomes.Returns pass) x it = it
+
+pub own_of : (event : Event) (outcome : Outcome) (x : Exchange) → TellsInTurn event outcome x → IsOwnOf event outcome
+own_of (Events.Granted pass) outcome x it = tt
+own_of (Events.ClientBytes input) outcome x it = own_of_fails outcome x it
+own_of (Events.ServerBytes input) outcome x it = own_of_fails outcome x it
+own_of (Events.ClientTook count) outcome x it = own_of_fails outcome x it
+own_of (Events.ServerTook count) outcome x it = own_of_fails outcome x it
+own_of Events.Unserved outcome x it = own_of_fails outcome x it
+own_of (Events.Connected terms) outcome x it = own_of_fails outcome x it
+own_of Events.Unreachable outcome x it = own_of_fails outcome x it
+own_of Events.ClientEnd outcome x it = own_of_fails outcome x it
+own_of Events.ClientFailed outcome x it = own_of_fails outcome x it
+own_of Events.ServerEnd outcome x it = own_of_fails outcome x it
+own_of Events.ServerFailed outcome x it = own_of_fails outcome x it
+own_of Events.ServerDeaf outcome x it = own_of_fails outcome x it
+own_of (Events.TimeOver clock) outcome x it = own_of_fails outcome x it

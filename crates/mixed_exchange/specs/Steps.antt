@@ -1,10 +1,11 @@
 -- What an exchange is after a history, and what an event makes of a history.
-use Rattle.std.specs.Prelude.{◌≡◌, ℕ, zero, suc, Bool, true, false, ◌||◌, not, if◌then◌else◌, List, [], ◌∷◌, take, Option, Some, None}
+use Rattle.std.specs.Prelude.{◌≡◌, ◌≤◌, ℕ, zero, suc, Bool, true, false, ◌||◌, not, if◌then◌else◌, List, [], ◌∷◌, length, take, Option, Some, None}
 use Rattle.body_coder.specs.Stops.{is_done}
 use Rattle.grant_board.specs.Views.{Grant}
 use Rattle.relay_http.specs.declared.persistence.Persistence.{Persistence}
 use Rattle.exchange_machine.specs.Histories.{History, connected_on, client_came, server_came, server_got, client_got, granted, posted, retried, signed}
 use Rattle.exchange_machine.specs.Settlings.{IsSettling}
+use Rattle.exchange_machine.specs.Wants.{takes_request, takes_answer, sends_request}
 use Rattle.exchange_machine.specs.Stages.{IsAsking, IsWaiting, IsDialing, IsPassing, IsLeaving, IsTelling, IsOver}
 use Rattle.exchange_machine.specs.declared.signs.Sign.{Sign}
 use Rattle.exchange_machine.specs.declared.signs.Sign.TheVariants as Signs
@@ -29,6 +30,10 @@ IsAt (Leaving l) h = IsLeaving l h
 IsAt (Telling t) h = IsTelling t h
 IsAt Over h = IsOver h
 
+-- there is a history that it is at: by the law of an exchange what was sent and told in it is sound
+abbrev pub HasHistory : Exchange → Type 0
+HasHistory x = ∥ ((h : History) × IsAt x h) ∥₁
+
 -- what its client is to be sent next
 abbrev pub to_client : Exchange → List ℕ
 to_client (Asking a) = []
@@ -50,6 +55,45 @@ to_server (Settling s) = []
 to_server (Leaving l) = []
 to_server (Telling t) = []
 to_server Over = []
+
+-- more of what its client sends is taken
+abbrev pub reads_client : Exchange → Bool
+reads_client (Asking a) = true
+reads_client (Waiting w) = false
+reads_client (Dialing d) = false
+reads_client (Passing p) = takes_request p
+reads_client (Settling s) = false
+reads_client (Leaving l) = false
+reads_client (Telling t) = false
+reads_client Over = false
+
+-- more of what its server sends is taken
+abbrev pub reads_server : Exchange → Bool
+reads_server (Asking a) = false
+reads_server (Waiting w) = false
+reads_server (Dialing d) = false
+reads_server (Passing p) = takes_answer p
+reads_server (Settling s) = false
+reads_server (Leaving l) = false
+reads_server (Telling t) = false
+reads_server Over = false
+
+-- something is to be sent to a server that takes it
+abbrev pub writes_server : Exchange → Bool
+writes_server (Asking a) = false
+writes_server (Waiting w) = false
+writes_server (Dialing d) = false
+writes_server (Passing p) = sends_request p
+writes_server (Settling s) = false
+writes_server (Leaving l) = false
+writes_server (Telling t) = false
+writes_server Over = false
+
+-- no more is taken of an event than there is
+abbrev pub IsWithin : Event → ℕ → Type 0
+IsWithin (Events.ClientBytes input) used = used ≤ length input.now
+IsWithin (Events.ServerBytes input) used = used ≤ length input.now
+IsWithin event used = Unit {0}
 
 -- an exchange is over whose client sends no more: where its request isn't whole, and else where the configuration says so
 abbrev pub is_left : Bool → Exchange → Bool
@@ -132,13 +176,33 @@ ended (Outcomes.StarvedPosts pass ending) h = posted (signed h Signs.NoMemory) p
 ended Outcomes.Retries h = retried h
 ended (Outcomes.Returns pass) h = h
 
--- a pass goes back as failed just where another one is waited for
+-- a pass goes back as failed just where another one is waited for, and none comes back that was handed in
 abbrev pub FailsInTurn : Outcome → Exchange → Type 0
 FailsInTurn (Outcomes.Posts pass Failed) (Waiting w) = Unit {0}
 FailsInTurn (Outcomes.Posts pass Failed) x = ⊥
 FailsInTurn (Outcomes.Posts pass Done) (Waiting w) = ⊥
 FailsInTurn (Outcomes.StarvedPosts pass Failed) x = ⊥
+FailsInTurn (Outcomes.Returns pass) x = ⊥
 FailsInTurn outcome x = Unit {0}
+
+-- none comes back that was handed in
+abbrev pub IsOwn : Outcome → Type 0
+IsOwn (Outcomes.Returns pass) = ⊥
+IsOwn outcome = Unit {0}
+
+-- one that was handed in may come back
+abbrev pub MayReturn : Outcome → Exchange → Type 0
+MayReturn (Outcomes.Returns pass) x = Unit {0}
+MayReturn outcome x = FailsInTurn outcome x
+
+-- the same by what was told
+abbrev pub TellsInTurn : Event → Outcome → Exchange → Type 0
+TellsInTurn (Events.Granted pass) outcome x = MayReturn outcome x
+TellsInTurn event outcome x = FailsInTurn outcome x
+
+abbrev pub IsOwnOf : Event → Outcome → Type 0
+IsOwnOf (Events.Granted pass) outcome = Unit {0}
+IsOwnOf event outcome = IsOwn outcome
 
 abbrev pub after : Exchange → Event → ℕ → Outcome → History → History
 after x event used outcome h = ended outcome (heard x event used h)

@@ -253,7 +253,7 @@ pub(crate) fn server_took(exchange: Exchange, alloc: Global, count: usize) -> St
 
 pub(crate) fn granted(exchange: Exchange, pass: Pass) -> Step
     ensures at { (h : History) → steps.IsAt exchange h → steps.IsAt result.next (steps.ended result.outcome (steps.came_pass result.used pass h)) }
-    ensures fails { steps.FailsInTurn result.outcome result.next }
+    ensures fails { steps.MayReturn result.outcome result.next }
 {
     match exchange {
         Exchange::Waiting(waiting) => quiet(Exchange::Dialing(waiting.grant(pass)), 1),
@@ -510,10 +510,22 @@ fn client_over(exchange: Exchange) -> Step
     ensures fails { steps.FailsInTurn result.outcome result.next }
 {
     match exchange {
-        Exchange::Asking(asking) => quiet(Exchange::Telling(asking.late()), 0),
+        Exchange::Asking(asking) => asked_late(asking),
         Exchange::Waiting(waiting) => unmoved(Exchange::Waiting(waiting)),
         Exchange::Dialing(dialing) => unmoved(Exchange::Dialing(dialing)),
         other => gone(other, Sign::ClientOver),
+    }
+}
+
+// Who said nothing at all is told nothing.
+fn asked_late(asking: Asking) -> Step
+    ensures at { (h : History) → IsAsking asking h → steps.IsAt result.next (steps.ended result.outcome (signed h Sign.ClientOver)) }
+    ensures fails { steps.FailsInTurn result.outcome result.next }
+{
+    if asking.is_silent() {
+        quiet(Exchange::Over, 0)
+    } else {
+        quiet(Exchange::Telling(asking.late()), 0)
     }
 }
 

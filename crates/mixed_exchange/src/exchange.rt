@@ -1,5 +1,6 @@
-ghost use Rattle.std.specs.Prelude.{◌≡◌, ◌≢◌, [], true, false, Some, IfOk, IsFalse, IsTrue};
+ghost use Rattle.std.specs.Prelude.{◌≡◌, ◌≢◌, ◌++◌, [], true, false, Some, IsFalse, IsTrue};
 ghost use Rattle.exchange_machine.specs.Histories.{History, nothing_yet};
+ghost use Rattle.mixed_exchange.specs.Passes.{held_by, came_with, gone_with};
 ghost use Rattle.mixed_exchange.specs.Steps as steps;
 
 use crate::calls::{
@@ -9,7 +10,7 @@ use crate::calls::{
 use crate::event::{Clock, Event, Rules};
 use exchange_machine::{Asking, Dialing, Leaving, Passing, Settling, Sign, Telling, Waiting};
 use grant_board::Pass;
-use std::alloc::{AllocError, Global};
+use std::alloc::Global;
 use verdict::Ending;
 
 /// One request and its answer, how far they are.
@@ -62,10 +63,10 @@ pub struct Wants {
 
 impl Exchange {
     /// Of whom no pass, no connection and no byte was told yet.
-    pub fn new(alloc: Global) -> Result<Exchange, AllocError>
-        ensures { IfOk result (λ exchange. steps.IsAt exchange nothing_yet) }
+    pub fn new(alloc: Global) -> Exchange
+        ensures { steps.IsAt result nothing_yet }
     {
-        Ok(Exchange::Asking(Asking::new(alloc)?))
+        Exchange::Asking(Asking::new(alloc))
     }
 
     /// What its client is to be sent next.
@@ -101,18 +102,81 @@ impl Exchange {
 
     /// Which bytes it waits for.
     pub fn wants(&self) -> Wants
-        ensures client { IsFalse result.writes_client → steps.to_client self.now ≡ [] }
+        ensures reads_client { result.reads_client ≡ steps.reads_client self.now }
+        ensures writes_client { IsFalse result.writes_client → steps.to_client self.now ≡ [] }
         ensures some { IsTrue result.writes_client → steps.to_client self.now ≢ [] }
+        ensures reads_server { result.reads_server ≡ steps.reads_server self.now }
+        ensures writes_server { result.writes_server ≡ steps.writes_server self.now }
         ensures clock { result.clock ≡ steps.clock_of self.now }
     {
-        let writes_client = !self.to_client().is_empty();
-        let (reads_client, reads_server, writes_server) = self.others();
         Wants {
             clock: self.clock(),
-            reads_client,
-            writes_client,
-            reads_server,
-            writes_server,
+            reads_client: self.reads_client(),
+            writes_client: !self.to_client().is_empty(),
+            reads_server: self.reads_server(),
+            writes_server: self.writes_server(),
+        }
+    }
+
+    fn reads_client(&self) -> bool
+        ensures { result ≡ steps.reads_client self.now }
+    {
+        match self {
+            Exchange::Asking(_) => true,
+            Exchange::Passing(passing) => passing.takes_request(),
+            Exchange::Waiting(_)
+            | Exchange::Dialing(_)
+            | Exchange::Settling(_)
+            | Exchange::Leaving(_)
+            | Exchange::Telling(_)
+            | Exchange::Over => false,
+        }
+    }
+
+    fn reads_server(&self) -> bool
+        ensures { result ≡ steps.reads_server self.now }
+    {
+        match self {
+            Exchange::Passing(passing) => passing.takes_answer(),
+            Exchange::Asking(_)
+            | Exchange::Waiting(_)
+            | Exchange::Dialing(_)
+            | Exchange::Settling(_)
+            | Exchange::Leaving(_)
+            | Exchange::Telling(_)
+            | Exchange::Over => false,
+        }
+    }
+
+    fn writes_server(&self) -> bool
+        ensures { result ≡ steps.writes_server self.now }
+    {
+        match self {
+            Exchange::Passing(passing) => passing.sends_request(),
+            Exchange::Asking(_)
+            | Exchange::Waiting(_)
+            | Exchange::Dialing(_)
+            | Exchange::Settling(_)
+            | Exchange::Leaving(_)
+            | Exchange::Telling(_)
+            | Exchange::Over => false,
+        }
+    }
+
+    /// About how many bytes of its client it takes at once, where it takes any.
+    pub fn request_room(&self) -> usize {
+        match self {
+            Exchange::Asking(asking) => asking.room(),
+            Exchange::Passing(passing) => passing.request_room(),
+            _ => 0,
+        }
+    }
+
+    /// About how many bytes of its server it takes at once, where it takes any.
+    pub fn answer_room(&self) -> usize {
+        match self {
+            Exchange::Passing(passing) => passing.answer_room(),
+            _ => 0,
         }
     }
 
@@ -132,27 +196,24 @@ impl Exchange {
         }
     }
 
-    fn others(&self) -> (bool, bool, bool) {
-        match self {
-            Exchange::Asking(_) => (true, false, false),
-            Exchange::Passing(passing) => (
-                !passing.is_cut() && !passing.is_asked() && passing.holds_none(),
-                !passing.has_ended() && !passing.is_dialing(),
-                !passing.is_cut() && !passing.is_dialing() && !passing.to_server().is_empty(),
-            ),
-            Exchange::Waiting(_)
-            | Exchange::Dialing(_)
-            | Exchange::Settling(_)
-            | Exchange::Leaving(_)
-            | Exchange::Telling(_)
-            | Exchange::Over => (false, false, false),
-        }
-    }
-
     /// Of a client's request, whatever happens: what is true of the history before is true of it with this event.
     pub fn step(self, alloc: Global, rules: Rules, event: Event) -> Step
         ensures at { (h : History) → steps.IsAt self h → steps.IsAt result.next (steps.after self event.entry result.used result.outcome h) }
-        ensures fails { steps.FailsInTurn result.outcome result.next }
+        ensures history { steps.HasHistory self → steps.HasHistory result.next }
+        ensures passes { steps.HasHistory self → held_by self ++ came_with event.entry result.used ≡ gone_with result.outcome ++ held_by result.next }
+        ensures fails { steps.TellsInTurn event.entry result.outcome result.next }
+        ensures own { steps.IsOwnOf event.entry result.outcome }
+        ensures within { steps.IsWithin event.entry result.used }
+        ensures leaves { event.entry ≡ Event.ClientEnd → steps.is_left rules.aborts self ≡ true → result.next ≡ Exchange.Over }
+        ensures stays { event.entry ≡ Event.ClientEnd → steps.is_left rules.aborts self ≡ false → result.next ≡ self }
+    {
+        self.go_on(alloc, rules, event)
+    }
+
+    fn go_on(self, alloc: Global, rules: Rules, event: Event) -> Step
+        ensures at { (h : History) → steps.IsAt self h → steps.IsAt result.next (steps.after self event.entry result.used result.outcome h) }
+        ensures fails { steps.TellsInTurn event.entry result.outcome result.next }
+        ensures within { steps.IsWithin event.entry result.used }
         ensures leaves { event.entry ≡ Event.ClientEnd → steps.is_left rules.aborts self ≡ true → result.next ≡ Exchange.Over }
         ensures stays { event.entry ≡ Event.ClientEnd → steps.is_left rules.aborts self ≡ false → result.next ≡ self }
     {

@@ -20,6 +20,21 @@ pub struct Held<N: BoardName> {
 }
 
 impl<N: BoardName> Held<N> {
+    /// A seat and its pass, the only one that it has.
+    pub fn new(seat: RelaySeat, pass: Pass) -> Held<N>
+        requires named { seat.board ≡ N.board }
+        requires terms { seat.view.terms ≡ N.terms }
+        requires held { seat.view.passes ≡ pass ∷ [] }
+        ensures seat { result.seat ≡ seat }
+        ensures pass { result.pass ≡ pass }
+    {
+        Held {
+            seat,
+            pass,
+            name: PhantomData,
+        }
+    }
+
     pub fn place(&self) -> usize
         ensures { result ≡ self.now.pass.place }
     {

@@ -11,10 +11,12 @@ use std::thread::Threads;
 #[derive(Clone, Copy)]
 pub(crate) struct Crew {
     pub(crate) threads: relay_loops::Sizes,
+    /// What was asked for of workers, which nothing depends on.
+    pub(crate) workers: usize,
     pub(crate) requests: u64,
 }
 
-/// Where nothing else is said: as many loops as the machine has processors for it, and as many runners as requests may be at servers at a time.
+/// Where nothing else is said: as many loops as the machine has processors for it, and as many workers as requests may be at servers at a time.
 pub(crate) fn crew_of(rt: &impl Threads, config: &Config, sizes: Sizes) -> Crew
     ensures places { result.threads.places ≡ sizes.places }
     ensures requests { result.requests ≡ sizes.requests }
@@ -27,17 +29,17 @@ pub(crate) fn crew_of(rt: &impl Threads, config: &Config, sizes: Sizes) -> Crew
             Err(_) => 1,
         },
     };
-    let runners = match sizes.workers {
+    let workers = match sizes.workers {
         Some(workers) => workers as usize,
         None => slots.min(MOST_WORKERS as usize).max(1),
     };
     Crew {
         threads: relay_loops::Sizes {
             loops,
-            runners,
             places: sizes.places,
             slots,
         },
+        workers,
         requests: sizes.requests,
     }
 }

@@ -1,10 +1,10 @@
 //! Where clients come.
 
+use crate::crew::Crew;
 use crate::fault::ServeFault;
 use crate::preparing::never_queues;
 use libc::net::listen;
 use proxy_config::{Bind, Config};
-use relay_loops::Sizes;
 use std::net::{Ipv4Addr, Net, TcpListener, TcpStream};
 use std::os::fd::AsRawFd;
 
@@ -34,14 +34,14 @@ pub(crate) fn announce<R: Eprint>(
     rt: &R,
     listener: &TcpListener,
     config: &Config,
-    sizes: Sizes,
+    crew: Crew,
 ) -> Result<(), ServeFault> {
     let Ok(address) = listener.local_addr() else {
         return Err(ServeFault::Read);
     };
     let servers = config.servers.len();
-    let workers = sizes.runners;
-    let places = sizes.places;
+    let workers = crew.workers;
+    let places = crew.threads.places;
     let _ = eprintln!(rt;
         "listening at {address}: servers {servers} workers {workers} places {places}"
     );

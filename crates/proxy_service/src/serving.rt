@@ -55,7 +55,7 @@ pub fn serve_at<
     requires config { IsSoundConfig config }
 {
     let crew = crew_of(rt, &config, sizes);
-    announce(rt, &listener, &config, crew.threads)?;
+    announce(rt, &listener, &config, crew)?;
     let parts = parts_of(rt.alloc(), &config, crew.threads.places)?;
     serve_on::<Brand, _>(rt, config, parts, listener, crew)
 }

@@ -3,7 +3,7 @@
 ghost use Rattle.std.specs.Prelude.{◌≡◌, vec_len, IfOk};
 
 use crate::serving::Sizes;
-use event_loops::{Role, Rooms, Waiting, most_clients, polls_of, roles_of};
+use event_loops::{Parked, Rooms, Unbegun, loops_of, most_connections, polls_of};
 use grant_board::BoardName;
 use relay_workers::Proxy;
 use socket_gate::{Front, first_address};
@@ -11,14 +11,14 @@ use std::alloc::{AllocError, Global};
 use std::net::{Net, TcpListener, TcpStream};
 use std::sync::Mutex;
 
-/// The rooms of a proxy, and the threads' roles, with its listener in each loop's poll. Names of servers are looked up by the system, without a limit of its own. Fails where the
+/// The rooms of a proxy, and its loops, with its listener in each loop's poll. Names of servers are looked up by the system, without a limit of its own. Fails where the
 /// system has no poll, too.
 pub(crate) fn rooms_of<R: Net<Listener = TcpListener, Stream = TcpStream>, N: BoardName>(
     rt: &R,
     proxy: &Proxy<N>,
     front: &Front<'_>,
     sizes: Sizes,
-) -> Result<(Rooms, Vec<Role>), AllocError>
+) -> Result<(Rooms, Vec<Unbegun>), AllocError>
     ensures { IfOk result (λ made. vec_len made.0.spots ≡ sizes.places) }
 {
     let alloc = proxy.alloc;
@@ -28,17 +28,17 @@ pub(crate) fn rooms_of<R: Net<Listener = TcpListener, Stream = TcpStream>, N: Bo
         addresses.push(first_address(rt, &server.address))?;
     }
     let (polls, mail) = polls_of(rt, alloc, front, sizes.loops)?;
-    let roles = roles_of(alloc, polls, sizes.runners)?;
+    let loops = loops_of(alloc, polls)?;
     let rooms = Rooms {
         spots,
         mail,
         addresses,
-        most: most_clients(sizes.loops, sizes.slots),
+        most: most_connections(sizes.loops, sizes.slots),
     };
-    Ok((rooms, roles))
+    Ok((rooms, loops))
 }
 
-fn empty_spots(alloc: Global, places: usize) -> Result<Vec<Mutex<Option<Waiting>>>, AllocError>
+fn empty_spots(alloc: Global, places: usize) -> Result<Vec<Mutex<Option<Parked>>>, AllocError>
     ensures { IfOk result (λ made. vec_len made ≡ places) }
 {
     let mut spots = Vec::with_capacity(alloc, places)?;

@@ -12,11 +12,10 @@ use std::sync::Wait;
 use std::thread::Threads;
 use std::time::Clock;
 
-/// How many loops and runners there are, and for how many places.
+/// How many loops there are, and for how many places.
 #[derive(Clone, Copy, Debug, PartialEq, Eq)]
 pub struct Sizes {
     pub loops: usize,
-    pub runners: usize,
     pub places: usize,
     /// So many requests are at servers at a time, at most.
     pub slots: usize,
@@ -25,9 +24,7 @@ pub struct Sizes {
 impl Sizes {
     // Each place and each thread has one.
     fn seats(self) -> usize {
-        self.places
-            .saturating_add(self.loops)
-            .saturating_add(self.runners)
+        self.places.saturating_add(self.loops)
     }
 }
 
@@ -60,9 +57,9 @@ pub fn serve<
     let lent = seats.len();
     let (seats, served) = match rooms_of(rt, proxy, front, sizes) {
         Err(_) => (seats, Err(Stopped::NoMemory)),
-        Ok((rooms, roles)) => {
+        Ok((rooms, loops)) => {
             let hall = Hall::new(proxy, front, seats, rooms);
-            run_all(rt, &hall, roles);
+            run_all(rt, &hall, loops);
             hall.end()
         }
     };

@@ -241,7 +241,7 @@ fn a_silent_client_gets_nothing(rt: HostRuntime) {
     let row = Row {
         settings: " timeout client 50ms\n",
         clients: 1,
-        says: b"GET / HTTP/1.1\r\n",
+        says: b"",
         gets: b"",
         answer: WHOLE,
         answers: 0,
@@ -273,6 +273,51 @@ fn leave_is_given_where_the_body_came_with_its_head(rt: HostRuntime) {
         clients: 1,
         says: b"PUT / HTTP/1.1\r\nHost: h\r\nExpect: 100-continue\r\nContent-Length: 2\r\n\r\nab",
         gets: b"HTTP/1.1 100 Continue\r\n\r\nHTTP/1.1 200 OK\r\nContent-Length: 2\r\nConnection: close\r\n\r\nhi",
+        answer: WHOLE,
+        answers: 1,
+        order: Order::InTurn,
+        places: 8,
+    };
+    play(&rt, &row);
+}
+
+#[test]
+fn a_head_that_stays_a_part_is_a_bad_request(rt: HostRuntime) {
+    let row = Row {
+        settings: " timeout client 50ms\n",
+        clients: 1,
+        says: b"GET / HTTP/1.1\r\n",
+        gets: b"HTTP/1.1 400 Bad Request\r\nContent-Length: 0\r\nConnection: close\r\n\r\n",
+        answer: WHOLE,
+        answers: 0,
+        order: Order::Together,
+        places: 8,
+    };
+    play(&rt, &row);
+}
+
+#[test]
+fn an_answer_before_the_body_is_whole_is_handed_on(rt: HostRuntime) {
+    let row = Row {
+        settings: "",
+        clients: 2,
+        says: b"PUT / HTTP/1.1\r\nHost: h\r\nContent-Length: 100\r\n\r\nab",
+        gets: ANSWER,
+        answer: WHOLE,
+        answers: 2,
+        order: Order::InTurn,
+        places: 8,
+    };
+    play(&rt, &row);
+}
+
+#[test]
+fn a_second_request_behind_the_first_cuts_no_answer(rt: HostRuntime) {
+    let row = Row {
+        settings: "",
+        clients: 1,
+        says: b"GET / HTTP/1.1\r\nHost: h\r\n\r\nGET / HTTP/1.1\r\nHost: h\r\n\r\n",
+        gets: ANSWER,
         answer: WHOLE,
         answers: 1,
         order: Order::InTurn,

@@ -2,4 +2,4 @@ use Rattle.exchange_machine.proofs.EventLemmas.{asking_new}
 use Rattle.exchange_machine.proofs.asking.Asking.new.Goals as goal
 
 pub returns : goal.returns
-returns c = asking_new _ c.in_ok-with_capacity.ensures.items
+returns c = asking_new _ c.new.ensures.items

@@ -1,0 +1,66 @@
+//! Clients that come.
+
+use crate::guest::{Guest, Visit};
+use crate::looping::Looper;
+use crate::serving::Then;
+use exchange_driver::{Line, Live};
+use grant_board::BoardName;
+use seated_exchange::Seated;
+use std::io::ErrorKind;
+use std::net::{Net, TcpListener, TcpStream};
+use std::sync::Wait;
+use std::time::Clock;
+
+/// So many clients are taken at once, before others are attended to.
+const BURST: usize = 64;
+
+impl<
+    'a,
+    N: BoardName,
+    R: Net<Listener = TcpListener, Stream = TcpStream> + Clock + Print + Wait,
+> Looper<'a, N, R> {
+    /// Takes clients that wait at the listener. Where something is short it stops, and is tried again soon.
+    pub(crate) fn accept_some(&mut self) {
+        for _ in 0..BURST {
+            if self.short || self.hall.front.clients.are_all_taken() {
+                self.more = false;
+                return;
+            }
+            if !self.hall.has_room() || self.guests.is_full() {
+                self.short = true;
+                self.more = false;
+                return;
+            }
+            match self.hall.front.listener.accept() {
+                Ok((client, _)) => self.greet(client),
+                Err(error) => {
+                    self.more = error.kind() == ErrorKind::Interrupted;
+                    self.short = !self.more && error.kind() != ErrorKind::WouldBlock;
+                    return;
+                }
+            }
+        }
+    }
+
+    // A client came: it is a guest from now on, and what it sent already is read.
+    fn greet(&mut self, client: TcpStream) {
+        if !self.hall.front.clients.take() {
+            return;
+        }
+        self.hall.note_client();
+        let _ = client.set_nodelay(true);
+        if client.set_nonblocking(true).is_err() {
+            return self.hall.note_end(self.rt);
+        }
+        let Some(hole) = self.guests.open() else {
+            return self.hall.note_end(self.rt);
+        };
+        let alloc = self.settings.alloc;
+        let guest = Guest {
+            seated: Seated::new(alloc),
+            visit: Visit::new(alloc, Line::new(alloc, Live::new(client))),
+        };
+        self.go(Then::Goes(guest, hole));
+        self.go_on();
+    }
+}

@@ -1,0 +1,168 @@
+//! Guests in their slots: kept until there is more to do, and let go.
+
+use crate::guest::{Guest, Keyword, Resident, Visit, Watch};
+use crate::looping::Looper;
+use crate::serving::Then;
+use crate::watching::{watch, watch_anew};
+use exchange_driver::{Line, Live};
+use grant_board::BoardName;
+use loop_table::{Hole, Subject, Token};
+use mio::Interest;
+use seated_exchange::Stage;
+use std::net::{Net, TcpListener, TcpStream};
+use std::os::fd::AsRawFd;
+use std::sync::Wait;
+use std::time::Clock;
+
+/// When there is more to do for a guest.
+#[derive(Clone, Copy, Debug, PartialEq, Eq)]
+pub(crate) enum Soon {
+    /// At once.
+    AtOnce,
+    /// Once what a returned slot woke was looked at.
+    Next,
+    /// Once others were attended to.
+    Later,
+    /// Once the poll tells of a socket of its, or a time is over.
+    Rests,
+}
+
+impl<
+    'a,
+    N: BoardName,
+    R: Net<Listener = TcpListener, Stream = TcpStream> + Clock + Print + Wait,
+> Looper<'a, N, R> {
+    /// A guest lies in its slot until there is more to do.
+    pub(crate) fn keep(&mut self, guest: Guest<N>, hole: Hole, soon: Soon) -> Then<N> {
+        let Guest { seated, visit } = guest;
+        let mut visit = visit;
+        let token = hole.token();
+        self.time(&seated, &mut visit, token.index());
+        match soon {
+            Soon::AtOnce => return Then::Goes(Guest { seated, visit }, hole),
+            Soon::Next => self.remember(token),
+            Soon::Later => self.put_off(token),
+            Soon::Rests => {
+                let dials = seated.stage() == Stage::Dialing;
+                if !self.is_watched(&mut visit, token, dials) {
+                    return self.close(Guest { seated, visit }, hole);
+                }
+            }
+        }
+        self.lay(Resident::Guest(Guest { seated, visit }), hole);
+        Then::Rests
+    }
+
+    // The poll tells of its sockets.
+    fn is_watched(&self, visit: &mut Visit, token: Token, dials: bool) -> bool {
+        let Visit {
+            client,
+            server,
+            client_watch,
+            server_watch,
+            ..
+        } = visit;
+        let subject = Subject::Client(token);
+        self.watches(client, client_watch, subject, client.is_full())
+            && self.watches(
+                server,
+                server_watch,
+                Subject::Server(token),
+                dials || server.is_full(),
+            )
+    }
+
+    fn watches(&self, line: &Line<Live>, told: &mut Watch, subject: Subject, writes: bool) -> bool {
+        let Some(socket) = line.socket() else {
+            return true;
+        };
+        let connection = socket.stream().as_raw_fd();
+        let (is_there, interest) = match (*told, writes) {
+            (Watch::Both, _) | (Watch::Reads, false) => return true,
+            (Watch::Reads, true) => (true, Interest::READABLE | Interest::WRITABLE),
+            (Watch::Nothing, true) => (false, Interest::READABLE | Interest::WRITABLE),
+            (Watch::Nothing, false) => (false, Interest::READABLE),
+        };
+        *told = if writes { Watch::Both } else { Watch::Reads };
+        if is_there {
+            watch_anew(&self.registry, connection, subject, interest)
+        } else {
+            watch(&self.registry, connection, subject, interest)
+        }
+    }
+
+    /// Puts who is in a slot back there. Where there is no memory for that, it is over.
+    pub(crate) fn lay(&mut self, resident: Resident<N>, hole: Hole) {
+        match Box::new(self.settings.alloc, resident) {
+            Ok(resident) => match self.guests.fill(hole, resident) {
+                Ok(()) => {}
+                Err(resident) => self.let_go(Box::into_inner(resident)),
+            },
+            Err(refused) => {
+                self.close_slot(hole, None);
+                self.let_go(refused.value);
+            }
+        }
+    }
+
+    fn let_go(&mut self, resident: Resident<N>) {
+        match resident {
+            Resident::Lingering(_lingering) => self.lingering = self.lingering.saturating_sub(1),
+            Resident::Guest(guest) => self.dismiss(guest),
+        }
+    }
+
+    /// A guest is over, however far it is: its pass is posted, and its client is through.
+    pub(crate) fn close(&mut self, guest: Guest<N>, hole: Hole) -> Then<N> {
+        self.close_slot(hole, guest.visit.timer);
+        self.dismiss(guest);
+        Then::Rests
+    }
+
+    fn dismiss(&mut self, guest: Guest<N>) {
+        let Guest { seated, visit: _ } = guest;
+        match seated.abandon() {
+            Some(posting) => self.post(posting),
+            None => {}
+        }
+        self.hall.note_end(self.rt);
+    }
+
+    /// A slot is free again, and no time runs for it.
+    pub(crate) fn close_slot(&mut self, hole: Hole, timer: Option<Keyword>) {
+        self.untime(timer, hole.token().index());
+        self.guests.close(hole);
+    }
+
+    /// It is gone on with once what a returned slot woke was looked at.
+    pub(crate) fn remember(&mut self, token: Token) {
+        if self.ready.push(token).is_err() {
+            self.sweeps = true;
+        }
+    }
+
+    /// It is gone on with in the next round.
+    pub(crate) fn put_off(&mut self, token: Token) {
+        if self.later.push(token).is_err() {
+            self.sweeps = true;
+        }
+    }
+
+    /// What was put off is gone on with. Where there was no memory to note that, all are.
+    pub(crate) fn take_up(&mut self) {
+        for _ in 0..self.later.len() {
+            if let Some(token) = self.later.pop() {
+                self.remember(token);
+            }
+        }
+        if !self.sweeps {
+            return;
+        }
+        self.sweeps = false;
+        for index in 0..self.room {
+            if let Some(token) = self.guests.token_of(index) {
+                self.work(token);
+            }
+        }
+    }
+}

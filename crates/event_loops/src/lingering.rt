@@ -1,0 +1,92 @@
+//! Clients that were told everything. The sending side is closed first, and what comes is read and thrown away: a close with bytes unread resets the connection,
+//! and so may cut the answer (RFC 9112, section 9.6).
+
+use crate::guest::{Guest, Keyword, Lingering, Resident};
+use crate::looping::Looper;
+use crate::serving::Then;
+use crate::watching::watch;
+use exchange_driver::{Heard, Live, Socket};
+use grant_board::BoardName;
+use loop_table::{Hole, Subject};
+use mio::Interest;
+use std::net::{Net, Shutdown, TcpListener, TcpStream};
+use std::os::fd::AsRawFd;
+use std::sync::Wait;
+use std::time::Clock;
+
+/// So many bytes of a client that lingers are thrown away.
+const MOST_THROWN: usize = 1 << 26;
+
+/// So often it is read in a row, before others are attended to.
+const READS: usize = 64;
+
+impl<
+    'a,
+    N: BoardName,
+    R: Net<Listener = TcpListener, Stream = TcpStream> + Clock + Print + Wait,
+> Looper<'a, N, R> {
+    /// A guest was told everything: it is through, and lingers.
+    pub(crate) fn finish(&mut self, guest: Guest<N>, hole: Hole) -> Then<N> {
+        let key = hole.token().index();
+        let Guest { seated, visit } = guest;
+        self.untime(visit.timer, key);
+        match seated.abandon() {
+            Some(posting) => self.post(posting),
+            None => {}
+        }
+        self.hall.note_end(self.rt);
+        match visit.client.into_socket() {
+            Some(client) if client.stream().shutdown(Shutdown::Write).is_ok() => {
+                self.lingering = self.lingering.saturating_add(1);
+                self.begin_time(Some(Keyword::Linger), key);
+                self.listen(
+                    Lingering {
+                        client,
+                        left: MOST_THROWN,
+                    },
+                    hole,
+                );
+            }
+            _ => self.guests.close(hole),
+        }
+        Then::Rests
+    }
+
+    /// What a client that lingers sends is thrown away.
+    pub(crate) fn listen(&mut self, lingering: Lingering, hole: Hole) {
+        let mut lingering = lingering;
+        for _ in 0..READS {
+            match lingering.client.hear(self.buffer.as_mut_slice()) {
+                Heard::Bytes(count) => {
+                    lingering.left = lingering.left.saturating_sub(count);
+                    if lingering.left == 0 {
+                        return self.end_lingering(hole);
+                    }
+                }
+                Heard::Nothing => return self.linger(lingering, hole),
+                Heard::Ended { .. } => return self.end_lingering(hole),
+            }
+        }
+        self.put_off(hole.token());
+        self.lay(Resident::Lingering(lingering), hole);
+    }
+
+    // The poll tells when more comes. Where too many linger, it is closed at once.
+    fn linger(&mut self, lingering: Lingering, hole: Hole) {
+        let connection = lingering.client.stream().as_raw_fd();
+        let subject = Subject::Client(hole.token());
+        if self.lingering <= self.most_lingering
+            && watch(&self.registry, connection, subject, Interest::READABLE)
+        {
+            self.lay(Resident::Lingering(lingering), hole);
+        } else {
+            self.end_lingering(hole);
+        }
+    }
+
+    /// A client lingers no more.
+    pub(crate) fn end_lingering(&mut self, hole: Hole) {
+        self.lingering = self.lingering.saturating_sub(1);
+        self.close_slot(hole, Some(Keyword::Linger));
+    }
+}

@@ -1,0 +1,187 @@
+//! What a guest's exchange is told, and what it gives away.
+
+use crate::guest::{Guest, Keyword, Resident, Task, Visit};
+use crate::keeping::Soon;
+use crate::looping::Looper;
+use exchange_driver::Rest;
+use grant_board::BoardName;
+use loop_table::{Hole, Token};
+use mio::event::Event;
+use seated_exchange::{Given, Notice, Served, Stage};
+use std::net::{Net, TcpListener, TcpStream};
+use std::sync::Wait;
+use std::time::Clock;
+
+/// Whether there is more to do for a guest.
+pub(crate) enum Then<N: BoardName> {
+    /// There is, at once.
+    Goes(Guest<N>, Hole),
+    /// It lies where it is found, or is over.
+    Rests,
+}
+
+/// What a poll tells of a socket.
+#[derive(Clone, Copy)]
+pub(crate) struct Told {
+    pub(crate) reads: bool,
+    pub(crate) writes: bool,
+    /// The other end sends no more.
+    pub(crate) closed: bool,
+    /// The connection failed.
+    pub(crate) broken: bool,
+}
+
+impl Told {
+    pub(crate) fn of(event: &Event) -> Told {
+        let broken = event.is_error() || event.is_write_closed();
+        let closed = event.is_read_closed();
+        Told {
+            reads: broken || closed || event.is_readable(),
+            writes: broken || event.is_writable(),
+            closed,
+            broken,
+        }
+    }
+}
+
+impl<
+    'a,
+    N: BoardName,
+    R: Net<Listener = TcpListener, Stream = TcpStream> + Clock + Print + Wait,
+> Looper<'a, N, R> {
+    /// The poll told of a client. A reset ends its exchange, whatever it is at; an end of its input only where `option abortonclose` says so.
+    pub(crate) fn hear_client(&mut self, token: Token, told: Told) {
+        let Some((resident, hole)) = self.guests.lend(token) else {
+            return;
+        };
+        match Box::into_inner(resident) {
+            Resident::Lingering(lingering) => self.listen(lingering, hole),
+            Resident::Guest(guest) => {
+                let mut guest = guest;
+                guest.visit.client.wake(told.reads, told.writes);
+                let then = if told.broken {
+                    self.tell(guest, hole, Notice::ClientFailed)
+                } else if told.closed && self.settings.rules.aborts && guest.seated.has_asked() {
+                    self.tell(guest, hole, Notice::ClientEnd)
+                } else {
+                    Then::Goes(guest, hole)
+                };
+                self.go(then);
+            }
+        }
+    }
+
+    /// The poll told of a server's connection.
+    pub(crate) fn hear_server(&mut self, token: Token, told: Told) {
+        let Some((resident, hole)) = self.guests.lend(token) else {
+            return;
+        };
+        match Box::into_inner(resident) {
+            Resident::Lingering(lingering) => self.listen(lingering, hole),
+            Resident::Guest(guest) => {
+                let mut guest = guest;
+                guest.visit.server.wake(told.reads, told.writes);
+                let then = match guest.seated.stage() {
+                    Stage::Dialing => self.look_at_connection(guest, hole, told.broken),
+                    _ => Then::Goes(guest, hole),
+                };
+                self.go(then);
+            }
+        }
+    }
+
+    /// Goes on with who is in a slot.
+    pub(crate) fn work(&mut self, token: Token) {
+        let Some((resident, hole)) = self.guests.lend(token) else {
+            return;
+        };
+        match Box::into_inner(resident) {
+            Resident::Lingering(lingering) => self.listen(lingering, hole),
+            Resident::Guest(guest) => self.go(Then::Goes(guest, hole)),
+        }
+    }
+
+    /// Goes on with a guest as long as there is more to do at once.
+    pub(crate) fn go(&mut self, then: Then<N>) {
+        let mut then = then;
+        for _ in self.rt.forever() {
+            match then {
+                Then::Rests => return,
+                Then::Goes(guest, hole) => then = self.act(guest, hole),
+            }
+        }
+        unreachable!()
+    }
+
+    fn act(&mut self, guest: Guest<N>, hole: Hole) -> Then<N> {
+        match guest.visit.task {
+            Task::Serve => self.serve(guest, hole),
+            Task::Arrive => self.arrive(guest, hole),
+            Task::Dial => self.dial(guest, hole),
+            Task::Refuse => self.tell(guest, hole, Notice::Unserved),
+            Task::GiveUp => self.tell(guest, hole, Notice::Unreachable),
+        }
+    }
+
+    // Reads and writes.
+    fn serve(&mut self, guest: Guest<N>, hole: Hole) -> Then<N> {
+        let Guest { seated, visit } = guest;
+        let mut visit = visit;
+        let served = seated.drive(
+            self.settings,
+            &mut visit.client,
+            &mut visit.server,
+            self.buffer.as_mut_slice(),
+        );
+        let soon = match served.rest {
+            Rest::Waits => Soon::Rests,
+            Rest::Again => Soon::Later,
+        };
+        self.settle(served, visit, hole, soon)
+    }
+
+    /// Tells a guest's exchange something.
+    pub(crate) fn tell(&mut self, guest: Guest<N>, hole: Hole, notice: Notice) -> Then<N> {
+        let Guest { seated, visit } = guest;
+        let mut visit = visit;
+        visit.task = Task::Serve;
+        let served = seated.tell(self.settings, notice);
+        self.settle(served, visit, hole, Soon::AtOnce)
+    }
+
+    fn settle(&mut self, served: Served<N>, visit: Visit, hole: Hole, soon: Soon) -> Then<N> {
+        let Served {
+            seated,
+            given,
+            client,
+            server,
+            rest: _,
+        } = served;
+        let key = hole.token().index();
+        self.note_moved(&visit, key, client, Keyword::Client);
+        self.note_moved(&visit, key, server, Keyword::Server);
+        let guest = Guest { seated, visit };
+        match given {
+            Given::Nothing => self.place(guest, hole, soon),
+            Given::Posts(posting) => self.part(posting, guest, hole),
+            Given::Retries => self.redial(guest, hole),
+        }
+    }
+
+    // Where it goes from here, by its stage.
+    fn place(&mut self, guest: Guest<N>, hole: Hole, soon: Soon) -> Then<N> {
+        match guest.seated.stage() {
+            Stage::Asking | Stage::Passing => self.keep(guest, hole, soon),
+            Stage::Waiting => Then::Goes(guest.with_task(Task::Arrive), hole),
+            Stage::Dialing => Then::Goes(guest.with_task(Task::Dial), hole),
+            Stage::Telling => {
+                if guest.seated.has_told() {
+                    self.finish(guest, hole)
+                } else {
+                    self.keep(guest, hole, soon)
+                }
+            }
+            Stage::Over => self.close(guest, hole),
+        }
+    }
+}

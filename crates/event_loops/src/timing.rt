@@ -1,0 +1,233 @@
+//! The times of a loop.
+
+use crate::guest::{Guest, Keyword, Resident, Visit};
+use crate::keeping::Soon;
+use crate::looping::Looper;
+use crate::serving::Then;
+use exchange_driver::Moved;
+use grant_board::BoardName;
+use loop_table::{Hole, Limits, Overdue};
+use mixed_exchange::Clock as Limit;
+use proxy_config::Config;
+use relay_workers::Gate;
+use seated_exchange::{Notice, Seated};
+use std::alloc::{AllocError, Global};
+use std::net::{Net, TcpListener, TcpStream};
+use std::sync::Wait;
+use std::time::Clock;
+
+/// How soon a loop looks again at what was short, in milliseconds.
+const SOON: u64 = 10;
+
+/// How seldom a loop looks at the dispatcher's queues, at most, in milliseconds.
+const SELDOM: u64 = 1000;
+
+/// How long a client lingers, in milliseconds.
+const LINGER: u64 = 2000;
+
+/// How long a request waits at most before the server that just failed it is tried again, in milliseconds.
+const TURNAROUND: u64 = 1000;
+
+/// The numbers that the timeouts have in a loop's table. None: without an end.
+#[derive(Clone, Copy)]
+pub(crate) struct Keywords {
+    client: Option<usize>,
+    queue: Option<usize>,
+    connect: Option<usize>,
+    server: Option<usize>,
+    linger: Option<usize>,
+    turnaround: Option<usize>,
+}
+
+impl Keywords {
+    /// Those of a configuration, for the keys below `room`.
+    pub(crate) fn of(
+        alloc: Global,
+        config: &Config,
+        limits: &mut Limits,
+        room: usize,
+    ) -> Result<Keywords, AllocError> {
+        let turnaround = config.connect_timeout.unwrap_or(TURNAROUND).min(TURNAROUND);
+        Ok(Keywords {
+            client: timed(alloc, limits, config.client_timeout, room)?,
+            queue: timed(alloc, limits, config.queue_timeout, room)?,
+            connect: timed(alloc, limits, config.connect_timeout, room)?,
+            server: timed(alloc, limits, config.server_timeout, room)?,
+            linger: timed(alloc, limits, Some(LINGER), room)?,
+            turnaround: timed(alloc, limits, Some(turnaround), room)?,
+        })
+    }
+
+    fn number(&self, keyword: Keyword) -> Option<usize> {
+        match keyword {
+            Keyword::Client => self.client,
+            Keyword::Queue => self.queue,
+            Keyword::Connect => self.connect,
+            Keyword::Server => self.server,
+            Keyword::Linger => self.linger,
+            Keyword::Turnaround => self.turnaround,
+        }
+    }
+}
+
+fn timed(
+    alloc: Global,
+    limits: &mut Limits,
+    millis: Option<u64>,
+    room: usize,
+) -> Result<Option<usize>, AllocError> {
+    match millis {
+        None => Ok(None),
+        Some(millis) => Ok(Some(limits.add(alloc, millis, room)?)),
+    }
+}
+
+// The timeout that is to run for a guest.
+fn wanted<N: BoardName>(seated: &Seated<N>, visit: &Visit) -> Option<Keyword> {
+    if visit.pauses {
+        return Some(Keyword::Turnaround);
+    }
+    match seated.clock()? {
+        Limit::Client => Some(Keyword::Client),
+        Limit::Queue => match visit.at {
+            None => Some(Keyword::Queue),
+            Some(_) => None,
+        },
+        Limit::Connect => Some(Keyword::Connect),
+        Limit::Server => Some(Keyword::Server),
+    }
+}
+
+impl<
+    'a,
+    N: BoardName,
+    R: Net<Listener = TcpListener, Stream = TcpStream> + Clock + Print + Wait,
+> Looper<'a, N, R> {
+    /// The timeout that a guest is under runs for it, and no other.
+    pub(crate) fn time(&mut self, seated: &Seated<N>, visit: &mut Visit, key: usize) {
+        let wanted = wanted(seated, visit);
+        if visit.timer != wanted {
+            self.untime(visit.timer, key);
+            self.begin_time(wanted, key);
+            visit.timer = wanted;
+        }
+    }
+
+    pub(crate) fn begin_time(&mut self, keyword: Option<Keyword>, key: usize) {
+        if let Some(number) = keyword.and_then(|it| self.keywords.number(it)) {
+            self.limits.begin(number, key);
+        }
+    }
+
+    pub(crate) fn untime(&mut self, keyword: Option<Keyword>, key: usize) {
+        if let Some(number) = keyword.and_then(|it| self.keywords.number(it)) {
+            self.limits.stop(number, key);
+        }
+    }
+
+    /// Bytes moved at a side of a guest: where its timeout is that side's, it begins anew.
+    pub(crate) fn note_moved(
+        &mut self,
+        visit: &Visit,
+        key: usize,
+        moved: Option<Moved>,
+        side: Keyword,
+    ) {
+        let Some(moved) = moved else {
+            return;
+        };
+        match self.keywords.number(side) {
+            Some(number) if visit.timer == Some(side) => self.limits.touch(number, key, moved),
+            _ => moved.spend(),
+        }
+    }
+
+    /// How many milliseconds the poll may wait. None: until it has something to tell.
+    pub(crate) fn patience(&self) -> Option<u64> {
+        if self.has_more() {
+            return Some(0);
+        }
+        let mut least = self.limits.patience();
+        if self.lacks() {
+            least = Some(least.unwrap_or(SOON).min(SOON));
+        }
+        if self.home == 0 && self.hall.has_waits() {
+            if let Some(millis) = self.hall.proxy.config.queue_timeout {
+                let wait = (millis / 16).clamp(1, SELDOM);
+                least = Some(least.unwrap_or(wait).min(wait));
+            }
+        }
+        least
+    }
+
+    /// Looks at what is over.
+    pub(crate) fn look_at_limits(&mut self) {
+        let now = self.gate.moment();
+        self.limits.look_at_clock(now);
+        for _ in self.rt.forever() {
+            let Some(overdue) = self.limits.take_overdue() else {
+                break;
+            };
+            self.end_time(overdue);
+            self.go_on();
+        }
+        if self.lacks() && SOON <= now.get().saturating_sub(self.tried.get()) {
+            self.tried = now;
+            self.short = false;
+            self.more = true;
+            self.try_again();
+        }
+        if self.home == 0 && self.hall.has_waits() {
+            self.look_at_queues();
+        }
+    }
+
+    // Whether something was short, or guests wait for a place: that is tried again after a while.
+    fn lacks(&self) -> bool {
+        self.short || !self.turned_away.is_empty()
+    }
+
+    // Requests that waited too long for a pass are told so.
+    fn look_at_queues(&mut self) {
+        let now = self.gate.moment();
+        if self.hall.proxy.desk.expired(self.rt, now) {
+            self.hall.proxy.turn(self.rt, &mut self.gate);
+            self.go_on();
+        }
+        self.hall.look_for_waits(self.rt);
+    }
+
+    // A timeout is over for who is in a slot.
+    fn end_time(&mut self, overdue: Overdue) {
+        let Overdue { keyword: _, key } = overdue;
+        let Some(token) = self.guests.token_of(key) else {
+            return;
+        };
+        let Some((resident, hole)) = self.guests.lend(token) else {
+            return;
+        };
+        match Box::into_inner(resident) {
+            Resident::Lingering(_lingering) => self.end_lingering(hole),
+            Resident::Guest(guest) => {
+                let then = self.time_is_over(guest, hole);
+                self.go(then);
+            }
+        }
+    }
+
+    fn time_is_over(&mut self, guest: Guest<N>, hole: Hole) -> Then<N> {
+        let mut guest = guest;
+        let limit = match guest.visit.timer.take() {
+            Some(Keyword::Turnaround) => {
+                guest.visit.pauses = false;
+                return self.dial(guest, hole);
+            }
+            Some(Keyword::Client) => Limit::Client,
+            Some(Keyword::Queue) => Limit::Queue,
+            Some(Keyword::Connect) => Limit::Connect,
+            Some(Keyword::Server) => Limit::Server,
+            Some(Keyword::Linger) | None => return self.keep(guest, hole, Soon::Rests),
+        };
+        self.tell(guest, hole, Notice::TimeOver(limit))
+    }
+}

@@ -1,0 +1,58 @@
+use Rattle.std.proofs.Common.{◌≡◌, ◌∙◌, ◌<◌, sym, subst}
+use Rattle.mixed_exchange.specs.declared.exchange.Outcome.{Outcome}
+use Rattle.mixed_exchange.specs.Steps.{IsOwn}
+use Rattle.exchange_driver.specs.Drives.{Drives, at_client, at_server}
+use Rattle.exchange_driver.specs.declared.driving.Rest.{Rest}
+use Rattle.exchange_driver.specs.declared.driving.Rest.TheVariants.{Waits, Again}
+use Rattle.exchange_driver.proofs.Moving.{drives_none, drives_on}
+use Rattle.exchange_driver.proofs.driving.drive_on.Goals as goal
+
+pub loop-turn-init : goal.loop-turn-init
+loop-turn-init g c = record {
+  at = λ h is. rw (c.none-moves.ensures.0, c.none-moves.ensures.1) (drives_none _ _ h c.args.exchange is);
+  buffer = c.requires;
+}
+
+pub returns-in_default : goal.returns-in_default
+returns-in_default g c =
+    let gave = c.gave.ensures in
+    let moved = c.with-moves.ensures in
+    record {
+      at = λ h is. rw (gave.moves.0, gave.moves.1, moved.0, moved.1, gave.exchange, gave.outcome)
+          (drives_on _ _ _ _ _ _ _ _ _ _ h _ _ _ (c.loop-turn.invariant.at h is) c.move_down-between.ensures.at);
+      own = subst IsOwn (sym gave.outcome) c.move_down-between.ensures.own;
+      down = λ e. let no : Again ≡ Waits = sym gave.rest ∙ e in cc;
+      up = λ e. let no : Again ≡ Waits = sym gave.rest ∙ e in cc;
+    }
+
+pub returns-in_default-outcome : goal.returns-in_default-outcome
+returns-in_default-outcome g c =
+    let gave = c.gave-in_default-outcome.ensures in
+    let first = c.with-moves.ensures in
+    let second = c.with-moves-in-loop-turn.ensures in
+    let down = c.move_down-between in
+    record {
+      at = λ h is. rw (gave.moves.0, gave.moves.1, second.0, second.1, first.0, first.1, gave.exchange, gave.outcome)
+          (drives_on _ _ _ _ _ _ _ _ _ _ h _ _ _ (drives_on _ _ _ _ _ _ _ _ _ _ h _ _ _ (c.loop-turn.invariant.at h is)
+          (λ k at. subst (λ (o : Outcome). Drives c.loop-turn.client down.new.client c.loop-turn.server down.new.server (at_client down.result.did)
+          (at_server down.result.did) k down.result.exchange o) c.in-Quiet.is (down.ensures.at k at))) c.move_up-behind.ensures.at);
+      own = subst IsOwn (sym gave.outcome) c.move_up-behind.ensures.own;
+      down = λ e. let no : Again ≡ Waits = sym gave.rest ∙ e in cc;
+      up = λ e. let no : Again ≡ Waits = sym gave.rest ∙ e in cc;
+    }
+
+pub loop-turn-preserved : goal.loop-turn-preserved
+loop-turn-preserved g c =
+    let first = c.with-moves.ensures in
+    let second = c.with-moves-in-loop-turn.ensures in
+    let down = c.move_down-between in
+    let up = c.move_up-behind in
+    record {
+      at = λ h is. rw (second.0, second.1, first.0, first.1)
+          (drives_on _ _ _ _ _ _ _ _ _ _ h _ _ _ (drives_on _ _ _ _ _ _ _ _ _ _ h _ _ _ (c.loop-turn.invariant.at h is)
+          (λ k at. subst (λ (o : Outcome). Drives c.loop-turn.client down.new.client c.loop-turn.server down.new.server (at_client down.result.did)
+          (at_server down.result.did) k down.result.exchange o) c.in-Quiet.is (down.ensures.at k at)))
+          (λ k at. subst (λ (o : Outcome). Drives down.new.client up.new.client down.new.server up.new.server (at_client up.result.did)
+          (at_server up.result.did) k up.result.exchange o) c.in-Quiet-outcome.is (up.ensures.at k at)));
+      buffer = subst (λ n. 0 < n) (sym (up.ensures.buffer ∙ down.ensures.buffer)) c.loop-turn.invariant.buffer;
+    }

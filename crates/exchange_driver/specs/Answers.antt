@@ -1,0 +1,24 @@
+-- What reads and writes answer.
+use Rattle.std.specs.Prelude.{ℕ, Bool, true, false}
+use Rattle.exchange_driver.specs.declared.socket.Heard.{Heard}
+use Rattle.exchange_driver.specs.declared.socket.Heard.TheVariants.{Bytes, Nothing}
+use Rattle.exchange_driver.specs.declared.socket.Said.{Said}
+use Rattle.exchange_driver.specs.declared.socket.Said.TheVariants as said
+
+-- how many bytes a read gave
+abbrev pub came : Heard → ℕ
+came (Bytes count) = count
+came _ = 0
+
+abbrev pub is_nothing : Heard → Bool
+is_nothing Nothing = true
+is_nothing _ = false
+
+-- how many bytes a write took
+abbrev pub went : Said → ℕ
+went (said.Bytes count) = count
+went _ = 0
+
+abbrev pub is_full : Said → Bool
+is_full said.Full = true
+is_full _ = false

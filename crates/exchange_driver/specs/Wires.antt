@@ -1,0 +1,34 @@
+-- One side of an exchange: a socket, and what came of it that waits to be taken.
+use Rattle.std.specs.Prelude.{◌≡◌, ◌<◌, ℕ, Bool, true, List, [], ◌++◌, length, Option, Some, None}
+use Rattle.std.specs.Io.KnownBytes.{Consumes, Appends}
+
+-- What the socket has left to give and what it took, where they are known; what waits, and how much can; whether nothing was there at the last read, and
+-- whether it was full at the last write.
+pub record Wire : Type 0 where
+  pub left : Option (List ℕ)
+  pub taken : Option (List ℕ)
+  pub waits : List ℕ
+  pub room : ℕ
+  pub dry : Bool
+  pub full : Bool
+
+-- what is known of a socket, where there is one
+abbrev pub known_of : {S : Type 0} → (S → Option (List ℕ)) → Option S → Option (List ℕ)
+known_of known None = None
+known_of known (Some socket) = known socket
+
+-- where there is none, nothing is there and nothing is taken
+abbrev pub told_of : {S : Type 0} → (S → Bool) → Option S → Bool
+told_of told None = true
+told_of told (Some socket) = told socket
+
+-- What the socket gave came, or waits to be taken; what it took is what was sent; and bytes moved exactly where there is one among these.
+pub record Carries (old new : Wire) (came_old came_new sent_old sent_new : List ℕ) (moved : Bool) : Type 0 where
+  pub gave : List ℕ
+  pub gone : Consumes old.left new.left gave
+  pub came : came_new ++ new.waits ≡ (came_old ++ old.waits) ++ gave
+  pub took : List ℕ
+  pub added : Appends old.taken new.taken took
+  pub sent : sent_new ≡ sent_old ++ took
+  pub some : moved ≡ true → 0 < length (gave ++ took)
+  pub none : 0 < length (gave ++ took) → moved ≡ true

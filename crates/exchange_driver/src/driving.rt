@@ -1,0 +1,240 @@
+ghost use Rattle.std.specs.Prelude.{◌≡◌, ◌<◌, ◌||◌, ◌++◌, length, false, is_some};
+ghost use Rattle.exchange_driver.specs.Drives.{Drives, IsSame, IsDownAtRest, IsUpAtRest, at_client, at_server};
+ghost use Rattle.exchange_machine.specs.Histories.{History};
+ghost use Rattle.mixed_exchange.specs.Passes.{held_by, gone_with};
+ghost use Rattle.mixed_exchange.specs.Steps.{IsAt, IsOwn, HasHistory};
+
+use crate::line::Line;
+use crate::moved::Moved;
+use crate::moves::{
+    Did, Turned, hear_client, hear_server, say_client, say_server, use_client, use_server,
+};
+use crate::socket::Socket;
+use mixed_exchange::{Exchange, Outcome, Rules};
+use std::alloc::Global;
+
+/// With what an exchange is driven.
+#[derive(Clone, Copy)]
+pub struct Settings {
+    pub alloc: Global,
+    pub rules: Rules,
+    /// So many times each direction moves at most, before others are attended to.
+    pub turns: u32,
+}
+
+/// What a driver comes to rest at.
+#[derive(Clone, Copy, Debug, PartialEq, Eq)]
+pub enum Rest {
+    /// There is nothing to do before a poll tells of one of both sockets.
+    Waits,
+    /// There is more to do, now.
+    Again,
+}
+
+/// An exchange that was driven: what it gave away, at which side bytes moved, and whether there is more to do.
+pub struct Driven {
+    pub exchange: Exchange,
+    pub outcome: Outcome,
+    pub client: Option<Moved>,
+    pub server: Option<Moved>,
+    pub rest: Rest,
+}
+
+// At which side bytes moved so far.
+#[derive(Clone, Copy)]
+struct Moves {
+    client: bool,
+    server: bool,
+}
+
+/// Reads and writes until there is nothing to read and nothing to write, or the exchange gives something away, or the turns are spent. Both directions take
+/// turns. Each turn is a call of the system, or two.
+pub fn drive<C: Socket, S: Socket>(
+    exchange: Exchange,
+    settings: Settings,
+    client: &mut Line<C>,
+    server: &mut Line<S>,
+    buffer: &mut [u8],
+) -> Driven
+    requires { 0 < length buffer.old }
+    ensures at { (h : History) → IsAt exchange h
+        → Drives client.old client.new server.old server.new (is_some result.client) (is_some result.server) h result.exchange result.outcome }
+    ensures history { HasHistory exchange → HasHistory result.exchange }
+    ensures passes { HasHistory exchange → held_by exchange ≡ gone_with result.outcome ++ held_by result.exchange }
+    ensures own { IsOwn result.outcome }
+    ensures down { result.rest ≡ Rest.Waits → IsDownAtRest result.exchange client.new server.new }
+    ensures up { result.rest ≡ Rest.Waits → IsUpAtRest result.exchange client.new server.new }
+{
+    drive_on(exchange, settings, client, server, buffer)
+}
+
+fn drive_on<C: Socket, S: Socket>(
+    exchange: Exchange,
+    settings: Settings,
+    client: &mut Line<C>,
+    server: &mut Line<S>,
+    buffer: &mut [u8],
+) -> Driven
+    requires { 0 < length buffer.old }
+    ensures at { (h : History) → IsAt exchange h
+        → Drives client.old client.new server.old server.new (is_some result.client) (is_some result.server) h result.exchange result.outcome }
+    ensures own { IsOwn result.outcome }
+    ensures down { result.rest ≡ Rest.Waits → IsDownAtRest result.exchange client.new server.new }
+    ensures up { result.rest ≡ Rest.Waits → IsUpAtRest result.exchange client.new server.new }
+{
+    let mut exchange = exchange;
+    let mut moves = Moves::none();
+    for _turn in 0..settings.turns {
+        let Turned {
+            exchange: between,
+            outcome,
+            did: down,
+        } = move_down(exchange, settings, client, server, buffer);
+        moves = moves.with(down);
+        match outcome {
+            Outcome::Quiet => {}
+            given => return gave(between, given, moves),
+        }
+        let Turned {
+            exchange: behind,
+            outcome,
+            did: up,
+        } = move_up(between, settings, client, server, buffer);
+        moves = moves.with(up);
+        match outcome {
+            Outcome::Quiet => {}
+            given => return gave(behind, given, moves),
+        }
+        if down == Did::Rests && up == Did::Rests {
+            return comes_to(behind, moves, Rest::Waits);
+        }
+        exchange = behind;
+    }
+    comes_to(exchange, moves, Rest::Again)
+}
+
+fn gave(exchange: Exchange, outcome: Outcome, moves: Moves) -> Driven
+    ensures exchange { result.exchange ≡ exchange }
+    ensures outcome { result.outcome ≡ outcome }
+    ensures rest { result.rest ≡ Rest.Again }
+    ensures moves { (is_some result.client ≡ moves.client) × (is_some result.server ≡ moves.server) }
+{
+    Driven {
+        exchange,
+        outcome,
+        client: Moved::told(moves.client),
+        server: Moved::told(moves.server),
+        rest: Rest::Again,
+    }
+}
+
+fn comes_to(exchange: Exchange, moves: Moves, rest: Rest) -> Driven
+    ensures exchange { result.exchange ≡ exchange }
+    ensures outcome { result.outcome ≡ Outcome.Quiet }
+    ensures rest { result.rest ≡ rest }
+    ensures moves { (is_some result.client ≡ moves.client) × (is_some result.server ≡ moves.server) }
+{
+    Driven {
+        exchange,
+        outcome: Outcome::Quiet,
+        client: Moved::told(moves.client),
+        server: Moved::told(moves.server),
+        rest,
+    }
+}
+
+impl Moves {
+    fn none() -> Moves
+        ensures { (result.client ≡ false) × (result.server ≡ false) }
+    {
+        Moves {
+            client: false,
+            server: false,
+        }
+    }
+
+    fn with(self, did: Did) -> Moves
+        ensures { (result.client ≡ self.client || at_client did) × (result.server ≡ self.server || at_server did) }
+    {
+        Moves {
+            client: self.client || did == Did::Client,
+            server: self.server || did == Did::Server,
+        }
+    }
+}
+
+fn rests(exchange: Exchange) -> Turned
+    ensures exchange { result.exchange ≡ exchange }
+    ensures outcome { result.outcome ≡ Outcome.Quiet }
+    ensures did { result.did ≡ Did.Rests }
+{
+    Turned {
+        exchange,
+        outcome: Outcome::Quiet,
+        did: Did::Rests,
+    }
+}
+
+// What waits for the client goes out, or else more of the answer is read.
+fn move_down<C: Socket, S: Socket>(
+    exchange: Exchange,
+    settings: Settings,
+    client: &mut Line<C>,
+    server: &mut Line<S>,
+    buffer: &mut [u8],
+) -> Turned
+    requires { 0 < length buffer.old }
+    ensures at { (h : History) → IsAt exchange h → Drives client.old client.new server.old server.new (at_client result.did) (at_server result.did) h result.exchange result.outcome }
+    ensures own { IsOwn result.outcome }
+    ensures rests { result.did ≡ Did.Rests → IsSame exchange result.exchange client.old client.new server.old server.new }
+    ensures quiet { result.did ≡ Did.Rests → IsDownAtRest exchange client.old server.old }
+    ensures buffer { length buffer.new ≡ length buffer.old }
+{
+    let wants = exchange.wants();
+    if wants.writes_client && !client.is_full() {
+        return say_client(exchange, settings, client, server);
+    }
+    if !wants.reads_server {
+        return rests(exchange);
+    }
+    if !server.waiting().is_empty() {
+        return use_server(exchange, settings, client, server);
+    }
+    if server.is_dry() {
+        return rests(exchange);
+    }
+    let most = exchange.answer_room().clamp(1, buffer.len());
+    hear_server(exchange, settings, client, server, &mut buffer[..most])
+}
+
+// What waits for the server goes out, or else more of the request is read.
+fn move_up<C: Socket, S: Socket>(
+    exchange: Exchange,
+    settings: Settings,
+    client: &mut Line<C>,
+    server: &mut Line<S>,
+    buffer: &mut [u8],
+) -> Turned
+    requires { 0 < length buffer.old }
+    ensures at { (h : History) → IsAt exchange h → Drives client.old client.new server.old server.new (at_client result.did) (at_server result.did) h result.exchange result.outcome }
+    ensures own { IsOwn result.outcome }
+    ensures rests { result.did ≡ Did.Rests → IsSame exchange result.exchange client.old client.new server.old server.new }
+    ensures quiet { result.did ≡ Did.Rests → IsUpAtRest exchange client.old server.old }
+    ensures buffer { length buffer.new ≡ length buffer.old }
+{
+    let wants = exchange.wants();
+    if wants.writes_server && !server.is_full() {
+        return say_server(exchange, settings, client, server);
+    }
+    if !wants.reads_client {
+        return rests(exchange);
+    }
+    if !client.waiting().is_empty() {
+        return use_client(exchange, settings, client, server);
+    }
+    if client.is_dry() {
+        return rests(exchange);
+    }
+    let most = exchange.request_room().clamp(1, buffer.len());
+    hear_client(exchange, settings, client, server, &mut buffer[..most])
+}

@@ -1,0 +1,175 @@
+ghost use Rattle.std.specs.Prelude.{◌≡◌, ◌≤◌, ◌<◌, ◌+◌, ◌++◌, ℕ, [], length, take, drop, None, true};
+ghost use Rattle.std.specs.Io.KnownBytes.{Consumes, Appends};
+ghost use Rattle.exchange_driver.specs.Answers.{came, went};
+
+use crate::socket::{Heard, Said, Socket};
+use exchange_machine::forget;
+use std::alloc::Global;
+use std::marker::Model;
+
+/// One side of an exchange: its socket, where there is one, and what came of it that the exchange didn't take yet.
+#[derive(Drop)]
+pub struct Line<S: Socket> {
+    socket: Option<S>,
+    waits: Vec<u8>,
+}
+
+impl<S: Socket> Model for Line<S> {
+    ghost use Rattle.std.specs.Prelude.{vec_capacity};
+    ghost use Rattle.exchange_driver.specs.Wires.{Wire, known_of, told_of};
+
+    ghost Value = { Wire };
+
+    ghost view = { λ line. record {
+      left = known_of S.left line.socket;
+      taken = known_of S.taken line.socket;
+      waits = line.waits.items;
+      room = vec_capacity line.waits;
+      dry = told_of S.dry line.socket;
+      full = told_of S.full line.socket;
+    } };
+}
+
+impl<S: Socket> Line<S> {
+    /// Without a socket: nothing comes of it, and it takes nothing.
+    pub fn without_socket(alloc: Global) -> Line<S>
+        ensures left { result.left ≡ None }
+        ensures waits { result.waits ≡ [] }
+        ensures quiet { (result.dry ≡ true) × (result.full ≡ true) }
+    {
+        Line {
+            socket: None,
+            waits: Vec::new(alloc),
+        }
+    }
+
+    /// Of a socket of which nothing was read.
+    pub fn new(alloc: Global, socket: S) -> Line<S>
+        ensures left { result.left ≡ S.left socket }
+        ensures taken { result.taken ≡ S.taken socket }
+        ensures waits { result.waits ≡ [] }
+    {
+        Line {
+            socket: Some(socket),
+            waits: Vec::new(alloc),
+        }
+    }
+
+    /// The socket, where there is one.
+    pub fn socket(&self) -> Option<&S> {
+        self.socket.as_ref()
+    }
+
+    /// The socket, and what came of it that nobody took is let go.
+    pub fn into_socket(self) -> Option<S> {
+        let Line { socket, waits: _ } = self;
+        socket
+    }
+
+    /// Gives back the memory for what may wait, where nothing does.
+    pub fn rest(&mut self)
+        ensures left { (self.new.left ≡ self.old.left) × (self.new.taken ≡ self.old.taken) }
+        ensures waits { self.new.waits ≡ self.old.waits }
+        ensures told { (self.new.dry ≡ self.old.dry) × (self.new.full ≡ self.old.full) }
+    {
+        if self.waits.is_empty() {
+            self.waits.shrink_to_fit();
+        }
+    }
+
+    /// A poll told that it may be read again, or written to.
+    pub fn wake(&mut self, reads: bool, writes: bool)
+        ensures left { (self.new.left ≡ self.old.left) × (self.new.taken ≡ self.old.taken) }
+        ensures waits { self.new.waits ≡ self.old.waits }
+    {
+        if let Some(socket) = &mut self.socket {
+            socket.wake(reads, writes);
+        }
+    }
+
+    /// Was nothing there at the last read, or is no socket there?
+    pub fn is_dry(&self) -> bool
+        ensures { result ≡ self.now.dry }
+    {
+        match &self.socket {
+            None => true,
+            Some(socket) => socket.is_dry(),
+        }
+    }
+
+    /// Was it full at the last write, or is no socket there?
+    pub fn is_full(&self) -> bool
+        ensures { result ≡ self.now.full }
+    {
+        match &self.socket {
+            None => true,
+            Some(socket) => socket.is_full(),
+        }
+    }
+
+    /// What came and waits to be taken.
+    pub fn waiting(&self) -> &[u8]
+        ensures { result.now ≡ self.now.waits }
+    {
+        self.waits.as_slice()
+    }
+
+    /// So many bytes of it were taken. `O(n)`.
+    pub(crate) fn taken(&mut self, count: usize)
+        ensures left { (self.new.left ≡ self.old.left) × (self.new.taken ≡ self.old.taken) }
+        ensures waits { self.new.waits ≡ drop count self.old.waits }
+        ensures told { (self.new.dry ≡ self.old.dry) × (self.new.full ≡ self.old.full) }
+    {
+        forget(&mut self.waits, count);
+    }
+
+    /// Reads once into the buffer, where all of that may wait. Without memory for that it counts as failed.
+    pub(crate) fn hear(&mut self, buffer: &mut [u8]) -> Heard
+        requires { 0 < length buffer.old }
+        ensures within { came result ≤ length buffer.new }
+        ensures length { length buffer.new ≡ length buffer.old }
+        ensures some { (count : ℕ) → result ≡ Heard.Bytes count → 0 < count }
+        ensures room { length self.new.waits + came result ≤ self.new.room }
+        ensures left { Consumes self.old.left self.new.left (take (came result) buffer.new) }
+        ensures dry { result ≡ Heard.Nothing → self.new.dry ≡ true }
+        ensures waits { self.new.waits ≡ self.old.waits }
+        ensures taken { (self.new.taken ≡ self.old.taken) × (self.new.full ≡ self.old.full) }
+    {
+        if self.waits.reserve(buffer.len()).is_err() {
+            return Heard::Ended { well: false };
+        }
+        match &mut self.socket {
+            None => Heard::Nothing,
+            Some(socket) => socket.hear(buffer),
+        }
+    }
+
+    /// What was read and not taken waits.
+    pub(crate) fn keep(&mut self, bytes: &[u8])
+        requires { length self.old.waits + length bytes.now ≤ self.old.room }
+        ensures left { (self.new.left ≡ self.old.left) × (self.new.taken ≡ self.old.taken) }
+        ensures waits { self.new.waits ≡ self.old.waits ++ bytes.now }
+        ensures told { (self.new.dry ≡ self.old.dry) × (self.new.full ≡ self.old.full) }
+    {
+        match self.waits.extend_from_slice(bytes) {
+            Ok(()) => {}
+            Err(_) => unreachable!(),
+        }
+    }
+
+    /// Writes once.
+    pub(crate) fn say(&mut self, bytes: &[u8]) -> Said
+        requires { 0 < length bytes.now }
+        ensures within { went result ≤ length bytes.now }
+        ensures some { (count : ℕ) → result ≡ Said.Bytes count → 0 < count }
+        ensures taken { Appends self.old.taken self.new.taken (take (went result) bytes.now) }
+        ensures full { result ≡ Said.Full → self.new.full ≡ true }
+        ensures left { (self.new.left ≡ self.old.left) × (self.new.dry ≡ self.old.dry) }
+        ensures waits { (self.new.waits ≡ self.old.waits) × (self.new.room ≡ self.old.room) }
+    {
+        match &mut self.socket {
+            None => Said::Full,
+            Some(socket) => socket.say(bytes),
+        }
+    }
+}

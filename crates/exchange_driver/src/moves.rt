@@ -1,0 +1,220 @@
+//! One call of one socket, or one look at what waits of it, and what the exchange makes of it.
+
+ghost use Rattle.std.specs.Prelude.{◌≡◌, ◌≢◌, ◌<◌, [], length};
+ghost use Rattle.exchange_driver.specs.Drives.{Drives, at_client, at_server};
+ghost use Rattle.exchange_machine.specs.Histories.{History};
+ghost use Rattle.mixed_exchange.specs.Steps.{IsAt, IsOwn, to_client, to_server};
+
+use crate::driving::Settings;
+use crate::line::Line;
+use crate::socket::{Heard, Said, Socket};
+use mixed_exchange::{Event, Exchange, Outcome, Step};
+
+/// What a move did.
+#[derive(Clone, Copy, Debug, PartialEq, Eq)]
+pub(crate) enum Did {
+    /// There was nothing to do.
+    Rests,
+    /// Bytes came of the client, or went to it.
+    Client,
+    /// Bytes came of the server, or went to it.
+    Server,
+    /// No byte moved, but something was told.
+    Tells,
+}
+
+/// An exchange after a move, and what it gave away.
+pub(crate) struct Turned {
+    pub(crate) exchange: Exchange,
+    pub(crate) outcome: Outcome,
+    pub(crate) did: Did,
+}
+
+fn behind(step: Step, did: Did) -> Turned
+    ensures exchange { result.exchange ≡ step.next }
+    ensures outcome { result.outcome ≡ step.outcome }
+    ensures did { result.did ≡ did }
+{
+    let Step {
+        next,
+        used: _,
+        outcome,
+    } = step;
+    Turned {
+        exchange: next,
+        outcome,
+        did,
+    }
+}
+
+fn unmoved(exchange: Exchange) -> Turned
+    ensures exchange { result.exchange ≡ exchange }
+    ensures outcome { result.outcome ≡ Outcome.Quiet }
+    ensures did { result.did ≡ Did.Tells }
+{
+    Turned {
+        exchange,
+        outcome: Outcome::Quiet,
+        did: Did::Tells,
+    }
+}
+
+/// Writes to the client once.
+pub(crate) fn say_client<C: Socket, S: Socket>(
+    exchange: Exchange,
+    settings: Settings,
+    client: &mut Line<C>,
+    server: &Line<S>,
+) -> Turned
+    requires { to_client exchange ≢ [] }
+    ensures at { (h : History) → IsAt exchange h → Drives client.old client.new server.now server.now (at_client result.did) (at_server result.did) h result.exchange result.outcome }
+    ensures own { IsOwn result.outcome }
+    ensures moves { result.did ≢ Did.Rests }
+{
+    let said = client.say(exchange.to_client());
+    match said {
+        Said::Full => unmoved(exchange),
+        Said::Failed => behind(
+            exchange.step(settings.alloc, settings.rules, Event::ClientFailed),
+            Did::Tells,
+        ),
+        Said::Bytes(count) => behind(
+            exchange.step(settings.alloc, settings.rules, Event::ClientTook(count)),
+            Did::Client,
+        ),
+    }
+}
+
+/// Writes to the server once.
+pub(crate) fn say_server<C: Socket, S: Socket>(
+    exchange: Exchange,
+    settings: Settings,
+    client: &Line<C>,
+    server: &mut Line<S>,
+) -> Turned
+    requires { to_server exchange ≢ [] }
+    ensures at { (h : History) → IsAt exchange h → Drives client.now client.now server.old server.new (at_client result.did) (at_server result.did) h result.exchange result.outcome }
+    ensures own { IsOwn result.outcome }
+    ensures moves { result.did ≢ Did.Rests }
+{
+    let said = server.say(exchange.to_server());
+    match said {
+        Said::Full => unmoved(exchange),
+        Said::Failed => behind(
+            exchange.step(settings.alloc, settings.rules, Event::ServerDeaf),
+            Did::Tells,
+        ),
+        Said::Bytes(count) => behind(
+            exchange.step(settings.alloc, settings.rules, Event::ServerTook(count)),
+            Did::Server,
+        ),
+    }
+}
+
+/// What waits of the client is taken.
+pub(crate) fn use_client<C: Socket, S: Socket>(
+    exchange: Exchange,
+    settings: Settings,
+    client: &mut Line<C>,
+    server: &Line<S>,
+) -> Turned
+    ensures at { (h : History) → IsAt exchange h → Drives client.old client.new server.now server.now (at_client result.did) (at_server result.did) h result.exchange result.outcome }
+    ensures own { IsOwn result.outcome }
+    ensures moves { result.did ≢ Did.Rests }
+{
+    let step = exchange.step(
+        settings.alloc,
+        settings.rules,
+        Event::ClientBytes(client.waiting()),
+    );
+    client.taken(step.used);
+    behind(step, Did::Tells)
+}
+
+/// What waits of the server is taken.
+pub(crate) fn use_server<C: Socket, S: Socket>(
+    exchange: Exchange,
+    settings: Settings,
+    client: &Line<C>,
+    server: &mut Line<S>,
+) -> Turned
+    ensures at { (h : History) → IsAt exchange h → Drives client.now client.now server.old server.new (at_client result.did) (at_server result.did) h result.exchange result.outcome }
+    ensures own { IsOwn result.outcome }
+    ensures moves { result.did ≢ Did.Rests }
+{
+    let step = exchange.step(
+        settings.alloc,
+        settings.rules,
+        Event::ServerBytes(server.waiting()),
+    );
+    server.taken(step.used);
+    behind(step, Did::Tells)
+}
+
+/// Reads of the client once.
+pub(crate) fn hear_client<C: Socket, S: Socket>(
+    exchange: Exchange,
+    settings: Settings,
+    client: &mut Line<C>,
+    server: &Line<S>,
+    buffer: &mut [u8],
+) -> Turned
+    requires some { 0 < length buffer.old }
+    requires first { client.old.waits ≡ [] }
+    ensures at { (h : History) → IsAt exchange h → Drives client.old client.new server.now server.now (at_client result.did) (at_server result.did) h result.exchange result.outcome }
+    ensures own { IsOwn result.outcome }
+    ensures moves { result.did ≢ Did.Rests }
+    ensures buffer { length buffer.new ≡ length buffer.old }
+{
+    match client.hear(buffer) {
+        Heard::Nothing => unmoved(exchange),
+        Heard::Ended { well: true } => behind(
+            exchange.step(settings.alloc, settings.rules, Event::ClientEnd),
+            Did::Tells,
+        ),
+        Heard::Ended { well: false } => behind(
+            exchange.step(settings.alloc, settings.rules, Event::ClientFailed),
+            Did::Tells,
+        ),
+        Heard::Bytes(count) => {
+            let came = &buffer[..count];
+            let step = exchange.step(settings.alloc, settings.rules, Event::ClientBytes(came));
+            client.keep(&came[step.used..]);
+            behind(step, Did::Client)
+        }
+    }
+}
+
+/// Reads of the server once.
+pub(crate) fn hear_server<C: Socket, S: Socket>(
+    exchange: Exchange,
+    settings: Settings,
+    client: &Line<C>,
+    server: &mut Line<S>,
+    buffer: &mut [u8],
+) -> Turned
+    requires some { 0 < length buffer.old }
+    requires first { server.old.waits ≡ [] }
+    ensures at { (h : History) → IsAt exchange h → Drives client.now client.now server.old server.new (at_client result.did) (at_server result.did) h result.exchange result.outcome }
+    ensures own { IsOwn result.outcome }
+    ensures moves { result.did ≢ Did.Rests }
+    ensures buffer { length buffer.new ≡ length buffer.old }
+{
+    match server.hear(buffer) {
+        Heard::Nothing => unmoved(exchange),
+        Heard::Ended { well: true } => behind(
+            exchange.step(settings.alloc, settings.rules, Event::ServerEnd),
+            Did::Tells,
+        ),
+        Heard::Ended { well: false } => behind(
+            exchange.step(settings.alloc, settings.rules, Event::ServerFailed),
+            Did::Tells,
+        ),
+        Heard::Bytes(count) => {
+            let came = &buffer[..count];
+            let step = exchange.step(settings.alloc, settings.rules, Event::ServerBytes(came));
+            server.keep(&came[step.used..]);
+            behind(step, Did::Server)
+        }
+    }
+}

@@ -1,0 +1,70 @@
+ghost use Rattle.std.specs.Prelude.{◌≡◌, ◌≤◌, ◌<◌, ℕ, List, Option, Bool, length, take};
+ghost use Rattle.std.specs.Io.KnownBytes.{Consumes, Appends};
+ghost use Rattle.exchange_driver.specs.Answers.{came, went, is_nothing, is_full};
+
+/// What a read gave.
+#[derive(Clone, Copy, Debug, PartialEq, Eq)]
+pub enum Heard {
+    /// So many bytes, one at least.
+    Bytes(usize),
+    /// Nothing is there.
+    Nothing,
+    /// The end, or a failure.
+    Ended { well: bool },
+}
+
+/// What a write took.
+#[derive(Clone, Copy, Debug, PartialEq, Eq)]
+pub enum Said {
+    /// So many bytes, one at least.
+    Bytes(usize),
+    /// It is full.
+    Full,
+    /// It takes no more, ever.
+    Failed,
+}
+
+/// A stream whose calls never wait, both ways. A call that a signal ends is made again.
+pub trait Socket: Drop {
+    /// The bytes that it has left to give, where they are known.
+    ghost left: { Self → Option (List ℕ) };
+
+    /// The bytes that it took, where they are known.
+    ghost taken: { Self → Option (List ℕ) };
+
+    /// Whether its last read answered that nothing is there, and nothing was told of it since.
+    ghost dry: { Self → Bool };
+
+    /// Whether its last write answered that it is full, and nothing was told of it since.
+    ghost full: { Self → Bool };
+
+    fn hear(&mut self, buffer: &mut [u8]) -> Heard
+        requires { 0 < length buffer.old }
+        ensures within { came result ≤ length buffer.new }
+        ensures length { length buffer.new ≡ length buffer.old }
+        ensures some { (count : ℕ) → result ≡ Heard.Bytes count → 0 < count }
+        ensures left { Consumes (left self.old) (left self.new) (take (came result) buffer.new) }
+        ensures dry { dry self.new ≡ is_nothing result }
+        ensures taken { taken self.new ≡ taken self.old }
+        ensures full { full self.new ≡ full self.old };
+
+    fn say(&mut self, bytes: &[u8]) -> Said
+        requires { 0 < length bytes.now }
+        ensures within { went result ≤ length bytes.now }
+        ensures some { (count : ℕ) → result ≡ Said.Bytes count → 0 < count }
+        ensures taken { Appends (taken self.old) (taken self.new) (take (went result) bytes.now) }
+        ensures full { full self.new ≡ is_full result }
+        ensures left { left self.new ≡ left self.old }
+        ensures dry { dry self.new ≡ dry self.old };
+
+    /// A poll told that it may be read again, or written to.
+    fn wake(&mut self, reads: bool, writes: bool)
+        ensures left { left self.new ≡ left self.old }
+        ensures taken { taken self.new ≡ taken self.old };
+
+    fn is_dry(&self) -> bool
+        ensures { result ≡ dry self.now };
+
+    fn is_full(&self) -> bool
+        ensures { result ≡ full self.now };
+}

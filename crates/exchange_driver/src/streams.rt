@@ -1,0 +1,193 @@
+ghost use Rattle.std.specs.Prelude.{◌≡◌, ◌≤◌, ◌<◌, ℕ, length, take};
+ghost use Rattle.std.specs.Io.KnownBytes.{Consumes, Appends};
+ghost use Rattle.exchange_driver.specs.Answers.{came, went, is_nothing, is_full};
+
+use crate::socket::{Heard, Said, Socket};
+use std::io::{ErrorKind, Read, Write};
+use std::net::TcpStream;
+
+/// So often a call is made again that a signal ended.
+const SIGNALS: u32 = 1 << 16;
+
+/// A reader and a writer that never wait, as a socket.
+#[derive(Drop)]
+pub struct Duplex<R: Read + Drop, W: Write + Drop> {
+    pub reads: R,
+    pub writes: W,
+    is_dry: bool,
+    is_full: bool,
+}
+
+/// A connection that never waits.
+#[derive(Drop)]
+pub struct Live {
+    stream: TcpStream,
+    is_dry: bool,
+    is_full: bool,
+}
+
+impl<R: Read + Drop, W: Write + Drop> Duplex<R, W> {
+    pub fn new(reads: R, writes: W) -> Duplex<R, W>
+        ensures reads { result.reads ≡ reads }
+        ensures writes { result.writes ≡ writes }
+    {
+        Duplex {
+            reads,
+            writes,
+            is_dry: false,
+            is_full: false,
+        }
+    }
+}
+
+impl Live {
+    pub fn new(stream: TcpStream) -> Live {
+        Live {
+            stream,
+            is_dry: false,
+            is_full: false,
+        }
+    }
+
+    /// The stream, to be told to a poll or asked for its state.
+    pub fn stream(&self) -> &TcpStream {
+        &self.stream
+    }
+}
+
+impl<R: Read + Drop, W: Write + Drop> Socket for Duplex<R, W> {
+    ghost left = { λ side. R.remaining side.reads };
+
+    ghost taken = { λ side. W.contents side.writes };
+
+    ghost dry = { λ side. side.is_dry };
+
+    ghost full = { λ side. side.is_full };
+
+    fn hear(&mut self, buffer: &mut [u8]) -> Heard {
+        let heard = hear(&mut self.reads, buffer);
+        self.is_dry = heard.is_nothing();
+        heard
+    }
+
+    fn say(&mut self, bytes: &[u8]) -> Said {
+        let said = say(&mut self.writes, bytes);
+        self.is_full = said.is_full();
+        said
+    }
+
+    fn wake(&mut self, reads: bool, writes: bool) {
+        self.is_dry = self.is_dry && !reads;
+        self.is_full = self.is_full && !writes;
+    }
+
+    fn is_dry(&self) -> bool {
+        self.is_dry
+    }
+
+    fn is_full(&self) -> bool {
+        self.is_full
+    }
+}
+
+impl Socket for Live {
+    ghost use Rattle.std.specs.Prelude.{None};
+
+    ghost left = { λ _. None };
+
+    ghost taken = { λ _. None };
+
+    ghost dry = { λ live. live.is_dry };
+
+    ghost full = { λ live. live.is_full };
+
+    fn hear(&mut self, buffer: &mut [u8]) -> Heard {
+        let heard = hear(&mut self.stream, buffer);
+        self.is_dry = heard.is_nothing();
+        heard
+    }
+
+    fn say(&mut self, bytes: &[u8]) -> Said {
+        let said = say(&mut self.stream, bytes);
+        self.is_full = said.is_full();
+        said
+    }
+
+    fn wake(&mut self, reads: bool, writes: bool) {
+        self.is_dry = self.is_dry && !reads;
+        self.is_full = self.is_full && !writes;
+    }
+
+    fn is_dry(&self) -> bool {
+        self.is_dry
+    }
+
+    fn is_full(&self) -> bool {
+        self.is_full
+    }
+}
+
+impl Heard {
+    fn is_nothing(&self) -> bool
+        ensures { result ≡ is_nothing self.now }
+    {
+        match self {
+            Heard::Nothing => true,
+            Heard::Bytes(_) => false,
+            Heard::Ended { well: _ } => false,
+        }
+    }
+}
+
+impl Said {
+    fn is_full(&self) -> bool
+        ensures { result ≡ is_full self.now }
+    {
+        match self {
+            Said::Full => true,
+            Said::Bytes(_) => false,
+            Said::Failed => false,
+        }
+    }
+}
+
+// Reads once, and again where a signal ended that.
+fn hear<R: Read>(reads: &mut R, buffer: &mut [u8]) -> Heard
+    ensures within { came result ≤ length buffer.new }
+    ensures length { length buffer.new ≡ length buffer.old }
+    ensures some { (count : ℕ) → result ≡ Heard.Bytes count → 0 < count }
+    ensures left { Consumes (R.remaining reads.old) (R.remaining reads.new) (take (came result) buffer.new) }
+{
+    for _signal in 0..SIGNALS {
+        match reads.read(buffer) {
+            Ok(0) => return Heard::Ended { well: true },
+            Ok(count) => return Heard::Bytes(count),
+            Err(error) => match error.kind() {
+                ErrorKind::WouldBlock => return Heard::Nothing,
+                ErrorKind::Interrupted => {}
+                _ => return Heard::Ended { well: false },
+            },
+        }
+    }
+    Heard::Ended { well: false }
+}
+
+// Writes once, and again where a signal ended that.
+fn say<W: Write>(writes: &mut W, bytes: &[u8]) -> Said
+    ensures within { went result ≤ length bytes.now }
+    ensures some { (count : ℕ) → result ≡ Said.Bytes count → 0 < count }
+    ensures taken { Appends (W.contents writes.old) (W.contents writes.new) (take (went result) bytes.now) }
+{
+    for _signal in 0..SIGNALS {
+        match writes.write(bytes) {
+            Ok(0) => return Said::Failed,
+            Ok(count) => return Said::Bytes(count),
+            Err(error) => match error.kind() {
+                ErrorKind::WouldBlock => return Said::Full,
+                ErrorKind::Interrupted => {}
+                _ => return Said::Failed,
+            },
+        }
+    }
+    Said::Failed
+}

@@ -1,0 +1,4 @@
+pub mod Slotted
+pub mod Runners
+pub mod Patience
+pub mod Moments

@@ -1,0 +1,64 @@
+-- The timeouts of a loop.
+use Rattle.std.specs.Prelude.{◌≡◌, ℕ, ◌<◌, ◌≤◌, max, min, List, [], ◌∷◌, ◌++◌, Option, Some, None, slice_get, slice_set, MatchOption, Contains}
+use Rattle.std.specs.List.{AllByRecursion}
+use Rattle.loop_table.specs.declared.limits.Timed.{Timed}
+use Rattle.loop_table.specs.Runs.{Run, Runs, left, NoneOverdue, IsFirstOverdue}
+
+-- each with its milliseconds, and the moment that it is for all of them
+pub record Timeouts : Type 0 where
+  pub timed : List Timed
+  pub clock : ℕ
+
+abbrev pub none_timed : Timeouts
+none_timed = record { timed = []; clock = 0 }
+
+abbrev pub timed : ℕ → Runs → Timed
+timed limit running = record { limit = limit; running = running }
+
+abbrev pub with_timed : Timeouts → Timed → Timeouts
+with_timed it timed = record { timed = it.timed ++ timed ∷ []; clock = it.clock }
+
+abbrev pub later_at : Timeouts → ℕ → Timeouts
+later_at it now = record { timed = it.timed; clock = max it.clock now }
+
+-- a keyword's timeout
+abbrev pub IsAt : Timeouts → ℕ → Timed → Type 0
+IsAt it keyword timed = slice_get it.timed keyword ≡ Some timed
+
+-- what one keyword's timeout runs for changes, and nothing else
+pub record Changes (old new : Timeouts) (keyword : ℕ) (after : Runs → Runs) : Type 0 where
+  pub timed : Timed
+  pub there : IsAt old keyword timed
+  pub is : new ≡ record { timed = slice_set old.timed keyword (record { limit = timed.limit; running = after timed.running }); clock = old.clock }
+
+-- it may run for a key
+pub record MayRun (it : Timeouts) (keyword key : ℕ) : Type 0 where
+  pub timed : Timed
+  pub there : IsAt it keyword timed
+  pub low : key < timed.running.room
+
+-- none is over
+abbrev pub AreQuiet : ℕ → List Timed → Type 0
+AreQuiet now all = AllByRecursion (λ timed. NoneOverdue timed.limit now timed.running.runs) all
+
+pub record IsOverdueAt (it : Timeouts) (keyword key : ℕ) : Type 0 where
+  pub timed : Timed
+  pub there : IsAt it keyword timed
+  pub first : IsFirstOverdue timed.limit it.clock timed.running.runs key
+
+-- nothing is over before so many milliseconds have passed, and something is then
+pub record IsPatience (now : ℕ) (all : List Timed) (millis : ℕ) : Type 0 where
+  pub least : AllByRecursion (λ timed. AllByRecursion (λ run. millis ≤ left timed.limit now run) timed.running.runs) all
+  pub timed : Timed
+  pub in_all : Contains all timed
+  pub run : Run
+  pub among : Contains timed.running.runs run
+  pub is : millis ≡ left timed.limit now run
+
+abbrev pub ArePatient : ℕ → List Timed → Option ℕ → Type 0
+ArePatient now all patience = MatchOption patience (AllByRecursion (λ timed. timed.running.runs ≡ []) all) (λ millis. IsPatience now all millis)
+
+abbrev pub sooner_of : Option ℕ → Option ℕ → Option ℕ
+sooner_of None other = other
+sooner_of (Some x) None = Some x
+sooner_of (Some x) (Some y) = Some (min x y)

@@ -1,0 +1,81 @@
+-- Values by tokens, as contracts see them.
+use Rattle.std.specs.Prelude.{◌≡◌, ℕ, zero, suc, ◌+◌, ◌<◌, ◌^◌, ltb, List, [], ◌∷◌, ◌++◌, Option, Some, None, length, replicate, slice_get, slice_set, Contains, if◌then◌else◌}
+use Rattle.wait_queues.specs.Order.{Order, without}
+use Rattle.loop_table.specs.declared.token.Token.{Token}
+
+-- what lies in each slot, how often each was closed, and which are free, the one that is next at the front
+pub record Table (T : Type 0) : Type 0 where
+  pub values : List (Option T)
+  pub generations : List ℕ
+  pub free : List ℕ
+
+-- the slot of a token was closed as often as when the token was given
+abbrev pub IsNow : {T : Type 0} → Table T → Token → Type 0
+IsNow table token = slice_get table.generations token.index ≡ Some token.generation
+
+-- a token has a value
+pub record Holds {T : Type 0} (table : Table T) (token : Token) (value : T) : Type 0 where
+  pub now : IsNow table token
+  pub there : slice_get table.values token.index ≡ Some (Some value)
+
+-- a token of which the next value may be
+pub record IsVacant {T : Type 0} (table : Table T) (token : Token) : Type 0 where
+  pub now : IsNow table token
+  pub free : Contains table.free token.index
+
+-- a token whose value was taken out to be worked with
+pub record IsOut {T : Type 0} (table : Table T) (token : Token) : Type 0 where
+  pub now : IsNow table token
+  pub there : slice_get table.values token.index ≡ Some None
+  pub taken : ¬ (Contains table.free token.index)
+
+-- a token whose slot was closed since it was given
+pub record IsGone {T : Type 0} (table : Table T) (token : Token) : Type 0 where
+  pub times : ℕ
+  pub now : slice_get table.generations token.index ≡ Some times
+  pub since : token.generation < times
+
+-- the numbers below one
+abbrev pub below : ℕ → List ℕ
+below zero = []
+below (suc n) = below n ++ n ∷ []
+
+abbrev pub fresh : {T : Type 0} → ℕ → Table T
+fresh room = record { values = replicate room None; generations = replicate room 0; free = below room }
+
+abbrev pub given : {T : Type 0} → Table T → Token → T → Table T
+given table token value = record {
+  values = slice_set table.values token.index (Some value);
+  generations = table.generations;
+  free = without token.index table.free;
+}
+
+abbrev pub opened : {T : Type 0} → Table T → Token → Table T
+opened table token = record { values = table.values; generations = table.generations; free = without token.index table.free }
+
+abbrev pub lent : {T : Type 0} → Table T → Token → Table T
+lent table token = record { values = slice_set table.values token.index None; generations = table.generations; free = table.free }
+
+abbrev pub filled : {T : Type 0} → Table T → Token → T → Table T
+filled table token value = record {
+  values = slice_set table.values token.index (Some value);
+  generations = table.generations;
+  free = table.free;
+}
+
+-- a slot that was given away 2 ^ 40 times isn't given again
+abbrev pub closed : {T : Type 0} → Table T → Token → Table T
+closed table token = record {
+  values = table.values;
+  generations = slice_set table.generations token.index (token.generation + 1);
+  free = if ltb (token.generation + 1) (2 ^ 40) then table.free ++ token.index ∷ [] else table.free;
+}
+
+-- the slots are as many, and what is free is empty and may be given away once more
+pub record AreSlots {T : Type 0} (values : List (Option T)) (generations : List ℕ) (free : Order) : Type 0 where
+  pub few : free.room < 2 ^ 20 + 1
+  pub values_room : length values ≡ free.room
+  pub generations_room : length generations ≡ free.room
+  pub free_below : (index : ℕ) → Contains free.places index → index < free.room
+  pub free_empty : (index : ℕ) → Contains free.places index → slice_get values index ≡ Some None
+  pub free_young : (index times : ℕ) → Contains free.places index → slice_get generations index ≡ Some times → times < 2 ^ 40

@@ -1,0 +1,24 @@
+-- The numbers by which a poll knows what it tells of.
+use Rattle.std.specs.Prelude.{◌≡◌, ◌<◌, ℕ, ◌+◌, ◌*◌}
+use Rattle.loop_table.specs.declared.token.Token.{Token}
+use Rattle.loop_table.specs.declared.subject.Subject.{Subject}
+use Rattle.loop_table.specs.declared.subject.Subject.TheVariants.{Listener, Mailbox, Client, Server, Waiting}
+
+abbrev pub token_number : Token → ℕ
+token_number token = token.generation * 1048576 + token.index
+
+abbrev pub number_of : Subject → ℕ
+number_of Listener = 0
+number_of Mailbox = 1
+number_of (Client token) = 8 * token_number token + 2
+number_of (Server token) = 8 * token_number token + 3
+number_of (Waiting place ticket) = 8 * (4096 * ticket + place) + 4
+
+-- one and the same
+abbrev pub AreSame : Subject → Subject → Type 0
+AreSame Listener Listener = Unit {0}
+AreSame Mailbox Mailbox = Unit {0}
+AreSame (Client a) (Client b) = (a.index ≡ b.index) × (a.generation ≡ b.generation)
+AreSame (Server a) (Server b) = (a.index ≡ b.index) × (a.generation ≡ b.generation)
+AreSame (Waiting p t) (Waiting q u) = p < 4096 → q < 4096 → (p ≡ q) × (t ≡ u)
+AreSame _ _ = ⊥

@@ -1,0 +1,18 @@
+//! What a loop owns, by tokens that name one connection for ever, and how long each may still wait.
+//!
+//! All memory is taken when they are made: no call afterwards takes any, or fails for want of it.
+#![tactic(auto)]
+
+mod cells;
+pub mod laws;
+mod limits;
+mod running;
+mod slots;
+mod subject;
+mod token;
+
+pub use limits::{Limits, Overdue};
+pub use running::Running;
+pub use slots::Slots;
+pub use subject::{Subject, numbers_differ};
+pub use token::{Hole, MOST_SLOTS, Token};

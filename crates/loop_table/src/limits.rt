@@ -1,0 +1,160 @@
+ghost use Rattle.std.specs.Prelude.{◌≡◌, length, MatchOption, IfOk, OnOk, OnErr, IsTrue, ◌↔◌};
+ghost use Rattle.loop_table.specs.Runs.{none_running, begun_once, touched, stopped};
+ghost use Rattle.loop_table.specs.Limits.{none_timed, with_timed, timed, later_at, Changes, MayRun, AreQuiet, IsOverdueAt, ArePatient, sooner_of};
+
+use crate::running::Running;
+use due_key::Moment;
+use exchange_driver::Moved;
+use std::alloc::{AllocError, Global};
+use std::marker::Model;
+
+/// A timeout of so many milliseconds, and what it runs for.
+#[derive(Drop)]
+pub(crate) struct Timed {
+    pub(crate) limit: u64,
+    pub(crate) running: Running,
+}
+
+/// The timeouts of a loop, by keyword, with the moment that it is for all of them: that of the poll's last return.
+#[derive(Drop)]
+pub struct Limits {
+    timed: Vec<Timed>,
+    clock: Moment,
+}
+
+/// A timeout that is over for a key. It runs no more for it. It has no `Drop`: whoever looked at the limits ends what it was for.
+pub struct Overdue {
+    pub keyword: usize,
+    pub key: usize,
+}
+
+impl Model for Limits {
+    ghost use Rattle.loop_table.specs.Limits.{Timeouts};
+
+    ghost Value = { Timeouts };
+
+    ghost view = { λ it. record { timed = it.timed.items; clock = it.clock } };
+}
+
+impl Limits {
+    /// No timeout, so far.
+    pub fn new(alloc: Global) -> Limits
+        ensures { result ≡ none_timed }
+    {
+        Limits {
+            timed: Vec::new(alloc),
+            clock: Moment::zero(),
+        }
+    }
+
+    /// It is so late now, and never earlier than it was.
+    pub fn look_at_clock(&mut self, now: Moment)
+        ensures { self.new ≡ later_at self.old now }
+    {
+        self.clock = self.clock.later(now);
+    }
+
+    /// One more timeout, of so many milliseconds, that may run for the keys below `room`: it is the keyword of the next number. Refused only where memory is
+    /// short, and then nothing changes.
+    pub fn add(&mut self, alloc: Global, limit: u64, room: usize) -> Result<usize, AllocError>
+        ensures number { IfOk result (λ keyword. keyword ≡ length self.old.timed) }
+        ensures ok { OnOk result (self.new ≡ with_timed self.old (timed limit (none_running room))) }
+        ensures err { OnErr result (self.new ≡ self.old) }
+    {
+        let keyword = self.timed.len();
+        let running = Running::with_room(alloc, room)?;
+        self.timed.push(Timed { limit, running })?;
+        Ok(keyword)
+    }
+
+    /// A timeout begins for a key for which it doesn't run. Where it runs, its moment stays. Without such a keyword or key nothing changes.
+    pub fn begin(&mut self, keyword: usize, key: usize)
+        ensures runs { MayRun self.old keyword key → Changes self.old self.new keyword (λ runs. begun_once runs key self.old.clock) }
+        ensures other { ¬ (MayRun self.old keyword key) → self.new ≡ self.old }
+    {
+        if self.may_run(keyword, key) {
+            let now = self.clock;
+            let timed = &mut self.timed[keyword];
+            timed.running.begin_once(key, now);
+        }
+    }
+
+    /// Bytes moved for a key: its timeout begins anew, where it runs.
+    pub fn touch(&mut self, keyword: usize, key: usize, moved: Moved)
+        ensures runs { MayRun self.old keyword key → Changes self.old self.new keyword (λ runs. touched runs key self.old.clock) }
+        ensures other { ¬ (MayRun self.old keyword key) → self.new ≡ self.old }
+    {
+        moved.spend();
+        if self.may_run(keyword, key) {
+            let now = self.clock;
+            let timed = &mut self.timed[keyword];
+            timed.running.touch(key, now);
+        }
+    }
+
+    /// A timeout runs for a key no more.
+    pub fn stop(&mut self, keyword: usize, key: usize)
+        ensures runs { MayRun self.old keyword key → Changes self.old self.new keyword (λ runs. stopped runs key) }
+        ensures other { ¬ (MayRun self.old keyword key) → self.new ≡ self.old }
+    {
+        if self.may_run(keyword, key) {
+            let timed = &mut self.timed[keyword];
+            timed.running.stop(key);
+        }
+    }
+
+    fn may_run(&self, keyword: usize, key: usize) -> bool
+        ensures { IsTrue result ↔ MayRun self.now keyword key }
+    {
+        match self.timed.as_slice().get(keyword) {
+            None => false,
+            Some(timed) => key < timed.running.room(),
+        }
+    }
+
+    /// Takes one that is over out, the first of its keyword. None only where none is over, now.
+    pub fn take_overdue(&mut self) -> Option<Overdue>
+        ensures over { MatchOption result (AreQuiet self.old.clock self.old.timed) (λ it. IsOverdueAt self.old it.keyword it.key) }
+        ensures left { MatchOption result (self.new ≡ self.old) (λ it. Changes self.old self.new it.keyword (λ runs. stopped runs it.key)) }
+    {
+        let Some((keyword, key)) = self.overdue() else {
+            return None;
+        };
+        let timed = &mut self.timed[keyword];
+        timed.running.stop(key);
+        Some(Overdue { keyword, key })
+    }
+
+    fn overdue(&self) -> Option<(usize, usize)>
+        ensures { MatchOption result (AreQuiet self.now.clock self.now.timed) (λ it. IsOverdueAt self.now it.0 it.1) }
+    {
+        for (keyword, timed) in self.timed.iter().enumerate() {
+            if let Some(key) = timed.running.overdue(timed.limit, self.clock) {
+                return Some((keyword, key));
+            }
+        }
+        None
+    }
+
+    /// How many milliseconds a poll may wait: until the first of all is over. None only where no timeout runs.
+    pub fn patience(&self) -> Option<u64>
+        ensures { ArePatient self.now.clock self.now.timed result }
+    {
+        let mut least = None;
+        for timed in &self.timed {
+            least = sooner(least, timed.running.patience(timed.limit, self.clock));
+        }
+        least
+    }
+}
+
+// The lesser of two waits, where there are both.
+fn sooner(a: Option<u64>, b: Option<u64>) -> Option<u64>
+    ensures { result ≡ sooner_of a b }
+{
+    match (a, b) {
+        (Some(x), Some(y)) => Some(x.min(y)),
+        (Some(x), None) => Some(x),
+        (None, y) => y,
+    }
+}

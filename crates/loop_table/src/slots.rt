@@ -1,0 +1,193 @@
+ghost use Rattle.std.specs.Prelude.{◌≡◌, ◌≤◌, ◌^◌, [], IfOk, OnOk, IfErr, IfSome, IfNone, IsTrue, ◌↔◌, MatchOption, Some, None, slice_get};
+ghost use Rattle.loop_table.specs.Slots.{IsNow, Holds, IsVacant, IsOut, IsGone, fresh, given, opened, lent, filled, closed};
+ghost use Rattle.loop_table.specs.declared.token.Token.{Token};
+
+use crate::cells;
+use crate::token::{GENERATIONS, Hole, MOST_SLOTS, Token};
+use std::alloc::{AllocError, Global};
+use std::marker::Model;
+use wait_queues::JoinOrder;
+
+/// Values by tokens, without `Drop`: each is put by value, lent by value, and given back or closed. A slot that was closed is used again, the one that is
+/// free for the longest first, and then it has another token.
+pub struct Slots<T> {
+    values: Vec<Option<T>>,
+    // So often each was closed.
+    generations: Vec<u64>,
+    free: JoinOrder,
+}
+
+impl<T> Model for Slots<T> {
+    ghost use Rattle.loop_table.specs.Slots.{Table, AreSlots};
+
+    ghost Value = { Table T };
+
+    ghost view = { λ it. record { values = it.values.items; generations = it.generations.items; free = it.free.places } };
+
+    ghost invariant = { λ it. AreSlots it.values.items it.generations.items it.free };
+}
+
+impl<T> Slots<T> {
+    /// So many free slots, and no value. Refused only where memory is short. `O(n)`.
+    pub fn with_room(alloc: Global, slots: usize) -> Result<Slots<T>, AllocError>
+        requires { slots ≤ 2 ^ 20 }
+        ensures { IfOk result (λ made. made ≡ fresh slots) }
+    {
+        let mut free = JoinOrder::with_room(alloc, slots)?;
+        let mut generations = Vec::with_capacity(alloc, slots)?;
+        for index in 0..slots {
+            free.append(index);
+            generations.push_reserved(0);
+        }
+        Ok(Slots {
+            values: cells::empty(alloc, slots)?,
+            generations,
+            free,
+        })
+    }
+
+    /// Puts a value into a free slot, and answers its token, which is nobody's and never was. The value comes back only where no slot is free. `O(1)`.
+    pub fn put(&mut self, value: T) -> Result<Token, T>
+        ensures token { IfOk result (λ token. IsVacant self.old token) }
+        ensures empty { IfOk result (λ token. slice_get self.old.values token.index ≡ Some None) }
+        ensures ok { IfOk result (λ token. self.new ≡ given self.old token value) }
+        ensures err { IfErr result (λ back. (back ≡ value) × (self.old.free ≡ []) × (self.new ≡ self.old)) }
+        ensures gone { (other : Token) → IsGone self.old other → IsGone self.new other }
+    {
+        let Some(index) = self.free.first() else {
+            return Err(value);
+        };
+        let generation = self.generations[index];
+        self.free.remove(index);
+        cells::fill(&mut self.values, index, value);
+        Ok(Token { index, generation })
+    }
+
+    /// An empty slot, of a token that is nobody's and never was. None only where no slot is free. `O(1)`.
+    pub fn open(&mut self) -> Option<Hole>
+        ensures token { IfSome result (λ hole. IsVacant self.old hole.token) }
+        ensures out { IfSome result (λ hole. IsOut self.new hole.token) }
+        ensures some { IfSome result (λ hole. self.new ≡ opened self.old hole.token) }
+        ensures none { IfNone result ((self.old.free ≡ []) × (self.new ≡ self.old)) }
+        ensures gone { (other : Token) → IsGone self.old other → IsGone self.new other }
+    {
+        let Some(index) = self.free.first() else {
+            return None;
+        };
+        let generation = self.generations[index];
+        self.free.remove(index);
+        Some(Hole {
+            token: Token { index, generation },
+        })
+    }
+
+    /// Is no slot free?
+    pub fn is_full(&self) -> bool
+        ensures { IsTrue result ↔ (self.now.free ≡ []) }
+    {
+        self.free.first().is_none()
+    }
+
+    /// Takes the value of a token out, to be worked with. None exactly where it has none. `O(1)`.
+    pub fn lend(&mut self, token: Token) -> Option<(T, Hole)>
+        ensures held { MatchOption result ((value : T) → ¬ (Holds self.old token value)) (λ it. Holds self.old token it.0) }
+        ensures hole { IfSome result (λ it. it.1.token ≡ token) }
+        ensures left { MatchOption result (self.new ≡ self.old) (λ _. (self.new ≡ lent self.old token) × IsOut self.new token) }
+        ensures gone { (other : Token) → IsGone self.old other → IsGone self.new other }
+    {
+        if !self.is_now(token) {
+            return None;
+        }
+        match cells::take(&mut self.values, token.index) {
+            None => None,
+            Some(value) => Some((value, Hole { token })),
+        }
+    }
+
+    /// Fills the hole of a token again, which keeps its token. The value comes back only where the hole isn't this table's. `O(1)`.
+    pub fn fill(&mut self, hole: Hole, value: T) -> Result<(), T>
+        ensures ok { OnOk result (IsOut self.old hole.token × (self.new ≡ filled self.old hole.token value)) }
+        ensures err { IfErr result (λ back. (back ≡ value) × ¬ (IsOut self.old hole.token) × (self.new ≡ self.old)) }
+        ensures gone { (other : Token) → IsGone self.old other → IsGone self.new other }
+    {
+        let Hole { token } = hole;
+        if !self.is_out(token) {
+            return Err(value);
+        }
+        cells::fill(&mut self.values, token.index, value);
+        Ok(())
+    }
+
+    /// Closes the hole of a token: the token is gone, and names nothing ever again. `O(1)`.
+    pub fn close(&mut self, hole: Hole)
+        ensures closed { IsOut self.old hole.token → (self.new ≡ closed self.old hole.token) × IsGone self.new hole.token }
+        ensures other { ¬ (IsOut self.old hole.token) → self.new ≡ self.old }
+        ensures gone { (other : Token) → IsGone self.old other → IsGone self.new other }
+    {
+        let Hole { token } = hole;
+        if self.is_out(token) {
+            let times = token.generation + 1;
+            self.generations[token.index] = times;
+            if times < GENERATIONS {
+                self.free.append(token.index);
+            }
+        }
+    }
+
+    /// The token of the value in a slot, where there is one. `O(1)`.
+    pub fn token_of(&self, index: usize) -> Option<Token>
+        ensures held { IfSome result (λ token. (value : T) × Holds self.now token value) }
+        ensures index { IfSome result (λ token. token.index ≡ index) }
+    {
+        let generation = *self.generations.as_slice().get(index)?;
+        if GENERATIONS <= generation || MOST_SLOTS <= index {
+            return None;
+        }
+        let token = Token { index, generation };
+        if self.is_held(token) {
+            Some(token)
+        } else {
+            None
+        }
+    }
+
+    /// All that is in the slots, in their order.
+    pub fn into_values(self) -> Vec<Option<T>>
+        ensures { result.items ≡ self.values }
+    {
+        let Slots {
+            values,
+            generations: _,
+            free: _,
+        } = self;
+        values
+    }
+
+    /// Whether a token has a value. `O(1)`.
+    pub fn is_held(&self, token: Token) -> bool
+        ensures yes { IsTrue result → (value : T) × Holds self.now token value }
+        ensures others { (value : T) → Holds self.now token value → IsTrue result }
+    {
+        self.is_now(token) && self.values[token.index].is_some()
+    }
+
+    // Whether the slot of a token wasn't closed since it was given.
+    fn is_now(&self, token: Token) -> bool
+        ensures now { IsTrue result ↔ IsNow self.now token }
+    {
+        self.generations.as_slice().get(token.index).copied() == Some(token.generation)
+    }
+
+    // Whether the value of a token is lent.
+    fn is_out(&self, token: Token) -> bool
+        ensures { IsTrue result ↔ IsOut self.now token }
+    {
+        if !self.is_now(token) {
+            return false;
+        }
+        if self.free.contains(token.index) {
+            return false;
+        }
+        self.values[token.index].is_none()
+    }
+}

@@ -1,0 +1,92 @@
+ghost use Rattle.std.specs.Prelude.{◌≡◌, ◌<◌, ◌^◌, IfSome};
+ghost use Rattle.loop_table.specs.Subjects.{number_of, AreSame};
+ghost use Rattle.loop_table.specs.declared.subject.Subject.{Subject};
+
+use crate::token::Token;
+
+/// What an event of a poll is about. A token may be gone by the time of the event: then it is about nobody.
+#[derive(Clone, Copy)]
+pub enum Subject {
+    /// Clients come.
+    Listener,
+    /// Other loops wrote.
+    Mailbox,
+    /// The client's side of a connection.
+    Client(Token),
+    /// The server's side of it.
+    Server(Token),
+    /// The client of a request that waits at its place.
+    Waiting { place: usize, ticket: u64 },
+}
+
+const SLOTS: usize = 1 << 20;
+
+const PLACES: usize = 4096;
+
+const TICKETS: u64 = 1 << 40;
+
+impl Subject {
+    /// Its number for the poll. None: its place or its ticket is too large for one.
+    pub fn number(self) -> Option<usize>
+        ensures { IfSome result (λ number. number ≡ number_of self) }
+    {
+        match self {
+            Subject::Listener => Some(0),
+            Subject::Mailbox => Some(1),
+            Subject::Client(token) => Some(8 * token.number() + 2),
+            Subject::Server(token) => Some(8 * token.number() + 3),
+            Subject::Waiting { place, ticket } => {
+                if place < PLACES && ticket < TICKETS {
+                    Some(8 * (PLACES * ticket as usize + place) + 4)
+                } else {
+                    None
+                }
+            }
+        }
+    }
+
+    /// What has this number. None: nothing has.
+    pub fn of(number: usize) -> Option<Subject>
+        ensures { IfSome result (λ subject. number_of subject ≡ number) }
+    {
+        let above = number / 8;
+        match number % 8 {
+            0 if above == 0 => Some(Subject::Listener),
+            1 if above == 0 => Some(Subject::Mailbox),
+            2 => Some(Subject::Client(Token::of(above)?)),
+            3 => Some(Subject::Server(Token::of(above)?)),
+            4 => Some(Subject::Waiting {
+                place: above % PLACES,
+                ticket: (above / PLACES) as u64,
+            }),
+            _ => None,
+        }
+    }
+}
+
+impl Token {
+    ghost use Rattle.loop_table.specs.Subjects.{token_number};
+
+    fn number(self) -> usize
+        ensures number { result ≡ token_number self }
+        ensures small { result < 2 ^ 60 }
+    {
+        self.generation as usize * SLOTS + self.index
+    }
+
+    fn of(number: usize) -> Option<Token>
+        ensures { IfSome result (λ token. token_number token ≡ number) }
+    {
+        let (index, generation) = (number % SLOTS, (number / SLOTS) as u64);
+        if generation < 1 << 40 {
+            Some(Token { index, generation })
+        } else {
+            None
+        }
+    }
+}
+
+/// Different subjects have different numbers.
+pub fn numbers_differ()
+    ensures { (a b : Subject) → number_of a ≡ number_of b → AreSame a b }
+{}

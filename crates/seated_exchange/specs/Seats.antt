@@ -1,0 +1,45 @@
+-- What is held of an exchange and of its seat.
+use Rattle.std.specs.Prelude.{◌≡◌, Bool, true, false, ◌&&◌, List, [], ◌∷◌, Option, Some, None}
+use Rattle.atomic_table.specs.Seated.{TableId}
+use Rattle.exchange_machine.specs.Histories.{History}
+use Rattle.exchange_machine.specs.Stages.{IsWaiting}
+use Rattle.exchange_machine.specs.declared.waiting.Waiting.{Waiting}
+use Rattle.grant_board.specs.RelayCalls.{Relay}
+use Rattle.grant_board.specs.Views.{Grant, Terms}
+use Rattle.verdict.specs.declared.Ending.{Ending}
+use Rattle.verdict.specs.declared.Ending.TheVariants.{Done, Failed}
+use Rattle.verdict.specs.declared.Verdict.{Verdict}
+use Rattle.verdict.specs.declared.Verdict.TheVariants.{Serve, Told}
+
+-- there is a history that it waits after
+abbrev pub HasWaited : Waiting → Type 0
+HasWaited w = ∥ ((h : History) × IsWaiting w h) ∥₁
+
+-- the passes of a seat, where there is one
+abbrev pub passes_at : Option Relay → List Grant
+passes_at None = []
+passes_at (Some seat) = seat.view.passes
+
+-- its board and its terms, or else these
+abbrev pub board_at : TableId → Option Relay → TableId
+board_at board None = board
+board_at board (Some seat) = seat.board
+
+abbrev pub terms_at : Terms → Option Relay → Terms
+terms_at terms None = terms
+terms_at terms (Some seat) = seat.view.terms
+
+-- all are passes of servers' slots
+abbrev pub serves : Verdict → Bool
+serves (Serve server) = true
+serves (Told cause) = false
+
+abbrev pub all_serve : List Grant → Bool
+all_serve [] = true
+all_serve (pass ∷ passes) = serves pass.verdict && all_serve passes
+
+-- an exchange of such a verdict may end so
+abbrev pub may_end : Verdict → Ending → Bool
+may_end (Serve server) ending = true
+may_end (Told cause) Done = true
+may_end (Told cause) Failed = false

@@ -1,0 +1,40 @@
+ghost use Rattle.std.specs.Prelude.{◌≡◌, ℕ, []};
+ghost use Rattle.mixed_exchange.specs.Passes.{came_with};
+ghost use Rattle.mixed_exchange.specs.Steps.{IsOwn, IsOwnOf};
+ghost use Rattle.mixed_exchange.specs.declared.exchange.Outcome.{Outcome};
+
+use exchange_machine::Terms;
+use mixed_exchange::{Clock, Event};
+
+/// What an exchange is told without bytes and passes.
+#[derive(Clone, Copy)]
+pub enum Notice {
+    /// No pass comes.
+    Unserved,
+    /// The server was reached, on a connection of these terms.
+    Connected(Terms),
+    /// The server can't be reached.
+    Unreachable,
+    /// The client sends no more.
+    ClientEnd,
+    /// The client's connection broke.
+    ClientFailed,
+    /// A time is over.
+    TimeOver(Clock),
+}
+
+impl Notice {
+    pub(crate) fn event(self) -> Event<'static>
+        ensures none { (used : ℕ) → came_with result used ≡ [] }
+        ensures own { (outcome : Outcome) → IsOwnOf result outcome → IsOwn outcome }
+    {
+        match self {
+            Notice::Unserved => Event::Unserved,
+            Notice::Connected(terms) => Event::Connected(terms),
+            Notice::Unreachable => Event::Unreachable,
+            Notice::ClientEnd => Event::ClientEnd,
+            Notice::ClientFailed => Event::ClientFailed,
+            Notice::TimeOver(clock) => Event::TimeOver(clock),
+        }
+    }
+}

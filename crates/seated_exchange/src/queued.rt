@@ -1,0 +1,50 @@
+ghost use Rattle.std.specs.Prelude.{◌≡◌, ◌∷◌, []};
+ghost use Rattle.mixed_exchange.specs.Passes.{held_by};
+ghost use Rattle.relay_http.specs.States.{Serves};
+ghost use Rattle.seated_exchange.specs.Seats.{HasWaited};
+
+use crate::seated::Seated;
+use exchange_machine::Waiting;
+use grant_board::BoardName;
+use mixed_exchange::Exchange;
+use pass_seat::Held;
+use req_view::View;
+
+/// An exchange that waits for a pass: it holds none, so that it may be let go.
+#[derive(Drop)]
+pub struct Queued {
+    waiting: Waiting,
+    ghost waited: { HasWaited waiting },
+}
+
+impl Queued {
+    pub(crate) fn of(waiting: Waiting) -> Queued
+        requires { HasWaited waiting }
+        ensures { result.waiting ≡ waiting }
+    {
+        Queued { waiting }
+    }
+
+    /// Its request.
+    pub fn view(&self) -> &View {
+        self.waiting.view()
+    }
+
+    /// Its pass came, of a slot of a server.
+    pub fn grant<N: BoardName>(self, held: Held<N>) -> Seated<N>
+        requires { Serves held.pass.verdict }
+        ensures pass { held_by result.exchange ≡ held.pass ∷ [] }
+    {
+        let Queued { waiting } = self;
+        let (seat, pass) = held.into_parts();
+        Seated::of(Exchange::Dialing(waiting.grant(pass)), Some(seat))
+    }
+
+    /// It goes on without a pass: it is told why.
+    pub fn unseated<N: BoardName>(self) -> Seated<N>
+        ensures none { held_by result.exchange ≡ [] }
+    {
+        let Queued { waiting } = self;
+        Seated::of(Exchange::Waiting(waiting), None)
+    }
+}

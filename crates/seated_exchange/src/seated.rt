@@ -1,0 +1,324 @@
+ghost use Rattle.std.specs.Prelude.{◌≡◌, ◌<◌, ◌≤◌, ◌++◌, ◌∷◌, [], true, length, IfSome, MatchOption};
+ghost use Rattle.exchange_driver.specs.Drives.{IsDownAtRest, IsUpAtRest};
+ghost use Rattle.grant_board.specs.RelayCalls.{post_after};
+ghost use Rattle.mixed_exchange.specs.Passes.{held_by, gone_with};
+ghost use Rattle.mixed_exchange.specs.Steps as steps;
+ghost use Rattle.mixed_exchange.specs.Steps.{HasHistory};
+ghost use Rattle.seated_exchange.specs.Seats.{passes_at, board_at, terms_at, all_serve, may_end};
+
+use crate::notice::Notice;
+use crate::queued::Queued;
+use exchange_driver::{Driven, Line, Moved, Rest, Settings, Socket, drive};
+use grant_board::{Board, BoardName, Pass, RelaySeat};
+use mixed_exchange::{Clock, Exchange, Outcome, Step};
+use pass_seat::{Held, Idle};
+use std::alloc::Global;
+use std::marker::PhantomData;
+use verdict::Ending;
+
+/// An exchange, and the seat of the pass that it holds, where it holds one. It has no `Drop`, as a pass has none.
+pub struct Seated<N: BoardName> {
+    exchange: Exchange,
+    seat: Option<RelaySeat>,
+    name: PhantomData<N>,
+    ghost named: { board_at N.board seat ≡ N.board },
+    ghost terms: { terms_at N.terms seat ≡ N.terms },
+    ghost holds: { passes_at seat ≡ held_by exchange },
+    ghost serves: { all_serve (held_by exchange) ≡ true },
+    ghost at: { HasHistory exchange },
+}
+
+/// How far an exchange is.
+#[derive(Clone, Copy, Debug, PartialEq, Eq)]
+pub enum Stage {
+    Asking,
+    Waiting,
+    Dialing,
+    Passing,
+    /// Its pass was posted, and its client is still told something.
+    Telling,
+    Over,
+}
+
+/// A pass to be posted, with its seat, and how its exchange ended.
+pub struct Posting<N: BoardName> {
+    held: Held<N>,
+    ending: Ending,
+    ghost may_end: { may_end held.pass.verdict ending ≡ true },
+}
+
+/// What an exchange gives away.
+pub enum Given<N: BoardName> {
+    Nothing,
+    Posts(Posting<N>),
+    /// The server's connection is to be given up, and another one opened on the same pass.
+    Retries,
+}
+
+/// What became of an exchange: what it gave away, at which side bytes moved, and whether there is more to do.
+pub struct Served<N: BoardName> {
+    pub seated: Seated<N>,
+    pub given: Given<N>,
+    pub client: Option<Moved>,
+    pub server: Option<Moved>,
+    pub rest: Rest,
+}
+
+impl<N: BoardName> Posting<N> {
+    /// The place of the pass.
+    pub fn place(&self) -> usize
+        ensures { result ≡ self.now.held.pass.place }
+    {
+        self.held.place()
+    }
+
+    /// Spends the pass: says how its exchange ended. One step, and no memory.
+    pub fn post(self, board: &Board) -> Idle<N>
+        requires { board.now ≡ N.board }
+        ensures { result.seat.view ≡ post_after self.held.seat.view self.held.pass self.ending }
+    {
+        let Posting { held, ending } = self;
+        held.post(board, ending)
+    }
+}
+
+// An exchange behind an outcome, and what that gives away.
+struct Parted<N: BoardName> {
+    seated: Seated<N>,
+    given: Given<N>,
+}
+
+impl<N: BoardName> Seated<N> {
+    /// Of a new client.
+    pub fn new(alloc: Global) -> Seated<N>
+        ensures none { held_by result.exchange ≡ [] }
+    {
+        Seated::of(Exchange::new(alloc), None)
+    }
+
+    pub(crate) fn of(exchange: Exchange, seat: Option<RelaySeat>) -> Seated<N>
+        requires named { board_at N.board seat ≡ N.board }
+        requires terms { terms_at N.terms seat ≡ N.terms }
+        requires holds { passes_at seat ≡ held_by exchange }
+        requires serves { all_serve (held_by exchange) ≡ true }
+        requires at { HasHistory exchange }
+        ensures { result.exchange ≡ exchange }
+    {
+        Seated {
+            exchange,
+            seat,
+            name: PhantomData,
+        }
+    }
+
+    /// How far it is.
+    pub fn stage(&self) -> Stage {
+        match &self.exchange {
+            Exchange::Asking(_) => Stage::Asking,
+            Exchange::Waiting(_) => Stage::Waiting,
+            Exchange::Dialing(_) => Stage::Dialing,
+            Exchange::Passing(passing) => {
+                if passing.is_dialing() {
+                    Stage::Dialing
+                } else {
+                    Stage::Passing
+                }
+            }
+            Exchange::Settling(_) | Exchange::Leaving(_) | Exchange::Telling(_) => Stage::Telling,
+            Exchange::Over => Stage::Over,
+        }
+    }
+
+    /// Was its request read whole, or isn't it read before a pass is there?
+    pub fn has_asked(&self) -> bool {
+        match &self.exchange {
+            Exchange::Waiting(_) | Exchange::Dialing(_) => true,
+            Exchange::Passing(passing) => passing.is_asked(),
+            Exchange::Asking(_)
+            | Exchange::Settling(_)
+            | Exchange::Leaving(_)
+            | Exchange::Telling(_)
+            | Exchange::Over => false,
+        }
+    }
+
+    /// Which limit's time runs.
+    pub fn clock(&self) -> Option<Clock>
+        ensures { result ≡ steps.clock_of self.now.exchange }
+    {
+        self.exchange.wants().clock
+    }
+
+    /// Is more of what its client sends read now?
+    pub fn reads_client(&self) -> bool
+        ensures { result ≡ steps.reads_client self.now.exchange }
+    {
+        self.exchange.wants().reads_client
+    }
+
+    /// Was its client sent all that it is told?
+    pub fn has_told(&self) -> bool {
+        self.exchange.to_client().is_empty()
+    }
+
+    /// The exchange that waits for a pass, where it does.
+    pub fn into_queued(self) -> Result<Queued, Seated<N>> {
+        let Seated {
+            exchange,
+            seat,
+            name,
+        } = self;
+        match exchange {
+            Exchange::Waiting(waiting) => Ok(Queued::of(waiting)),
+            exchange => Err(Seated {
+                exchange,
+                seat,
+                name,
+            }),
+        }
+    }
+
+    /// Reads and writes, as `exchange_driver::drive` does.
+    pub fn drive<C: Socket, S: Socket>(
+        self,
+        settings: Settings,
+        client: &mut Line<C>,
+        server: &mut Line<S>,
+        buffer: &mut [u8],
+    ) -> Served<N>
+        requires { 0 < length buffer.old }
+        ensures down { result.rest ≡ Rest.Waits → IsDownAtRest result.seated.exchange client.new server.new }
+        ensures up { result.rest ≡ Rest.Waits → IsUpAtRest result.seated.exchange client.new server.new }
+    {
+        let Seated {
+            exchange,
+            seat,
+            name: _,
+        } = self;
+        let Driven {
+            exchange,
+            outcome,
+            client,
+            server,
+            rest,
+        } = drive(exchange, settings, client, server, buffer);
+        let Parted { seated, given } = part(exchange, seat, outcome);
+        Served {
+            seated,
+            given,
+            client,
+            server,
+            rest,
+        }
+    }
+
+    /// It is told something.
+    pub fn tell(self, settings: Settings, notice: Notice) -> Served<N> {
+        let Seated {
+            exchange,
+            seat,
+            name: _,
+        } = self;
+        let Step {
+            next,
+            used: _,
+            outcome,
+        } = exchange.step(settings.alloc, settings.rules, notice.event());
+        let Parted { seated, given } = part(next, seat, outcome);
+        Served {
+            seated,
+            given,
+            client: None,
+            server: None,
+            rest: Rest::Again,
+        }
+    }
+
+    /// It is over, however far it is: its pass is to be posted, as done, since the server isn't to blame.
+    pub fn abandon(self) -> Option<Posting<N>>
+        ensures done { IfSome result (λ posting. posting.ending ≡ Ending.Done) }
+        ensures pass { MatchOption result (held_by self.exchange ≡ []) (λ posting. held_by self.exchange ≡ posting.held.pass ∷ []) }
+    {
+        let Seated {
+            exchange,
+            seat,
+            name: _,
+        } = self;
+        let (pass, ending) = match exchange {
+            Exchange::Dialing(dialing) => dialing.abandon(),
+            Exchange::Passing(passing) => passing.abandon(),
+            Exchange::Asking(_)
+            | Exchange::Waiting(_)
+            | Exchange::Settling(_)
+            | Exchange::Leaving(_)
+            | Exchange::Telling(_)
+            | Exchange::Over => return None,
+        };
+        Some(with_seat(seat, pass, ending))
+    }
+}
+
+// What an outcome gives away, with the seat of its pass.
+fn part<N: BoardName>(exchange: Exchange, seat: Option<RelaySeat>, outcome: Outcome) -> Parted<N>
+    requires named { board_at N.board seat ≡ N.board }
+    requires terms { terms_at N.terms seat ≡ N.terms }
+    requires holds { passes_at seat ≡ gone_with outcome ++ held_by exchange }
+    requires serves { all_serve (gone_with outcome ++ held_by exchange) ≡ true }
+    requires own { steps.IsOwn outcome }
+    requires few { length (gone_with outcome ++ held_by exchange) ≤ 1 }
+    requires at { HasHistory exchange }
+    ensures exchange { result.seated.exchange ≡ exchange }
+{
+    match outcome {
+        Outcome::Quiet | Outcome::Starved => Parted {
+            seated: Seated::of(exchange, seat),
+            given: Given::Nothing,
+        },
+        Outcome::Retries => Parted {
+            seated: Seated::of(exchange, seat),
+            given: Given::Retries,
+        },
+        Outcome::Posts(pass, ending) | Outcome::StarvedPosts(pass, ending) => {
+            posts(exchange, seat, pass, ending)
+        }
+        Outcome::Returns(_pass) => unreachable!(),
+    }
+}
+
+// The pass goes back with its seat.
+fn posts<N: BoardName>(
+    exchange: Exchange,
+    seat: Option<RelaySeat>,
+    pass: Pass,
+    ending: Ending,
+) -> Parted<N>
+    requires named { board_at N.board seat ≡ N.board }
+    requires terms { terms_at N.terms seat ≡ N.terms }
+    requires holds { passes_at seat ≡ pass ∷ [] }
+    requires may_end { may_end pass.verdict ending ≡ true }
+    requires none { held_by exchange ≡ [] }
+    requires at { HasHistory exchange }
+    ensures exchange { result.seated.exchange ≡ exchange }
+{
+    Parted {
+        seated: Seated::of(exchange, None),
+        given: Given::Posts(with_seat(seat, pass, ending)),
+    }
+}
+
+fn with_seat<N: BoardName>(seat: Option<RelaySeat>, pass: Pass, ending: Ending) -> Posting<N>
+    requires named { board_at N.board seat ≡ N.board }
+    requires terms { terms_at N.terms seat ≡ N.terms }
+    requires holds { passes_at seat ≡ pass ∷ [] }
+    requires may_end { may_end pass.verdict ending ≡ true }
+    ensures pass { result.held.pass ≡ pass }
+    ensures ending { result.ending ≡ ending }
+{
+    match seat {
+        Some(seat) => Posting {
+            held: Held::new(seat, pass),
+            ending,
+        },
+        None => unreachable!(),
+    }
+}

@@ -1,3 +1,0 @@
-mod Heads
-mod Lefts
-mod Telling

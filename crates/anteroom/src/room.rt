@@ -1,0 +1,123 @@
+ghost use Rattle.std.specs.Prelude.{◌≡◌, ◌↔◌, Err, IfOk, OnErr, IfSome, IsTrue, length, option_map, slice_get};
+ghost use Rattle.due_key.specs.Order.{key_cmp};
+ghost use Rattle.pend_queue.specs.Pairs.{pair_at};
+ghost use Rattle.anteroom.specs.Rooms.{IsFull, AllComeAfter, nobody, key_of, came, first_gone, left};
+
+use due_key::{Class, Due, Key, Moment, Offset};
+use pend_queue::PendQueue;
+use std::alloc::{AllocError, Global};
+use std::marker::Model;
+
+/// Guests by class, due date and coming, the least first. It knows them by numbers that the caller gives them.
+#[derive(Drop)]
+pub struct Anteroom<Q: PendQueue<Key, usize>> {
+    queue: Q,
+    room: usize,
+    ticket: u64,
+}
+
+/// Why a guest isn't let in.
+#[derive(Clone, Copy, Debug, PartialEq, Eq)]
+pub enum Cause {
+    /// As many wait as there is room for.
+    Full,
+    /// Memory is short.
+    NoMemory,
+}
+
+impl<Q: PendQueue<Key, usize>> Model for Anteroom<Q> {
+    ghost use Rattle.anteroom.specs.Rooms.{Guests, IsAnteroom};
+
+    ghost Value = { Guests };
+
+    ghost view = { λ it. record { pairs = Q.pairs it.queue; room = it.room; ticket = it.ticket } };
+
+    ghost invariant = { λ it. IsAnteroom (Q.pairs it.queue) (Q.room it.queue) it.room it.ticket };
+}
+
+impl<Q: PendQueue<Key, usize>> Anteroom<Q> {
+    ghost use Rattle.anteroom.specs.declared.room.Cause.TheVariants.{Full};
+
+    /// Nobody waits, and so many may. Refused only where memory is short.
+    pub fn with_room(alloc: Global, room: usize) -> Result<Anteroom<Q>, AllocError>
+        ensures { IfOk result (λ made. made ≡ nobody room) }
+    {
+        Ok(Anteroom {
+            queue: Q::with_room(alloc, room)?,
+            room,
+            ticket: 0,
+        })
+    }
+
+    /// Whether nobody else is let in: then nobody is accepted either.
+    pub fn is_full(&self) -> bool
+        ensures { IsTrue result ↔ IsFull self.now }
+    {
+        self.room <= self.queue.len() || self.ticket == u64::MAX
+    }
+
+    /// How many wait.
+    pub fn len(&self) -> usize
+        ensures { result ≡ length self.now.pairs }
+    {
+        self.queue.len()
+    }
+
+    /// A guest comes now, and is answered its key.
+    pub fn come(
+        &mut self,
+        alloc: Global,
+        class: Class,
+        offset: Offset,
+        now: Moment,
+        guest: usize,
+    ) -> Result<Key, Cause>
+        ensures key { IfOk result (λ key. key ≡ key_of self.old class now offset) }
+        ensures ok { IfOk result (λ key. self.new ≡ came self.old key guest) }
+        ensures full { (result ≡ Err Full) ↔ IsFull self.old }
+        ensures err { OnErr result (self.new ≡ self.old) }
+    {
+        if self.is_full() {
+            return Err(Cause::Full);
+        }
+        let due = Due::of(now, offset);
+        let Ok(node) = Q::node(alloc, class.key(due, self.ticket), guest) else {
+            return Err(Cause::NoMemory);
+        };
+        let key = *Q::pair(&node).0;
+        self.queue.push(node);
+        self.ticket += 1;
+        Ok(key)
+    }
+
+    /// Looks at the guest for whom the next place is, who stays. None only where nobody waits.
+    pub fn first(&mut self) -> Option<(Key, usize)>
+        ensures first { result ≡ slice_get self.old.pairs 0 }
+        ensures same { self.new ≡ self.old }
+    {
+        let node = self.queue.pop()?;
+        let (key, guest) = Q::pair(&node);
+        let first = (*key, *guest);
+        self.queue.push(node);
+        Some(first)
+    }
+
+    /// The guest for whom the next place is: all others come behind. None only where nobody waits.
+    pub fn next(&mut self) -> Option<(Key, usize)>
+        ensures first { result ≡ slice_get self.old.pairs 0 }
+        ensures order { IfSome result (λ it. AllComeAfter it.0 self.new.pairs) }
+        ensures rest { self.new ≡ first_gone self.old }
+    {
+        let node = self.queue.pop()?;
+        Some(Q::into_pair(node))
+    }
+
+    /// A guest leaves, or has waited too long. None only where nobody has its key.
+    pub fn leave(&mut self, key: Key) -> Option<usize>
+        ensures its { result ≡ option_map (λ p. p.1) (pair_at key_cmp key self.old.pairs) }
+        ensures rest { self.new ≡ left self.old key }
+    {
+        let node = self.queue.remove(&key)?;
+        Some(Q::into_pair(node).1)
+    }
+}

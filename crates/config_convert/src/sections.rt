@@ -1,0 +1,127 @@
+//! The sections of HAProxy's configurations.
+
+use crate::lines::{Line, word_of};
+use crate::settling::Unconverted;
+use proxy_words::Lines;
+use std::alloc::{AllocError, Global};
+
+/// What a section is.
+#[derive(Clone, Copy, Debug, PartialEq, Eq)]
+pub(crate) enum Kind {
+    Global,
+    Defaults,
+    Frontend,
+    Backend,
+    Listen,
+    Other,
+}
+
+/// A section.
+#[derive(Debug, Drop)]
+pub(crate) struct Section {
+    pub(crate) kind: Kind,
+    pub(crate) head: Line,
+    pub(crate) lines: Vec<Line>,
+}
+
+impl Section {
+    pub(crate) fn name(&self) -> &[u8] {
+        self.head.word(1)
+    }
+
+    // The name of the `defaults` that it takes over.
+    fn base(&self) -> Option<&[u8]> {
+        let place = self
+            .head
+            .words
+            .iter()
+            .position(|word| word.as_slice() == b"from".as_slice())?;
+        self.head
+            .words
+            .get(place.saturating_add(1))
+            .map(|word| word.as_slice())
+    }
+
+    /// Whether a line begins with this word.
+    pub(crate) fn has(&self, keyword: &[u8]) -> bool {
+        self.last(keyword).is_some()
+    }
+
+    /// The last line that begins with this word.
+    pub(crate) fn last(&self, keyword: &[u8]) -> Option<&Line> {
+        self.lines.iter().rev().find(|line| line.word(0) == keyword)
+    }
+}
+
+/// The sections of a file, in order. Lines before the first belong to none.
+pub(crate) fn sections_of(alloc: Global, bytes: &[u8]) -> Result<Vec<Section>, Unconverted> {
+    let mut all: Vec<Section> = Vec::new(alloc);
+    for (at, bytes) in Lines::new(bytes).enumerate() {
+        let number = at.saturating_add(1);
+        if let Some(line) = Line::new(alloc, number, bytes)? {
+            if line.word(0).starts_with(b".".as_slice()) {
+                return Err(Unconverted::Macro { line: number });
+            }
+            add_line(alloc, &mut all, line)?;
+        }
+    }
+    Ok(all)
+}
+
+fn add_line(alloc: Global, all: &mut Vec<Section>, line: Line) -> Result<(), AllocError> {
+    if let Some(kind) = kind_of(line.word(0)) {
+        all.push(Section {
+            kind,
+            head: line,
+            lines: Vec::new(alloc),
+        })?;
+    } else if let Some(section) = all.last_mut() {
+        section.lines.push(line)?;
+    }
+    Ok(())
+}
+
+fn kind_of(word: &[u8]) -> Option<Kind> {
+    match word {
+        b"global" => Some(Kind::Global),
+        b"defaults" => Some(Kind::Defaults),
+        b"frontend" => Some(Kind::Frontend),
+        b"backend" => Some(Kind::Backend),
+        b"listen" => Some(Kind::Listen),
+        b"peers"
+        | b"resolvers"
+        | b"userlist"
+        | b"cache"
+        | b"program"
+        | b"mailers"
+        | b"ring"
+        | b"http-errors"
+        | b"fcgi-app"
+        | b"log-forward" => Some(Kind::Other),
+        _ => None,
+    }
+}
+
+/// The `defaults` that a section takes over: the one that it names, or else the last before it.
+pub(crate) fn defaults_of(sections: &[Section], at: usize) -> Option<usize> {
+    let base = sections.get(at).and_then(|section| section.base());
+    sections.iter().take(at).rposition(|section| {
+        section.kind == Kind::Defaults && base.is_none_or(|name| section.name() == name)
+    })
+}
+
+/// The last word behind a keyword of a section, or else of its `defaults`.
+pub(crate) fn value_of<'a>(sections: &'a [Section], at: usize, keyword: &[u8]) -> Option<&'a Line> {
+    let own = sections.get(at).and_then(|section| section.last(keyword));
+    if own.is_some() {
+        return own;
+    }
+    let defaults = sections.get(defaults_of(sections, at)?)?;
+    defaults.last(keyword)
+}
+
+/// Whether a section that may serve clients is of TCP.
+pub(crate) fn is_tcp(sections: &[Section], at: usize) -> bool {
+    value_of(sections, at, b"mode".as_slice()).is_some_and(|line| word_of(line.words.as_slice(), 1)
+        != b"http".as_slice())
+}

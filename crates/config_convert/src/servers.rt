@@ -1,0 +1,350 @@
+//! Servers, with what `default-server` gives them.
+
+use crate::acls::Names;
+use crate::fates::{Fate, setting_fate};
+use crate::lines::{Line, copied, word_of};
+use crate::notes::Weight;
+use crate::sections::Section;
+use proxy_words::number;
+use std::alloc::{AllocError, Global};
+
+/// What becomes of a `server` line.
+#[derive(Drop)]
+pub(crate) struct Server {
+    /// The number of its line.
+    pub(crate) line: usize,
+    pub(crate) old: Vec<u8>,
+    /// The words of the line in the profile; None where it has no place there.
+    pub(crate) words: Option<Vec<Vec<u8>>>,
+    /// What it would have done where it has no place.
+    pub(crate) lost: Fate,
+    /// What changes by words that are left out.
+    pub(crate) changes: Vec<(Vec<u8>, Fate)>,
+}
+
+/// All of a section.
+#[derive(Drop)]
+pub(crate) struct Servers {
+    pub(crate) all: Vec<Server>,
+}
+
+const NOTHING: Fate = Fate {
+    weight: None,
+    reason: "It would have been in maintenance from the start.",
+};
+
+const NO_TLS: Fate = Fate {
+    weight: Some(Weight::Grave),
+    reason: "The connection to it would have been TLS, which isn't there: it has no place.",
+};
+
+const NO_PROTOCOL: Fate = Fate {
+    weight: Some(Weight::Grave),
+    reason: "It wants another protocol than HTTP/1.1 in the clear, so it has no place.",
+};
+
+const NO_ADDRESS: Fate = Fate {
+    weight: Some(Weight::Grave),
+    reason: "Its address isn't an IPv4 address or a host's name with a port, so it has no place.",
+};
+
+const STRANGE: Fate = Fate {
+    weight: Some(Weight::Grave),
+    reason: "dueproxy convert doesn't know one of its words, so it has no place.",
+};
+
+const BACKUP: Fate = Fate {
+    weight: Some(Weight::Grave),
+    reason: "It would have served where all others are down: here, with weight 0, it serves requests of use-server alone.",
+};
+
+/// What is known of all servers of a section as one of them is looked at.
+#[derive(Clone, Copy)]
+pub(crate) struct Around<'a> {
+    /// The port at which clients connect, where there is one.
+    pub(crate) port: Option<u32>,
+    /// The section's `defaults`.
+    pub(crate) defaults: Option<&'a Section>,
+}
+
+impl Servers {
+    /// Those of a section.
+    pub(crate) fn new(
+        alloc: Global,
+        section: &Section,
+        around: Around,
+    ) -> Result<Servers, AllocError> {
+        let mut names = Names::new(alloc);
+        let mut settings = default_words(alloc, around.defaults)?;
+        let has_active = section.lines.iter().any(is_active);
+        let mut all = Vec::new(alloc);
+        for line in section.lines.iter() {
+            if line.word(0) == b"default-server".as_slice() {
+                add_words(alloc, &mut settings, line.behind(1))?;
+            } else if line.word(0) == b"server".as_slice() {
+                let mut words = copied(alloc, &settings)?;
+                add_words(alloc, &mut words, line.behind(3))?;
+                let read = Settings::new(alloc, &words, has_active)?;
+                all.push(server_of(alloc, &mut names, line, around.port, read)?)?;
+            }
+        }
+        Ok(Servers { all })
+    }
+
+    /// The one of the line with this number.
+    pub(crate) fn at(&self, line: usize) -> Option<&Server> {
+        self.all.iter().find(|server| server.line == line)
+    }
+
+    /// The one with this name.
+    pub(crate) fn named(&self, name: &[u8]) -> Option<&Server> {
+        self.all.iter().find(|server| server.old.as_slice() == name)
+    }
+
+    /// How many have a place.
+    pub(crate) fn count(&self) -> usize {
+        self.all
+            .iter()
+            .filter(|server| server.words.is_some())
+            .count()
+    }
+
+    /// Whether one of them is checked.
+    pub(crate) fn are_checked(&self) -> bool {
+        self.all.iter().any(is_checked)
+    }
+}
+
+fn is_checked(server: &Server) -> bool {
+    match &server.words {
+        Some(words) => words
+            .iter()
+            .any(|word| word.as_slice() == b"check".as_slice()),
+        None => false,
+    }
+}
+
+// A server that takes requests where no other is down.
+fn is_active(line: &Line) -> bool {
+    line.word(0) == b"server".as_slice()
+        && !line
+            .words
+            .iter()
+            .any(|word| word.as_slice() == b"backup".as_slice())
+}
+
+fn default_words(alloc: Global, defaults: Option<&Section>) -> Result<Vec<Vec<u8>>, AllocError> {
+    let mut words = Vec::new(alloc);
+    if let Some(section) = defaults {
+        for line in section.lines.iter() {
+            if line.word(0) == b"default-server".as_slice() {
+                add_words(alloc, &mut words, line.behind(1))?;
+            }
+        }
+    }
+    Ok(words)
+}
+
+fn add_words(alloc: Global, words: &mut Vec<Vec<u8>>, more: &[Vec<u8>]) -> Result<(), AllocError> {
+    for word in more {
+        words.push(Vec::from_slice(alloc, word.as_slice())?)?;
+    }
+    Ok(())
+}
+
+/// The settings of a server that the profile has, in the order in which they are written.
+const KEPT: [&str; 6] = ["weight", "maxconn", "maxqueue", "inter", "rise", "fall"];
+
+/// What the words behind a server's address say.
+#[derive(Drop)]
+struct Settings {
+    /// The values of the settings that are kept, the last of each kind.
+    values: [Option<usize>; 6],
+    /// All words, in which these values stand.
+    words: Vec<Vec<u8>>,
+    checked: bool,
+    /// It takes requests only where no other can.
+    spare: bool,
+    /// It is in maintenance from the start.
+    disabled: bool,
+    /// Why it has no place.
+    lost: Option<Fate>,
+    changes: Vec<(Vec<u8>, Fate)>,
+}
+
+impl Settings {
+    fn new(alloc: Global, words: &[Vec<u8>], has_active: bool) -> Result<Settings, AllocError> {
+        let mut settings = Settings {
+            values: [None; 6],
+            words: copied(alloc, words)?,
+            checked: false,
+            spare: false,
+            disabled: false,
+            lost: None,
+            changes: Vec::new(alloc),
+        };
+        let mut passed = 0usize;
+        for (at, word) in words.iter().enumerate() {
+            if passed > 0 {
+                passed -= 1;
+            } else {
+                passed = settings.take(alloc, word.as_slice(), at)?;
+            }
+        }
+        settings.spare = settings.spare && has_active;
+        if settings.disabled {
+            settings.lost = Some(NOTHING);
+        }
+        Ok(settings)
+    }
+
+    // Takes a setting in, and answers how many words behind it are its own.
+    fn take(&mut self, alloc: Global, word: &[u8], at: usize) -> Result<usize, AllocError> {
+        if let Some(kind) = KEPT.iter().position(|name| word == name.as_bytes()) {
+            if let Some(value) = self.values.get_mut(kind) {
+                *value = Some(at.saturating_add(1));
+            }
+            return Ok(1);
+        }
+        match word {
+            b"check" => self.checked = true,
+            b"no-check" => self.checked = false,
+            b"backup" => self.spare = true,
+            b"no-backup" => self.spare = false,
+            b"disabled" => self.disabled = true,
+            b"enabled" => self.disabled = false,
+            b"ssl" => self.lost = Some(NO_TLS),
+            b"send-proxy" | b"send-proxy-v2" | b"send-proxy-v2-ssl" | b"send-proxy-v2-ssl-cn" => {
+                self.lost = Some(NO_PROTOCOL);
+            }
+            b"proto" | b"socks4" | b"namespace" | b"redir" | b"proxy-v2-options" => {
+                self.lost = Some(NO_PROTOCOL);
+                return Ok(1);
+            }
+            _ => return self.take_other(alloc, word),
+        }
+        Ok(0)
+    }
+
+    fn take_other(&mut self, alloc: Global, word: &[u8]) -> Result<usize, AllocError> {
+        let Some((arguments, fate)) = setting_fate(word) else {
+            self.lost = Some(STRANGE);
+            return Ok(0);
+        };
+        if fate.weight.is_some() {
+            self.changes.push((Vec::from_slice(alloc, word)?, fate))?;
+        }
+        Ok(arguments)
+    }
+
+    // Adds the settings to the words of a line.
+    fn push_to(&self, alloc: Global, line: &mut Vec<Vec<u8>>) -> Result<(), AllocError> {
+        for (name, value) in KEPT.iter().zip(self.values.iter()) {
+            let value = match value {
+                _ if self.spare && *name == "weight" => b"0".as_slice(),
+                Some(at) => word_of(&self.words, *at),
+                None => continue,
+            };
+            line.push(Vec::from_slice(alloc, name.as_bytes())?)?;
+            line.push(Vec::from_slice(alloc, value)?)?;
+        }
+        if self.checked {
+            line.push(Vec::from_slice(alloc, b"check")?)?;
+        }
+        Ok(())
+    }
+}
+
+fn server_of(
+    alloc: Global,
+    names: &mut Names,
+    line: &Line,
+    port: Option<u32>,
+    settings: Settings,
+) -> Result<Server, AllocError> {
+    let address = if line.is_odd {
+        None
+    } else {
+        address_of(alloc, line.word(2), port)?
+    };
+    let lost = settings.lost;
+    let mut words = None;
+    if let (Some(address), None) = (address, lost) {
+        let name = names.give(alloc, line.word(1))?;
+        words = Some(line_of(alloc, name, address, &settings)?);
+    }
+    let Settings {
+        spare,
+        mut changes,
+        ..
+    } = settings;
+    if spare {
+        changes.push((Vec::from_slice(alloc, b"backup")?, BACKUP))?;
+    }
+    Ok(Server {
+        line: line.number,
+        old: Vec::from_slice(alloc, line.word(1))?,
+        words,
+        lost: lost.unwrap_or(NO_ADDRESS),
+        changes,
+    })
+}
+
+fn line_of(
+    alloc: Global,
+    name: Vec<u8>,
+    address: Vec<u8>,
+    settings: &Settings,
+) -> Result<Vec<Vec<u8>>, AllocError> {
+    let mut words = Vec::new(alloc);
+    words.push(Vec::from_slice(alloc, b"server")?)?;
+    words.push(name)?;
+    words.push(address)?;
+    settings.push_to(alloc, &mut words)?;
+    Ok(words)
+}
+
+// An address with its port: HAProxy takes the port at which the client connected where none stands, or adds to it.
+fn address_of(
+    alloc: Global,
+    word: &[u8],
+    port: Option<u32>,
+) -> Result<Option<Vec<u8>>, AllocError> {
+    let word = word.strip_prefix(b"ipv4@".as_slice()).unwrap_or(word);
+    let colon = word
+        .iter()
+        .position(|byte| *byte == b':')
+        .unwrap_or(word.len());
+    let host = word.get(..colon).unwrap_or(b"".as_slice());
+    let digits = word
+        .get(colon.saturating_add(1)..)
+        .unwrap_or(b"".as_slice());
+    if is_transparent(host) {
+        return Ok(None);
+    }
+    let Some(port) = port_of(digits, port) else {
+        return Ok(None);
+    };
+    let mut address = Vec::from_slice(alloc, host)?;
+    address.extend_from_slice(format!(in alloc; ":{port}")?.as_bytes())?;
+    Ok(Some(address))
+}
+
+// An address that stands for the one to which the client connected, or none.
+fn is_transparent(host: &[u8]) -> bool {
+    matches!(host, b"" | b"*" | b"0.0.0.0") || host.contains(&b'@') || host.contains(&b'/')
+}
+
+fn port_of(digits: &[u8], port: Option<u32>) -> Option<u32> {
+    if digits.is_empty() {
+        return port;
+    }
+    let port = port.unwrap_or(0);
+    if let Some(more) = digits.strip_prefix(b"+".as_slice()) {
+        return port.checked_add(number(more)?);
+    }
+    if let Some(less) = digits.strip_prefix(b"-".as_slice()) {
+        return port.checked_sub(number(less)?);
+    }
+    number(digits)
+}

@@ -1,0 +1,64 @@
+use crate::reception::{LISTENER, WAKER};
+use mio::unix::SourceFd;
+use mio::{Interest, Poll, Token, Waker};
+use std::alloc::Global;
+use std::net::Net;
+use std::os::fd::AsRawFd;
+use std::os::unix::net::{UnixListener, UnixStream};
+use std::sync::{Mutex, Wait};
+
+/// What a proxy can be steered by: a socket, the end of standard input, or both.
+#[derive(Drop)]
+pub struct Controls {
+    pub(crate) listener: Option<UnixListener>,
+    /// The end of standard input is an order to stop.
+    pub(crate) ends_with_input: bool,
+    pub(crate) waker: Waker,
+    pub(crate) alloc: Global,
+    poll: Mutex<Option<Poll>>,
+    kept: Mutex<Vec<UnixStream>>,
+}
+
+impl Controls {
+    /// None where the system has no poll to spare.
+    pub fn new<R: Net>(
+        rt: &R,
+        alloc: Global,
+        listener: Option<UnixListener>,
+        ends_with_input: bool,
+    ) -> Option<Controls> {
+        let poll = Poll::new(rt).ok()?;
+        let waker = Waker::new(poll.registry(), Token(WAKER)).ok()?;
+        if let Some(listener) = &listener {
+            let fd = listener.as_raw_fd();
+            let mut source = SourceFd(&fd);
+            poll.registry()
+                .register(&mut source, Token(LISTENER), Interest::READABLE)
+                .ok()?;
+        }
+        Some(Controls {
+            listener,
+            ends_with_input,
+            waker,
+            alloc,
+            poll: Mutex::new(Some(poll)),
+            kept: Mutex::new(Vec::new(alloc)),
+        })
+    }
+
+    /// Has whoever attends look at once whether all is over.
+    pub fn ring(&self) {
+        // It fails only where a wake is before it already.
+        let _ = self.waker.wake();
+    }
+
+    /// The poll, which one thread takes.
+    pub(crate) fn take_poll<R: Wait>(&self, rt: &R) -> Option<Poll> {
+        self.poll.lock(rt).take()
+    }
+
+    /// A connection that stays until the controls are gone. Where there is no memory for it, it is closed.
+    pub(crate) fn keep<R: Wait>(&self, rt: &R, stream: UnixStream) {
+        let _ = self.kept.lock(rt).push(stream);
+    }
+}

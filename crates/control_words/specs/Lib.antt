@@ -1,0 +1,6 @@
+pub mod Misfits
+pub mod Pieces
+pub mod Commands
+pub mod Wished
+pub mod Wishes
+pub mod States

@@ -1,0 +1,265 @@
+ghost use Rattle.std.specs.Prelude.{◌≡◌};
+ghost use Rattle.control_words.specs.Misfits.{Sees};
+ghost use Rattle.control_words.specs.Commands as grammar;
+ghost use Rattle.proxy_words.specs.Text.{words as words_of};
+
+use crate::pieces::{Misfit, bad, end, fixed, intake, is, millis, name, name_below, word};
+use dispatch_log::Intake;
+use proxy_words::Words;
+use script::Name;
+
+/// What a proxy is told or asked.
+#[derive(Debug, Drop)]
+pub enum Command<'a> {
+    /// How its servers and its clients stand.
+    State(Form),
+    /// A server serves at most so many at once from now on, or takes nobody.
+    Limit { server: Name<'a>, intake: Intake },
+    /// A server takes nobody; whether the answer waits until it serves nobody.
+    Drain { server: Name<'a>, waits: bool },
+    /// A server takes as many again as the configuration says.
+    Ready { server: Name<'a> },
+    /// No server takes anybody.
+    Pause,
+    /// Those take as many again that took some before the pause.
+    Resume,
+    /// The reports of the present window.
+    Reports,
+    /// How many clients there are.
+    Clients,
+    /// All is over once those who are there were served, or after so many milliseconds.
+    Stop { within: Option<u64> },
+    /// Which commands there are.
+    Help,
+}
+
+/// In which form the state is answered.
+#[derive(Clone, Copy, Debug, PartialEq, Eq)]
+pub enum Form {
+    /// A line for each server.
+    Lines,
+    /// One value of JSON.
+    Json,
+    /// As HAProxy's `show stat`.
+    Stat,
+    /// As HAProxy's `show servers state`.
+    Servers,
+}
+
+/// The command that a line is, or why it is none.
+pub fn command_of<'a>(line: &'a [u8]) -> Result<Command<'a>, Misfit<'a>>
+    ensures { Sees (λ x. x) result (grammar.command_of (words_of line.now)) }
+{
+    let (first, words) = word(Words::new(line))?;
+    by_first(first, words)
+}
+
+// The command that begins with this word.
+fn by_first<'a>(first: &'a [u8], words: Words<'a>) -> Result<Command<'a>, Misfit<'a>>
+    ensures { Sees (λ x. x) result (grammar.first_of first.now words.entry) }
+{
+    if is(first, "state") {
+        state(words)
+    } else if is(first, "limit") {
+        limit(words)
+    } else if is(first, "drain") {
+        drain(words)
+    } else if is(first, "ready") {
+        ready(words)
+    } else if is(first, "stop") {
+        stop(words)
+    } else {
+        other(first, words)
+    }
+}
+
+// A command that begins with one of HAProxy's words, or has one word.
+fn other<'a>(first: &'a [u8], words: Words<'a>) -> Result<Command<'a>, Misfit<'a>>
+    ensures { Sees (λ x. x) result (grammar.other_of first.now words.entry) }
+{
+    if is(first, "show") {
+        show(words)
+    } else if is(first, "set") {
+        set(words)
+    } else {
+        single(first, words)
+    }
+}
+
+// A command of one word, and nothing behind it.
+fn single<'a>(first: &'a [u8], words: Words<'a>) -> Result<Command<'a>, Misfit<'a>>
+    ensures { Sees (λ x. x) result (grammar.single first.now words.entry (grammar.plain first.now)) }
+{
+    match plain(first) {
+        Some(command) => alone(command, words),
+        None => Err(bad(first)),
+    }
+}
+
+// The command of one word that this is.
+fn plain<'a>(word: &[u8]) -> Option<Command<'a>>
+    ensures { result ≡ grammar.plain word.now }
+{
+    if is(word, "pause") {
+        Some(Command::Pause)
+    } else if is(word, "resume") {
+        Some(Command::Resume)
+    } else if is(word, "reports") {
+        Some(Command::Reports)
+    } else if is(word, "clients") {
+        Some(Command::Clients)
+    } else if is(word, "help") {
+        Some(Command::Help)
+    } else {
+        None
+    }
+}
+
+// The command, where no word stands behind it.
+fn alone<'a>(command: Command<'a>, words: Words<'a>) -> Result<Command<'a>, Misfit<'a>>
+    ensures { Sees (λ x. x) result (grammar.alone command.entry words.entry) }
+{
+    end(words)?;
+    Ok(command)
+}
+
+// `--json` or nothing, behind `state`.
+fn state<'a>(mut words: Words<'a>) -> Result<Command<'a>, Misfit<'a>>
+    ensures { Sees (λ x. x) result (grammar.state_of words.entry) }
+{
+    match words.next() {
+        None => Ok(Command::State(Form::Lines)),
+        Some(b"--json") => alone(Command::State(Form::Json), words),
+        Some(word) => Err(bad(word)),
+    }
+}
+
+// `SERVER N` or `SERVER closed`, behind `limit`.
+#[tactic(auto, unfolding(crate::specs::Commands::limit_of))]
+fn limit<'a>(words: Words<'a>) -> Result<Command<'a>, Misfit<'a>>
+    ensures { Sees (λ x. x) result (grammar.limit_of words.entry) }
+{
+    let (server, words) = name(words)?;
+    let (intake, words) = intake(words)?;
+    alone(Command::Limit { server, intake }, words)
+}
+
+// `SERVER` or `SERVER --wait`, behind `drain`.
+#[tactic(auto, unfolding(crate::specs::Commands::drain_of))]
+fn drain<'a>(words: Words<'a>) -> Result<Command<'a>, Misfit<'a>>
+    ensures { Sees (λ x. x) result (grammar.drain_of words.entry) }
+{
+    let (server, words) = name(words)?;
+    drain_one(server, words)
+}
+
+// `--wait` or nothing, behind `drain SERVER`.
+fn drain_one<'a>(server: Name<'a>, mut words: Words<'a>) -> Result<Command<'a>, Misfit<'a>>
+    ensures { Sees (λ x. x) result (grammar.drained server.entry words.entry) }
+{
+    match words.next() {
+        None => Ok(drained(server, false)),
+        Some(b"--wait") => alone(drained(server, true), words),
+        Some(word) => Err(bad(word)),
+    }
+}
+
+// `SERVER`, behind `ready`.
+#[tactic(auto, unfolding(crate::specs::Commands::ready_of))]
+fn ready<'a>(words: Words<'a>) -> Result<Command<'a>, Misfit<'a>>
+    ensures { Sees (λ x. x) result (grammar.ready_of words.entry) }
+{
+    let (server, words) = name(words)?;
+    alone(Command::Ready { server }, words)
+}
+
+// `--within MS` or nothing, behind `stop`.
+fn stop<'a>(mut words: Words<'a>) -> Result<Command<'a>, Misfit<'a>>
+    ensures { Sees (λ x. x) result (grammar.stop_of words.entry) }
+{
+    match words.next() {
+        None => Ok(Command::Stop { within: None }),
+        Some(word) if is(word, "--within") => within(words),
+        Some(word) => Err(bad(word)),
+    }
+}
+
+// `MS`, behind `stop --within`.
+#[tactic(auto, unfolding(crate::specs::Commands::within_of))]
+fn within<'a>(words: Words<'a>) -> Result<Command<'a>, Misfit<'a>>
+    ensures { Sees (λ x. x) result (grammar.within_of words.entry) }
+{
+    let (number, words) = millis(words)?;
+    let within = Some(number);
+    alone(Command::Stop { within }, words)
+}
+
+// `stat` or `servers state`, behind `show`.
+fn show<'a>(words: Words<'a>) -> Result<Command<'a>, Misfit<'a>>
+    ensures { Sees (λ x. x) result (grammar.show_of words.entry) }
+{
+    let (what, words) = word(words)?;
+    match what {
+        b"stat" => alone(Command::State(Form::Stat), words),
+        b"servers" => servers(words),
+        _ => Err(bad(what)),
+    }
+}
+
+// `state`, behind `show servers`.
+#[tactic(auto, unfolding(crate::specs::Commands::servers_of))]
+fn servers<'a>(words: Words<'a>) -> Result<Command<'a>, Misfit<'a>>
+    ensures { Sees (λ x. x) result (grammar.servers_of words.entry) }
+{
+    let words = fixed("state", words)?;
+    alone(Command::State(Form::Servers), words)
+}
+
+// `maxconn server BACKEND/SERVER N` or `server BACKEND/SERVER state ..`, behind `set`.
+fn set<'a>(words: Words<'a>) -> Result<Command<'a>, Misfit<'a>>
+    ensures { Sees (λ x. x) result (grammar.set_of words.entry) }
+{
+    let (what, words) = word(words)?;
+    match what {
+        b"maxconn" => set_limit(words),
+        b"server" => set_state(words),
+        _ => Err(bad(what)),
+    }
+}
+
+#[tactic(auto, unfolding(crate::specs::Commands::set_limit_of))]
+fn set_limit<'a>(words: Words<'a>) -> Result<Command<'a>, Misfit<'a>>
+    ensures { Sees (λ x. x) result (grammar.set_limit_of words.entry) }
+{
+    let words = fixed("server", words)?;
+    let (server, words) = name_below(words)?;
+    let (intake, words) = intake(words)?;
+    alone(Command::Limit { server, intake }, words)
+}
+
+#[tactic(auto, unfolding(crate::specs::Commands::set_state_of))]
+fn set_state<'a>(words: Words<'a>) -> Result<Command<'a>, Misfit<'a>>
+    ensures { Sees (λ x. x) result (grammar.set_state_of words.entry) }
+{
+    let (server, words) = name_below(words)?;
+    let words = fixed("state", words)?;
+    stand(server, words)
+}
+
+// `ready`, `drain` or `maint`, behind `set server BACKEND/SERVER state`.
+fn stand<'a>(server: Name<'a>, words: Words<'a>) -> Result<Command<'a>, Misfit<'a>>
+    ensures { Sees (λ x. x) result (grammar.stood server.entry words.entry) }
+{
+    let (state, words) = word(words)?;
+    match state {
+        b"ready" => alone(Command::Ready { server }, words),
+        b"drain" | b"maint" => alone(drained(server, false), words),
+        _ => Err(bad(state)),
+    }
+}
+
+fn drained<'a>(server: Name<'a>, waits: bool) -> Command<'a>
+    ensures { result ≡ Command.Drain server.entry waits }
+{
+    Command::Drain { server, waits }
+}

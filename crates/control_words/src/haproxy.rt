@@ -1,0 +1,75 @@
+//! The state in the forms of HAProxy's runtime API. What isn't known is left empty.
+
+use crate::state::{ProxyState, ServerState};
+use dispatch_log::Intake;
+use script::Names;
+use std::alloc::AllocError;
+
+/// The columns of `show stat` up to the weight, in HAProxy's order.
+const STAT: &str =
+    "# pxname,svname,qcur,qmax,scur,smax,slim,stot,bin,bout,dreq,dresp,ereq,econ,eresp,wretr,wredis,status,weight,";
+
+/// Those of `show servers state` up to the weight.
+const SERVERS: &str =
+    "1\n# be_id be_name srv_id srv_name srv_addr srv_op_state srv_admin_state srv_uweight";
+
+/// The name that the proxy has in both.
+const PROXY: &str = "dueproxy";
+
+/// Writes the lines of `show stat` at the end: one for each server, and one for the requests that wait. After an `Err` a part of them may stand there.
+pub fn push_stat(text: &mut String, names: &Names, state: &ProxyState) -> Result<(), AllocError> {
+    writeln!(text, "{STAT}")?;
+    for (number, server) in state.servers.as_slice().iter().enumerate() {
+        push_stat_line(text, names.of(number), server)?;
+    }
+    let waiting = state.waiting;
+    let clients = state.clients;
+    writeln!(
+        text,
+        "{PROXY},BACKEND,{waiting},,{clients},,,,,,,,,,,,,UP,,"
+    )
+}
+
+fn push_stat_line(text: &mut String, name: &str, server: &ServerState) -> Result<(), AllocError> {
+    let served = server.served;
+    let waiting = server.waiting;
+    write!(text, "{PROXY},{name},{waiting},,{served},,")?;
+    if let Intake::Open(limit) = server.intake {
+        if limit != 0 {
+            write!(text, "{limit}")?;
+        }
+    }
+    let status = status_of(server);
+    writeln!(text, ",,,,,,,,,,,{status},,")
+}
+
+// A server that is closed reads as one that HAProxy drains.
+fn status_of(server: &ServerState) -> &'static str {
+    match (server.up, server.intake) {
+        (false, _) => "DOWN",
+        (true, Intake::Closed) => "DRAIN",
+        (true, Intake::Open(_)) => "UP",
+    }
+}
+
+/// Writes the lines of `show servers state` at the end. After an `Err` a part of them may stand there.
+pub fn push_servers_state(
+    text: &mut String,
+    names: &Names,
+    state: &ProxyState,
+) -> Result<(), AllocError> {
+    writeln!(text, "{SERVERS}")?;
+    for (number, server) in state.servers.as_slice().iter().enumerate() {
+        let name = names.of(number);
+        let place = number.saturating_add(1);
+        // 2: it runs, 0: it doesn't; 8: it was drained by hand.
+        let runs = if server.up { 2 } else { 0 };
+        let drained = if server.intake == Intake::Closed {
+            8
+        } else {
+            0
+        };
+        writeln!(text, "1 {PROXY} {place} {name} - {runs} {drained} -")?;
+    }
+    Ok(())
+}

@@ -1,0 +1,20 @@
+//! What a running proxy is told and asked, a line a command, what it is to do then, and what it answers.
+#![tactic(auto)]
+
+mod command;
+mod haproxy;
+mod json;
+mod pieces;
+mod state;
+#[cfg(test)]
+mod tests;
+mod wishes;
+mod word;
+
+pub use command::{Command, Form, command_of};
+pub use haproxy::{push_servers_state, push_stat};
+pub use json::json_of;
+pub use pieces::Misfit;
+pub use state::{ProxyState, ServerState, push_state};
+pub use wishes::{Wish, Wishes};
+pub use word::Word;

@@ -1,0 +1,82 @@
+//! A line with its number, and a mark below a word of it.
+
+ghost use Rattle.std.specs.Prelude.{◌≤◌, ◌<◌, length, IfSome};
+
+use std::alloc::AllocError;
+
+/// Where a word of a line begins, and where it ends.
+#[derive(Clone, Copy, Debug, PartialEq, Eq)]
+pub struct Span {
+    pub start: usize,
+    pub end: usize,
+}
+
+/// Where the word at this place of a line stands, counted from 0; None where the line has none there.
+pub fn span_of(line: &[u8], place: usize) -> Option<Span>
+    ensures { IfSome result (λ span. (span.start < span.end) × (span.end ≤ length line.now)) }
+{
+    let mut seen = 0usize;
+    let mut start = None;
+    for (i, byte) in line.iter().enumerate() {
+        let blank = *byte == b' ' || *byte == b'\t';
+        match start {
+            Some(start) if blank && seen == place => return Some(Span { start, end: i }),
+            Some(_) if blank => {
+                seen = seen.saturating_add(1);
+                start = None;
+            }
+            None if !blank => start = Some(i),
+            _ => {}
+        }
+    }
+    let start = start?;
+    if seen == place {
+        Some(Span {
+            start,
+            end: line.len(),
+        })
+    } else {
+        None
+    }
+}
+
+/// Writes a line with its number, and below it a mark: below the span, or behind the line where there is none. Bytes that aren't
+/// to be printed are shown as a question mark, and a tab as one blank.
+pub fn push_marked_line(
+    text: &mut String,
+    number: usize,
+    line: &[u8],
+    span: Option<Span>,
+) -> Result<(), AllocError> {
+    let before = text.len();
+    write!(text, "line {number}: ")?;
+    let head = text.len().saturating_sub(before);
+    push_bytes(text, line)?;
+    text.push('\n')?;
+    let span = span.unwrap_or(Span {
+        start: line.len(),
+        end: line.len().saturating_add(1),
+    });
+    push_times(text, ' ', head)?;
+    push_times(text, ' ', span.start)?;
+    push_times(text, '^', span.end.saturating_sub(span.start))?;
+    text.push('\n')
+}
+
+fn push_bytes(text: &mut String, bytes: &[u8]) -> Result<(), AllocError> {
+    for byte in bytes {
+        text.push(match *byte {
+            b'\t' => ' ',
+            b' '..=b'~' => char::from(*byte),
+            _ => '?',
+        })?;
+    }
+    Ok(())
+}
+
+fn push_times(text: &mut String, sign: char, times: usize) -> Result<(), AllocError> {
+    for _ in 0..times {
+        text.push(sign)?;
+    }
+    Ok(())
+}

@@ -1,0 +1,19 @@
+-- What is due of an end that was asked for.
+use Rattle.std.specs.Prelude.{ℕ, Bool, false, ◌&&◌, ◌||◌, nat_le, if◌then◌else◌, Option, Some, None}
+use Rattle.proxy_steering.specs.declared.stopping.Ending.{Ending}
+use Rattle.proxy_steering.specs.declared.stopping.Ending.TheVariants.{Serves, Stops, Refuses}
+use Rattle.proxy_steering.specs.declared.stopping.Due.{Due}
+use Rattle.proxy_steering.specs.declared.stopping.Due.TheVariants.{Nothing, Look, Refusals, End}
+
+-- a moment has come, where there is one
+abbrev pub has_come : Option ℕ → ℕ → Bool
+has_come None now = false
+has_come (Some until) now = nat_le until now
+
+-- nothing while all serve; where nobody new comes, the end once nobody was there at two looks in a row, and else, at its moment, the refusals of who waits;
+-- behind these the end once nobody is there, or at its moment
+abbrev pub due_of : Ending → Bool → ℕ → Due
+due_of Serves is_empty now = Nothing
+due_of (Stops until was_empty) is_empty now =
+    if was_empty && is_empty then End else if has_come until now then Refusals else Look (Stops until is_empty)
+due_of (Refuses until) is_empty now = if is_empty || nat_le until now then End else Look (Refuses until)

@@ -1,0 +1,50 @@
+//! From the end that was asked for to what is done of it.
+
+use crate::helm::Helm;
+use crate::steered::Steered;
+use crate::stopping::{Due, Ending, GRACE, due_of, later};
+use control_socket::Tended;
+
+impl<P: Steered + Drop> Helm<P> {
+    /// Nobody new comes, and all is over once nobody is there, or so many milliseconds from now.
+    pub(crate) fn stop(&mut self, within: Option<u64>) {
+        let now = self.proxy.moment().get();
+        self.proxy.stop();
+        if matches!(self.ending, Ending::Refuses { .. }) {
+            return;
+        }
+        let until = match within {
+            Some(millis) => Some(later(now, millis)),
+            None => None,
+        };
+        self.ending = Ending::Stops {
+            until,
+            was_empty: false,
+        };
+    }
+
+    /// Whether nobody new comes.
+    pub(crate) fn is_stopping(&self) -> bool {
+        self.ending != Ending::Serves
+    }
+
+    /// Does what is due of the end.
+    pub(crate) fn go_on_ending(&mut self) -> Tended {
+        if self.proxy.is_over() {
+            return Tended::Over;
+        }
+        let now = self.proxy.moment().get();
+        match due_of(self.ending, self.proxy.is_empty(), now) {
+            Due::Nothing => return Tended::Rests,
+            Due::Look(ending) => self.ending = ending,
+            Due::End => self.proxy.close(),
+            Due::Refusals => {
+                self.proxy.refuse();
+                self.ending = Ending::Refuses {
+                    until: later(now, GRACE),
+                };
+            }
+        }
+        Tended::Soon
+    }
+}

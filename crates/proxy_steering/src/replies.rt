@@ -1,0 +1,123 @@
+//! The texts of answers.
+
+use crate::helm::Helm;
+use crate::steered::Steered;
+use control_words::{
+    Form, Misfit, ProxyState, ServerState, json_of, push_servers_state, push_stat, push_state,
+};
+use dispatch_log::{Intake, Refusal};
+use script::push_reports;
+use std::alloc::{AllocError, Global};
+
+pub(crate) const HELP: &str = "\
+state [--json]            how the servers and the clients stand
+limit SERVER N            SERVER serves at most N at once; 0: any number
+limit SERVER closed       SERVER takes nobody
+drain SERVER [--wait]     the same; with --wait answered once it serves nobody
+ready SERVER              SERVER takes as many as the configuration says
+pause                     no server takes anybody: requests wait, in their order
+resume                    those take as many again that took some before
+reports                   the reports of the window up to now
+clients                   how many clients there are
+stop [--within MS]        nobody new comes; all is over once who is there was
+                          served, or after MS milliseconds
+help                      this
+";
+
+/// Why a line was no command.
+pub(crate) fn misfit_text(alloc: Global, misfit: &Misfit) -> Result<String, AllocError> {
+    match misfit {
+        Misfit::Missing => String::from_str(
+            alloc,
+            "error: a word is missing at the end: see help\n",
+        ),
+        Misfit::Bad(word) => {
+            let word = word.as_str().unwrap_or("(no text)");
+            format!(in alloc; "error: {word:?} doesn't fit there: see help\n")
+        }
+    }
+}
+
+pub(crate) fn no_server(alloc: Global, name: &str) -> Result<String, AllocError> {
+    format!(in alloc; "error: there is no server {name}\n")
+}
+
+/// What a dispatcher refused.
+pub(crate) fn refusal_text(alloc: Global, refusal: Refusal) -> Result<String, AllocError> {
+    format!(in alloc; "error: refused: {refusal}: try it again\n")
+}
+
+impl<P: Steered + Drop> Helm<P> {
+    /// What a server takes from now on.
+    pub(crate) fn taking_text(&self, server: usize) -> Result<String, AllocError> {
+        let mut text = String::new(self.alloc);
+        let name = self.proxy.names().of(server);
+        let served = self.proxy.standing(server).served;
+        match self.wishes.intake(server) {
+            Some(Intake::Open(limit)) => {
+                writeln!(text, "ok server {name} limit {limit} served {served}")?;
+            }
+            _ if self.wishes.is_paused() => {
+                writeln!(text, "ok server {name} limit closed served {served} paused")?;
+            }
+            _ => writeln!(text, "ok server {name} limit closed served {served}")?,
+        }
+        Ok(text)
+    }
+
+    /// The state in a form.
+    pub(crate) fn state_text(&self, form: Form) -> Result<String, AllocError> {
+        let state = self.state()?;
+        let names = self.proxy.names();
+        let mut text = String::new(self.alloc);
+        match form {
+            Form::Lines => push_state(&mut text, names, &state)?,
+            Form::Stat => push_stat(&mut text, names, &state)?,
+            Form::Servers => push_servers_state(&mut text, names, &state)?,
+            Form::Json => {
+                text = json_of(self.alloc, names, &state)?;
+                text.push('\n')?;
+            }
+        }
+        Ok(text)
+    }
+
+    fn state(&self) -> Result<ProxyState, AllocError> {
+        let mut servers = Vec::new(self.alloc);
+        for server in 0..self.wishes.len() {
+            let standing = self.proxy.standing(server);
+            servers.push(ServerState {
+                up: standing.up,
+                intake: self.wishes.intake(server).unwrap_or(Intake::Closed),
+                served: standing.served,
+                waiting: standing.waiting,
+            })?;
+        }
+        Ok(ProxyState {
+            servers,
+            waiting: self.proxy.waiting(),
+            places: self.proxy.places(),
+            clients: self.proxy.clients(),
+            paused: self.wishes.is_paused(),
+            stopping: self.is_stopping(),
+        })
+    }
+
+    /// The reports of the present window.
+    pub(crate) fn reports_text(&self) -> Result<String, AllocError> {
+        let reports = self.proxy.reports()?;
+        let mut text = String::new(self.alloc);
+        push_reports(&mut text, self.proxy.names(), reports.as_slice())?;
+        Ok(text)
+    }
+
+    pub(crate) fn clients_text(&self) -> Result<String, AllocError> {
+        let clients = self.proxy.clients();
+        format!(in self.alloc; "clients {clients}\n")
+    }
+
+    pub(crate) fn stopping_text(&self) -> Result<String, AllocError> {
+        let clients = self.proxy.clients();
+        format!(in self.alloc; "ok stopping clients {clients}\n")
+    }
+}

@@ -1,0 +1,16 @@
+-- What is known of a name.
+use Rattle.std.specs.Prelude.{Option, Some, None}
+use Rattle.std.specs.declared.net.socket_addr.SocketAddr.{SocketAddr}
+use Rattle.server_names.specs.declared.answer.Answer.{Answer}
+use Rattle.server_names.specs.declared.answer.Answer.TheVariants.{Nothing, Failed, At}
+
+-- the answer of a look-up that found this
+abbrev pub answer_of : Option SocketAddr → Answer
+answer_of None = Failed
+answer_of (Some address) = At address
+
+-- the address of an answer: none where none came, and where the look-up failed
+abbrev pub address_in : Answer → Option SocketAddr
+address_in Nothing = None
+address_in Failed = None
+address_in (At address) = Some address

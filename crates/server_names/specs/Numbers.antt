@@ -1,0 +1,17 @@
+-- Addresses that stand in a configuration.
+use Rattle.std.specs.Prelude.{ℕ, ◌≡◌, List, Option, IsSomeAnd}
+use Rattle.std.specs.declared.net.ipv4_addr.Ipv4Addr.{Ipv4Addr}
+use Rattle.std.specs.declared.net.ip_addr.IpAddr.TheVariants.{V4}
+use Rattle.std.specs.declared.net.socket_addr.SocketAddr.{SocketAddr}
+use Rattle.std.specs.Net.Addr.{ipv4_octets}
+use Rattle.std.specs.Net.Socket.{socket_ip, IsPlainSocket}
+use Rattle.proxy_config.specs.declared.parts.Address.{Address}
+use Rattle.proxy_config.specs.declared.parts.Host.TheVariants.{Ip}
+
+-- the socket's address of this IPv4 address and this port
+abbrev pub IsAt : List ℕ → ℕ → SocketAddr → Type 0
+IsAt octets port address = (ip : Ipv4Addr) × (ipv4_octets ip ≡ octets) × (socket_ip address ≡ V4 ip) × IsPlainSocket address port
+
+-- an address in numbers is found, and is the one that stands there
+abbrev pub IsAddressOf : Address → Option SocketAddr → Type 0
+IsAddressOf address found = (octets : List ℕ) → address.host ≡ Ip octets → IsSomeAnd found (IsAt octets address.port)

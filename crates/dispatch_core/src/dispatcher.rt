@@ -251,6 +251,13 @@ impl<Q: PendQueue<Key, usize>> Core<Q> {
         self.events.trace.expired(moment)
     }
 
+    /// The moment of an event that comes at a moment: no earlier than the last event's. `O(1)`.
+    pub fn moment_at(&self, moment: Moment) -> Moment
+        ensures { result ≡ effective self.now moment }
+    {
+        self.events.trace.moment_at(moment)
+    }
+
     /// What was decided since the base, and the base.
     pub fn log(&self) -> &Log
         ensures base { result.now.base ≡ self.now.base }

@@ -27,6 +27,13 @@ impl<Q: PendQueue<Key, usize>> Trace<Q> {
         self.position.last = now;
     }
 
+    /// The moment of an event that comes at a moment: no earlier than the last event's. `O(1)`.
+    pub fn moment_at(&self, moment: Moment) -> Moment
+        ensures { result ≡ effective self.now moment }
+    {
+        self.position.last.later(moment)
+    }
+
     /// Whether some request has, at a moment. `O(1)`.
     pub fn expired(&self, moment: Moment) -> bool
         ensures { IsTrue result ↔ SomeExpires self.now moment }

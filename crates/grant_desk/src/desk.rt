@@ -4,10 +4,12 @@ ghost use Rattle.dispatch_log.specs.declared.entry.Entry.TheVariants.{Arrive, Ab
 ghost use Rattle.dispatch_log.specs.declared.refusal.Refusal.TheVariants.{LogFull};
 ghost use Rattle.dispatch_log.specs.Histories.{first_window, next_window, state_of, effective, refuses_arrival, refuses_abort, refuses_tick, refuses_check, refuses_limit, SomeExpires, RefusedOrNoMemory};
 ghost use Rattle.dispatch_log.specs.Legal.{AddsEvent};
-ghost use Rattle.dispatch_log.specs.Rows.{served};
+ghost use Rattle.anteroom.specs.Admission.{due_at};
+ghost use Rattle.dispatch_log.specs.Rows.{served, queued};
+ghost use Rattle.dispatch_log.specs.Scenes.{is_up};
 ghost use Rattle.grant_board.specs.KeeperCalls.{new_keeper, FindsUnposted, IsClosed};
 ghost use Rattle.grant_desk.specs.Replies.{IsHeld, SomeHeld, SomeStep};
-ghost use Rattle.dispatch_trace.specs.Histories.{HasEntryRoom};
+ghost use Rattle.dispatch_trace.specs.Histories.{scene_of, HasEntryRoom};
 ghost use Rattle.late_cert.specs.Reports.{AreReports};
 ghost use Rattle.late_cert.specs.Running.{IsWorstIn};
 ghost use Rattle.list_facts.specs.Weights.{AreIn};
@@ -26,7 +28,7 @@ use dispatch_trace::Ticketed;
 use due_key::{Class, Key, Moment};
 use grant_board::{Board, BoardName, Closing, KeeperSeat, RelaySeat, Return};
 use late_cert::{Reports, Running};
-use locked_book::{Book, Wanted};
+use locked_book::{Book, Deferred, Wanted};
 use place_set::PlaceSet;
 use reporting_core::{ServerLine, Window};
 use std::alloc::{AllocError, Global};
@@ -86,6 +88,24 @@ impl<N: BoardName> Desk<N> {
     {
         self.enter(rt)
             .arrive(alloc, &self.board, moment, wanted, woken)
+    }
+
+    /// A request that waited elsewhere arrives: its due date stays, or is the earliest that an arrival at this moment may have. Refused as `arrive`.
+    pub fn arrive_due<R: Wait>(
+        &self,
+        rt: &R,
+        alloc: Global,
+        moment: Moment,
+        deferred: Deferred,
+        woken: &mut PlaceSet,
+    ) -> Result<Ticketed, Refusal>
+        ensures ok { IfOk result (λ it. SomeStep N.terms (λ old new. AddsEvent old.history new.history (Arrive (effective old.history moment) (record { ticket = it.ticket; class = deferred.class; due = due_at deferred.due (effective old.history moment); pin = deferred.pin; place = it.place })) × CarriesOut old new woken.old woken.new)) }
+        ensures place { IfOk result (λ it. it.place < N.terms.places) }
+        ensures err { IfErr result (λ refusal. SomeHeld N.terms (λ held. RefusedOrNoMemory (refuses_arrival held.history deferred.pin) refusal)) }
+        ensures unchanged { OnErr result (woken.new ≡ woken.old) }
+    {
+        self.enter(rt)
+            .arrive_due(alloc, &self.board, moment, deferred, woken)
     }
 
     /// A request that waits is given up. Refused as the dispatcher's `abort`.
@@ -233,6 +253,27 @@ impl<N: BoardName> Desk<N> {
         ensures outstanding { SomeHeld N.terms (λ held. AreIn relay.view.passes (outstanding (state_of held.history).rows)) }
     {
         self.enter(rt).vouch(&self.board, relay)
+    }
+
+    /// How many requests a server serves. `O(1)`.
+    pub fn served<R: Wait>(&self, rt: &R, server: usize) -> usize
+        ensures { SomeHeld N.terms (λ held. result ≡ served server (state_of held.history).rows) }
+    {
+        self.enter(rt).served(server)
+    }
+
+    /// How many requests wait in a queue. `O(1)`.
+    pub fn queued<R: Wait>(&self, rt: &R, queue: Queue) -> usize
+        ensures { SomeHeld N.terms (λ held. result ≡ queued queue (state_of held.history).rows) }
+    {
+        self.enter(rt).queued(queue)
+    }
+
+    /// Whether a server is up. `O(1)`.
+    pub fn up<R: Wait>(&self, rt: &R, server: usize) -> bool
+        ensures { SomeHeld N.terms (λ held. result ≡ is_up (scene_of held.history) server) }
+    {
+        self.enter(rt).up(server)
     }
 
     /// Whether a tick at this moment would tell a timeout. `O(1)`.

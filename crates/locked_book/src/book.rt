@@ -1,14 +1,16 @@
 ghost use Rattle.std.specs.Prelude.{◌≡◌, ℕ, ◌+◌, ◌*◌, ◌<◌, ◌≤◌, ◌↔◌, List, [], length, drop, IfSome, IfNone, IfOk, IfErr, OnOk, OnErr, IsTrue, Some, pos, ◌+ℤ◌};
 ghost use Rattle.dispatch_log.specs.declared.entry.Entry.TheVariants.{Arrive, Abort, Tick, Check, Limit};
 ghost use Rattle.dispatch_log.specs.declared.refusal.Refusal.TheVariants.{LogFull};
-ghost use Rattle.dispatch_log.specs.Rows.{served};
+ghost use Rattle.anteroom.specs.Admission.{due_at};
+ghost use Rattle.dispatch_log.specs.Rows.{served, queued};
+ghost use Rattle.dispatch_log.specs.Scenes.{is_up};
 ghost use Rattle.list_facts.specs.Weights.{AreIn};
 ghost use Rattle.outstanding.specs.Outstanding.{outstanding};
 ghost use Rattle.outstanding.specs.Turns.{VisitsFrom, VisitsSome, Walks, Turns};
 ghost use Rattle.locked_book.specs.Ends.{IsAcceptable};
 ghost use Rattle.dispatch_log.specs.Histories.{first_window, next_window, state_of, effective, refuses_arrival, refuses_abort, refuses_tick, refuses_check, refuses_limit, SomeExpires, RefusedOrNoMemory};
 ghost use Rattle.dispatch_log.specs.Legal.{AddsEvent, IsLegal};
-ghost use Rattle.dispatch_trace.specs.Histories.{HasEntryRoom};
+ghost use Rattle.dispatch_trace.specs.Histories.{scene_of, HasEntryRoom};
 ghost use Rattle.late_cert.specs.Reports.{AreReports};
 ghost use Rattle.late_cert.specs.Running.{IsWorstIn};
 ghost use Rattle.readable_log.specs.Windows.{window_in};
@@ -20,10 +22,11 @@ ghost use Rattle.outstanding.specs.Calls.{event_of, CarriesOut, TakesBack, SetsB
 
 use crate::keeping::Keeping;
 use crate::offering::offer_from;
+use anteroom::remaining;
 use dispatch_core::Core;
 use dispatch_log::{Entry, Intake, Queue, Refusal};
 use dispatch_trace::Ticketed;
-use due_key::{Class, Key, Moment, Offset};
+use due_key::{Class, Due, Key, Moment, Offset};
 use grant_board::{Board, BoardName, KeeperSeat, RelaySeat, Return};
 use late_cert::{Reports, Running};
 use pend_queue::PendQueue;
@@ -59,6 +62,14 @@ impl<Q: PendQueue<Key, usize>, N: BoardName> Model for Book<Q, N> {
 pub struct Wanted {
     pub class: Class,
     pub offset: Offset,
+    pub pin: Option<usize>,
+}
+
+/// What an arrival asks for that waited elsewhere before: its class, when it is due, and the server that it is bound to.
+#[derive(Clone, Copy, Debug)]
+pub struct Deferred {
+    pub class: Class,
+    pub due: Due,
     pub pin: Option<usize>,
 }
 
@@ -103,6 +114,31 @@ impl<Q: PendQueue<Key, usize>, N: BoardName> Book<Q, N> {
             .arrive(alloc, moment, wanted.class, wanted.offset, wanted.pin)?;
         offer_from(&self.core, &mut self.keeping, board, from, woken);
         Ok(it)
+    }
+
+    /// A request that waited elsewhere arrives: its due date stays, or is the earliest that an arrival at this moment may have. Refused as `arrive`.
+    pub fn arrive_due(
+        &mut self,
+        alloc: Global,
+        board: &Board,
+        moment: Moment,
+        deferred: Deferred,
+        woken: &mut PlaceSet,
+    ) -> Result<Ticketed, Refusal>
+        requires { board.now ≡ N.board }
+        ensures ok { IfOk result (λ it. AddsEvent self.old.history self.new.history (Arrive (effective self.old.history moment) (record { ticket = it.ticket; class = deferred.class; due = due_at deferred.due (effective self.old.history moment); pin = deferred.pin; place = it.place }))) }
+        ensures place { IfOk result (λ it. it.place < N.terms.places) }
+        ensures err { IfErr result (RefusedOrNoMemory (refuses_arrival self.old.history deferred.pin)) }
+        ensures carried { OnOk result (CarriesOut self.old self.new woken.old woken.new) }
+        ensures unchanged { OnErr result ((self.new ≡ self.old) × (woken.new ≡ woken.old)) }
+    {
+        let now = self.core.moment_at(moment);
+        let wanted = Wanted {
+            class: deferred.class,
+            offset: remaining(deferred.due, now),
+            pin: deferred.pin,
+        };
+        self.arrive(alloc, board, moment, wanted, woken)
     }
 
     /// A request that waits is given up. Refused as the dispatcher's `abort`.
@@ -341,6 +377,27 @@ impl<Q: PendQueue<Key, usize>, N: BoardName> Book<Q, N> {
             }
         }
         Ok(())
+    }
+
+    /// How many requests a server serves. `O(1)`.
+    pub fn served(&self, server: usize) -> usize
+        ensures { result ≡ served server (state_of self.now.history).rows }
+    {
+        self.core.served(server)
+    }
+
+    /// How many requests wait in a queue. `O(1)`.
+    pub fn queued(&self, queue: Queue) -> usize
+        ensures { result ≡ queued queue (state_of self.now.history).rows }
+    {
+        self.core.queued(queue)
+    }
+
+    /// Whether a server is up. `O(1)`.
+    pub fn up(&self, server: usize) -> bool
+        ensures { result ≡ is_up (scene_of self.now.history) server }
+    {
+        self.core.up(server)
     }
 
     /// Whether a tick at this moment would tell a timeout. `O(1)`.

@@ -6,4 +6,4 @@ mod book;
 mod keeping;
 mod offering;
 
-pub use book::{Book, Wanted};
+pub use book::{Book, Deferred, Wanted};

@@ -1,5 +1,6 @@
 -- Requests that have a place.
-use Rattle.std.specs.Prelude.{ℕ, ◌<◌, pos, ◌+ℤ◌}
+use Rattle.std.specs.Prelude.{ℕ, ◌<◌, pos, ◌+ℤ◌, Option}
+use Rattle.anteroom.specs.Admission.{due_at}
 use Rattle.dispatch_log.specs.declared.entry.Entry.TheVariants.{Arrive}
 use Rattle.dispatch_log.specs.declared.refusal.Refusal.{Refusal}
 use Rattle.dispatch_log.specs.Histories.{effective, refuses_arrival, RefusedOrNoMemory}
@@ -7,26 +8,52 @@ use Rattle.dispatch_log.specs.Legal.{AddsEvent}
 use Rattle.dispatch_trace.specs.declared.position.Ticketed.{Ticketed}
 use Rattle.grant_board.specs.Views.{Terms}
 use Rattle.grant_desk.specs.Replies.{SomeHeld, SomeStep}
+use Rattle.locked_book.specs.declared.book.Deferred.{Deferred}
 use Rattle.prio_rules.specs.Wishes.{wish}
+use Rattle.prio_rules.specs.declared.wish.Wish.{Wish}
 use Rattle.proxy_config.specs.declared.parts.Config.{Config}
 use Rattle.req_view.specs.Request.{Request}
 
--- the request arrived at some moment, in the class, with the offset and bound to the server that the rules wish for it
-abbrev pub Arrives : Config → Request → Ticketed → Terms → Type 0
-Arrives config request it terms =
+-- a request arrived at some moment, in the class, with the offset and bound to the server that were wished for it
+abbrev pub ArrivesAs : Wish → Ticketed → Terms → Type 0
+ArrivesAs wished it terms =
     (moment : ℕ) × SomeStep terms (λ old new. AddsEvent old.history new.history (Arrive (effective old.history moment) (record {
       ticket = it.ticket;
-      class = (wish config request).class;
-      due = pos (effective old.history moment) +ℤ (wish config request).offset;
-      pin = (wish config request).pin;
+      class = wished.class;
+      due = pos (effective old.history moment) +ℤ wished.offset;
+      pin = wished.pin;
       place = it.place;
     })))
 
 -- it has a place of the board's and did so
-pub record IsAdmitted (terms : Terms) (config : Config) (request : Request) (it : Ticketed) : Type 0 where
+pub record IsAdmittedAs (terms : Terms) (wished : Wish) (it : Ticketed) : Type 0 where
   pub place : it.place < terms.places
-  pub arrives : Arrives config request it terms
+  pub arrives : ArrivesAs wished it terms
 
--- some state that the lock may hold refuses it for this, or there was no memory
+-- as the rules wish for it
+abbrev pub IsAdmitted : Terms → Config → Request → Ticketed → Type 0
+IsAdmitted terms config request it = IsAdmittedAs terms (wish config request) it
+
+-- a request that waited elsewhere arrived at some moment with the due date that it had, or the earliest that there was at that moment
+abbrev pub ArrivesLate : Deferred → Ticketed → Terms → Type 0
+ArrivesLate deferred it terms =
+    (moment : ℕ) × SomeStep terms (λ old new. AddsEvent old.history new.history (Arrive (effective old.history moment) (record {
+      ticket = it.ticket;
+      class = deferred.class;
+      due = due_at deferred.due (effective old.history moment);
+      pin = deferred.pin;
+      place = it.place;
+    })))
+
+-- it has a place of the board's and did so
+pub record IsAdmittedLate (terms : Terms) (deferred : Deferred) (it : Ticketed) : Type 0 where
+  pub place : it.place < terms.places
+  pub arrives : ArrivesLate deferred it terms
+
+-- some state that the lock may hold refuses an arrival with this pin for this, or there was no memory
+abbrev pub IsRefusedFor : Terms → Option ℕ → Refusal → Type 0
+IsRefusedFor terms pin refusal = SomeHeld terms (λ held. RefusedOrNoMemory (refuses_arrival held.history pin) refusal)
+
+-- the same with the pin that the rules wish
 abbrev pub IsTurnedAway : Terms → Config → Request → Refusal → Type 0
-IsTurnedAway terms config request refusal = SomeHeld terms (λ held. RefusedOrNoMemory (refuses_arrival held.history (wish config request).pin) refusal)
+IsTurnedAway terms config request refusal = IsRefusedFor terms (wish config request).pin refusal

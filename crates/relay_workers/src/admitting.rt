@@ -2,7 +2,7 @@ ghost use Rattle.std.specs.Prelude.{◌≡◌, ◌≢◌, IfOk, OnOk, IfErr, fal
 ghost use Rattle.relay_http.specs.States.{IsFresh};
 ghost use Rattle.relay_http.specs.declared.exchange.Stage.TheVariants as stage;
 ghost use Rattle.relay_http.specs.declared.exchange.Stage.TheVariants.{Asked};
-ghost use Rattle.relay_workers.specs.Admissions.{IsAdmitted, IsTurnedAway};
+ghost use Rattle.relay_workers.specs.Admissions.{IsAdmitted, IsAdmittedAs, IsAdmittedLate, IsTurnedAway, IsRefusedFor};
 ghost use Rattle.relay_workers.specs.declared.outcome.Outcome.TheVariants.{Answered};
 
 use crate::gate::Gate;
@@ -11,9 +11,9 @@ use crate::proxy::{Proxy, Runner};
 use dispatch_log::Refusal;
 use dispatch_trace::Ticketed;
 use grant_board::BoardName;
-use locked_book::Wanted;
+use locked_book::{Deferred, Wanted};
 use place_set::PlaceSet;
-use prio_rules::decide;
+use prio_rules::{Wish, decide};
 use relay_http::{Code, Exchange};
 use req_view::View;
 use std::io::{Read, Write};
@@ -74,6 +74,19 @@ pub fn arrive<R: Wait, N: BoardName, G: Gate>(
     ensures err { IfErr result (λ refusal. IsTurnedAway N.terms proxy.now.config view.now refusal) }
 {
     let wish = decide(&proxy.config, view);
+    arrive_as(rt, proxy, gate, &wish)
+}
+
+/// A request arrives with what was decided for it. Refused as `arrive`.
+pub fn arrive_as<R: Wait, N: BoardName, G: Gate>(
+    rt: &R,
+    proxy: &Proxy<N>,
+    gate: &mut G,
+    wish: &Wish,
+) -> Result<Ticketed, Refusal>
+    ensures ok { IfOk result (λ it. IsAdmittedAs N.terms wish.now it) }
+    ensures err { IfErr result (λ refusal. IsRefusedFor N.terms wish.now.pin refusal) }
+{
     let wanted = Wanted {
         class: wish.class,
         offset: wish.offset,
@@ -85,6 +98,27 @@ pub fn arrive<R: Wait, N: BoardName, G: Gate>(
         let arrived = proxy
             .desk
             .arrive(rt, proxy.alloc, moment, wanted, &mut woken);
+        (arrived, woken)
+    });
+    arrived
+}
+
+/// A request that waited elsewhere arrives: its due date stays, or is the earliest that an arrival may have now. Refused as `arrive`.
+pub fn arrive_late<R: Wait, N: BoardName, G: Gate>(
+    rt: &R,
+    proxy: &Proxy<N>,
+    gate: &mut G,
+    deferred: Deferred,
+) -> Result<Ticketed, Refusal>
+    ensures ok { IfOk result (λ it. IsAdmittedLate N.terms deferred it) }
+    ensures err { IfErr result (λ refusal. IsRefusedFor N.terms deferred.pin refusal) }
+{
+    let moment = gate.moment();
+    let (arrived, _) = proxy.with_room(rt, gate, || {
+        let mut woken = PlaceSet::new();
+        let arrived = proxy
+            .desk
+            .arrive_due(rt, proxy.alloc, moment, deferred, &mut woken);
         (arrived, woken)
     });
     arrived

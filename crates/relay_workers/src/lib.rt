@@ -14,7 +14,7 @@ mod proxy;
 mod stopping;
 mod waiting;
 
-pub use admitting::{Admitted, admit, arrive};
+pub use admitting::{Admitted, admit, arrive, arrive_as, arrive_late};
 pub use checking::checker;
 pub use finishing::finish;
 pub use gate::{Gate, Pause};

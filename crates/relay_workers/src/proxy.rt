@@ -1,7 +1,11 @@
-ghost use Rattle.std.specs.Prelude.{◌<◌};
+ghost use Rattle.std.specs.Prelude.{◌<◌, ◌≡◌, ℕ, IfErr, OnOk, Some};
+ghost use Rattle.dispatch_log.specs.declared.entry.Entry.TheVariants.{Limit};
+ghost use Rattle.dispatch_log.specs.Histories.{effective, refuses_limit};
+ghost use Rattle.dispatch_log.specs.Legal.{AddsEvent};
+ghost use Rattle.grant_desk.specs.Replies.{SomeHeld, SomeStep};
 
 use crate::gate::{Gate, Pause};
-use dispatch_log::Refusal;
+use dispatch_log::{Intake, Refusal};
 use grant_board::{BoardName, Return};
 use grant_desk::Desk;
 use place_set::PlaceSet;
@@ -81,6 +85,26 @@ impl<N: BoardName> Proxy<N> {
             let mut woken = PlaceSet::new();
             (self.desk.abort(rt, moment, ticket, &mut woken), woken)
         });
+    }
+
+    /// A server takes so many from now on. Refused as the dispatcher's `limit`.
+    pub fn limit<R: Wait, G: Gate>(
+        &self,
+        rt: &R,
+        gate: &mut G,
+        server: usize,
+        intake: Intake,
+    ) -> Result<(), Refusal>
+        ensures ok { OnOk result ((moment : ℕ) × SomeStep N.terms (λ old new. AddsEvent old.history new.history (Limit (effective old.history moment) server intake))) }
+        ensures err { IfErr result (λ refusal. SomeHeld N.terms (λ held. refuses_limit held.history server ≡ Some refusal)) }
+    {
+        let moment = gate.moment();
+        let (set, _) = self.with_room(rt, gate, || {
+            let mut woken = PlaceSet::new();
+            let set = self.desk.limit(rt, moment, server, intake, &mut woken);
+            (set, woken)
+        });
+        set
     }
 
     // A call of the desk, and the gate is told at which places it offered. Where the log is full the next window begins, the gate has the one that ended, and

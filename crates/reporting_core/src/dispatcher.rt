@@ -2,8 +2,9 @@ ghost use Rattle.std.specs.Prelude.{◌≡◌, ◌↔◌, ◌≤◌, [], length,
 ghost use Rattle.dispatch_log.specs.declared.entry.Entry.TheVariants.{Arrive, Done, Fail, Abort, Tick, Check, Limit};
 ghost use Rattle.dispatch_log.specs.Histories.{first_window, next_window, state_of, effective, refuses_arrival, refuses_done, refuses_failure, refuses_abort, refuses_tick, refuses_check, refuses_limit, SomeExpires, RefusedOrNoMemory};
 ghost use Rattle.dispatch_log.specs.Legal.{IsLegal, AddsEvent};
-ghost use Rattle.dispatch_log.specs.Rows.{row_of, served};
-ghost use Rattle.dispatch_trace.specs.Histories.{IsAt, HasEntryRoom};
+ghost use Rattle.dispatch_log.specs.Rows.{row_of, served, queued};
+ghost use Rattle.dispatch_log.specs.Scenes.{is_up};
+ghost use Rattle.dispatch_trace.specs.Histories.{scene_of, IsAt, HasEntryRoom};
 ghost use Rattle.late_cert.specs.Running.{IsWorstIn};
 ghost use Rattle.readable_log.specs.Windows.{window_in};
 ghost use Rattle.reporting_core.specs.Reporting.{IsNew};
@@ -184,6 +185,13 @@ impl<Q: PendQueue<Key, usize>> ReportingCore<Q> {
     }
 
     /// As the dispatcher's.
+    pub fn moment_at(&self, moment: Moment) -> Moment
+        ensures { result ≡ effective self.now moment }
+    {
+        self.core.moment_at(moment)
+    }
+
+    /// As the dispatcher's.
     pub fn place(&self, ticket: u64) -> Option<usize>
         ensures { MatchOption result (row_of ticket (state_of self.now).rows ≡ None) (λ place. IsAt (state_of self.now).rows (record { place = place; ticket = ticket })) }
     {
@@ -203,6 +211,20 @@ impl<Q: PendQueue<Key, usize>> ReportingCore<Q> {
         ensures { result ≡ served server (state_of self.now).rows }
     {
         self.core.served(server)
+    }
+
+    /// As the dispatcher's.
+    pub fn queued(&self, queue: Queue) -> usize
+        ensures { result ≡ queued queue (state_of self.now).rows }
+    {
+        self.core.queued(queue)
+    }
+
+    /// As the dispatcher's.
+    pub fn up(&self, server: usize) -> bool
+        ensures { result ≡ is_up (scene_of self.now) server }
+    {
+        self.core.up(server)
     }
 
     /// As the dispatcher's.

@@ -1,5 +1,5 @@
 -- What reads and writes answer.
-use Rattle.std.specs.Prelude.{ℕ, Bool, true, false}
+use Rattle.std.specs.Prelude.{ℕ, Bool, true, false, ◌&&◌, not}
 use Rattle.exchange_driver.specs.declared.socket.Heard.{Heard}
 use Rattle.exchange_driver.specs.declared.socket.Heard.TheVariants.{Bytes, Nothing}
 use Rattle.exchange_driver.specs.declared.socket.Said.{Said}
@@ -22,3 +22,7 @@ went _ = 0
 abbrev pub is_full : Said → Bool
 is_full said.Full = true
 is_full _ = false
+
+-- what it last answered stands, where nothing was told of it since
+abbrev pub is_still : Bool → Bool → Bool
+is_still answered told = answered && not told

@@ -1,10 +1,12 @@
 -- One side of an exchange: a socket, and what came of it that waits to be taken.
-use Rattle.std.specs.Prelude.{◌≡◌, ◌<◌, ℕ, Bool, true, List, [], ◌++◌, length, Option, Some, None}
+use Rattle.std.specs.Prelude.{◌≡◌, ◌<◌, ℕ, Bool, true, false, List, ◌++◌, length, Option, Some, None}
 use Rattle.std.specs.Io.KnownBytes.{Consumes, Appends}
+use Rattle.exchange_driver.specs.Answers.{is_still}
 
--- What the socket has left to give and what it took, where they are known; what waits, and how much can; whether nothing was there at the last read, and
--- whether it was full at the last write.
+-- Whether a socket is there; what it has left to give and what it took, where they are known; what waits, and how much can; whether nothing was there at the
+-- last read, and whether it was full at the last write.
 pub record Wire : Type 0 where
+  pub there : Bool
   pub left : Option (List ℕ)
   pub taken : Option (List ℕ)
   pub waits : List ℕ
@@ -21,6 +23,16 @@ known_of known (Some socket) = known socket
 abbrev pub told_of : {S : Type 0} → (S → Bool) → Option S → Bool
 told_of told None = true
 told_of told (Some socket) = told socket
+
+-- whether there is one
+abbrev pub is_there : {S : Type 0} → Option S → Bool
+is_there None = false
+is_there (Some socket) = true
+
+-- what was last answered stands where nothing was told since; where there is no socket, always
+abbrev pub is_still_at : Bool → Bool → Bool → Bool
+is_still_at false answered told = answered
+is_still_at true answered told = is_still answered told
 
 -- What the socket gave came, or waits to be taken; what it took is what was sent; and bytes moved exactly where there is one among these.
 pub record Carries (old new : Wire) (came_old came_new sent_old sent_new : List ℕ) (moved : Bool) : Type 0 where

@@ -1,6 +1,7 @@
-ghost use Rattle.std.specs.Prelude.{◌≡◌, ◌≤◌, ◌<◌, ◌+◌, ◌++◌, ℕ, [], length, take, drop, None, true};
+ghost use Rattle.std.specs.Prelude.{◌≡◌, ◌≤◌, ◌<◌, ◌+◌, ◌++◌, ℕ, [], length, take, drop, None, true, false};
 ghost use Rattle.std.specs.Io.KnownBytes.{Consumes, Appends};
 ghost use Rattle.exchange_driver.specs.Answers.{came, went};
+ghost use Rattle.exchange_driver.specs.Wires.{is_still_at};
 
 use crate::socket::{Heard, Said, Socket};
 use exchange_machine::forget;
@@ -16,11 +17,12 @@ pub struct Line<S: Socket> {
 
 impl<S: Socket> Model for Line<S> {
     ghost use Rattle.std.specs.Prelude.{vec_capacity};
-    ghost use Rattle.exchange_driver.specs.Wires.{Wire, known_of, told_of};
+    ghost use Rattle.exchange_driver.specs.Wires.{Wire, is_there, known_of, told_of};
 
     ghost Value = { Wire };
 
     ghost view = { λ line. record {
+      there = is_there line.socket;
       left = known_of S.left line.socket;
       taken = known_of S.taken line.socket;
       waits = line.waits.items;
@@ -33,6 +35,7 @@ impl<S: Socket> Model for Line<S> {
 impl<S: Socket> Line<S> {
     /// Without a socket: nothing comes of it, and it takes nothing.
     pub fn without_socket(alloc: Global) -> Line<S>
+        ensures none { result.there ≡ false }
         ensures left { result.left ≡ None }
         ensures waits { result.waits ≡ [] }
         ensures quiet { (result.dry ≡ true) × (result.full ≡ true) }
@@ -45,6 +48,7 @@ impl<S: Socket> Line<S> {
 
     /// Of a socket of which nothing was read.
     pub fn new(alloc: Global, socket: S) -> Line<S>
+        ensures there { result.there ≡ true }
         ensures left { result.left ≡ S.left socket }
         ensures taken { result.taken ≡ S.taken socket }
         ensures waits { result.waits ≡ [] }
@@ -70,17 +74,20 @@ impl<S: Socket> Line<S> {
     pub fn rest(&mut self)
         ensures left { (self.new.left ≡ self.old.left) × (self.new.taken ≡ self.old.taken) }
         ensures waits { self.new.waits ≡ self.old.waits }
-        ensures told { (self.new.dry ≡ self.old.dry) × (self.new.full ≡ self.old.full) }
+        ensures told { (self.new.there ≡ self.old.there) × (self.new.dry ≡ self.old.dry) × (self.new.full ≡ self.old.full) }
     {
         if self.waits.is_empty() {
             self.waits.shrink_to_fit();
         }
     }
 
-    /// A poll told that it may be read again, or written to.
+    /// A poll told that it may be read again, or written to: of a socket it isn't known any more that it answered so.
     pub fn wake(&mut self, reads: bool, writes: bool)
+        ensures dry { self.new.dry ≡ is_still_at self.old.there self.old.dry reads }
+        ensures full { self.new.full ≡ is_still_at self.old.there self.old.full writes }
+        ensures there { self.new.there ≡ self.old.there }
         ensures left { (self.new.left ≡ self.old.left) × (self.new.taken ≡ self.old.taken) }
-        ensures waits { self.new.waits ≡ self.old.waits }
+        ensures waits { (self.new.waits ≡ self.old.waits) × (self.new.room ≡ self.old.room) }
     {
         if let Some(socket) = &mut self.socket {
             socket.wake(reads, writes);

@@ -1,6 +1,6 @@
 ghost use Rattle.std.specs.Prelude.{◌≡◌, ◌≤◌, ◌<◌, ℕ, List, Option, Bool, length, take};
 ghost use Rattle.std.specs.Io.KnownBytes.{Consumes, Appends};
-ghost use Rattle.exchange_driver.specs.Answers.{came, went, is_nothing, is_full};
+ghost use Rattle.exchange_driver.specs.Answers.{came, went, is_nothing, is_full, is_still};
 
 /// What a read gave.
 #[derive(Clone, Copy, Debug, PartialEq, Eq)]
@@ -57,8 +57,10 @@ pub trait Socket: Drop {
         ensures left { left self.new ≡ left self.old }
         ensures dry { dry self.new ≡ dry self.old };
 
-    /// A poll told that it may be read again, or written to.
+    /// A poll told that it may be read again, or written to: of that it isn't known any more that it answered so.
     fn wake(&mut self, reads: bool, writes: bool)
+        ensures dry { dry self.new ≡ is_still (dry self.old) reads }
+        ensures full { full self.new ≡ is_still (full self.old) writes }
         ensures left { left self.new ≡ left self.old }
         ensures taken { taken self.new ≡ taken self.old };
 

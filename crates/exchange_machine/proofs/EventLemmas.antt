@@ -14,6 +14,7 @@ use Rattle.req_view.specs.Answer.{Answer}
 use Rattle.req_view.specs.AnswerHeads.{SaysAnswer}
 use Rattle.req_view.specs.Request.{Request}
 use Rattle.verdict.specs.declared.Ending.TheVariants.{Done}
+use Rattle.exchange_machine.specs.Answerings.{TellsAnswer}
 use Rattle.exchange_machine.specs.Headline.{AreTries, ClientText, IsFair, Sound, ToServer}
 use Rattle.exchange_machine.specs.Headline.ArePosted.{all_posted}
 use Rattle.exchange_machine.specs.Headline.AreTries.{none as untried, of_request as some_tries}
@@ -27,7 +28,7 @@ use Rattle.exchange_machine.specs.Settlings.{IsSettling}
 use Rattle.exchange_machine.specs.Stages.{IsFresh, IsUnread, IsAsking, IsWaiting, IsDialing, IsPassing, IsLeaving, IsTelling, IsOver}
 use Rattle.exchange_machine.specs.declared.sides.Down.TheVariants.{Heads}
 use Rattle.exchange_machine.specs.declared.signs.Sign.{Sign}
-use Rattle.exchange_machine.specs.declared.signs.Sign.TheVariants.{ClientOver, NoMemory}
+use Rattle.exchange_machine.specs.declared.signs.Sign.TheVariants.{ClientOver, NoMemory, ServerEnded}
 use Rattle.exchange_machine.specs.declared.asking.Asking.{Asking}
 use Rattle.exchange_machine.specs.declared.waiting.Waiting.{Waiting}
 use Rattle.exchange_machine.specs.declared.dialing.Dialing.{Dialing}
@@ -54,6 +55,23 @@ shows_last signs s = record { before = signs; behind = []; is = refl }
 
 pub ended_more : (signs : List Sign) (t : Sign) → HasEnded signs → HasEnded (signs ++ t ∷ [])
 ended_more signs t is = record { sign = is.sign; shows = shows_more signs is.sign t is.shows; tells = is.tells }
+
+-- a whole answer doesn't look at more signs
+tells_more : (signs : List Sign) (client_in server_in text : List ℕ) (t : Sign) → TellsAnswer signs client_in server_in text
+    → TellsAnswer (signs ++ t ∷ []) client_in server_in text
+tells_more signs client_in server_in text t is = record {
+  says = is.says;
+  request = is.request;
+  behind = is.behind;
+  asked = is.asked;
+  came = is.came;
+  extra = is.extra;
+  came_is = is.came_is;
+  given = is.given;
+  answered = is.answered;
+  text_is = is.text_is;
+  ends = λ e. shows_more signs ServerEnded t (is.ends e);
+}
 
 reason_more : (signs : List Sign) (r : Request) (behind answer : List ℕ) (code : Code) (t : Sign) → Reason signs r behind answer code
     → Reason (signs ++ t ∷ []) r behind answer code
@@ -128,6 +146,8 @@ passing_signed p h s is = record {
   tries = is.tries;
   framed = is.framed;
   ended = λ on. ended_more h.signs s (is.ended on);
+  well = λ on. shows_more h.signs ServerEnded s (is.well on);
+  agreed = is.agreed;
   asks = is.asks;
   leave = is.leave;
 }
@@ -160,6 +180,7 @@ leaving_signed l h s is = record {
   text = is.text;
   client = signed_client h s is.text is.client;
   told = is.told;
+  whole = λ on. tells_more h.signs h.client_in h.server_in is.text s (is.whole on);
   grants = is.grants;
   fair = is.fair;
   tried = signed_tried h s is.tried;
@@ -222,13 +243,14 @@ took to rest next text count is left =
     is ∙ ap (λ l. to ++ l) (sym (take-append-drop count rest)) ∙ sym (append_assoc to (take count rest) (drop count rest))
     ∙ ap (λ l. (to ++ take count rest) ++ l) (sym left)
 
-pub leaving_took : (l m : Leaving) (h : History) (count : ℕ) → IsLeaving l h → m.out.out ≡ drop count l.out.out
+pub leaving_took : (l m : Leaving) (h : History) (count : ℕ) → IsLeaving l h → m.out.out ≡ drop count l.out.out → m.whole ≡ l.whole
     → IsLeaving m (client_got h (take count l.out.out))
-leaving_took l m h count is left = record {
+leaving_took l m h count is left same = record {
   server = got_server h (take count l.out.out) is.server;
   text = is.text;
   client = got_client h (take count l.out.out) is.text is.client;
   told = took h.to_client l.out.out m.out.out is.text count is.told left;
+  whole = λ on. is.whole (sym same ∙ on);
   grants = is.grants;
   fair = is.fair;
   tried = got_tried h (take count l.out.out) is.tried;
@@ -333,7 +355,8 @@ over_sound h is = record { server = is.server; client = is.client; once = all_po
 
 -- the client has gone
 pub passing_left : (p : Passing) (h : History) → IsPassing p h → IsOver (posted h p.pass Done)
-passing_left p h is = leaving_over (record { out = p.down }) (posted h p.pass Done) (passing_ends p h Done is (λ e. absurd cc))
+passing_left p h is =
+    leaving_over (record { out = p.down; whole = false }) (posted h p.pass Done) (passing_ends p h Done false is (λ e. absurd cc) (λ on. absurd cc))
 
 pub dialing_left : (d : Dialing) (h : History) → IsDialing d h → IsOver (posted h d.pass Done)
 dialing_left d h is = record {
@@ -367,8 +390,9 @@ head_refused p h count a len method same is phase says (inr more) = passing_lack
 pub ended_reason : (signs : List Sign) (r : Request) (behind answer : List ℕ) → HasEnded signs → Reason signs r behind answer BadGateway
 ended_reason signs r behind answer is = of_sign is.sign BadGateway is.shows is.tells
 
-pub passing_ended : (p q : Passing) (h : History) → IsPassing p h → HasEnded h.signs → q ≡ record p { ended = true } → IsPassing q h
-passing_ended p q h is ends same = subst (λ (r : Passing). IsPassing r h) (sym same) (record {
+pub passing_ended : (p q : Passing) (h : History) → IsPassing p h → HasEnded h.signs → (q.well ≡ true → Shows h.signs ServerEnded)
+    → q ≡ record p { ended = true; well = q.well } → IsPassing q h
+passing_ended p q h is ends ends_well same = subst (λ (r : Passing). IsPassing r h) (sym same) (record {
   behind = is.behind;
   asked = is.asked;
   request = is.request;
@@ -383,6 +407,8 @@ passing_ended p q h is ends same = subst (λ (r : Passing). IsPassing r h) (sym 
   tries = is.tries;
   framed = is.framed;
   ended = λ on. ends;
+  well = ends_well;
+  agreed = is.agreed;
   asks = is.asks;
   leave = is.leave;
 })
@@ -403,6 +429,8 @@ passing_marked p q h is same = subst (λ (r : Passing). IsPassing r h) (sym same
   tries = is.tries;
   framed = is.framed;
   ended = is.ended;
+  well = is.well;
+  agreed = is.agreed;
   asks = is.asks;
   leave = is.leave;
 })

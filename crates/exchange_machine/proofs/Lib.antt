@@ -1,3 +1,4 @@
+pub mod Answering
 pub mod EventLemmas
 pub mod RepeatLemmas
 pub mod SettlingLemmas

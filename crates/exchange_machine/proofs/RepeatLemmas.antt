@@ -129,7 +129,7 @@ passing_again p h is may =
       },
     )
 
-pub passing_redialed : (p q : Passing) (h : History) → IsPassing p h → IsUntouched p → q ≡ record p { cut = q.cut; ended = false; dialing = q.dialing }
+pub passing_redialed : (p q : Passing) (h : History) → IsPassing p h → IsUntouched p → q ≡ record p { cut = q.cut; ended = false; well = false; dialing = q.dialing }
     → (h.server_in ≡ []) × IsPassing q (retried h)
 passing_redialed p q h is may same =
     let silent_server = none_came p h is may.heads may.none in
@@ -151,6 +151,8 @@ passing_redialed p q h is may same =
         tries = all_append (IsTry p.view) h.tries (h.to_server ∷ []) is.tries (unsent none, tt);
         framed = is.framed;
         ended = λ on. absurd (true≢false (sym on));
+        well = λ on. absurd (true≢false (sym on));
+        agreed = is.agreed;
         asks = is.asks;
         leave = is.leave;
       }),

@@ -1,9 +1,9 @@
 -- What is left of an exchange whose messages were whole.
-use Rattle.std.proofs.Common.{◌≡◌, ◌≢◌, ◌∙◌, ℕ, Bool, true, false, List, [], ◌++◌, take, drop, refl, sym, ap, append_assoc, subst}
+use Rattle.std.proofs.Common.{◌≡◌, ◌≢◌, ◌∙◌, ℕ, Bool, true, false, true≢false, List, [], ◌++◌, take, drop, refl, sym, ap, append_assoc, subst}
 use Rattle.std.proofs.lemmas.List.{take-append-drop}
 use Rattle.httparse.specs.Grammar.{print_request}
 use Rattle.relay_http.specs.Messages.{IsForwarded, IsAnswered}
-use Rattle.relay_http.specs.Persistences.{is_delimited, is_kept_by_server}
+use Rattle.relay_http.specs.Persistences.{is_delimited, is_kept_by_server, wished}
 use Rattle.relay_http.specs.Replies.{leave_text}
 use Rattle.relay_http.specs.Texts.{framed_for}
 use Rattle.relay_http.specs.declared.persistence.Persistence.TheVariants.{Close, Persist}
@@ -38,7 +38,7 @@ passing_settles p h ending clean is done rests fair =
     let told_of = subst (λ (r : Request). (answered : IsAnswered p.says r.method (framed_for r.version) down.0 is.answer)
     × (p.says ≢ Close → is_delimited (framed_for r.version) answered.plan.body ≡ true)
     × (p.kept ≡ true → is_kept_by_server (answer_of answered.head) answered.plan ≡ true)) is.asked.request_is (down.2, down.3, down.4) in
-    let over = passing_ends p h ending is fair in
+    let over = passing_ends p h ending false is fair (λ on. absurd (true≢false (sym on))) in
     record {
       whole = record { pass = p.pass; head = head; body = up.0; asks = p.asks; forwarded = is.request; answer = down.0; kept = p.kept; says = p.says; text = is.answer };
       unsent = p.up.out;
@@ -49,6 +49,7 @@ passing_settles p h ending clean is done rests fair =
           request = subst (λ (r : Request). IsForwarded p.asks r up.0 is.request) is.asked.request_is up.2;
           answered = told_of.0;
           delimits = told_of.1;
+          wishes = λ other. ap wished (sym is.asked.request_is) ∙ (is.agreed other).1;
           keeps = told_of.2;
         };
         came = is.asked.input_is ∙ ap (λ l. print_request head ++ l) up.1 ∙ sym (append_assoc (print_request head) up.0 p.up_held.items);

@@ -41,6 +41,7 @@ use Rattle.relay_http.specs.Replies.{leave_text, refusal_text}
 use Rattle.relay_http.specs.Texts.{framed_for}
 use Rattle.exchange_machine.specs.Repeats.{IsTry}
 use Rattle.exchange_machine.specs.Headline.AreTries.{none as untried, of_request as some_tries}
+use Rattle.exchange_machine.specs.Answerings.{TellsAnswer}
 use Rattle.exchange_machine.specs.Reasons.{Reason, BreaksAnswer}
 use Rattle.exchange_machine.specs.Headline.{AreTries, IsOfPart, IsFair, ClientText, ToServer, Sound}
 use Rattle.exchange_machine.specs.Headline.ToServer.{nothing, of_request}
@@ -72,7 +73,7 @@ feeds_sent framing framed c taken given f =
     subst (λ (l : List ℕ). IsSent framing framed l given) (append-nil taken)
     (subst (λ (l : List ℕ). IsSent framing framed (taken ++ []) l) (append-nil given) (run_text framing framed ((taken, given) ∷ []) c (c, f, refl)))
 
-feeds_body : (framing : Framed.Framing) (framed : Bool) (c : Coding) (taken given : List ℕ) → Feeds (start_of framing framed) c taken given → is_done c ≡ true
+pub feeds_body : (framing : Framed.Framing) (framed : Bool) (c : Coding) (taken given : List ℕ) → Feeds (start_of framing framed) c taken given → is_done c ≡ true
     → IsBody framing framed taken given
 feeds_body framing framed c taken given f done =
     subst (λ (l : List ℕ). IsBody framing framed l given) (append-nil taken)
@@ -247,6 +248,8 @@ passing_more p way h bytes is none step =
       tries = is.tries;
       framed = is.framed;
       ended = is.ended;
+      well = is.well;
+      agreed = is.agreed;
       asks = is.asks;
       leave = is.leave;
     }
@@ -365,8 +368,8 @@ pub dialing_passes : (d : Dialing) (p : Passing) (h : History) → IsDialing d h
     → p.up.coding ≡ start_of d.waiting.asked.framing true → p.up.out ≡ request_text p.asks d.waiting.asked.view d.waiting.asked.framing
     → p.up_held.items ≡ d.waiting.asked.held.items → p.phase ≡ Heads 0 → p.down_held.items ≡ []
     → p.down.out ≡ leave_text d.waiting.asked.view → p.ended ≡ false
-    → p.leave_left ≡ length p.down.out → IsPassing p (connected_on h p.asks)
-dialing_passes d p h is view pass reach framing coding out held phase empty leave running left =
+    → p.leave_left ≡ length p.down.out → p.well ≡ false → p.says ≡ Close → IsPassing p (connected_on h p.asks)
+dialing_passes d p h is view pass reach framing coding out held phase empty leave running left unwell closed =
     let r = d.waiting.asked.view in
     let f = d.waiting.asked.framing in
     let up : IsUp p.asks p.view p.up.coding p.up_held.items d.waiting.asked.held.items (request_text p.asks r f) =
@@ -399,6 +402,8 @@ dialing_passes d p h is view pass reach framing coding out held phase empty leav
       tries = subst (λ (v : Request). AllByRecursion (IsTry v) h.tries) (sym view) is.tries;
       framed = ap request_framing view ∙ is.asked.framed ∙ ap Some (sym framing);
       ended = λ on. absurd (true≢false (sym on ∙ running));
+      well = λ on. absurd (true≢false (sym on ∙ unwell));
+      agreed = λ other. absurd (other closed);
       asks = refl;
       leave = λ none. record {
         left = p.down.out;
@@ -460,13 +465,15 @@ pub posted_tried : (h : History) (pass : Grant) (ending : Ending) → AreTries h
 posted_tried h pass ending (untried is) = untried is
 posted_tried h pass ending (some_tries r behind asked tries) = some_tries r behind asked tries
 
-pub passing_ends : (p : Passing) (h : History) (ending : Ending) → IsPassing p h → (ending ≡ Failed → p.reached ≡ false)
-    → IsLeaving (record { out = p.down }) (posted h p.pass ending)
-passing_ends p h ending is fair = record {
+pub passing_ends : (p : Passing) (h : History) (ending : Ending) (whole : Bool) → (is : IsPassing p h) → (ending ≡ Failed → p.reached ≡ false)
+    → (whole ≡ true → TellsAnswer h.signs h.client_in h.server_in (leave_text p.view ++ is.answer))
+    → IsLeaving (record { out = p.down; whole = whole }) (posted h p.pass ending)
+passing_ends p h ending whole is fair tells = record {
   server = posted_server h p.pass ending (passing_server p h is);
   text = leave_text p.view ++ is.answer;
   client = posted_client h p.pass ending (leave_text p.view ++ is.answer) (passing_client p h is);
   told = is.told;
+  whole = tells;
   grants = is.grants ∙ sym (map-append (λ (q : Post). q.pass) h.posts (record { pass = p.pass; ending = ending; reached = reached_by h } ∷ []));
   fair = all_append IsFair h.posts (record { pass = p.pass; ending = ending; reached = reached_by h } ∷ []) is.fair
       ((λ failed. is.unreached (fair failed)), tt);
@@ -539,6 +546,8 @@ passing_answer p way h bytes is body none step grows =
       tries = is.tries;
       framed = is.framed;
       ended = is.ended;
+      well = is.well;
+      agreed = is.agreed;
       asks = is.asks;
       leave = λ none. leave_grows grows (is.leave none);
     }
@@ -618,6 +627,18 @@ pub said_delimits : (willing : Bool) (r : Request) (plan : Plan) (says : Persist
 said_delimits willing r plan says is other =
     said_kept willing (is_delimited (framed_for r.version) plan.body) (wished r) (λ closed. other (is ∙ closed))
 
+-- and only where both sides wish it
+said_agreed : (willing shows : Bool) (q : Persistence) → cond (willing && shows) q Close ≢ Close → (willing ≡ true) × (q ≡ cond (willing && shows) q Close)
+said_agreed true true q other = (refl, refl)
+said_agreed true false q other = absurd (other refl)
+said_agreed false shows q other = absurd (other refl)
+
+pub said_wished : (willing : Bool) (r : Request) (plan : Plan) (says : Persistence) → says ≡ answer_says willing r plan → says ≢ Close
+    → (willing ≡ true) × (wished r ≡ says)
+said_wished willing r plan says is other =
+    let both = said_agreed willing (is_delimited (framed_for r.version) plan.body) (wished r) (λ closed. other (is ∙ closed)) in
+    (both.0, both.1 ∙ sym is)
+
 pub passing_final : (p : Passing) (way : Way) (held : List ℕ) (h : History) (count : ℕ) (a : Answer) (len : ℕ) (plan : Plan) (q : Passing) → IsPassing p h
     → p.phase ≡ Heads count
     → SaysAnswer p.down_held.items a len → answer_plan p.view.method a ≡ Some plan → is_interim a.status ≡ false
@@ -651,6 +672,8 @@ passing_final p way held h count a len plan q is phase stood planned final told 
       tries = is.tries;
       framed = is.framed;
       ended = is.ended;
+      well = is.well;
+      agreed = said_wished p.willing p.view plan q.says told;
       asks = is.asks;
       leave = λ none. leave_grows (record { rest = text; is = out }) (is.leave none);
     })
@@ -683,6 +706,8 @@ passing_interim p way held h count a len q is phase says planned interim few out
       tries = is.tries;
       framed = is.framed;
       ended = is.ended;
+      well = is.well;
+      agreed = is.agreed;
       asks = is.asks;
       leave = λ none. leave_grows (record { rest = interim_text framed a; is = out }) (is.leave none);
     })
@@ -762,6 +787,8 @@ passing_used p way q h used seen is same step rest here =
       tries = is.tries;
       framed = is.framed;
       ended = is.ended;
+      well = is.well;
+      agreed = is.agreed;
       asks = is.asks;
       leave = is.leave;
     })
@@ -830,6 +857,8 @@ passing_answer_used p way q h used seen is body same step grows rest here =
       tries = is.tries;
       framed = is.framed;
       ended = is.ended;
+      well = is.well;
+      agreed = is.agreed;
       asks = is.asks;
       leave = λ none. leave_grows grows (is.leave none);
     })
@@ -854,7 +883,7 @@ nothing_answered p h is =
 pub passing_refused : (p : Passing) (l : Leaving) (way : Way) (h : History) (code : Code) (pass : Grant) (ending : Ending) (fits : Bool) → (is : IsPassing p h)
     → IsLeaving l (posted h pass ending) → l.out ≡ p.down → p.begun ≡ false → Reason h.signs p.view is.behind h.server_in code
     → (fits ≡ true → way.out ≡ take p.leave_left l.out.out ++ refusal_text code) → (fits ≡ false → way.out ≡ take p.leave_left l.out.out)
-    → IsLeaving (record { out = way }) (posted h pass ending)
+    → IsLeaving (record { out = way; whole = false }) (posted h pass ending)
 passing_refused p l way h code pass ending true is over same none why out full =
     let front = leave_left (is.leave none) ∙ ap (λ (w : Way). h.to_client ++ take p.leave_left w.out) (sym same) in
     record {
@@ -863,6 +892,7 @@ passing_refused p l way h code pass ending true is over same none why out full =
       client = posted_client h pass ending (leave_text p.view ++ refusal_text code) (refused p.view is.behind code is.asked why);
       told = ap (λ t. t ++ refusal_text code) front ∙ append_assoc h.to_client (take p.leave_left l.out.out) (refusal_text code)
           ∙ ap (λ t. h.to_client ++ t) (sym (out refl));
+      whole = λ on. absurd (true≢false (sym on));
       grants = over.grants;
       fair = over.fair;
       tried = over.tried;
@@ -872,6 +902,7 @@ passing_refused p l way h code pass ending false is over same none why out full 
   text = leave_text p.view;
   client = posted_client h pass ending (leave_text p.view) (nothing_answered p h is);
   told = leave_left (is.leave none) ∙ ap (λ (w : Way). h.to_client ++ take p.leave_left w.out) (sym same) ∙ ap (λ t. h.to_client ++ t) (sym (full refl));
+  whole = λ on. absurd (true≢false (sym on));
   grants = over.grants;
   fair = over.fair;
   tried = over.tried;
@@ -901,6 +932,8 @@ passing_told p q h count is out coding still same =
       tries = is.tries;
       framed = is.framed;
       ended = is.ended;
+      well = is.well;
+      agreed = is.agreed;
       asks = is.asks;
       leave = λ none.
           let was = still none in
@@ -959,6 +992,8 @@ passing_held p q h bytes is held same =
       tries = is.tries;
       framed = is.framed;
       ended = is.ended;
+      well = is.well;
+      agreed = is.agreed;
       asks = is.asks;
       leave = is.leave;
     })

@@ -1,3 +1,4 @@
+pub mod Answerings
 pub mod Headline
 pub mod Histories
 pub mod Reasons

@@ -1,5 +1,5 @@
 -- What is left of an exchange whose pass was posted.
-use Rattle.std.specs.Prelude.{◌≡◌, ◌≢◌, ℕ, true, List, []}
+use Rattle.std.specs.Prelude.{◌≡◌, ◌≢◌, ℕ, Bool, true, List, []}
 use Rattle.std.specs.List.{AllByRecursion}
 use Rattle.relay_http.specs.declared.persistence.Persistence.TheVariants.{Close, Persist}
 use Rattle.exchange_machine.specs.Headline.{AreTries, IsFair, ClientText, ToServer}
@@ -27,3 +27,8 @@ pub record IsSettling (s : Settling) (h : History) : Type 0 where
 abbrev pub IsRest : Rest → History → Type 0
 IsRest (Rests.Settling s) h = IsSettling s h
 IsRest (Rests.Leaving l) h = IsLeaving l h
+
+-- whose client is left, that one knows whether the answer was read whole
+abbrev pub IsMarked : Bool → Rest → Type 0
+IsMarked whole (Rests.Settling s) = Unit {0}
+IsMarked whole (Rests.Leaving l) = l.whole ≡ whole

@@ -1,14 +1,17 @@
 -- What an exchange at each stage is, after a history.
-use Rattle.std.specs.Prelude.{◌≡◌, ℕ, false, true, List, [], ◌∷◌, ◌++◌, length, Some}
+use Rattle.std.specs.Prelude.{◌≡◌, ◌≢◌, ℕ, false, true, List, [], ◌∷◌, ◌++◌, length, Some}
 use Rattle.std.specs.List.{AllByRecursion}
 use Rattle.relay_http.specs.Framings.{request_framing}
+use Rattle.relay_http.specs.Persistences.{wished}
 use Rattle.relay_http.specs.Replies.{leave_text}
 use Rattle.relay_http.specs.Texts.{framed_for}
 use Rattle.relay_http.specs.declared.fault.Fault.{Fault}
+use Rattle.relay_http.specs.declared.persistence.Persistence.TheVariants.{Close}
 use Rattle.req_view.specs.Heads.{HasNoHead}
+use Rattle.exchange_machine.specs.Answerings.{TellsAnswer}
 use Rattle.exchange_machine.specs.Headline.{AreTries, IsFair, ClientText, ToClient, ToServer}
 use Rattle.exchange_machine.specs.Histories.{History, passes_of, reached_by}
-use Rattle.exchange_machine.specs.Reasons.{HasEnded}
+use Rattle.exchange_machine.specs.Reasons.{HasEnded, Shows}
 use Rattle.exchange_machine.specs.Repeats.{IsTry}
 use Rattle.exchange_machine.specs.Requests.{IsAskedBy, IsNoRequest}
 use Rattle.exchange_machine.specs.Sides.{IsUp, IsDown}
@@ -19,6 +22,7 @@ use Rattle.exchange_machine.specs.declared.dialing.Dialing.{Dialing}
 use Rattle.exchange_machine.specs.declared.passing.Passing.{Passing}
 use Rattle.exchange_machine.specs.declared.leaving.Leaving.{Leaving}
 use Rattle.exchange_machine.specs.declared.telling.Telling.{Telling}
+use Rattle.exchange_machine.specs.declared.signs.Sign.TheVariants.{ServerEnded}
 use Rattle.exchange_machine.specs.declared.asking.Turn.{Turn}
 use Rattle.exchange_machine.specs.declared.asking.Turn.TheVariants as Turns
 
@@ -88,6 +92,8 @@ pub record IsPassing (p : Passing) (h : History) : Type 0 where
   pub tries : AllByRecursion (IsTry p.view) h.tries
   pub framed : request_framing p.view ≡ Some p.framing
   pub ended : p.ended ≡ true → HasEnded h.signs
+  pub well : p.well ≡ true → Shows h.signs ServerEnded
+  pub agreed : p.says ≢ Close → (p.willing ≡ true) × (wished p.view ≡ p.says)
   pub asks : p.asks ≡ h.asks
   pub leave : p.begun ≡ false → HasLeave p.leave_left (leave_text p.view) h.to_client p.down.out
 
@@ -97,6 +103,7 @@ pub record IsLeaving (l : Leaving) (h : History) : Type 0 where
   pub text : List ℕ
   pub client : ClientText h text
   pub told : text ≡ h.to_client ++ l.out.out
+  pub whole : l.whole ≡ true → TellsAnswer h.signs h.client_in h.server_in text
   pub grants : h.grants ≡ passes_of h.posts
   pub fair : AllByRecursion IsFair h.posts
   pub tried : AreTries h

@@ -2,6 +2,7 @@ ghost use Rattle.std.specs.Prelude.{◌≡◌, ◌≤◌, ◌++◌, List, [], le
 ghost use Rattle.exchange_machine.specs.Histories.{History, client_came, nothing_yet};
 ghost use Rattle.exchange_machine.specs.Reasons.{Shows};
 ghost use Rattle.exchange_machine.specs.Stages as stages;
+ghost use Rattle.exchange_machine.specs.Wants.{is_none};
 ghost use Rattle.relay_http.specs.Framings.{request_framing};
 ghost use Rattle.req_view.specs.Heads.{BeginsWith, HasNoHead};
 
@@ -41,7 +42,9 @@ impl Asking {
     }
 
     /// Did nothing come of the client yet?
-    pub fn is_silent(&self) -> bool {
+    pub fn is_silent(&self) -> bool
+        ensures { result ≡ is_none self.now.held.items }
+    {
         self.held.is_empty()
     }
 

@@ -48,6 +48,13 @@ impl Dialing {
         (pass, Ending::Done)
     }
 
+    /// Its pass, to be looked at.
+    pub fn pass(&self) -> &Pass
+        ensures { result.now ≡ self.now.pass }
+    {
+        &self.pass
+    }
+
     /// Did a byte of the request reach a server, on a connection before this one?
     pub fn has_reached(&self) -> bool
         ensures { result ≡ self.now.reached }
@@ -147,6 +154,7 @@ impl Dialing {
             says: Persistence::Close,
             kept: false,
             ended: false,
+            well: false,
             looks: false,
             begun: false,
             leave_left,

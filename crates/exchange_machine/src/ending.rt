@@ -2,6 +2,7 @@
 
 ghost use Rattle.std.specs.Prelude.{◌≡◌, ◌≢◌, [], true, false, IsTrue};
 ghost use Rattle.body_coder.specs.Stops.{is_bad, is_done};
+ghost use Rattle.exchange_machine.specs.Answerings.{has_answered};
 ghost use Rattle.exchange_machine.specs.Histories.{History, posted, retried};
 ghost use Rattle.exchange_machine.specs.Reasons.{Reason};
 ghost use Rattle.exchange_machine.specs.Repeatables as repeats;
@@ -54,13 +55,13 @@ impl Passing {
     {
         let leave_left = self.leave_left;
         let Ended { pass, ending, rest } = self.end();
-        let Leaving { mut out } = rest;
+        let Leaving { mut out, whole: _ } = rest;
         out.keep_front(leave_left);
         let _ = put_text(&mut out, refusal(code));
         Ended {
             pass,
             ending,
-            rest: Leaving { out },
+            rest: Leaving { out, whole: false },
         }
     }
 
@@ -143,6 +144,7 @@ impl Passing {
             says: _,
             kept: _,
             ended: _,
+            well: _,
             looks: _,
             begun: _,
             leave_left: _,
@@ -176,6 +178,7 @@ impl Passing {
     {
         self.cut = false;
         self.ended = false;
+        self.well = false;
         self.dialing = true;
     }
 
@@ -211,11 +214,13 @@ impl Passing {
     pub fn settle(self) -> Settled
         ensures ends { (h : History) → stages.IsPassing self h → settling.IsRest result.rest (posted h result.pass result.ending) }
         ensures done { result.ending ≡ Ending.Done }
+        ensures whole { settling.IsMarked (has_answered self) result.rest }
     {
         if self.is_whole() {
             return self.settle_whole();
         }
-        let Ended { pass, ending, rest } = self.end();
+        let whole = self.has_answered();
+        let Ended { pass, ending, rest } = self.end_as(whole);
         Settled {
             pass,
             ending,
@@ -227,6 +232,7 @@ impl Passing {
         requires { (self.phase ≡ Down.Body) × (is_done self.up.coding ≡ true) × (is_done self.down.coding ≡ true) × (self.says ≢ Persistence.Close) }
         ensures ends { (h : History) → stages.IsPassing self h → settling.IsRest result.rest (posted h result.pass result.ending) }
         ensures done { result.ending ≡ Ending.Done }
+        ensures whole { settling.IsMarked (has_answered self) result.rest }
     {
         let clean = self.is_clean();
         let Passing {
@@ -246,6 +252,7 @@ impl Passing {
             says: _,
             kept: _,
             ended: _,
+            well: _,
             looks: _,
             begun: _,
             leave_left: _,
@@ -267,7 +274,18 @@ impl Passing {
         ensures ends { (h : History) → stages.IsPassing self h → stages.IsLeaving result.rest (posted h result.pass result.ending) }
         ensures pass { result.pass ≡ self.pass }
         ensures done { result.ending ≡ Ending.Done }
-        ensures rest { result.rest.out ≡ self.down }
+        ensures rest { (result.rest.out ≡ self.down) × (result.rest.whole ≡ false) }
+    {
+        self.end_as(false)
+    }
+
+    // And whether its answer was read whole.
+    fn end_as(self, whole: bool) -> Ended
+        requires { whole ≡ true → has_answered self ≡ true }
+        ensures ends { (h : History) → stages.IsPassing self h → stages.IsLeaving result.rest (posted h result.pass result.ending) }
+        ensures pass { result.pass ≡ self.pass }
+        ensures done { result.ending ≡ Ending.Done }
+        ensures rest { (result.rest.out ≡ self.down) × (result.rest.whole ≡ whole) }
     {
         let Passing {
             view: _,
@@ -286,6 +304,7 @@ impl Passing {
             says: _,
             kept: _,
             ended: _,
+            well: _,
             looks: _,
             begun: _,
             leave_left: _,
@@ -294,7 +313,7 @@ impl Passing {
         Ended {
             pass,
             ending: Ending::Done,
-            rest: Leaving { out: down },
+            rest: Leaving { out: down, whole },
         }
     }
 }

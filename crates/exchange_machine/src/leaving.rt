@@ -8,9 +8,18 @@ use crate::way::Way;
 #[derive(Drop)]
 pub struct Leaving {
     pub(crate) out: Way,
+    /// Whether it is the whole answer of its server.
+    pub(crate) whole: bool,
 }
 
 impl Leaving {
+    /// Is what the client is told the whole answer of its server, and no refusal, nor an answer that broke off?
+    pub fn is_answered(&self) -> bool
+        ensures { result ≡ self.now.whole }
+    {
+        self.whole
+    }
+
     /// What the client is still to be sent.
     pub fn to_client(&self) -> &[u8]
         ensures { result.now ≡ self.now.out.out }
@@ -21,7 +30,8 @@ impl Leaving {
     /// It took so many bytes of it.
     pub fn client_took(&mut self, count: usize)
         requires { count ≤ length self.old.out.out }
-        ensures { (h : History) → stages.IsLeaving self.old h → stages.IsLeaving self.new (client_got h (take count self.old.out.out)) }
+        ensures took { (h : History) → stages.IsLeaving self.old h → stages.IsLeaving self.new (client_got h (take count self.old.out.out)) }
+        ensures whole { self.new.whole ≡ self.old.whole }
     {
         self.out.went(count);
     }

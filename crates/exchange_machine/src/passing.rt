@@ -2,11 +2,13 @@ ghost use Rattle.std.specs.Prelude.{◌≡◌, ◌-◌, ◌≤◌, ◌++◌, [],
 ghost use Rattle.body_coder.specs.Stops.{is_bad, is_done};
 ghost use Rattle.body_coder.specs.declared.coding.Coding as codings;
 ghost use Rattle.exchange_machine.specs.Histories.{History, client_came, server_came, server_got, client_got};
-ghost use Rattle.exchange_machine.specs.Reasons.{HasEnded};
+ghost use Rattle.exchange_machine.specs.Answerings.{has_answered};
+ghost use Rattle.exchange_machine.specs.Reasons.{HasEnded, Shows};
 ghost use Rattle.exchange_machine.specs.Stages as stages;
 
 use crate::held::{HEAD_BYTES, forget, looks_again};
 use crate::sides::Down;
+use crate::signs::Sign;
 use crate::way::Way;
 use grant_board::Pass;
 use relay_body::Framing;
@@ -39,6 +41,8 @@ pub struct Passing {
     pub(crate) kept: bool,
     /// Whether the server's input was read to its end.
     pub(crate) ended: bool,
+    /// Whether it came to its end, and didn't break.
+    pub(crate) well: bool,
     /// Whether a line ended in what is held since a head was looked for in it.
     pub(crate) looks: bool,
     /// Whether the client took a byte behind the leave.
@@ -50,6 +54,13 @@ pub struct Passing {
 }
 
 impl Passing {
+    /// Its pass, to be looked at.
+    pub fn pass(&self) -> &Pass
+        ensures { result.now ≡ self.now.pass }
+    {
+        &self.pass
+    }
+
     /// What came of the client: how much was taken. No more is taken than there is room for.
     pub fn client_bytes(&mut self, input: &[u8]) -> usize
         ensures within { result ≤ length input.now }
@@ -120,12 +131,14 @@ impl Passing {
         self.cut
     }
 
-    /// The server sends no more, or its connection can't be read: all that came was taken before.
-    pub fn server_ended(&mut self)
-        ensures passes { (h : History) → stages.IsPassing self.old h → HasEnded h.signs → stages.IsPassing self.new h }
-        ensures ended { self.new.ended ≡ true }
+    /// The server sends no more, or else its connection can't be read: all that came was taken before.
+    pub fn server_ended(&mut self, well: bool)
+        ensures passes { (h : History) → stages.IsPassing self.old h → HasEnded h.signs → (well ≡ true → Shows h.signs Sign.ServerEnded)
+            → stages.IsPassing self.new h }
+        ensures ended { (self.new.ended ≡ true) × (self.new.well ≡ well) }
     {
         self.ended = true;
+        self.well = well;
     }
 
     /// Was the server's input read to its end?
@@ -186,6 +199,16 @@ impl Passing {
         match self.phase {
             Down::Heads(_) => false,
             Down::Body => self.down.is_whole(),
+        }
+    }
+
+    /// Was the answer read whole: to the end that it says, or else to that of the server's input?
+    pub fn has_answered(&self) -> bool
+        ensures { result ≡ has_answered self.now }
+    {
+        match self.phase {
+            Down::Heads(_) => false,
+            Down::Body => self.down.is_read(self.well && self.down_held.is_empty()),
         }
     }
 

@@ -2,7 +2,7 @@ ghost use Rattle.std.specs.Prelude.{◌≡◌, ◌==◌, ◌+◌, ◌≤◌, ◌
 ghost use Rattle.body_coder.specs.Readings.{start_of};
 ghost use Rattle.body_coder.specs.Stops.{Tells, is_bad, is_done};
 ghost use Rattle.body_coder.specs.declared.coding.Coding as codings;
-ghost use Rattle.exchange_machine.specs.Ways.{Hears};
+ghost use Rattle.exchange_machine.specs.Ways.{Hears, is_read};
 ghost use Rattle.list_facts.specs.Fronts.{IsFront};
 
 use body_coder::{Coding, Fed, OUTBOX_BYTES, Outbox, State};
@@ -71,6 +71,16 @@ impl Way {
         ensures { result ≡ is_bad self.now.coding }
     {
         self.coding.is_broken()
+    }
+
+    /// Was the body read whole, where the input is over or isn't?
+    pub fn is_read(&self, over: bool) -> bool
+        ensures { result ≡ is_read self.now.coding over }
+    {
+        match &self.coding {
+            Coding::ToEnd => over,
+            Coding::Length(_) | Coding::Chunked(_, _) => self.coding.is_whole(),
+        }
     }
 
     /// Does the body go on to the end of the input?

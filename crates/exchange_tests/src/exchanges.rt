@@ -8,17 +8,17 @@ use std::test::Fail;
 
 /// What happens, and what both sides got of it, how often the pass came back as done and as failed, how often the request went out anew, and where the
 /// exchange is at the end.
-struct Row {
-    name: &'static str,
-    moves: &'static [Move],
-    aborts: bool,
-    sent: &'static [u8],
-    told: &'static [u8],
-    counts: (u64, u64, u64),
-    stage: Stage,
+pub(crate) struct Row {
+    pub(crate) name: &'static str,
+    pub(crate) moves: &'static [Move],
+    pub(crate) aborts: bool,
+    pub(crate) sent: &'static [u8],
+    pub(crate) told: &'static [u8],
+    pub(crate) counts: (u64, u64, u64),
+    pub(crate) stage: Stage,
 }
 
-const GET: &[u8] = b"GET /a HTTP/1.1\r\nHost: h\r\n\r\n";
+pub(crate) const GET: &[u8] = b"GET /a HTTP/1.1\r\nHost: h\r\n\r\n";
 
 const POST: &[u8] = b"POST /a HTTP/1.1\r\nHost: h\r\nContent-Length: 5\r\n\r\nab";
 
@@ -27,9 +27,10 @@ const UPLOAD: &[u8] = b"POST /a HTTP/1.1\r\nHost: h\r\nContent-Length: 5\r\n\r\n
 const EXPECTS: &[u8] =
     b"POST /a HTTP/1.1\r\nHost: h\r\nContent-Length: 2\r\nExpect: 100-continue\r\n\r\n";
 
-const HI: &[u8] = b"HTTP/1.1 200 OK\r\nContent-Length: 2\r\n\r\nhi";
+pub(crate) const HI: &[u8] = b"HTTP/1.1 200 OK\r\nContent-Length: 2\r\n\r\nhi";
 
-const BAD: &[u8] = b"HTTP/1.1 400 Bad Request\r\nContent-Length: 0\r\nConnection: close\r\n\r\n";
+pub(crate) const BAD: &[u8] =
+    b"HTTP/1.1 400 Bad Request\r\nContent-Length: 0\r\nConnection: close\r\n\r\n";
 
 const GATEWAY: &[u8] =
     b"HTTP/1.1 502 Bad Gateway\r\nContent-Length: 0\r\nConnection: close\r\n\r\n";
@@ -481,7 +482,7 @@ static AGAIN: [Row; 2] = [
 ];
 
 // Where a row fails: its name, and how the bytes were cut.
-fn first_fault(
+pub(crate) fn first_fault(
     rt: &impl Abort,
     alloc: Global,
     rows: &'static [Row],

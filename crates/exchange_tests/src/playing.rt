@@ -25,8 +25,17 @@ pub(crate) enum Move {
     ClientEnd,
     ClientFailed,
     ServerEnd,
+    ServerFailed,
     ServerDeaf,
     Over(Clock),
+    /// The client asks again, and it may.
+    Again,
+    /// It may not ask again.
+    Barred,
+    /// Whether what it is told is the whole answer of its server.
+    Answered(bool),
+    /// Whether nothing came of it yet.
+    Silent(bool),
     /// The client takes no more bytes.
     Stall,
     /// It takes them again.
@@ -172,6 +181,16 @@ impl Table {
 
     fn happens(&mut self, rt: &impl Abort, exchange: Exchange, each: Move) -> Exchange {
         let event = match each {
+            Move::Again => return self.ask_again(rt, exchange),
+            Move::Barred => return self.is_barred(rt, exchange),
+            Move::Answered(whole) => {
+                assert_eq!(rt; exchange.is_answered(), whole);
+                return exchange;
+            }
+            Move::Silent(silent) => {
+                assert_eq!(rt; exchange.is_silent(), silent);
+                return exchange;
+            }
             Move::Client(bytes) => {
                 self.client
                     .bytes
@@ -205,10 +224,27 @@ impl Table {
             Move::ClientEnd => Event::ClientEnd,
             Move::ClientFailed => Event::ClientFailed,
             Move::ServerEnd => Event::ServerEnd,
+            Move::ServerFailed => Event::ServerFailed,
             Move::ServerDeaf => Event::ServerDeaf,
             Move::Over(clock) => Event::TimeOver(clock),
         };
         self.tell(rt, exchange, event).0
+    }
+
+    fn ask_again(&mut self, rt: &impl Abort, exchange: Exchange) -> Exchange {
+        assert!(rt; exchange.may_ask_again());
+        match exchange.ask_again(self.alloc) {
+            Ok(next) => next,
+            Err(_exchange) => panic!(rt; "a client that may ask again can't"),
+        }
+    }
+
+    fn is_barred(&mut self, rt: &impl Abort, exchange: Exchange) -> Exchange {
+        assert!(rt; !exchange.may_ask_again());
+        match exchange.ask_again(self.alloc) {
+            Ok(_next) => panic!(rt; "a client that may not ask again does"),
+            Err(exchange) => exchange,
+        }
     }
 
     fn grant(&mut self, rt: &impl Abort) -> Pass {

@@ -1,4 +1,4 @@
-ghost use Rattle.std.specs.Prelude.{◌≡◌, ◌≤◌, ℕ, List, [], false, true, Some, length, take};
+ghost use Rattle.std.specs.Prelude.{◌≡◌, ◌≤◌, ℕ, List, [], false, true, Some, IsTrue, length, take};
 ghost use Rattle.exchange_machine.specs.Histories.{History, client_came, server_came, server_got, client_got, signed};
 ghost use Rattle.exchange_machine.specs.Reasons.{told_for};
 ghost use Rattle.exchange_machine.specs.declared.signs.Sign.{Sign};
@@ -463,7 +463,7 @@ pub(crate) fn server_ended(exchange: Exchange, alloc: Global, sign: Sign) -> Ste
 {
     match exchange {
         Exchange::Passing(mut passing) => {
-            passing.server_ended();
+            passing.server_ended(is_end(sign));
             let Turned { next, outcome } = go_on(passing, alloc);
             Step {
                 next,
@@ -472,6 +472,17 @@ pub(crate) fn server_ended(exchange: Exchange, alloc: Global, sign: Sign) -> Ste
             }
         }
         other => unmoved(other),
+    }
+}
+
+// Did the server's input come to its end, and not break?
+fn is_end(sign: Sign) -> bool
+    ensures end { IsTrue result → sign ≡ Sign.ServerEnded }
+    ensures each { sign ≡ Sign.ServerEnded → IsTrue result }
+{
+    match sign {
+        Sign::ServerEnded => true,
+        _ => false,
     }
 }
 

@@ -1,5 +1,5 @@
 -- What is held of an exchange and of its seat.
-use Rattle.std.specs.Prelude.{◌≡◌, Bool, true, false, ◌&&◌, List, [], ◌∷◌, Option, Some, None}
+use Rattle.std.specs.Prelude.{◌≡◌, ℕ, Bool, true, false, ◌&&◌, List, [], ◌∷◌, Option, Some, None}
 use Rattle.atomic_table.specs.Seated.{TableId}
 use Rattle.exchange_machine.specs.Histories.{History}
 use Rattle.exchange_machine.specs.Stages.{IsWaiting}
@@ -37,6 +37,16 @@ serves (Told cause) = false
 abbrev pub all_serve : List Grant → Bool
 all_serve [] = true
 all_serve (pass ∷ passes) = serves pass.verdict && all_serve passes
+
+-- the server whose slot such a verdict gives
+abbrev pub served_by : Verdict → Option ℕ
+served_by (Serve server) = Some server
+served_by (Told cause) = None
+
+-- the server of a pass that is held, where one is
+abbrev pub server_of : List Grant → Option ℕ
+server_of [] = None
+server_of (pass ∷ passes) = served_by pass.verdict
 
 -- an exchange of such a verdict may end so
 abbrev pub may_end : Verdict → Ending → Bool

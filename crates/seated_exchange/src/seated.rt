@@ -1,10 +1,12 @@
-ghost use Rattle.std.specs.Prelude.{◌≡◌, ◌<◌, ◌≤◌, ◌++◌, ◌∷◌, [], true, length, IfSome, MatchOption};
+ghost use Rattle.std.specs.Prelude.{◌≡◌, ◌<◌, ◌≤◌, ◌++◌, ◌∷◌, [], true, false, length, IfOk, IfErr, IfSome, MatchOption};
 ghost use Rattle.exchange_driver.specs.Drives.{IsDownAtRest, IsUpAtRest};
 ghost use Rattle.grant_board.specs.RelayCalls.{post_after};
+ghost use Rattle.exchange_machine.specs.Histories.{History};
+ghost use Rattle.mixed_exchange.specs.Chains as chains;
 ghost use Rattle.mixed_exchange.specs.Passes.{held_by, gone_with};
 ghost use Rattle.mixed_exchange.specs.Steps as steps;
 ghost use Rattle.mixed_exchange.specs.Steps.{HasHistory};
-ghost use Rattle.seated_exchange.specs.Seats.{passes_at, board_at, terms_at, all_serve, may_end};
+ghost use Rattle.seated_exchange.specs.Seats.{passes_at, board_at, terms_at, all_serve, server_of, served_by, may_end};
 
 use crate::notice::Notice;
 use crate::queued::Queued;
@@ -14,7 +16,7 @@ use mixed_exchange::{Clock, Exchange, Outcome, Step};
 use pass_seat::{Held, Idle};
 use std::alloc::Global;
 use std::marker::PhantomData;
-use verdict::Ending;
+use verdict::{Ending, Verdict};
 
 /// An exchange, and the seat of the pass that it holds, where it holds one. It has no `Drop`, as a pass has none.
 pub struct Seated<N: BoardName> {
@@ -129,6 +131,22 @@ impl<N: BoardName> Seated<N> {
         }
     }
 
+    /// The server of the pass that it holds, where it holds one.
+    pub fn server(&self) -> Option<usize>
+        ensures { result ≡ server_of (held_by self.now.exchange) }
+    {
+        match &self.exchange {
+            Exchange::Dialing(dialing) => served_by(dialing.pass().verdict()),
+            Exchange::Passing(passing) => served_by(passing.pass().verdict()),
+            Exchange::Asking(_)
+            | Exchange::Waiting(_)
+            | Exchange::Settling(_)
+            | Exchange::Leaving(_)
+            | Exchange::Telling(_)
+            | Exchange::Over => None,
+        }
+    }
+
     /// Was its request read whole, or isn't it read before a pass is there?
     pub fn has_asked(&self) -> bool {
         match &self.exchange {
@@ -159,6 +177,48 @@ impl<N: BoardName> Seated<N> {
     /// Was its client sent all that it is told?
     pub fn has_told(&self) -> bool {
         self.exchange.to_client().is_empty()
+    }
+
+    /// Is what its client is told, and was told, the whole answer of its server, and no refusal, nor an answer that broke off?
+    pub fn is_answered(&self) -> bool
+        ensures { result ≡ chains.is_answered self.now.exchange }
+    {
+        self.exchange.is_answered()
+    }
+
+    /// Did nothing come of its client yet?
+    pub fn is_silent(&self) -> bool
+        ensures { result ≡ chains.is_silent self.now.exchange }
+    {
+        self.exchange.is_silent()
+    }
+
+    /// May its client ask again, as `mixed_exchange` says?
+    pub fn may_ask_again(&self) -> bool
+        ensures { result ≡ chains.may_ask_again self.now.exchange }
+    {
+        self.exchange.may_ask_again()
+    }
+
+    /// The next exchange of a client that may ask again, which holds no pass. It begins with what came behind the request.
+    pub fn ask_again(self, alloc: Global) -> Result<Seated<N>, Seated<N>>
+        ensures next { IfOk result (λ next. (h : History) → steps.IsAt self.exchange h → chains.IsNext h next.exchange) }
+        ensures none { IfOk result (λ next. held_by next.exchange ≡ []) }
+        ensures may { IfOk result (λ next. chains.may_ask_again self.exchange ≡ true) }
+        ensures same { IfErr result (λ seated. (seated ≡ self) × (chains.may_ask_again self.exchange ≡ false)) }
+    {
+        if !self.exchange.may_ask_again() {
+            return Err(self);
+        }
+        let Seated {
+            exchange,
+            seat: _,
+            name: _,
+        } = self;
+        match exchange.ask_again(alloc) {
+            Ok(next) => Ok(Seated::of(next, None)),
+            Err(_exchange) => unreachable!(),
+        }
     }
 
     /// The exchange that waits for a pass, where it does.
@@ -255,6 +315,16 @@ impl<N: BoardName> Seated<N> {
             | Exchange::Over => return None,
         };
         Some(with_seat(seat, pass, ending))
+    }
+}
+
+// The server whose slot a verdict gives.
+fn served_by(verdict: Verdict) -> Option<usize>
+    ensures { result ≡ served_by verdict }
+{
+    match verdict {
+        Verdict::Serve(server) => Some(server),
+        Verdict::Told(_) => None,
     }
 }
 

@@ -1,4 +1,4 @@
-use Rattle.std.proofs.Common.{◌≡◌, ◌<◌, length}
+use Rattle.std.proofs.Common.{◌<◌, length}
 use Rattle.exchange_machine.specs.Histories.{History}
 use Rattle.mixed_exchange.specs.Steps.{IsAt}
 use Rattle.mixed_exchange.specs.declared.exchange.Outcome.TheVariants.{Quiet}

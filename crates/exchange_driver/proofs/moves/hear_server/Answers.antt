@@ -1,4 +1,4 @@
-use Rattle.std.proofs.Common.{◌≡◌, ◌∙◌, ◌<◌, List, ℕ, [], ◌++◌, ◌-◌, Option, refl, ap, sym, length, take, drop, subst, arith, length-take}
+use Rattle.std.proofs.Common.{◌∙◌, ◌<◌, List, ℕ, ◌++◌, ◌-◌, Option, refl, ap, sym, length, take, drop, subst, arith, length-take}
 use Rattle.std.proofs.lemmas.List.{take_rest}
 use Rattle.std.specs.Io.KnownBytes.{Consumes}
 use Rattle.exchange_machine.specs.declared.signs.Sign.TheVariants.{ServerEnded, ServerFailed}

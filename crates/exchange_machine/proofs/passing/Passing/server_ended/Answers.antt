@@ -3,4 +3,4 @@ use Rattle.exchange_machine.proofs.EventLemmas.{passing_ended}
 use Rattle.exchange_machine.proofs.passing.Passing.server_ended.Goals as goal
 
 pub returns-clause-passes : goal.returns-clause-passes
-returns-clause-passes c h is ends = passing_ended c.args.self.now _ h is ends refl
+returns-clause-passes c h is ends well = passing_ended c.args.self.now _ h is ends well refl

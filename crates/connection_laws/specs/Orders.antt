@@ -1,0 +1,23 @@
+-- What goes over a client's connection: whole requests and their answers in order, and a front of one more.
+use Rattle.std.specs.Prelude.{◌≡◌, ◌≢◌, ℕ, List, ◌++◌}
+use Rattle.std.specs.List.{flat_map, AllByRecursion}
+use Rattle.list_facts.specs.Fronts.{IsFront}
+use Rattle.relay_http.specs.declared.persistence.Persistence.TheVariants.{Close}
+use Rattle.exchange_machine.specs.Headline.{ClientText}
+use Rattle.exchange_machine.specs.Histories.{History}
+use Rattle.exchange_machine.specs.Wholes.{Whole, IsWhole, asked, told}
+
+-- behind it the client may ask again: both sides agreed that its connection stays
+abbrev pub IsOpenToClient : Whole → Type 0
+IsOpenToClient w = w.says ≢ Close
+
+-- What came of a client is its requests one after another, and then what came for the exchange at hand; and what it took is their answers one after another,
+-- each whole and of its own request, none left out and none twice, and then a front of one text for that exchange: an answer, or a refusal.
+pub record AnsweredInOrder (before : List Whole) (now : History) (input output : List ℕ) : Type 0 where
+  pub each : AllByRecursion IsWhole before
+  pub stays : AllByRecursion IsOpenToClient before
+  pub input_is : input ≡ flat_map asked before ++ now.client_in
+  pub output_is : output ≡ flat_map told before ++ now.to_client
+  pub text : List ℕ
+  pub last : ClientText now text
+  pub front : IsFront now.to_client text

@@ -1,0 +1,42 @@
+-- Whole answers, as they are read and as a client is told of them.
+use Rattle.std.specs.Prelude.{◌≡◌, ℕ, Bool, false, ◌&&◌, List, ◌++◌}
+use Rattle.relay_body.specs.declared.framing.Framing.TheVariants as Framed
+use Rattle.relay_http.specs.Messages.{IsAnswered}
+use Rattle.relay_http.specs.Replies.{leave_text}
+use Rattle.relay_http.specs.Texts.{framed_for}
+use Rattle.relay_http.specs.declared.persistence.Persistence.{Persistence}
+use Rattle.req_view.specs.Request.{Request}
+use Rattle.body_coder.specs.declared.coding.Coding.{Coding}
+use Rattle.exchange_machine.specs.Reasons.{Shows}
+use Rattle.exchange_machine.specs.Requests.{IsAskedBy}
+use Rattle.exchange_machine.specs.Wants.{is_none}
+use Rattle.exchange_machine.specs.Ways.{is_read}
+use Rattle.exchange_machine.specs.declared.passing.Passing.{Passing}
+use Rattle.exchange_machine.specs.declared.sides.Down.{Down}
+use Rattle.exchange_machine.specs.declared.sides.Down.TheVariants.{Heads, Body}
+use Rattle.exchange_machine.specs.declared.signs.Sign.{Sign}
+use Rattle.exchange_machine.specs.declared.signs.Sign.TheVariants.{ServerEnded}
+
+-- an answer was read whole, where its server's input is over or isn't
+abbrev pub is_read_at : Down → Coding → Bool → Bool
+is_read_at (Heads count) coding over = false
+is_read_at Body coding over = is_read coding over
+
+-- this one's was; the input of its server is over where it came to its end, didn't break, and nothing of it is held
+abbrev pub has_answered : Passing → Bool
+has_answered p = is_read_at p.phase p.down.coding (p.well && is_none p.down_held.items)
+
+-- The text is the leave and the whole answer to the client's request, as its server sent it: one whose end doesn't show went on to the end of the server's
+-- input, and that didn't break.
+pub record TellsAnswer (signs : List Sign) (client_in server_in text : List ℕ) : Type 0 where
+  pub says : Persistence
+  pub request : Request
+  pub behind : List ℕ
+  pub asked : IsAskedBy client_in request behind
+  pub came : List ℕ
+  pub extra : List ℕ
+  pub came_is : server_in ≡ came ++ extra
+  pub given : List ℕ
+  pub answered : IsAnswered says request.method (framed_for request.version) came given
+  pub text_is : text ≡ leave_text request ++ given
+  pub ends : answered.plan.body ≡ Framed.ToEnd → Shows signs ServerEnded

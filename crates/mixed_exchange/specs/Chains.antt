@@ -1,0 +1,60 @@
+-- Requests one after another on a client's connection.
+use Rattle.std.specs.Prelude.{◌≡◌, ◌≢◌, ◌⊎◌, ℕ, Bool, true, false, List, []}
+use Rattle.relay_http.specs.declared.persistence.Persistence.TheVariants.{Close}
+use Rattle.exchange_machine.specs.Histories.{History, signed}
+use Rattle.exchange_machine.specs.Wants.{is_none}
+use Rattle.exchange_machine.specs.Wholes.{Whole, Ends, begun}
+use Rattle.exchange_machine.specs.declared.signs.Sign.TheVariants as Signs
+use Rattle.mixed_exchange.specs.Steps.{IsAt}
+use Rattle.mixed_exchange.specs.declared.exchange.Exchange.{Exchange}
+use Rattle.mixed_exchange.specs.declared.exchange.Exchange.TheVariants.{Asking, Waiting, Dialing, Passing, Settling, Leaving, Telling, Over}
+
+-- its client may ask again: both messages were whole, both sides agreed that the connection stays, and the client was sent all of the answer
+abbrev pub may_ask_again : Exchange → Bool
+may_ask_again (Asking a) = false
+may_ask_again (Waiting w) = false
+may_ask_again (Dialing d) = false
+may_ask_again (Passing p) = false
+may_ask_again (Settling s) = is_none s.out.out
+may_ask_again (Leaving l) = false
+may_ask_again (Telling t) = false
+may_ask_again Over = false
+
+-- a new exchange, of which these bytes have come and nothing else happened, but that memory for it may be wanting
+pub record IsBegun (x : Exchange) (bytes : List ℕ) : Type 0 where
+  pub now : History
+  pub is : (now ≡ begun bytes) ⊎ (now ≡ signed (begun bytes) Signs.NoMemory)
+  pub at : IsAt x now
+
+-- The exchange with this history was whole, and its client was sent all that it was to be told and told that it may ask again; the next exchange begins with
+-- what came behind its request.
+pub record IsNext (h : History) (next : Exchange) : Type 0 where
+  pub whole : Whole
+  pub behind : List ℕ
+  pub unsent : List ℕ
+  pub extra : List ℕ
+  pub ends : Ends h whole behind [] unsent extra
+  pub stays : whole.says ≢ Close
+  pub begins : IsBegun next behind
+
+-- what its client is told is the whole answer of its server
+abbrev pub is_answered : Exchange → Bool
+is_answered (Asking a) = false
+is_answered (Waiting w) = false
+is_answered (Dialing d) = false
+is_answered (Passing p) = false
+is_answered (Settling s) = true
+is_answered (Leaving l) = l.whole
+is_answered (Telling t) = false
+is_answered Over = false
+
+-- nothing came of its client yet
+abbrev pub is_silent : Exchange → Bool
+is_silent (Asking a) = is_none a.held.items
+is_silent (Waiting w) = false
+is_silent (Dialing d) = false
+is_silent (Passing p) = false
+is_silent (Settling s) = false
+is_silent (Leaving l) = false
+is_silent (Telling t) = false
+is_silent Over = false

@@ -1,0 +1,110 @@
+//! Requests one after another on a client's connection: how an exchange ended, and the next one.
+
+ghost use Rattle.std.specs.Prelude.{◌≡◌, ◌++◌, ℕ, List, [], true, false, IfOk, IfErr, IsTrue};
+ghost use Rattle.exchange_machine.specs.Answerings.{TellsAnswer};
+ghost use Rattle.exchange_machine.specs.Histories.{History};
+ghost use Rattle.exchange_machine.specs.Stages.{IsTurn, IsUnread};
+ghost use Rattle.exchange_machine.specs.Wholes.{begun};
+ghost use Rattle.mixed_exchange.specs.Chains as chains;
+ghost use Rattle.mixed_exchange.specs.Passes.{held_by};
+ghost use Rattle.mixed_exchange.specs.Steps as steps;
+
+use crate::exchange::Exchange;
+use exchange_machine::{Telling, Turn};
+use relay_http::Fault;
+use std::alloc::Global;
+
+impl Exchange {
+    /// Is what its client is told, and was told, the whole answer of its server, and no refusal, nor an answer that broke off?
+    pub fn is_answered(&self) -> bool
+        ensures answered { result ≡ chains.is_answered self.now }
+        ensures whole { IsTrue result → (h : History) → steps.IsAt self.now h
+            → TellsAnswer h.signs h.client_in h.server_in (h.to_client ++ steps.to_client self.now) }
+    {
+        match self {
+            Exchange::Settling(_) => true,
+            Exchange::Leaving(leaving) => leaving.is_answered(),
+            Exchange::Asking(_)
+            | Exchange::Waiting(_)
+            | Exchange::Dialing(_)
+            | Exchange::Passing(_)
+            | Exchange::Telling(_)
+            | Exchange::Over => false,
+        }
+    }
+
+    /// Did nothing come of its client yet?
+    pub fn is_silent(&self) -> bool
+        ensures silent { result ≡ chains.is_silent self.now }
+        ensures none { IsTrue result → (h : History) → steps.IsAt self.now h → (h.client_in ≡ []) × (h.to_client ≡ []) × (h.grants ≡ []) }
+    {
+        match self {
+            Exchange::Asking(asking) => asking.is_silent(),
+            Exchange::Waiting(_)
+            | Exchange::Dialing(_)
+            | Exchange::Passing(_)
+            | Exchange::Settling(_)
+            | Exchange::Leaving(_)
+            | Exchange::Telling(_)
+            | Exchange::Over => false,
+        }
+    }
+
+    /// May its client ask again? Both messages were whole, both sides agreed that the connection stays, and the client was sent all of the answer.
+    pub fn may_ask_again(&self) -> bool
+        ensures { result ≡ chains.may_ask_again self.now }
+    {
+        match self {
+            Exchange::Settling(settling) => settling.to_client().is_empty(),
+            Exchange::Asking(_)
+            | Exchange::Waiting(_)
+            | Exchange::Dialing(_)
+            | Exchange::Passing(_)
+            | Exchange::Leaving(_)
+            | Exchange::Telling(_)
+            | Exchange::Over => false,
+        }
+    }
+
+    /// The next exchange of a client that may ask again. It begins with what came behind the request, and so may wait for a pass at once, or be refused.
+    pub fn ask_again(self, alloc: Global) -> Result<Exchange, Exchange>
+        ensures next { IfOk result (λ next. (h : History) → steps.IsAt self h → chains.IsNext h next) }
+        ensures history { IfOk result (λ next. steps.HasHistory next) }
+        ensures none { IfOk result (λ next. held_by next ≡ []) }
+        ensures may { IfOk result (λ next. chains.may_ask_again self ≡ true) }
+        ensures same { IfErr result (λ exchange. (exchange ≡ self) × (chains.may_ask_again self ≡ false)) }
+    {
+        match self {
+            Exchange::Settling(settling) => {
+                if settling.to_client().is_empty() {
+                    Ok(turned(settling.next(alloc)))
+                } else {
+                    Err(Exchange::Settling(settling))
+                }
+            }
+            other => Err(other),
+        }
+    }
+}
+
+fn turned(turn: Turn) -> Exchange
+    ensures begun { (behind : List ℕ) → IsTurn turn (begun behind) → chains.IsBegun result behind }
+    ensures none { held_by result ≡ [] }
+{
+    match turn {
+        Turn::More(asking) => Exchange::Asking(asking),
+        Turn::Whole(waiting) => Exchange::Waiting(waiting),
+        Turn::Refused(_, why) => unread(why),
+    }
+}
+
+fn unread(why: Fault) -> Exchange
+    ensures begun { (behind : List ℕ) → IsUnread why (begun behind) → chains.IsBegun result behind }
+    ensures none { held_by result ≡ [] }
+{
+    if why == Fault::NoMemory {
+        Exchange::Telling(Telling::starved())
+    } else {
+        Exchange::Telling(Telling::of_fault(why))
+    }
+}

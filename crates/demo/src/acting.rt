@@ -44,10 +44,14 @@ pub(crate) fn act<
         + Net<Listener = TcpListener, Stream = TcpStream>
         + Clock
         + Print
+        + Eprint
         + AllocGlobal
         + Threads
         + Wait
-        + Sync,
+        + Sync
+        + Copy
+        + Send
+        + 'static,
 >(rt: &R, stage: Stage, telling: Telling<'_>, keep: bool) -> Result<(), DemoFault> {
     let Stage {
         servers: (first, second, third),
@@ -83,10 +87,14 @@ fn play<
         + Net<Listener = TcpListener, Stream = TcpStream>
         + Clock
         + Print
+        + Eprint
         + AllocGlobal
         + Threads
         + Wait
-        + Sync,
+        + Sync
+        + Copy
+        + Send
+        + 'static,
 >(rt: &R, front: Front, telling: Telling<'_>, keep: bool) -> Result<(), DemoFault> {
     let listener = match front.listener.try_clone() {
         Ok(listener) => listener,
@@ -106,10 +114,14 @@ fn serve_visits<
     R: Net<Listener = TcpListener, Stream = TcpStream>
         + Clock
         + Print
+        + Eprint
         + AllocGlobal
         + Threads
         + Wait
-        + Sync,
+        + Sync
+        + Copy
+        + Send
+        + 'static,
 >(rt: &R, front: &Front, listener: TcpListener, looks: Looks) -> Result<Played, DemoFault> {
     let clients = match clients_of(rt, front.address) {
         Ok(clients) => clients,
@@ -156,10 +168,14 @@ pub(crate) fn serve<
     R: Net<Listener = TcpListener, Stream = TcpStream>
         + Clock
         + Print
+        + Eprint
         + AllocGlobal
         + Threads
         + Wait
-        + Sync,
+        + Sync
+        + Copy
+        + Send
+        + 'static,
 >(
     rt: &R,
     config: &str,
@@ -169,7 +185,7 @@ pub(crate) fn serve<
 ) -> Result<Reports, ServeFault> {
     match (
         read(rt.alloc(), config.as_bytes()),
-        Sizes::new(None, None, PLACES, clients),
+        Sizes::new(None, None, None, PLACES, clients),
     ) {
         (Ok(config), Some(sizes)) => serve_recorded(rt, config, listener, sizes, record),
         // The program's own configuration is good, and these are sizes: only memory can be short.

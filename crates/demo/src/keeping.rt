@@ -20,10 +20,14 @@ pub(crate) fn keep_on<
     R: Net<Listener = TcpListener, Stream = TcpStream>
         + Clock
         + Print
+        + Eprint
         + AllocGlobal
         + Threads
         + Wait
-        + Sync,
+        + Sync
+        + Copy
+        + Send
+        + 'static,
 >(rt: &R, front: Front, looks: Looks) -> Result<(), DemoFault> {
     let Front {
         address,

@@ -30,10 +30,14 @@ pub fn demo<
         + Net<Listener = TcpListener, Stream = TcpStream>
         + Clock
         + Print
+        + Eprint
         + AllocGlobal
         + Threads
         + Wait
-        + Sync,
+        + Sync
+        + Copy
+        + Send
+        + 'static,
 >(rt: &R, looks: Looks, file: &str, keep: bool) -> Result<(), DemoFault> {
     let stage = match stage_of(rt, rt.alloc()) {
         Ok(stage) => stage,

@@ -1,7 +1,7 @@
 //! Connections to servers.
 
 use proxy_config::{Address, Host};
-use std::net::{Ipv4Addr, Net, SocketAddr, TcpListener, TcpStream, ToSocketAddrs};
+use std::net::{Ipv4Addr, Net, TcpListener, TcpStream, ToSocketAddrs};
 use std::str;
 use std::time::{Clock, Duration, Instant};
 
@@ -43,16 +43,4 @@ fn dial_one_of<R: Net<Listener = TcpListener, Stream = TcpStream> + Clock, A: To
         }
     }
     None
-}
-
-/// The first address that a server has.
-pub fn first_address<R: Net>(rt: &R, address: &Address) -> Option<SocketAddr> {
-    match &address.host {
-        Host::Ip(ip) => Some(SocketAddr::from((Ipv4Addr::from(*ip), address.port))),
-        Host::Name(name) => {
-            let name = str::from_utf8(name.as_slice()).ok()?;
-            let mut found = (name, address.port).to_socket_addrs(rt).ok()?;
-            found.next()
-        }
-    }
 }

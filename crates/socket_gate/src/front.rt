@@ -1,14 +1,13 @@
 use crate::clients::Clients;
 use crate::waits::duration;
+use control_socket::Controls;
 use proxy_config::Config;
-use reporting_core::Window;
-use script::Names;
+use server_names::Addresses;
 use std::alloc::Global;
 use std::net::{TcpListener, TcpStream};
-use std::sync::{Mutex, Wait};
 use std::thread;
 use std::time::{Clock, Duration, Instant};
-use window_lines::Told;
+use window_printer::WindowPrinter;
 
 const MOST_FAILURES: usize = 1000;
 
@@ -17,14 +16,19 @@ const MOST_FAILURES: usize = 1000;
 pub struct Front<'a> {
     pub alloc: Global,
     pub config: &'a Config,
-    pub names: Names,
     /// Where clients come.
     pub listener: TcpListener,
     pub clients: Clients,
     /// Moments are milliseconds since then.
     pub start: Instant,
-    /// One thread at a time tells of windows.
-    pub told: Mutex<Told>,
+    /// Where servers are.
+    pub addresses: &'a Addresses,
+    /// How long a client may stay between two requests, in milliseconds. None: it has one.
+    pub keeping: Option<u64>,
+    /// Where windows go that ended.
+    pub windows: &'a WindowPrinter,
+    /// What it is steered by while it serves, where it is.
+    pub controls: Option<&'a Controls>,
 }
 
 impl<'a> Front<'a> {
@@ -41,12 +45,6 @@ impl<'a> Front<'a> {
         }
         self.clients.give_up();
         None
-    }
-
-    /// Prints what is told of a window, whole, before that of another.
-    pub(crate) fn tell<R: Print + Wait>(&self, rt: &R, window: &Window) {
-        let mut told = self.told.lock(rt);
-        told.tell(rt, self.alloc, &self.names, window);
     }
 }
 

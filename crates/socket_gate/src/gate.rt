@@ -2,7 +2,7 @@ ghost use Rattle.std.specs.Prelude.{◌≡◌, ◌≤◌, IfOk, length};
 ghost use Rattle.relay_http.specs.States.{Serves};
 ghost use Rattle.relay_workers.specs.Windows.{HasEnded};
 
-use crate::dialing::{dial, first_address};
+use crate::dialing::dial;
 use crate::front::{Front, within};
 use crate::leaving::has_left;
 use crate::probing::Probe;
@@ -13,7 +13,7 @@ use place_set::PlaceSet;
 use relay_workers::Gate;
 use reporting_core::Window;
 use std::alloc::{AllocError, Global};
-use std::net::{Net, TcpListener, TcpStream};
+use std::net::{Net, SocketAddr, TcpListener, TcpStream};
 use std::os::fd::AsRawFd;
 use std::sync::Wait;
 use std::time::{Clock, Duration};
@@ -109,8 +109,10 @@ impl<'a, R: Net<Listener = TcpListener, Stream = TcpStream> + Clock> SocketGate<
             thread::sleep(self.rt, Duration::from_millis(millis));
         }
     }
+}
 
-    // The check of a server that runs, or else one that begins. None: there is no connection to be had.
+impl<'a, R: Net<Listener = TcpListener, Stream = TcpStream> + Clock + Wait> SocketGate<'a, R> {
+    // The check of a server that runs, or else one that begins. None: there is no connection to be had, or its name's last look-up failed.
     fn take_probe(&mut self, server: usize, now: Moment) -> Option<Probe> {
         if let Some(place) = self.probes.get_mut(server) {
             if let Some(probe) = place.take() {
@@ -119,13 +121,21 @@ impl<'a, R: Net<Listener = TcpListener, Stream = TcpStream> + Clock> SocketGate<
         }
         let config = self.front.config;
         let it = config.servers.as_slice().get(server)?;
-        let address = first_address(self.rt, &it.address)?;
+        let address = self.address_of(server);
         Probe::begin(
             self.rt,
-            address,
+            address?,
             now,
             patience(config.connect_timeout, it.check),
         )
+    }
+
+    // A server's address by the last look-up of its name, which is looked up once more for the next check.
+    fn address_of(&self, server: usize) -> Option<SocketAddr> {
+        let addresses = self.front.addresses;
+        let address = addresses.of(self.rt, self.front.config, server);
+        addresses.look_again(self.rt, server);
+        address
     }
 }
 
@@ -134,7 +144,7 @@ fn moment_of(passed: Duration) -> Option<Moment> {
     Moment::new(u64::try_from(passed.as_millis()).ok()?)
 }
 
-impl<'a, R: Net<Listener = TcpListener, Stream = TcpStream> + Clock + Print + Wait> Gate
+impl<'a, R: Net<Listener = TcpListener, Stream = TcpStream> + Clock + Wait> Gate
     for SocketGate<'a, R> {
     type Client = TcpStream;
 
@@ -184,7 +194,7 @@ impl<'a, R: Net<Listener = TcpListener, Stream = TcpStream> + Clock + Print + Wa
     }
 
     fn window(&mut self, window: Window) {
-        self.front.tell(self.rt, &window);
+        self.front.windows.hand_over(self.rt, window);
     }
 
     fn wake(&mut self, places: &PlaceSet) {

@@ -14,7 +14,6 @@ mod probing;
 mod waits;
 
 pub use clients::Clients;
-pub use dialing::first_address;
 pub use front::{Front, within};
 pub use gate::SocketGate;
 pub use leaving::has_left;

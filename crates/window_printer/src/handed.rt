@@ -1,0 +1,121 @@
+//! The windows that were handed over.
+
+ghost use Rattle.std.specs.Prelude.{◌≡◌, ◌≤◌, ◌<◌, ◌++◌, ◌∷◌, [], Some, true, false, IfOk, IsTrue, ◌↔◌, length};
+ghost use Rattle.std.specs.Option.{option_to_list};
+ghost use Rattle.std.specs.VecDeque.{deque_len, deque_capacity};
+ghost use Rattle.window_lines.specs.Sums.{plus, nothing_for, with_window};
+
+use late_cert::Reports;
+use reporting_core::Window;
+use std::alloc::{AllocError, Global};
+use std::collections::VecDeque;
+use std::mem;
+use window_lines::{Sums, TellFault, Told};
+
+/// So many windows wait to be printed, at most.
+const MOST: usize = 16;
+
+/// A window that is to be printed.
+#[derive(Debug, Drop)]
+pub struct Numbered {
+    /// Windows count from 1 in the order in which they were handed over.
+    pub number: u64,
+    pub reports: Reports,
+}
+
+/// All windows that were handed over, in numbers, and those that wait to be printed.
+#[derive(Drop)]
+pub struct Handed {
+    told: Told,
+    waiting: VecDeque<Numbered>,
+    /// So many were left out, of which nobody was told.
+    left_out: u64,
+    is_over: bool,
+    ghost roomy: { deque_capacity waiting ≡ 16 },
+}
+
+impl Handed {
+    /// None so far, of so many servers. It takes the memory for all that may wait.
+    pub fn new(alloc: Global, servers: usize) -> Result<Handed, AllocError>
+        ensures counted { IfOk result (λ it. (it.told.windows ≡ 0) × (it.told.sums ≡ nothing_for servers)) }
+        ensures waiting { IfOk result (λ it. (it.waiting.items ≡ []) × (it.left_out ≡ 0) × (it.is_over ≡ false)) }
+    {
+        let sums = Sums::new(alloc, servers)?;
+        let waiting = VecDeque::with_capacity(alloc, MOST)?;
+        Ok(Handed {
+            told: Told::new(sums),
+            waiting,
+            left_out: 0,
+            is_over: false,
+        })
+    }
+
+    /// One more: it counts, and it waits to be printed, behind the others. Where 16 wait already, it is left out.
+    pub fn hand_over(&mut self, window: Window)
+        ensures windows { self.new.told.windows ≡ plus self.old.told.windows 1 }
+        ensures sums { self.new.told.sums ≡ with_window window.servers.items self.old.told.sums }
+        ensures room { length self.old.waiting.items < 16
+            → (self.new.waiting.items ≡ self.old.waiting.items ++ record { number = self.new.told.windows; reports = window.reports } ∷ []) × (self.new.left_out ≡ self.old.left_out) }
+        ensures full { 16 ≤ length self.old.waiting.items → (self.new.waiting ≡ self.old.waiting) × (self.new.left_out ≡ plus self.old.left_out 1) }
+        ensures same { (self.new.told.fault ≡ self.old.told.fault) × (self.new.is_over ≡ self.old.is_over) }
+    {
+        let Window { reports, servers } = window;
+        self.told.count(servers.as_slice());
+        if self.waiting.len() < MOST {
+            let number = self.told.windows;
+            self.waiting
+                .push_back_reserved(Numbered { number, reports });
+        } else {
+            self.left_out = self.left_out.saturating_add(1);
+        }
+    }
+
+    /// The first of those that wait, which waits no more.
+    pub fn next(&mut self) -> Option<Numbered>
+        ensures first { self.old.waiting.items ≡ option_to_list result ++ self.new.waiting.items }
+        ensures same { (self.new.told ≡ self.old.told) × (self.new.left_out ≡ self.old.left_out) × (self.new.is_over ≡ self.old.is_over) }
+    {
+        self.waiting.pop_front()
+    }
+
+    /// Whether none waits, and more may come.
+    pub fn rests(&self) -> bool
+        ensures { IsTrue result ↔ ((length self.now.waiting.items ≡ 0) × (self.now.is_over ≡ false)) }
+    {
+        self.waiting.is_empty() && !self.is_over
+    }
+
+    /// How many were left out since it was last asked.
+    pub fn take_left_out(&mut self) -> u64
+        ensures { (result ≡ self.old.left_out) × (self.new ≡ record self.old { left_out = 0 }) }
+    {
+        mem::replace(&mut self.left_out, 0)
+    }
+
+    /// One that waited couldn't be printed.
+    pub fn fail(&mut self, fault: TellFault)
+        ensures { self.new ≡ record self.old { told = record self.old.told { fault = Some fault } } }
+    {
+        self.told.fail(fault);
+    }
+
+    /// No more come.
+    pub fn end(&mut self)
+        ensures { self.new ≡ record self.old { is_over = true } }
+    {
+        self.is_over = true;
+    }
+
+    /// All of them, in numbers.
+    pub fn into_told(self) -> Told
+        ensures { result ≡ self.told }
+    {
+        let Handed {
+            told,
+            waiting: _,
+            left_out: _,
+            is_over: _,
+        } = self;
+        told
+    }
+}

@@ -1,0 +1,10 @@
+//! Windows on their way to standard output. A thread of its own prints them, so that one who hands a window over never waits for a reader of standard output.
+#![tactic(auto)]
+
+mod handed;
+mod printer;
+#[cfg(test)]
+mod tests;
+
+pub use handed::{Handed, Numbered};
+pub use printer::WindowPrinter;

@@ -1,4 +1,7 @@
+use crate::converting::convert;
+use crate::inputs::optional_file;
 use crate::running::run;
+use crate::steering::ctl;
 use crate::version::VERSION;
 use clap::{Arg, ArgAction, Command};
 use std::alloc::{AllocError, Global};
@@ -26,8 +29,16 @@ The events:
   M limit NAME MAXCONN   the server may serve so many at once from now on
   M limit NAME closed    the server takes nobody until its limit is set again
   roll                   the reports so far, and the next window of the log
+An event that cannot be has the line refused N, and changes nothing. Of N:
+  refused 2              as many requests are live as there are places
+  refused 3              fewer than twice the places and 8 entries of the log are free
+  refused 4              no live request has this ticket
+  refused 5              done: the request still waits; fail: it has no slot; abort: it
+                         does not wait; check: the server is not checked
+  refused 6              no server has this name
+  refused 14             the next ticket would be 2^40
 
-For example, dueproxy replay reads
+For example, dueproxy replay examples/overtaking.script reads
   0 arrive 0 0
   1 arrive 0 0
   2 arrive 0 -5
@@ -43,21 +54,23 @@ Prints one of
 With --explain each faulty line is named, the word at fault marked, and it is said
 what takes the place of a keyword of HAProxy that isn't there; at the end stands
   lines to change: N
+and on standard error each kind of line that is taken and has no effect. Where standard
+error is a terminal, check says all of that there.
 
 For example, dueproxy check examples/shop.cfg";
 
 const DRAW_HELP: &str = "\
-Reads a script or a trace from standard input, and writes the picture to standard
-output: a lane for each queue and for each server, a bar for each request that waits
-or is served, and for each report the requests that prove its lateness.
+Reads a script or a trace, and writes the picture to standard output: a lane for each
+queue and for each server, a bar for each request that waits or is served, and for
+each report the requests that prove its lateness.
 
-For example, dueproxy draw < examples/overtaking.script > overtaking.svg";
+For example, dueproxy draw examples/overtaking.script > overtaking.svg";
 
 const TELL_HELP: &str = "\
-Reads a script or a trace from standard input, and says when the request came, where
-it waited and for whom, when it was served and how late.
+Reads a script or a trace, and says when the request came, where it waited and for
+whom, when it was served and how late.
 
-For example, dueproxy explain 2 < examples/overtaking.script";
+For example, dueproxy explain 2 examples/overtaking.script";
 
 const DEMO_HELP: &str = "\
 Starts three small servers, the proxy before them at a free port of this machine, and
@@ -74,11 +87,13 @@ leaves the proxy and its servers running, and prints a line of curl to try.";
 
 /// The program's words: one of its subcommands has to be there.
 pub(crate) fn commands<'a>(alloc: Global) -> Result<Command<'a>, AllocError> {
-    let command = dueproxy(alloc).subcommand(replay(alloc))?;
+    let command = with(dueproxy(alloc), replay(alloc))?;
     let command = with(command, demo(alloc))?;
     let command = with(command, draw(alloc))?;
     let command = with(command, tell(alloc))?;
     let command = with(command, check(alloc))?;
+    let command = with(command, convert(alloc, file(alloc)))?;
+    let command = with(command, ctl(alloc))?;
     with(command, run(alloc, file(alloc)))
 }
 
@@ -101,9 +116,9 @@ fn dueproxy<'a>(alloc: Global) -> Command<'a> {
         .subcommand_required(true)
 }
 
-fn replay<'a>(alloc: Global) -> Command<'a> {
-    let about = "Runs a script of events from standard input, and prints what the dispatcher did";
-    told(alloc, "replay", about, SCRIPT_HELP)
+fn replay<'a>(alloc: Global) -> Result<Command<'a>, AllocError> {
+    let about = "Runs a script of events, and prints what the dispatcher did";
+    told(alloc, "replay", about, SCRIPT_HELP).arg(optional_file(alloc))
 }
 
 fn demo<'a>(alloc: Global) -> Result<Command<'a>, AllocError> {
@@ -120,12 +135,16 @@ fn keep<'a>(alloc: Global) -> Arg<'a> {
 
 fn draw<'a>(alloc: Global) -> Result<Command<'a>, AllocError> {
     let about = "Draws a script, or a trace that replay wrote, as a picture for a browser (SVG)";
-    told(alloc, "draw", about, DRAW_HELP).arg(of(alloc))
+    told(alloc, "draw", about, DRAW_HELP)
+        .arg(optional_file(alloc))?
+        .arg(of(alloc))
 }
 
 fn tell<'a>(alloc: Global) -> Result<Command<'a>, AllocError> {
     let about = "Tells the story of one request of a script, or of a trace that replay wrote";
-    told(alloc, "explain", about, TELL_HELP).arg(ticket(alloc))
+    told(alloc, "explain", about, TELL_HELP)
+        .arg(ticket(alloc))?
+        .arg(optional_file(alloc))
 }
 
 fn check<'a>(alloc: Global) -> Result<Command<'a>, AllocError> {

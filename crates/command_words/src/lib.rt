@@ -2,9 +2,15 @@
 #![tactic(auto)]
 
 mod commands;
+mod converting;
+mod inputs;
 mod running;
+mod steering;
 mod version;
 mod words;
 
+pub use converting::Sections;
+pub use inputs::Input;
 pub use running::{Numbers, RANGES};
+pub use steering::{ControlWords, Order};
 pub use words::{Asked, Only, ask};

@@ -1,6 +1,7 @@
 //! The words of `run`.
 
 use crate::commands::told;
+use crate::steering::with_controls;
 use clap::{Arg, ArgAction, ArgMatches, Command};
 use proxy_words::number;
 use std::alloc::{AllocError, Global};
@@ -10,13 +11,19 @@ use std::alloc::{AllocError, Global};
 pub struct Numbers {
     pub workers: Option<u32>,
     pub loops: Option<u32>,
+    pub waiting: Option<u32>,
     pub places: u32,
     pub requests: u32,
+    /// How long a client may stay between two requests, in milliseconds. None: it has one.
+    pub keeping: Option<u32>,
 }
+
+/// How long a client may stay that asks for nothing, in milliseconds, where no word says it.
+const STAY: &str = "10000";
 
 /// What is said of a number that is none, or out of its range.
 pub const RANGES: &str =
-    "a number is out of its range: 1 to 256 workers, 1 to 64 loops, 1 to 4096 places, 0 to 999999999 requests";
+    "a number is out of its range: 1 to 256 workers, 1 to 64 loops, 1 to 65536 waiting, 1 to 4096 places, 0 to 999999999 requests, 1 to 999999999 ms";
 
 const HELP: &str = "\
 Listens where the configuration says, and hands each request to a server, or lets it
@@ -44,13 +51,23 @@ const LOOPS: &str = "Event loops, 1 to 64 [default: as many as there are process
 
 const PLACES: &str = "Requests that are served or wait, 1 to 4096";
 
+const WAITING: &str =
+    "While so many requests wait beyond the places, no client is accepted, 1 to 65536 [default: 65536]";
+
+const KEEP: &str = "Lets a client stay for further requests on its connection";
+
+const STAY_HELP: &str =
+    "A client that stays and asks for nothing is closed after so many ms, from 1 on";
+
 const REQUESTS: &str = "Ends after so many clients; 0: never";
 
 /// The words of `run`.
 pub(crate) fn run<'a>(alloc: Global, file: Arg<'a>) -> Result<Command<'a>, AllocError> {
     let command = told(alloc, "run", "Serves as a configuration says", HELP).arg(file)?;
     let command = with_threads(alloc, command)?;
-    with_bounds(alloc, command)
+    let command = with_bounds(alloc, command)?;
+    let command = with_keeping(alloc, command)?;
+    with_controls(alloc, command)
 }
 
 fn with_threads<'a>(alloc: Global, command: Command<'a>) -> Result<Command<'a>, AllocError> {
@@ -62,7 +79,17 @@ fn with_threads<'a>(alloc: Global, command: Command<'a>) -> Result<Command<'a>, 
 fn with_bounds<'a>(alloc: Global, command: Command<'a>) -> Result<Command<'a>, AllocError> {
     command
         .arg(bound(alloc, "places", "1024", PLACES))?
+        .arg(size(alloc, "waiting").help(WAITING))?
         .arg(bound(alloc, "requests", "0", REQUESTS))
+}
+
+fn with_keeping<'a>(alloc: Global, command: Command<'a>) -> Result<Command<'a>, AllocError> {
+    let keep = Arg::new(alloc, "keep-alive")
+        .long("keep-alive")
+        .action(ArgAction::SetTrue)
+        .help(KEEP);
+    let stay = bound(alloc, "keep-alive-timeout", STAY, STAY_HELP);
+    command.arg(keep)?.arg(stay)
 }
 
 fn bound<'a>(alloc: Global, name: &'a str, default: &'a str, help: &'a str) -> Arg<'a> {
@@ -80,13 +107,25 @@ fn size<'a>(alloc: Global, name: &'a str) -> Arg<'a> {
 pub(crate) fn numbers_of(words: &ArgMatches) -> Option<Numbers> {
     let workers = given(words, "workers").ok()?;
     let loops = given(words, "loops").ok()?;
+    let waiting = given(words, "waiting").ok()?;
     let places = given(words, "places").ok()??;
     let requests = given(words, "requests").ok()??;
+    let stay = given(words, "keep-alive-timeout").ok()??;
+    if stay == 0 {
+        return None;
+    }
+    let keeping = if words.get_flag("keep-alive") {
+        Some(stay)
+    } else {
+        None
+    };
     Some(Numbers {
         workers,
         loops,
+        waiting,
         places,
         requests,
+        keeping,
     })
 }
 

@@ -1,5 +1,8 @@
 use crate::commands::commands;
+use crate::converting::{Sections, sections_of};
+use crate::inputs::{Input, input_of};
 use crate::running::{Numbers, RANGES, numbers_of};
+use crate::steering::{ControlWords, Order, controls_of, order_of};
 use clap::error::ErrorKind;
 use clap::{ArgMatches, Command, Error};
 use due_key::Class;
@@ -16,8 +19,9 @@ pub struct Only {
 #[derive(Debug, PartialEq, Eq, Drop)]
 pub enum Asked {
     /// Serve as the configuration in the file of this name says, with so many of each.
-    Run(String, Numbers),
-    Replay,
+    Run(String, Numbers, ControlWords),
+    /// Run the script.
+    Replay(Input),
     /// Show the proxy at work; whether it then goes on.
     Demo(bool),
     /// Look at the configuration in the file of this name.
@@ -25,9 +29,13 @@ pub enum Asked {
     /// The same, with every faulty line and what takes its place.
     Explain(String),
     /// Draw the script or the trace, of all or of one queue and class.
-    Draw(Option<Only>),
+    Draw(Input, Option<Only>),
     /// Tell the story of this ticket.
-    Tell(u64),
+    Tell(Input, u64),
+    /// Make of HAProxy's configuration one of this proxy's.
+    Convert(Sections),
+    /// Tell or ask a proxy that runs.
+    Control(Order),
     /// Nothing more: help was printed, or a fault in the words, and this is the status.
     Nothing(u8),
 }
@@ -63,11 +71,13 @@ fn asked_by(rt: &(impl Eprint + AllocGlobal), matches: &ArgMatches) -> Asked {
 fn asked_of(rt: &(impl Eprint + AllocGlobal), name: &str, words: &ArgMatches) -> Asked {
     match name {
         "run" => run_of(rt, words),
-        "replay" => Asked::Replay,
+        "replay" => replay_of(rt, words),
         "demo" => Asked::Demo(words.get_flag("keep")),
         "check" => check_of(rt, words),
         "draw" => draw_of(rt, words),
         "explain" => tell_of(rt, words),
+        "convert" => convert_of(rt, words),
+        "ctl" => order(rt, words),
         // clap refuses all other words.
         _ => Asked::Nothing(2),
     }
@@ -78,8 +88,32 @@ fn run_of(rt: &(impl Eprint + AllocGlobal), words: &ArgMatches) -> Asked {
         let _ = rt.eprintln(RANGES);
         return Asked::Nothing(2);
     };
+    let Ok(controls) = controls_of(rt.alloc(), words) else {
+        return no_memory(rt);
+    };
     match String::from_str(rt.alloc(), words.get_str("FILE").unwrap_or_default()) {
-        Ok(file) => Asked::Run(file, numbers),
+        Ok(file) => Asked::Run(file, numbers, controls),
+        Err(_) => no_memory(rt),
+    }
+}
+
+fn order(rt: &(impl Eprint + AllocGlobal), words: &ArgMatches) -> Asked {
+    match order_of(rt.alloc(), words) {
+        Ok(order) => Asked::Control(order),
+        Err(_) => no_memory(rt),
+    }
+}
+
+fn replay_of(rt: &(impl Eprint + AllocGlobal), words: &ArgMatches) -> Asked {
+    match input_of(rt.alloc(), words) {
+        Ok(input) => Asked::Replay(input),
+        Err(_) => no_memory(rt),
+    }
+}
+
+fn convert_of(rt: &(impl Eprint + AllocGlobal), words: &ArgMatches) -> Asked {
+    match sections_of(rt.alloc(), words) {
+        Ok(sections) => Asked::Convert(sections),
         Err(_) => no_memory(rt),
     }
 }
@@ -95,8 +129,11 @@ fn check_of(rt: &(impl Eprint + AllocGlobal), words: &ArgMatches) -> Asked {
 
 // All, or the two words behind `--of`.
 fn draw_of(rt: &(impl Eprint + AllocGlobal), words: &ArgMatches) -> Asked {
+    let Ok(input) = input_of(rt.alloc(), words) else {
+        return no_memory(rt);
+    };
     let Some([queue, class, ..]) = words.get_strs("of") else {
-        return Asked::Draw(None);
+        return Asked::Draw(input, None);
     };
     let Some(class) = signed_long_number(class.as_bytes()) else {
         let _ = rt.eprintln("the CLASS of --of is a number");
@@ -105,19 +142,19 @@ fn draw_of(rt: &(impl Eprint + AllocGlobal), words: &ArgMatches) -> Asked {
     let Ok(queue) = String::from_str(rt.alloc(), queue) else {
         return no_memory(rt);
     };
-    Asked::Draw(Some(Only {
-        queue,
-        class: Class::clamp(class),
-    }))
+    let class = Class::clamp(class);
+    Asked::Draw(input, Some(Only { queue, class }))
 }
 
-fn tell_of(rt: &impl Eprint, words: &ArgMatches) -> Asked {
-    match long_number(words.get_str("TICKET").unwrap_or_default().as_bytes()) {
-        Some(ticket) => Asked::Tell(ticket),
-        None => {
-            let _ = rt.eprintln("a TICKET is a number");
-            Asked::Nothing(2)
-        }
+fn tell_of(rt: &(impl Eprint + AllocGlobal), words: &ArgMatches) -> Asked {
+    let ticket = words.get_str("TICKET").unwrap_or_default();
+    let Some(ticket) = long_number(ticket.as_bytes()) else {
+        let _ = rt.eprintln("a TICKET is a number");
+        return Asked::Nothing(2);
+    };
+    match input_of(rt.alloc(), words) {
+        Ok(input) => Asked::Tell(input, ticket),
+        Err(_) => no_memory(rt),
     }
 }
 

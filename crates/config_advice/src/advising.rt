@@ -2,8 +2,8 @@
 
 use proxy_config::FaultCause;
 
-/// The cause in a sentence.
-pub(crate) fn sentence(cause: FaultCause) -> &'static str {
+/// The cause in a sentence, of a line that begins with this word.
+pub(crate) fn sentence(cause: FaultCause, first: &[u8]) -> &'static str {
     match cause {
         FaultCause::Quoting =>
             "Quotes and backslashes have no meaning here, and can't stand before a comment.",
@@ -12,8 +12,9 @@ pub(crate) fn sentence(cause: FaultCause) -> &'static str {
         FaultCause::Place => "This line can't stand in this section.",
         FaultCause::Words => "The line has too few words, or one too many.",
         FaultCause::Number => "This isn't a number or a time, or it is out of range.",
-        FaultCause::Address =>
-            "This isn't an address: *:PORT, :PORT, HOST:PORT or four numbers and a PORT.",
+        FaultCause::Address if is(first, "bind") =>
+            "This isn't an address to listen at: *:PORT, :PORT or four numbers and a PORT.",
+        FaultCause::Address => "This isn't an address: HOST:PORT or four numbers and a PORT.",
         FaultCause::Name => "This isn't a name: 1 to 32 letters, digits, -, _, . and :.",
         FaultCause::Twice => "This stands there already.",
         FaultCause::Unknown => "No ACL or no server of this name is declared.",
@@ -272,15 +273,14 @@ pub(crate) fn advice(
     second: &[u8],
     at_fault: &[u8],
 ) -> Option<&'static str> {
-    let special = if is(first, "option") {
-        found(&OPTIONS, second)
-    } else if is(first, "http-request") {
-        found(&ACTIONS, second)
-    } else {
-        None
-    };
+    let special = advice_behind(first, second);
     if special.is_some() {
         return special;
+    }
+    if is(first, "bind") && cause == FaultCause::Address {
+        return Some(
+            "Write the host in numbers: bind 127.0.0.1:8080 for this machine alone, bind *:8080 for every address of it.",
+        );
     }
     if is(first, "bind") && !is(at_fault, "bind") {
         return Some(
@@ -298,6 +298,22 @@ pub(crate) fn advice(
             "A server's address has its port behind it.",
         ),
         _ => None,
+    }
+}
+
+/// Whether a line that begins so has words of HAProxy's that the profile leaves out.
+pub(crate) fn has_own_advice(first: &[u8], second: &[u8]) -> bool {
+    advice_behind(first, second).is_some() || found(&KEYWORDS, first).is_some()
+}
+
+// What takes the place of an option or an action.
+fn advice_behind(first: &[u8], second: &[u8]) -> Option<&'static str> {
+    if is(first, "option") {
+        found(&OPTIONS, second)
+    } else if is(first, "http-request") {
+        found(&ACTIONS, second)
+    } else {
+        None
     }
 }
 

@@ -6,7 +6,10 @@
 ghost use Rattle.std.specs.Prelude.{◌↔◌, IfOk, IsNone, IsOk, IsTrue};
 ghost use Rattle.proxy_config.specs.File.{reading};
 
-use crate::advising::{advice, sentence};
+use crate::advising::{advice, has_own_advice, sentence};
+use crate::knowns::meant;
+use crate::sections::{is_merged, is_one_of, is_other, is_section};
+use line_advice::{Span, push_marked_line, span_of};
 use proxy_config::{ConfigFault, FaultCause, MOST_BYTES, ReadError, read};
 use proxy_words::{Lines, Words, without_comment};
 use std::alloc::{AllocError, Global};
@@ -153,30 +156,12 @@ fn set_right(
     Ok(())
 }
 
-/// Sections that `listen` takes the place of.
-const MERGED: [&str; 3] = ["frontend", "backend", "listen"];
-
-/// All others that the configuration's reader knows.
-const SECTIONS: [&str; 7] = [
-    "global",
-    "defaults",
-    "peers",
-    "resolvers",
-    "userlist",
-    "cache",
-    "program",
-];
-
-fn is_one_of(words: &[&'static str], word: &[u8]) -> bool {
-    words.iter().any(|name| word == name.as_bytes())
-}
-
 /// What stands for a refused section's first line. So that its lines are read as the `listen`'s, what has ended that goes; and where
 /// they can't be, they go themselves.
 fn merge(alloc: Global, lines: &mut Vec<Vec<u8>>, at: usize) -> Result<Vec<u8>, AllocError> {
     let merged = lines
         .get(at)
-        .is_some_and(|line| is_one_of(&MERGED, first_word(line)));
+        .is_some_and(|line| is_merged(first_word(line)));
     let begun = lines
         .iter()
         .take(at)
@@ -196,8 +181,7 @@ fn merge(alloc: Global, lines: &mut Vec<Vec<u8>>, at: usize) -> Result<Vec<u8>, 
 /// Where the section after this one begins.
 fn next_section(lines: &[Vec<u8>], at: usize) -> usize {
     for (i, line) in lines.iter().enumerate() {
-        let word = first_word(line);
-        if at < i && (is_one_of(&MERGED, word) || is_one_of(&SECTIONS, word)) {
+        if at < i && is_section(first_word(line)) {
             return i;
         }
     }
@@ -209,7 +193,7 @@ fn left_at(lines: &[Vec<u8>], at: usize) -> usize {
     let mut inside = false;
     for (i, line) in lines.iter().enumerate() {
         let word = first_word(line);
-        if i >= at || inside && is_one_of(&SECTIONS, word) {
+        if i >= at || inside && is_other(word) {
             return i;
         }
         inside = inside || word == b"listen".as_slice();
@@ -240,8 +224,7 @@ fn front_instead(
     };
     let word = first_word(line);
     if place > 0 && is_one_of(&FRONTS, word) {
-        let (_, end) = span_of(line, place - 1);
-        let front = line.get(..end).unwrap_or(b"".as_slice());
+        let front = front_of(line, place).unwrap_or(b"".as_slice());
         let left = fault_of_front(alloc, lines, at, front)?;
         if left.is_none_or(|fault| place_of(fault) != at) {
             return Vec::from_slice(alloc, front);
@@ -268,7 +251,7 @@ fn word_at(line: &[u8], place: usize) -> &[u8] {
     words.next().unwrap_or(b"".as_slice())
 }
 
-/// Writes a line with its number, marks the word at fault, and says what is wrong and what takes its place.
+/// Writes a line with its number, marks the word at fault, and says what is wrong, what may have been meant and what takes its place.
 fn describe(
     alloc: Global,
     text: &mut String,
@@ -279,20 +262,39 @@ fn describe(
     let Some(line) = lines.get(place_of(fault)) else {
         return Ok(());
     };
-    let number = fault.line;
-    let head = format!(in alloc; "line {number}: ")?;
-    text.push_str(head.as_str())?;
-    push_bytes(text, line)?;
-    text.push('\n')?;
-    push_mark(text, head.len(), line, word)?;
+    let span = word.and_then(|place| span_of(without_comment(line), place));
+    push_marked_line(text, fault.line as usize, line, span)?;
     let cause = fault.cause;
-    let said = sentence(cause);
-    text.push_str(format!(in alloc; "  {cause}: {said}\n")?.as_str())?;
+    let first = first_word(line);
+    let said = sentence(cause, first);
+    writeln!(text, "  {cause}: {said}")?;
+    push_meant(alloc, text, line, cause, word)?;
     let at_fault = word.map_or(b"".as_slice(), |place| word_at(line, place));
-    if let Some(advice) = advice(cause, first_word(line), word_at(line, 1), at_fault) {
-        text.push_str(format!(in alloc; "  instead: {advice}\n")?.as_str())?;
+    if let Some(advice) = advice(cause, first, word_at(line, 1), at_fault) {
+        writeln!(text, "  instead: {advice}")?;
     }
     text.push('\n')
+}
+
+/// Writes which known word may have been meant by an unknown one, where HAProxy knows it neither.
+fn push_meant(
+    alloc: Global,
+    text: &mut String,
+    line: &[u8],
+    cause: FaultCause,
+    word: Option<usize>,
+) -> Result<(), AllocError> {
+    let (FaultCause::Keyword, Some(place)) = (cause, word) else {
+        return Ok(());
+    };
+    let first = first_word(line);
+    if has_own_advice(first, word_at(line, 1)) {
+        return Ok(());
+    }
+    match meant(alloc, first, place, word_at(line, place))? {
+        Some(meant) => writeln!(text, "  Did you mean {meant}?"),
+        None => Ok(()),
+    }
 }
 
 /// The place of the word at fault among a line's words; none where the line ends too early.
@@ -310,11 +312,9 @@ fn word_at_fault(
     };
     let mut fine = None;
     for count in 1..MOST_WORDS {
-        let (_, end) = span_of(line, count - 1);
-        if end == 0 {
+        let Some(front) = front_of(line, count) else {
             break;
-        }
-        let front = line.get(..end).unwrap_or(b"".as_slice());
+        };
         let faulty = fault_of_front(alloc, lines, at, front)? == Some(fault);
         if faulty && fault.cause != FaultCause::Words {
             return Ok(Some(count - 1));
@@ -326,64 +326,8 @@ fn word_at_fault(
     Ok(fine)
 }
 
-/// Where a word of a line begins and ends; 0 and 0 where it has none there.
-fn span_of(line: &[u8], place: usize) -> (usize, usize) {
-    let mut seen = 0;
-    let mut start = 0;
-    let mut within = false;
-    let text = without_comment(line);
-    for (i, byte) in text.iter().enumerate() {
-        let blank = *byte == b' ' || *byte == b'\t';
-        if within && blank {
-            if seen == place {
-                return (start, i);
-            }
-            seen = i.min(seen) + 1;
-            within = false;
-        } else if !within && !blank {
-            start = i;
-            within = true;
-        }
-    }
-    if within && seen == place {
-        (start, text.len())
-    } else {
-        (0, 0)
-    }
-}
-
-// Bytes that aren't to be printed are shown as a question mark, and a tab as one blank.
-fn push_bytes(text: &mut String, bytes: &[u8]) -> Result<(), AllocError> {
-    for byte in bytes {
-        text.push(match *byte {
-            b'\t' => ' ',
-            b' '..=b'~' => char::from(*byte),
-            _ => '?',
-        })?;
-    }
-    Ok(())
-}
-
-// The mark stands below the word, or behind the line where that ends too early.
-fn push_mark(
-    text: &mut String,
-    head: usize,
-    line: &[u8],
-    word: Option<usize>,
-) -> Result<(), AllocError> {
-    let (start, end) = match word {
-        Some(place) => span_of(line, place),
-        None => (line.len(), line.len().saturating_add(1)),
-    };
-    push_times(text, ' ', head)?;
-    push_times(text, ' ', start)?;
-    push_times(text, '^', end.saturating_sub(start))?;
-    text.push('\n')
-}
-
-fn push_times(text: &mut String, sign: char, times: usize) -> Result<(), AllocError> {
-    for _ in 0..times {
-        text.push(sign)?;
-    }
-    Ok(())
+/// A line up to the end of so many of its words; None where it has fewer, or none is asked for.
+fn front_of(line: &[u8], words: usize) -> Option<&[u8]> {
+    let Span { end, .. } = span_of(without_comment(line), words.checked_sub(1)?)?;
+    line.get(..end)
 }

@@ -2,10 +2,11 @@ ghost use Rattle.proxy_config.specs.File.{reading};
 ghost use Rattle.std.specs.Prelude.{◌≡◌};
 ghost use Rattle.config_check.specs.Checks.{IsCheckOf, status_of_check};
 
-use config_advice::{Explanation, explain};
+use config_advice::{Explanation, explain, idle_lines};
+use file_reasons::say_reason;
 use proxy_config::{ConfigFault, ReadError, read};
 use std::alloc::Global;
-use std::io::{ErrorKind, Read};
+use std::io::{Error, ErrorKind, Read};
 use std::rt::Files;
 use std::{fs, io};
 use thiserror::Error;
@@ -23,28 +24,37 @@ pub enum Checked {
     Unread,
 }
 
-/// Looks at the configuration in a file, prints what it is, and answers the status: 0, 3 where the configuration is faulty, 1 where anything else went wrong.
-pub fn check<R: Files + Print + Eprint + AllocGlobal>(rt: &R, file: &str) -> u8 {
-    let checked = match read_file(rt, file) {
-        Ok(bytes) => check_bytes(rt.alloc(), &bytes),
-        Err(error) if error.kind() == ErrorKind::OutOfMemory => Checked::NoMemory,
-        Err(_) => Checked::Unread,
-    };
-    print(rt, checked)
+/// What is said on standard error beside the line of a check.
+#[derive(Clone, Copy, Debug, PartialEq, Eq)]
+pub enum Beside {
+    Nothing,
+    /// Every faulty line and what takes its place, and which lines have no effect.
+    Advice,
 }
 
-/// The same, with every faulty line and what takes its place before it.
-pub fn check_in_full<R: Files + Print + Eprint + AllocGlobal>(rt: &R, file: &str) -> u8 {
-    let explained = match read_file(rt, file) {
-        Ok(bytes) => explain(rt.alloc(), &bytes),
-        Err(error) if error.kind() == ErrorKind::OutOfMemory => {
-            return print(rt, Checked::NoMemory);
-        }
-        Err(_) => return print(rt, Checked::Unread),
+/// Looks at the configuration in a file, prints what it is, and answers the status: 0, 3 where the configuration is faulty, 1 where anything else went wrong.
+pub fn check<R: Files + Print + Eprint + AllocGlobal>(rt: &R, file: &str, beside: Beside) -> u8 {
+    let bytes = match read_file(rt, file) {
+        Ok(bytes) => bytes,
+        Err(error) => return say_unread(rt, file, error),
     };
-    match explained {
+    let status = print(rt, check_bytes(rt.alloc(), &bytes));
+    if beside == Beside::Advice {
+        say_faults(rt, &bytes);
+        warn(rt, &bytes);
+    }
+    status
+}
+
+/// The same, with every faulty line and what takes its place before it, and on standard error which lines have no effect.
+pub fn check_in_full<R: Files + Print + Eprint + AllocGlobal>(rt: &R, file: &str) -> u8 {
+    let bytes = match read_file(rt, file) {
+        Ok(bytes) => bytes,
+        Err(error) => return say_unread(rt, file, error),
+    };
+    let status = match explain(rt.alloc(), &bytes) {
         Err(_) => print(rt, Checked::NoMemory),
-        Ok(Explanation { whole: true, .. }) => check(rt, file),
+        Ok(Explanation { whole: true, .. }) => print(rt, check_bytes(rt.alloc(), &bytes)),
         Ok(
             Explanation {
                 faulty,
@@ -52,7 +62,33 @@ pub fn check_in_full<R: Files + Print + Eprint + AllocGlobal>(rt: &R, file: &str
                 whole: false,
             },
         ) => print_all(rt, faulty, &text),
+    };
+    warn(rt, &bytes);
+    status
+}
+
+/// Says on standard error what is wrong with a configuration, and what takes its place.
+pub fn say_faults(rt: &(impl Eprint + AllocGlobal), bytes: &[u8]) {
+    if let Ok(explained) = explain(rt.alloc(), bytes) {
+        let _ = rt.eprint(explained.text.as_str());
     }
+}
+
+// Says on standard error which lines have no effect.
+fn warn(rt: &(impl Eprint + AllocGlobal), bytes: &[u8]) {
+    if let Ok(text) = idle_lines(rt.alloc(), bytes) {
+        let _ = rt.eprint(text.as_str());
+    }
+}
+
+// Says that a file can't be read, and why; or that there is no memory for it.
+fn say_unread(rt: &(impl Print + Eprint), file: &str, error: Error) -> u8 {
+    if error.kind() == ErrorKind::OutOfMemory {
+        return print(rt, Checked::NoMemory);
+    }
+    let status = print(rt, Checked::Unread);
+    say_reason(rt, file, error);
+    status
 }
 
 // The explanation, and how many lines would have to change.

@@ -3,4 +3,4 @@
 
 mod checking;
 
-pub use checking::{Checked, check, check_in_full, read_file, status_of};
+pub use checking::{Beside, Checked, check, check_in_full, read_file, say_faults, status_of};

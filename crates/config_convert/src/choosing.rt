@@ -20,7 +20,7 @@ pub(crate) fn choose(
 ) -> Result<Choice, Unconverted> {
     let front = front_of(sections, frontend, backend);
     let Some(front) = front else {
-        return Err(no_front(alloc, sections, frontend)?);
+        return Err(no_front(alloc, sections, frontend, backend)?);
     };
     let Some(back) = back_of(sections, front, backend) else {
         return Err(no_back(alloc, sections, front, backend)?);
@@ -83,15 +83,25 @@ fn no_front(
     alloc: Global,
     sections: &[Section],
     frontend: Option<&str>,
+    backend: Option<&str>,
 ) -> Result<Unconverted, Unconverted> {
     let there = names_of(alloc, sections, true)?;
-    match frontend {
-        Some(name) => Ok(Unconverted::NoFrontend {
+    match (frontend, backend) {
+        (Some(name), _) => Ok(Unconverted::NoFrontend {
             name: String::from_str(alloc, name)?,
             there,
         }),
-        None => Ok(Unconverted::NoServers { there }),
+        (None, Some(name)) if backend_named(sections, name.as_bytes()).is_none() => {
+            no_backend(alloc, sections, name)
+        }
+        (None, _) => Ok(Unconverted::NoServers { there }),
     }
+}
+
+fn no_backend(alloc: Global, sections: &[Section], name: &str) -> Result<Unconverted, Unconverted> {
+    let there = names_of(alloc, sections, false)?;
+    let name = String::from_str(alloc, name)?;
+    Ok(Unconverted::NoBackend { name, there })
 }
 
 fn no_back(
@@ -102,10 +112,7 @@ fn no_back(
 ) -> Result<Unconverted, Unconverted> {
     let there = names_of(alloc, sections, false)?;
     match backend {
-        Some(name) => Ok(Unconverted::NoBackend {
-            name: String::from_str(alloc, name)?,
-            there,
-        }),
+        Some(name) => no_backend(alloc, sections, name),
         None => Ok(Unconverted::NoDefault {
             name: named(
                 alloc,

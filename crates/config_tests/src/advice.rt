@@ -1,6 +1,6 @@
 use crate::assertions::holds;
 use crate::texts::reads;
-use config_advice::explain;
+use config_advice::{explain, idle_lines};
 use config_check::{Checked, status_of};
 use proxy_config::{ConfigFault, FaultCause};
 use std::alloc::Global;
@@ -46,7 +46,7 @@ struct AdviceRow {
     text: &'static str,
 }
 
-static ADVICE: [AdviceRow; 8] = [
+static ADVICE: [AdviceRow; 9] = [
     AdviceRow {
         name: "each faulty line has its mark and its advice",
         file: "defaults\n\
@@ -190,7 +190,7 @@ line 9:   bind :81
 
 line 10:   server a h
                     ^
-  address: This isn't an address: *:PORT, :PORT, HOST:PORT or four numbers and a PORT.
+  address: This isn't an address: HOST:PORT or four numbers and a PORT.
   instead: A server's address has its port behind it.
 
 Then the listen lacks a bind or a server.
@@ -247,13 +247,55 @@ line 8: listen w
         text: "\
 line 2:  bind :80?
               ^^^^
-  address: This isn't an address: *:PORT, :PORT, HOST:PORT or four numbers and a PORT.
-  instead: Of a bind only the address is there: TLS ends before the proxy, and ssl, crt and other words go.
+  address: This isn't an address to listen at: *:PORT, :PORT or four numbers and a PORT.
+  instead: Write the host in numbers: bind 127.0.0.1:8080 for this machine alone, bind *:8080 for every address of it.
 
 line 3: server a h:80?
                  ^^^^^
-  address: This isn't an address: *:PORT, :PORT, HOST:PORT or four numbers and a PORT.
+  address: This isn't an address: HOST:PORT or four numbers and a PORT.
   instead: A server's address has its port behind it.
+
+Then the listen lacks a bind or a server.
+
+",
+    },
+    AdviceRow {
+        name: "the nearest known word is named where HAProxy knows it neither",
+        file: "listen w\n\
+\x20 bind localhost:80\n\
+\x20 serverr a h:80\n\
+\x20 timeout qeue 1s\n\
+\x20 option tcplog\n\
+\x20 server a h:80 maxcon 4\n",
+        faulty: 5,
+        whole: false,
+        text: "\
+line 2:   bind localhost:80
+               ^^^^^^^^^^^^
+  address: This isn't an address to listen at: *:PORT, :PORT or four numbers and a PORT.
+  instead: Write the host in numbers: bind 127.0.0.1:8080 for this machine alone, bind *:8080 for every address of it.
+
+line 3:   serverr a h:80
+          ^^^^^^^
+  keyword: This word isn't one that can stand here.
+  Did you mean server?
+
+line 4:   timeout qeue 1s
+                  ^^^^
+  keyword: This word isn't one that can stand here.
+  Did you mean queue?
+  instead: Of times there are queue, connect, client and server.
+
+line 5:   option tcplog
+                 ^^^^^^
+  keyword: This word isn't one that can stand here.
+  instead: Leave it out: no log of requests is written.
+
+line 6:   server a h:80 maxcon 4
+                        ^^^^^^
+  keyword: This word isn't one that can stand here.
+  Did you mean maxconn?
+  instead: Of settings there are weight, maxconn, maxqueue, check, inter, rise and fall.
 
 Then the listen lacks a bind or a server.
 
@@ -293,5 +335,33 @@ fn is_explained(rt: &impl Abort, alloc: Global, row: &AdviceRow) {
 fn a_configuration_is_explained_line_by_line(rt: HostRuntime) {
     for row in &ADVICE {
         is_explained(&rt, rt.alloc(), row);
+    }
+}
+
+/// A file, and what is said of its lines that have no effect.
+type IdleRow = (&'static str, &'static str);
+
+static IDLE: [IdleRow; 3] = [
+    (
+        "global\n daemon\n daemon # again\n foo\ndefaults\n log global\n option httplog\n option redispatch\nlisten w\n log x\n",
+        "\
+warning: line 2: daemon in global has no effect: the program stays in the foreground
+warning: line 4: foo in global has no effect: nothing in global has one
+warning: line 6: log has no effect: no log is sent to a log server
+warning: line 7: option httplog has no effect: no log is sent to a log server
+",
+    ),
+    ("defaults\n daemon\n maxconn 4\n", ""),
+    (
+        "global\n\n # maxconn 3\n maxconn 4",
+        "warning: line 4: maxconn in global has no effect: --places of run bounds the live requests\n",
+    ),
+];
+
+#[test]
+fn lines_without_effect_are_named_once(rt: HostRuntime) {
+    for (file, text) in &IDLE {
+        let said = idle_lines(rt.alloc(), file.as_bytes()).expect(&rt, "memory");
+        reads(&rt, said, file, text);
     }
 }

@@ -1,7 +1,7 @@
 //! What the words of the command line ask for.
 
 use crate::assertions::holds;
-use command_words::{Asked, Numbers, ask};
+use command_words::{Asked, Input, Numbers, Sections, ask};
 use due_key::Class;
 use std::alloc::Global;
 use std::process::Abort;
@@ -9,14 +9,23 @@ use std::process::Abort;
 /// What is asked for, with texts that stand still.
 enum Expected {
     Run(&'static str, Numbers),
-    Replay,
+    Replay(From),
     Demo(bool),
     Check(&'static str),
     Explain(&'static str),
-    DrawAll,
-    DrawOnly(&'static str, i64),
-    Tell(u64),
+    DrawAll(From),
+    DrawOnly(From, &'static str, i64),
+    Tell(From, u64),
+    Convert(&'static str, Option<&'static str>, Option<&'static str>),
     Nothing(u8),
+}
+
+/// What is read.
+#[derive(Clone, Copy)]
+enum From {
+    Unnamed,
+    Standard,
+    File(&'static str),
 }
 
 /// The words, with a blank between each two, and what they ask for.
@@ -25,11 +34,13 @@ type CommandRow = (&'static str, Expected);
 const SIZES: Numbers = Numbers {
     workers: Some(7),
     loops: None,
+    waiting: None,
     places: 1024,
     requests: 0,
+    keeping: None,
 };
 
-static COMMANDS: [CommandRow; 19] = [
+static COMMANDS: [CommandRow; 30] = [
     // What runs has its sizes.
     (
         "dueproxy run file --workers 7",
@@ -38,8 +49,21 @@ static COMMANDS: [CommandRow; 19] = [
     ("dueproxy run file --workers +5", Expected::Nothing(2)),
     ("dueproxy run file --workers 7x", Expected::Nothing(2)),
     // A picture is of all or of a queue and class.
-    ("dueproxy draw", Expected::DrawAll),
-    ("dueproxy draw --of * -1", Expected::DrawOnly("*", -1)),
+    ("dueproxy draw", Expected::DrawAll(From::Unnamed)),
+    ("dueproxy draw -", Expected::DrawAll(From::Standard)),
+    ("dueproxy draw s", Expected::DrawAll(From::File("s"))),
+    (
+        "dueproxy draw --of * -1",
+        Expected::DrawOnly(From::Unnamed, "*", -1),
+    ),
+    (
+        "dueproxy draw --of * -1 s",
+        Expected::DrawOnly(From::File("s"), "*", -1),
+    ),
+    (
+        "dueproxy draw s --of * -1",
+        Expected::DrawOnly(From::File("s"), "*", -1),
+    ),
     ("dueproxy draw --of *", Expected::Nothing(2)),
     ("dueproxy draw --of * x", Expected::Nothing(2)),
     // The demo ends, or goes on.
@@ -47,15 +71,29 @@ static COMMANDS: [CommandRow; 19] = [
     ("dueproxy demo --keep", Expected::Demo(true)),
     ("dueproxy demo more", Expected::Nothing(2)),
     // Subcommands are told apart.
-    ("dueproxy replay", Expected::Replay),
+    ("dueproxy replay", Expected::Replay(From::Unnamed)),
+    ("dueproxy replay -", Expected::Replay(From::Standard)),
+    ("dueproxy replay file", Expected::Replay(From::File("file"))),
     ("dueproxy check file", Expected::Check("file")),
     ("dueproxy check --explain file", Expected::Explain("file")),
     ("dueproxy check", Expected::Nothing(2)),
-    ("dueproxy explain 7", Expected::Tell(7)),
+    ("dueproxy explain 7", Expected::Tell(From::Unnamed, 7)),
+    ("dueproxy explain 7 s", Expected::Tell(From::File("s"), 7)),
+    ("dueproxy explain 7 -", Expected::Tell(From::Standard, 7)),
     ("dueproxy explain x", Expected::Nothing(2)),
     ("dueproxy --help", Expected::Nothing(0)),
     ("dueproxy", Expected::Nothing(2)),
-    ("dueproxy replay more", Expected::Nothing(2)),
+    ("dueproxy replay file more", Expected::Nothing(2)),
+    // The sections of a configuration may be named.
+    (
+        "dueproxy convert file",
+        Expected::Convert("file", None, None),
+    ),
+    (
+        "dueproxy convert file --frontend f --backend b",
+        Expected::Convert("file", Some("f"), Some("b")),
+    ),
+    ("dueproxy convert", Expected::Nothing(2)),
 ];
 
 fn words_of(rt: &impl Abort, alloc: Global, line: &str) -> Vec<String> {
@@ -70,20 +108,24 @@ fn words_of(rt: &impl Abort, alloc: Global, line: &str) -> Vec<String> {
 fn is_asked(asked: &Asked, expected: &Expected) -> bool {
     match expected {
         Expected::Run(name, numbers) => is_run(asked, name, numbers),
-        Expected::Replay => matches!(asked, Asked::Replay),
+        Expected::Replay(from) => matches!(asked, Asked::Replay(input) if is_from(input, *from)),
         Expected::Demo(goes_on) => matches!(asked, Asked::Demo(keep) if keep == goes_on),
         Expected::Check(name) => is_check(asked, name),
         Expected::Explain(name) => is_explain(asked, name),
-        Expected::DrawAll => matches!(asked, Asked::Draw(None)),
-        Expected::DrawOnly(queue, class) => is_draw_only(asked, queue, *class),
-        Expected::Tell(number) => matches!(asked, Asked::Tell(ticket) if ticket == number),
+        Expected::DrawAll(from) =>
+            matches!(asked, Asked::Draw(input, None) if is_from(input, *from)),
+        Expected::DrawOnly(from, queue, class) => is_draw_only(asked, *from, queue, *class),
+        Expected::Tell(from, number) => {
+            matches!(asked, Asked::Tell(input, ticket) if ticket == number && is_from(input, *from))
+        }
+        Expected::Convert(file, frontend, backend) => is_convert(asked, file, *frontend, *backend),
         Expected::Nothing(number) => { matches!(asked, Asked::Nothing(status) if status == number) }
     }
 }
 
 fn is_run(asked: &Asked, name: &str, numbers: &Numbers) -> bool {
     match asked {
-        Asked::Run(file, sizes) => file.as_str() == name && sizes == numbers,
+        Asked::Run(file, sizes, _) => file.as_str() == name && sizes == numbers,
         _ => false,
     }
 }
@@ -102,11 +144,43 @@ fn is_explain(asked: &Asked, name: &str) -> bool {
     }
 }
 
-fn is_draw_only(asked: &Asked, queue: &str, class: i64) -> bool {
+fn is_draw_only(asked: &Asked, from: From, queue: &str, class: i64) -> bool {
     match asked {
-        Asked::Draw(Some(only)) => {
-            only.queue.as_str() == queue && only.class == Class::clamp(class)
+        Asked::Draw(input, Some(only)) => {
+            is_from(input, from)
+                && only.queue.as_str() == queue
+                && only.class == Class::clamp(class)
         }
+        _ => false,
+    }
+}
+
+fn is_from(input: &Input, from: From) -> bool {
+    match (input, from) {
+        (Input::Unnamed, From::Unnamed) | (Input::Standard, From::Standard) => true,
+        (Input::File(name), From::File(other)) => name.as_str() == other,
+        _ => false,
+    }
+}
+
+fn is_convert(asked: &Asked, name: &str, frontend: Option<&str>, backend: Option<&str>) -> bool {
+    match asked {
+        Asked::Convert(sections) => {
+            let Sections {
+                file,
+                frontend: front,
+                backend: back,
+            } = sections;
+            file.as_str() == name && is_name(front, frontend) && is_name(back, backend)
+        }
+        _ => false,
+    }
+}
+
+fn is_name(name: &Option<String>, expected: Option<&str>) -> bool {
+    match (name, expected) {
+        (Some(name), Some(expected)) => name.as_str() == expected,
+        (None, None) => true,
         _ => false,
     }
 }

@@ -1,25 +1,32 @@
 //! Dueproxy: a reverse proxy that queues requests by class and due date, with HAProxy's keywords.
 //!
 //! Statuses: 0; 1 no memory, or a read or a write failed; 2 the words of the command line; 3 the configuration;
-//! 5 the script.
+//! 5 the script; 6 a configuration was converted, and something changes.
 #![tactic(auto)]
 
-ghost use Rattle.std.specs.Prelude.{◌≡◌};
-ghost use Rattle.replay.specs.Statuses.{status_of};
-
+mod controls;
+mod converting;
+mod inputs;
+mod reasons;
+mod replaying;
 mod serve;
 mod show;
+mod viewing;
 
-use command_words::{Asked, Only, ask};
-use config_check::{check, check_in_full};
+use command_words::{Asked, ask};
+use config_check::{Beside, check, check_in_full};
+use control_socket::ask as tell_proxy;
+use converting::convert_file;
 use demo::Looks;
-use replay::{Fault, replay, status_of};
+use replaying::replay_input;
 use serve::serve_file;
 use show::show;
 use std::env;
-use std::io::{IsTerminal, Read, Write};
+use std::io::IsTerminal;
 use std::process::ExitCode;
-use trace_views::{DrawFault, TellFault, draw, tell};
+use viewing::{draw_input, tell_input};
+
+const NO_MEMORY: u8 = 1;
 
 const USAGE: u8 = 2;
 
@@ -29,19 +36,31 @@ fn main(rt: HostRuntime) -> ExitCode {
         return ExitCode::from(USAGE);
     };
     let Ok(words) = words.collect::<Vec<String>>(rt.alloc()) else {
-        return ExitCode::from(end(&rt, Err(Fault::NoMemory)));
+        let _ = rt.eprintln("no memory");
+        return ExitCode::from(NO_MEMORY);
     };
     let status = match ask(&rt, &words) {
-        Asked::Run(file, numbers) => serve_file(&rt, &file, numbers),
+        Asked::Run(file, numbers, words) => serve_file(&rt, &file, numbers, &words),
         Asked::Demo(keep) => show(&rt, looks_of(&rt), keep),
-        Asked::Replay => replay_streams(&rt, &mut rt.stdin(), &mut rt.stdout()),
-        Asked::Check(file) => check(&rt, &file),
+        Asked::Replay(input) => replay_input(&rt, &input),
+        Asked::Check(file) => check(&rt, &file, beside_of(&rt)),
         Asked::Explain(file) => check_in_full(&rt, &file),
-        Asked::Draw(only) => draw_streams(&rt, &mut rt.stdin(), &mut rt.stdout(), &only),
-        Asked::Tell(ticket) => tell_streams(&rt, &mut rt.stdin(), &mut rt.stdout(), ticket),
+        Asked::Draw(input, only) => draw_input(&rt, &input, &only),
+        Asked::Tell(input, ticket) => tell_input(&rt, &input, ticket),
+        Asked::Convert(sections) => convert_file(&rt, &sections),
+        Asked::Control(order) => tell_proxy(&rt, &order.path, &order.words),
         Asked::Nothing(status) => status,
     };
     ExitCode::from(status)
+}
+
+// Who reads standard error at a terminal is told why.
+fn beside_of(rt: &HostRuntime) -> Beside {
+    if rt.stderr().is_terminal() {
+        Beside::Advice
+    } else {
+        Beside::Nothing
+    }
 }
 
 // Colours, where standard output is a terminal and the user didn't refuse them.
@@ -55,62 +74,4 @@ fn looks_of(rt: &HostRuntime) -> Looks {
     } else {
         Looks::Plain
     }
-}
-
-// Replays the script of a stream onto another, and answers the status.
-fn replay_streams<R: Read, W: Write>(
-    rt: &(impl Eprint + AllocGlobal),
-    input: &mut R,
-    output: &mut W,
-) -> u8 {
-    let ended = replay(rt.alloc(), input, output);
-    end(rt, ended)
-}
-
-// Draws the script or the trace of a stream onto another, and answers the status.
-fn draw_streams<R: Read, W: Write>(
-    rt: &(impl Eprint + AllocGlobal),
-    input: &mut R,
-    output: &mut W,
-    only: &Option<Only>,
-) -> u8 {
-    match draw(rt.alloc(), input, output, only) {
-        Ok(()) => 0,
-        Err(fault) => {
-            let _ = rt.eprintln(fault);
-            match fault {
-                DrawFault::Input(fault) => fault.status(),
-                DrawFault::NoQueue => USAGE,
-            }
-        }
-    }
-}
-
-// Tells the story of a ticket of the script or the trace of a stream on another, and answers the status.
-fn tell_streams<R: Read, W: Write>(
-    rt: &(impl Eprint + AllocGlobal),
-    input: &mut R,
-    output: &mut W,
-    ticket: u64,
-) -> u8 {
-    match tell(rt.alloc(), input, output, ticket) {
-        Ok(()) => 0,
-        Err(fault) => {
-            let _ = rt.eprintln(fault);
-            match fault {
-                TellFault::Input(fault) => fault.status(),
-                TellFault::NoTicket => USAGE,
-            }
-        }
-    }
-}
-
-// Prints what went wrong, and answers the status.
-fn end(rt: &impl Eprint, ended: Result<(), Fault>) -> u8
-    ensures { result ≡ status_of ended }
-{
-    if let Err(fault) = ended {
-        let _ = rt.eprintln(fault);
-    }
-    status_of(ended)
 }

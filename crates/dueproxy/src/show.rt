@@ -20,7 +20,10 @@ pub(crate) fn show<
         + AllocGlobal
         + Threads
         + Wait
-        + Sync,
+        + Sync
+        + Copy
+        + Send
+        + 'static,
 >(rt: &R, looks: Looks, keep: bool) -> u8 {
     let Err(fault) = demo(rt, looks, FILE, keep) else {
         return 0;

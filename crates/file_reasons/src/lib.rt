@@ -1,30 +1,9 @@
-//! Why a file couldn't be read or written, in the system's words, and what is to be done about it.
+//! Why a file couldn't be read or written, or an address couldn't be listened at, in the system's words, and what is to be done
+//! about it.
 #![tactic(auto)]
 
-ghost use Rattle.std.specs.Prelude.{◌≡◌};
+mod addresses;
+mod files;
 
-use std::io::{Error, ErrorKind};
-
-/// Says on standard error what the system said of a file, and below that what is to be done where that is known.
-pub fn say_reason(rt: &impl Eprint, name: &str, error: Error) {
-    let _ = eprintln!(rt; "{name}: {error}");
-    if let Some(remedy) = remedy(error.kind()) {
-        let _ = eprintln!(rt; "  {remedy}");
-    }
-}
-
-/// What is to be done about a failure of this kind.
-pub fn remedy(kind: ErrorKind) -> Option<&'static str> {
-    match kind {
-        ErrorKind::NotFound => Some(
-            "Is the name right? It is looked up from the folder in which the program was started.",
-        ),
-        ErrorKind::PermissionDenied => Some(
-            "Start the program as a user who may read it, or change who may: ls -l shows that.",
-        ),
-        ErrorKind::IsADirectory => Some("Name a file in it."),
-        ErrorKind::NotADirectory => Some("A part of the name before the last / is a file."),
-        ErrorKind::FilesystemLoop => Some("A link leads back to itself."),
-        _ => None,
-    }
-}
+pub use addresses::{address_remedy, say_address_reason};
+pub use files::{remedy, say_reason};

@@ -5,5 +5,5 @@
 mod marking;
 mod slips;
 
-pub use marking::{Span, push_marked_line, span_of};
+pub use marking::{Span, push_marked_line, push_printable, span_of};
 pub use slips::nearest;

@@ -51,7 +51,7 @@ pub fn push_marked_line(
     let before = text.len();
     write!(text, "line {number}: ")?;
     let head = text.len().saturating_sub(before);
-    push_bytes(text, line)?;
+    push_printable(text, line)?;
     text.push('\n')?;
     let span = span.unwrap_or(Span {
         start: line.len(),
@@ -63,7 +63,8 @@ pub fn push_marked_line(
     text.push('\n')
 }
 
-fn push_bytes(text: &mut String, bytes: &[u8]) -> Result<(), AllocError> {
+/// Writes bytes as they can be shown: those that aren't to be printed as a question mark, and a tab as one blank.
+pub fn push_printable(text: &mut String, bytes: &[u8]) -> Result<(), AllocError> {
     for byte in bytes {
         text.push(match *byte {
             b'\t' => ' ',

@@ -83,8 +83,9 @@ fn push_caption(
         write!(text, "window {window}, ")?;
     }
     let class = report.class;
-    let worst = report.worst;
-    write!(text, "class {class}: worst {worst} ms: ")?;
+    write!(text, "class {class}: worst ")?;
+    push_lateness(text, report.worst)?;
+    text.push_str(": ")?;
     push_tickets(text, report.critical.as_slice())?;
     push_needed(text, report)?;
     if report.after != 0 {
@@ -93,6 +94,15 @@ fn push_caption(
         write!(text, " after {after} (at {moment} ms)")?;
     }
     text.push_str("</text>\n")
+}
+
+fn push_lateness(text: &mut String, lateness: i64) -> Result<(), AllocError> {
+    let apart = lateness.unsigned_abs();
+    if lateness < 0 {
+        write!(text, "{apart} ms early")
+    } else {
+        write!(text, "{apart} ms late")
+    }
 }
 
 fn push_tickets(text: &mut String, tickets: &[u64]) -> Result<(), AllocError> {

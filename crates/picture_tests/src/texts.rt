@@ -47,7 +47,7 @@ static OF_INPUTS: [(InputFault, &str); 5] = [
     ),
 ];
 
-static OF_PICTURES: [(DrawFault, &str); 3] = [
+static OF_PICTURES: [(DrawFault, &str); 4] = [
     (
         DrawFault::Input(InputFault::Script { line: 0 }),
         "script line 0",
@@ -60,6 +60,10 @@ static OF_PICTURES: [(DrawFault, &str); 3] = [
         "trace line 2: a moment before the last event's",
     ),
     (DrawFault::NoQueue, "there is no such queue"),
+    (
+        DrawFault::NoClass,
+        "no request of this class waits in this queue",
+    ),
 ];
 
 static OF_STORIES: [(TellFault, &str); 3] = [

@@ -3,11 +3,11 @@ use crate::samples::trace_of;
 use command_words::Only;
 use due_key::Class;
 use std::alloc::Global;
-use std::io;
 use std::io::{Read, Write};
 use std::process::Abort;
+use std::{io, str};
 use trace_lines::TraceCause;
-use trace_views::{DrawFault, InputFault, TellFault, draw, tell};
+use trace_views::{DrawFault, InputFault, TellFault, draw, tell, waits_in};
 
 const SCRIPT: &str = "0 arrive 0 0\n1 arrive 0 0\n2 arrive 0 -5\n10 done 1\n20 done 3\n";
 
@@ -78,7 +78,7 @@ struct Undrawn {
     fault: DrawFault,
 }
 
-static UNDRAWN: [Undrawn; 9] = [
+static UNDRAWN: [Undrawn; 10] = [
     Undrawn {
         name: "a faulty script",
         input: "0 arrive 0 0\n0 arrive 0\n",
@@ -135,6 +135,14 @@ static UNDRAWN: [Undrawn; 9] = [
         room: ROOM,
         queue: Some("zz"),
         fault: DrawFault::NoQueue,
+    },
+    Undrawn {
+        name: "a queue in which nobody waits",
+        input: SCRIPT,
+        fails: false,
+        room: ROOM,
+        queue: Some("s1"),
+        fault: DrawFault::NoClass,
     },
     Undrawn {
         name: "a read that fails at once",
@@ -265,4 +273,50 @@ fn a_story_is_of_a_ticket_that_came(rt: HostRuntime) {
     for row in &TALES {
         plays(&rt, rt.alloc(), row);
     }
+}
+
+/// A script, and the queues and classes in which requests wait.
+static WAITS: [(&str, &str); 3] = [
+    ("0 arrive 0 0\n", ""),
+    (SCRIPT, "* 0"),
+    (
+        "server a 1 0 1\n0 arrive 0 0\n1 arrive 5 0\n2 arrive -3 0 a\n3 arrive 5 0\n",
+        "* 5, a -3",
+    ),
+];
+
+#[test]
+fn the_queues_and_classes_are_named_in_which_requests_wait(rt: HostRuntime) {
+    for (script, wanted) in &WAITS {
+        let mut rest = script.as_bytes();
+        let waits = waits_in(rt.alloc(), &mut rest).expect(&rt, "what waits");
+        same(&rt, waits.as_str(), wanted);
+    }
+}
+
+const EARLY: &str = "0 arrive 0 0\n1 arrive 0 100\n5 done 1\n";
+
+fn told(rt: &impl Abort, alloc: Global, ticket: u64) -> Vec<u8> {
+    let mut rest = EARLY.as_bytes();
+    let mut story = Vec::new(alloc);
+    tell(alloc, &mut rest, &mut story, ticket).expect(rt, "a story");
+    story
+}
+
+fn has(rt: &impl Abort, text: &[u8], part: &str) {
+    let text = str::from_utf8(text).unwrap_or_default();
+    holds(rt, text.contains(part));
+}
+
+#[test]
+fn who_is_early_is_not_late_below_nothing(rt: HostRuntime) {
+    let picture = drawn(&rt, rt.alloc(), EARLY.as_bytes());
+    has(
+        &rt,
+        &picture,
+        "class 0: worst 96 ms early: 2 needed one slot",
+    );
+    let story = told(&rt, rt.alloc(), 2);
+    has(&rt, &story, "5 ms: it gets a slot of s1, 96 ms early\n");
+    has(&rt, &story, "so one of them is 96 ms early at most\n");
 }

@@ -98,7 +98,7 @@ fn write_lateness(line: &mut String, lateness: i64) -> Result<(), AllocError> {
         write!(line, ", just in time")
     } else {
         let early = lateness.unsigned_abs();
-        write!(line, ", {early} ms before it is due")
+        write!(line, ", {early} ms early")
     }
 }
 

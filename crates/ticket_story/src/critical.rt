@@ -42,6 +42,15 @@ fn add_report(
         line,
         "It stands in the critical set of {queue} class {class}: {count} requests had {count} slots up to {to} ms, "
     )?;
-    write!(line, "so one of them is {worst} ms late at least")?;
+    write_least(&mut line, worst)?;
     story.add(line)
+}
+
+fn write_least(line: &mut String, worst: i64) -> Result<(), AllocError> {
+    let apart = worst.unsigned_abs();
+    if worst < 0 {
+        write!(line, "so one of them is {apart} ms early at most")
+    } else {
+        write!(line, "so one of them is {apart} ms late at least")
+    }
 }

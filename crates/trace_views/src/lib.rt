@@ -4,7 +4,9 @@
 mod input;
 mod picture;
 mod tale;
+mod there;
 
 pub use input::InputFault;
 pub use picture::{DrawFault, draw};
 pub use tale::{TellFault, tell};
+pub use there::waits_in;

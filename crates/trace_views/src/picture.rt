@@ -1,6 +1,7 @@
 //! `draw`: a script or a trace as a picture.
 
 use crate::input::{InputFault, queue_of, read_input};
+use crate::there::is_waited_in;
 use command_words::Only;
 use dispatch_log::Queue;
 use due_key::Class;
@@ -17,6 +18,8 @@ pub enum DrawFault {
     Input(InputFault),
     #[error("there is no such queue")]
     NoQueue,
+    #[error("no request of this class waits in this queue")]
+    NoClass,
 }
 
 /// Reads a script or a trace, and writes its picture: of all, or of the requests of one class alone that wait in the queue of this name.
@@ -32,12 +35,21 @@ pub fn draw<R: Read, W: Write>(
     };
     let only = match only {
         None => None,
-        Some(only) => match queue_of(&trace.names, only.queue.as_str()) {
-            None => return Err(DrawFault::NoQueue),
-            Some(queue) => Some((queue, only.class)),
-        },
+        Some(only) => Some(subject_of(alloc, &trace, only)?),
     };
     write_picture(alloc, &trace, only, writer)
+}
+
+// The queue and the class of these words, if a request of the class waits in the queue.
+fn subject_of(alloc: Global, trace: &Trace, only: &Only) -> Result<(Queue, Class), DrawFault> {
+    let Some(queue) = queue_of(&trace.names, only.queue.as_str()) else {
+        return Err(DrawFault::NoQueue);
+    };
+    match is_waited_in(alloc, trace, queue, only.class.get()) {
+        Ok(true) => Ok((queue, only.class)),
+        Ok(false) => Err(DrawFault::NoClass),
+        Err(_) => Err(DrawFault::Input(InputFault::NoMemory)),
+    }
 }
 
 fn write_picture<W: Write>(

@@ -1,0 +1,60 @@
+//! The words that may stand at a place, and the one that may have been meant by another.
+
+use line_advice::nearest;
+use std::alloc::{AllocError, Global};
+use std::str;
+
+/// The words with which a line may begin.
+const LINES: [&str; 15] = [
+    "global",
+    "defaults",
+    "listen",
+    "mode",
+    "balance",
+    "retries",
+    "option",
+    "timeout",
+    "log",
+    "description",
+    "bind",
+    "server",
+    "acl",
+    "http-request",
+    "use-server",
+];
+
+const OPTIONS: [&str; 4] = ["redispatch", "abortonclose", "httplog", "dontlognull"];
+
+const TIMES: [&str; 4] = ["queue", "connect", "client", "server"];
+
+const SETTINGS: [&str; 7] = [
+    "weight", "maxconn", "maxqueue", "check", "inter", "rise", "fall",
+];
+
+const ACTIONS: [&str; 2] = ["set-priority-class", "set-priority-offset"];
+
+/// The known word that may have been meant by a word at this place of a line that begins so; None where none is near.
+pub(crate) fn meant(
+    alloc: Global,
+    first: &[u8],
+    place: usize,
+    word: &[u8],
+) -> Result<Option<&'static str>, AllocError> {
+    match str::from_utf8(word) {
+        Ok(word) if place == 0 => nearest(alloc, word, &LINES),
+        Ok(word) => nearest(alloc, word, known_behind(first)),
+        Err(_) => Ok(None),
+    }
+}
+
+fn known_behind(first: &[u8]) -> &'static [&'static str] {
+    match first {
+        b"option" => &OPTIONS,
+        b"timeout" => &TIMES,
+        b"server" => &SETTINGS,
+        b"http-request" => &ACTIONS,
+        b"balance" => &["leastconn"],
+        b"mode" => &["http"],
+        _ => &[],
+    }
+}

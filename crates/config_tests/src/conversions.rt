@@ -1,0 +1,124 @@
+//! From configurations of HAProxy's to this proxy's.
+
+use crate::assertions::holds;
+use crate::texts::reads;
+use config_convert::{Conversion, Unconverted, convert, push_note, status_of};
+use std::alloc::Global;
+use std::process::Abort;
+
+/// A configuration of HAProxy's with the sections that are named, the status, and what is written and noted; or, where nothing comes of
+/// it, the reason.
+struct Row {
+    file: &'static str,
+    frontend: Option<&'static str>,
+    backend: Option<&'static str>,
+    status: u8,
+    text: &'static str,
+    notes: &'static str,
+}
+
+const PAIR: &str = "\
+defaults
+  mode http
+  timeout connect 2s
+frontend f
+  bind 127.0.0.1:80
+  option forwardfor
+  default_backend b
+backend b
+  balance leastconn
+  server a h:1
+";
+
+static ROWS: [Row; 5] = [
+    Row {
+        file: "listen w\n mode http\n balance leastconn\n bind :80\n server a h:1 maxconn 3\n",
+        frontend: None,
+        backend: None,
+        status: 0,
+        text: "\
+listen w
+    mode http
+    balance leastconn
+    bind *:80
+    server a h:1 maxconn 3
+",
+        notes: "",
+    },
+    Row {
+        file: PAIR,
+        frontend: None,
+        backend: None,
+        status: 6,
+        text: "\
+listen f
+    mode http
+    balance leastconn
+    timeout connect 2s
+    bind 127.0.0.1:80
+    # option forwardfor
+    #   Each request would have had a field that names its client: here none is added.
+    # default_backend b
+    #   Its servers stand below.
+    server a h:1
+",
+        notes: "line 6: option forwardfor: Each request would have had a field that names its client: here none is added.\n",
+    },
+    Row {
+        file: PAIR,
+        frontend: Some("zz"),
+        backend: None,
+        status: 3,
+        text: "",
+        notes: "no listen comes of it: no frontend or listen is named zz; there are: f",
+    },
+    Row {
+        file: PAIR,
+        frontend: None,
+        backend: Some("zz"),
+        status: 3,
+        text: "",
+        notes: "no listen comes of it: no backend is named zz; there are: b",
+    },
+    Row {
+        file: "",
+        frontend: None,
+        backend: None,
+        status: 3,
+        text: "",
+        notes: "no listen comes of it: no frontend of HTTP has a default_backend, and no listen a server; there are: none",
+    },
+];
+
+fn notes_of(rt: &impl Abort, alloc: Global, made: &Conversion) -> String {
+    let mut text = String::new(alloc);
+    for note in &made.notes {
+        push_note(&mut text, note).expect(rt, "memory");
+    }
+    text
+}
+
+fn is_converted(rt: &impl Abort, alloc: Global, row: &Row) {
+    let converted = convert(alloc, row.file.as_bytes(), row.frontend, row.backend);
+    holds(rt, status_of(&converted) == row.status, "status", row.notes);
+    match converted {
+        Ok(made) => {
+            let so = made.text.as_slice() == row.text.as_bytes();
+            holds(rt, so, "text", row.text);
+            reads(rt, notes_of(rt, alloc, &made), "notes", row.notes);
+        }
+        Err(why) => is_told(rt, alloc, &why, row.notes),
+    }
+}
+
+fn is_told(rt: &impl Abort, alloc: Global, why: &Unconverted, text: &str) {
+    let said = format!(in alloc; "{why}").expect(rt, "memory");
+    reads(rt, said, "why", text);
+}
+
+#[test]
+fn a_configuration_of_haproxys_is_converted_or_refused(rt: HostRuntime) {
+    for row in &ROWS {
+        is_converted(&rt, rt.alloc(), row);
+    }
+}

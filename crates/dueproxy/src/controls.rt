@@ -1,0 +1,42 @@
+//! What a proxy is steered by, as its words say.
+
+use command_words::ControlWords;
+use control_socket::{Controls, bound_at};
+use std::fs;
+use std::net::Net;
+use std::rt::Files;
+
+/// What it is steered by. None: nothing. Where that can't be had it is said, and the status is answered.
+pub(crate) fn controls_of<R: Files + Net + Eprint + AllocGlobal>(
+    rt: &R,
+    words: &ControlWords,
+) -> Result<Option<Controls>, u8> {
+    let mut listener = None;
+    if let Some(path) = &words.path {
+        match bound_at(rt, rt.alloc(), path.as_str()) {
+            Ok(bound) => listener = Some(bound),
+            Err(fault) => {
+                let _ = rt.eprintln("read fault");
+                let _ = eprintln!(rt; "{path}: {fault}");
+                return Err(1);
+            }
+        }
+    }
+    if listener.is_none() && !words.ends_with_input {
+        return Ok(None);
+    }
+    match Controls::new(rt, rt.alloc(), listener, words.ends_with_input) {
+        Some(controls) => Ok(Some(controls)),
+        None => {
+            let _ = rt.eprintln("no memory");
+            Err(1)
+        }
+    }
+}
+
+/// Takes the socket's name away.
+pub(crate) fn end_controls<R: Files>(rt: &R, words: &ControlWords) {
+    if let Some(path) = &words.path {
+        let _ = fs::remove_file(rt, path.as_str());
+    }
+}

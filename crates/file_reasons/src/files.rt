@@ -1,0 +1,27 @@
+//! Files.
+
+use std::io::{Error, ErrorKind};
+
+/// Says on standard error what the system said of a file, and below that what is to be done where that is known.
+pub fn say_reason(rt: &impl Eprint, name: &str, error: Error) {
+    let _ = eprintln!(rt; "{name}: {error}");
+    if let Some(remedy) = remedy(error.kind()) {
+        let _ = eprintln!(rt; "  {remedy}");
+    }
+}
+
+/// What is to be done about a failure of this kind at a file.
+pub fn remedy(kind: ErrorKind) -> Option<&'static str> {
+    match kind {
+        ErrorKind::NotFound => Some(
+            "Is the name right? It is looked up from the folder in which the program was started.",
+        ),
+        ErrorKind::PermissionDenied => Some(
+            "Start the program as a user who may read it, or change who may: ls -l shows that.",
+        ),
+        ErrorKind::IsADirectory => Some("Name a file in it."),
+        ErrorKind::NotADirectory => Some("A part of the name before the last / is a file."),
+        ErrorKind::FilesystemLoop => Some("A link leads back to itself."),
+        _ => None,
+    }
+}

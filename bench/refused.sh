@@ -1,10 +1,13 @@
 #!/usr/bin/env bash
-# bench/refused.sh [NAME..]: runs each test of the crates NAME (all that are built but those of sockets and of
-# look-ups, without names) again and again, and refuses one allocation in each
-# run, each in its turn. A run has to end well, or with the test's own word: want of memory where the test expected a value, or an assertion that saw another answer than with
-# memory. What is no such end: a signal, a wait without end. A test whose name begins with a_refused_growth makes a refused call again, and has to end well each time. Of
-# another test with more than 400 allocations (MOST) so many are refused, evenly spread. One line for each crate; the status is 1 where a run had no such end. Needs gcc, and the tests that `rt ci` or `rt test`
-# leaves in crates/NAME/out.
+# bench/refused.sh [NAME..]: runs each test of the crates NAME (without names all that are built, but
+# those of sockets, and of look-ups of names, at which the C library's getaddrinfo crashes by itself
+# where memory is refused) again and again, and refuses one allocation in each run, each in its turn.
+# A run has to end well, or with the test's own word: want of memory where the test expected a value,
+# or an assertion that saw another answer than with memory. What is no such end: a signal, a wait
+# without end. A test whose name begins with a_refused_growth makes a refused call again, and has to
+# end well each time. Of another test with more than 400 allocations (MOST) so many are refused,
+# evenly spread. One line for each crate; the status is 1 where a run had no such end. Needs gcc, and
+# the tests that `rt ci` or `rt test` leaves in crates/NAME/out.
 set -u
 cd "$(dirname "$0")/.." || exit 2
 at_once=$(getconf _NPROCESSORS_ONLN)

@@ -9,6 +9,7 @@ use Rattle.grant_board.specs.declared.board.BoardName as board_name
 use Rattle.pass_seat.proofs.idle.Idle.TheSendSync as idle
 use Rattle.event_loops.proofs.guest.Parked.TheSendSync as parked
 use Rattle.event_loops.proofs.mail.Mailbox.TheSendSync as mailbox
+use Rattle.event_loops.proofs.outside.Outside.TheSendSync as outside
 use Rattle.event_loops.specs.contracts.hall.Hall as hall
 use Rattle.relay_workers.proofs.Crosses.{proxy_sync}
 use Rattle.socket_gate.proofs.front.Front.TheSendSync as front
@@ -23,26 +24,41 @@ hall_sync a N g = declared_sync (hall.the_type a N g) (
       (
         search (idle.the_send, mutex.the_sync, crosses, sendable) depth 60 fits 20000,
         (
-          search (mailbox.the_sync, crosses, sendable) depth 60 fits 20000,
+          search (outside.the_send, mutex.the_sync, crosses, sendable) depth 60 fits 20000,
           (
             search (crosses, sendable) depth 60 fits 20000,
             (
-              search (crosses, sendable),
+              search (crosses, sendable) depth 60 fits 20000,
               (
-                search (crosses, sendable),
+                search (mailbox.the_sync, crosses, sendable) depth 60 fits 20000,
                 (
-                  search (crosses, sendable),
+                  search (crosses, sendable) depth 60 fits 20000,
                   (
-                    search (crosses, sendable),
+                    search (crosses, sendable) depth 60 fits 20000,
                     (
-                      search (crosses, sendable),
+                      search (crosses, sendable) depth 60 fits 20000,
                       (
-                        search (mutex.the_sync, crosses, sendable),
+                        search (crosses, sendable) depth 60 fits 20000,
                         (
-                          search (crosses, sendable),
+                          search (crosses, sendable) depth 60 fits 20000,
                           (
-                            search (crosses, sendable),
-                            tt,
+                            search (crosses, sendable) depth 60 fits 20000,
+                            (
+                              search (crosses, sendable) depth 60 fits 20000,
+                              (
+                                search (crosses, sendable) depth 60 fits 20000,
+                                (
+                                  search (mutex.the_sync, crosses, sendable) depth 60 fits 20000,
+                                  (
+                                    search (crosses, sendable) depth 60 fits 20000,
+                                    (
+                                      search (crosses, sendable) depth 60 fits 20000,
+                                      tt,
+                                    ),
+                                  ),
+                                ),
+                              ),
+                            ),
                           ),
                         ),
                       ),

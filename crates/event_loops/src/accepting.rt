@@ -22,11 +22,11 @@ impl<
     /// Takes clients that wait at the listener. Where something is short it stops, and is tried again soon.
     pub(crate) fn accept_some(&mut self) {
         for _ in 0..BURST {
-            if self.short || self.hall.front.clients.are_all_taken() {
+            if self.short || self.hall.is_deaf() || self.hall.front.clients.are_all_taken() {
                 self.more = false;
                 return;
             }
-            if !self.hall.has_room() || self.guests.is_full() {
+            if !self.hall.has_room() || self.hall.is_crowded() || self.guests.is_full() {
                 self.short = true;
                 self.more = false;
                 return;
@@ -35,7 +35,11 @@ impl<
                 Ok((client, _)) => self.greet(client),
                 Err(error) => {
                     self.more = error.kind() == ErrorKind::Interrupted;
-                    self.short = !self.more && error.kind() != ErrorKind::WouldBlock;
+                    let nobody = error.kind() == ErrorKind::WouldBlock;
+                    if nobody {
+                        self.hall.note_nobody_comes();
+                    }
+                    self.short = !self.more && !nobody;
                     return;
                 }
             }

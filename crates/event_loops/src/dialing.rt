@@ -1,16 +1,18 @@
 //! From a pass to its server's connection.
 
+ghost use Rattle.std.specs.Prelude.{◌≡◌, IfSome, Some};
+ghost use Rattle.mixed_exchange.specs.Passes.{held_by};
+ghost use Rattle.seated_exchange.specs.Seats.{server_of};
+
 use crate::guest::{Guest, Task, Watch};
 use crate::keeping::Soon;
 use crate::looping::Looper;
 use crate::serving::Then;
 use exchange_driver::{Line, Live};
-use exchange_machine::Terms;
 use grant_board::BoardName;
 use loop_table::Hole;
 use mio::net::TcpStream as Dialed;
-use relay_http::Persistence;
-use seated_exchange::Notice;
+use seated_exchange::{Notice, Seated};
 use std::net::{Net, TcpListener, TcpStream};
 use std::sync::Wait;
 use std::time::Clock;
@@ -18,12 +20,12 @@ use std::time::Clock;
 /// So often a connection is opened in place of one that broke before a byte reached the server.
 const MOST_REDIALS: u32 = 1;
 
-/// Each exchange has a connection of its own, and is the last of its client's.
-const TERMS: Terms = Terms {
-    asks: Persistence::Close,
-    willing: false,
-    fresh: true,
-};
+/// A connection that was begun, and to which server.
+#[derive(Drop)]
+struct Begun {
+    server: usize,
+    stream: Dialed,
+}
 
 impl<
     'a,
@@ -35,13 +37,10 @@ impl<
         if guest.visit.pauses || guest.visit.server.socket().is_some() {
             return self.keep(guest, hole, Soon::Rests);
         }
-        let address = guest.visit.number.and_then(|it| self.hall.address_of(it));
-        let Some(address) = address else {
-            return self.tell(guest, hole, Notice::Unreachable);
-        };
-        match Dialed::connect(self.rt, address) {
-            Err(_) => self.tell(guest, hole, Notice::Unreachable),
-            Ok(stream) => {
+        match self.begin(&guest.seated) {
+            None => self.tell_of_no_connection(guest, hole),
+            Some(begun) => {
+                let Begun { server: _, stream } = begun;
                 let _ = stream.set_nodelay(true);
                 let live = Live::new(TcpStream::from(stream));
                 let Guest { seated, visit } = guest;
@@ -51,6 +50,16 @@ impl<
                 self.look_at_connection(Guest { seated, visit }, hole, false)
             }
         }
+    }
+
+    // Begins a connection to the server of an exchange's pass, where that is by the last look-up of its name. None: there is none to be had.
+    fn begin(&self, seated: &Seated<N>) -> Option<Begun>
+        ensures { IfSome result (λ begun. server_of (held_by seated.now.exchange) ≡ Some begun.server) }
+    {
+        let server = seated.server()?;
+        let address = self.hall.address_of(self.rt, server)?;
+        let stream = Dialed::connect(self.rt, address).ok()?;
+        Some(Begun { server, stream })
     }
 
     /// Whether a connection that was begun came about.
@@ -65,12 +74,20 @@ impl<
             Some(live) => live.stream().peer_addr().is_ok(),
         };
         if is_there {
-            self.tell(guest, hole, Notice::Connected(TERMS))
+            self.tell(guest, hole, Notice::Connected(self.hall.terms()))
         } else if broken {
-            self.tell(guest, hole, Notice::Unreachable)
+            self.tell_of_no_connection(guest, hole)
         } else {
             self.keep(guest, hole, Soon::Rests)
         }
+    }
+
+    /// There is no connection to a guest's server, whose name is looked up once more.
+    pub(crate) fn tell_of_no_connection(&mut self, guest: Guest<N>, hole: Hole) -> Then<N> {
+        if let Some(number) = guest.seated.server() {
+            self.hall.front.addresses.look_again(self.rt, number);
+        }
+        self.tell(guest, hole, Notice::Unreachable)
     }
 
     /// The server's connection broke before a byte reached it: another one takes its place, once.

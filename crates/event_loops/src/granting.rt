@@ -30,19 +30,24 @@ impl<
                 self.look_at_all(&woken, first);
                 continue;
             }
-            let Some(token) = self.ready.pop() else {
+            let Some(number) = self.agenda.take() else {
                 return;
             };
-            self.work(token);
+            if let Some(token) = self.guests.token_of(number) {
+                self.work(token);
+            }
         }
     }
 
-    /// The same; and who waits for a place that came free meanwhile is tried again.
+    /// The same; and places that came free meanwhile go to those who wait for one.
     pub(crate) fn go_on_with_places(&mut self) {
-        self.go_on();
-        if self.freed {
+        for _ in self.rt.forever() {
+            self.go_on();
+            if !self.freed {
+                return;
+            }
             self.freed = false;
-            self.try_again();
+            self.admit_all();
         }
     }
 
@@ -86,12 +91,15 @@ impl<
             at,
             failed,
             watched: _,
+            came,
+            late,
         } = parked;
         let mut visit = Visit::new(self.settings.alloc, client);
         match held.verdict() {
             Verdict::Serve(number) => {
                 visit.at = Some(at);
-                visit.number = Some(number);
+                visit.came = came;
+                visit.tried = Some(number);
                 visit.pauses = failed == Some(number);
                 visit.task = Task::Dial;
                 let seated = queued.grant(held);
@@ -101,7 +109,7 @@ impl<
                 self.give_back(held);
                 let seated = queued.unseated();
                 let guest = Guest { seated, visit };
-                if cause == Cause::Aborted {
+                if cause == Cause::Aborted && !late {
                     return self.close(guest, hole);
                 }
                 Then::Goes(guest.with_task(Task::Refuse), hole)
@@ -128,6 +136,9 @@ impl<
             }
             _ => {
                 let Guest { seated, visit } = guest;
+                if !seated.is_answered() {
+                    visit.break_off();
+                }
                 let mut visit = visit.without_server(self.settings.alloc);
                 visit.at = None;
                 visit.task = Task::Serve;

@@ -2,23 +2,26 @@
 //!
 //! A `Guest` is one from its first byte to its last, but while its request waits: then it is `Parked`. One whose exchange is over lingers, until it closes its side.
 
+use crate::resetting::reset;
 use dispatch_trace::Ticketed;
+use due_key::Moment;
 use exchange_driver::{Line, Live};
 use grant_board::BoardName;
 use seated_exchange::{Queued, Seated};
 use std::alloc::Global;
+use std::os::fd::AsRawFd;
 
 /// The timeouts of a loop.
 #[derive(Clone, Copy, Debug, PartialEq, Eq)]
 pub(crate) enum Keyword {
     /// `timeout client`.
     Client,
-    /// `timeout queue`, where there is no place yet: of those that have one the dispatcher keeps the times.
-    Queue,
     /// `timeout connect`.
     Connect,
     /// `timeout server`.
     Server,
+    /// How long a client stays without asking for anything.
+    Stay,
     /// How long a client lingers that was told everything.
     Linger,
     /// How long a request waits before the server that just failed it is tried again.
@@ -32,12 +35,14 @@ pub(crate) struct Visit {
     pub(crate) server: Line<Live>,
     /// Its place and its ticket, once it has them.
     pub(crate) at: Option<Ticketed>,
-    /// The server of its pass.
-    pub(crate) number: Option<usize>,
-    /// The server that was last tried for it in vain.
-    pub(crate) failed: Option<usize>,
-    /// It stands among those who found no place.
-    pub(crate) stands: bool,
+    /// The server that it was given to last.
+    pub(crate) tried: Option<usize>,
+    /// When it began to wait for a place, where it had to.
+    pub(crate) came: Option<Moment>,
+    /// Its client sends no more.
+    pub(crate) ended: bool,
+    /// Its client stayed behind another request.
+    pub(crate) stayed: bool,
     /// It waits before that server is tried again.
     pub(crate) pauses: bool,
     /// So many connections were opened on its pass in place of one that broke.
@@ -64,6 +69,8 @@ pub(crate) enum Task {
     Refuse,
     /// Its server can't be reached.
     GiveUp,
+    /// Its client sends no more, and doesn't wait for an answer.
+    Leave,
 }
 
 /// What a poll tells of a socket.
@@ -90,6 +97,10 @@ pub struct Parked {
     pub(crate) failed: Option<usize>,
     /// Some loop's poll tells of its client.
     pub(crate) watched: bool,
+    /// When it began to wait for its place, where it had to.
+    pub(crate) came: Option<Moment>,
+    /// It is given up, and its client is told so.
+    pub(crate) late: bool,
 }
 
 /// A client that was told everything: what it still sends is thrown away.
@@ -98,6 +109,8 @@ pub(crate) struct Lingering {
     pub(crate) client: Live,
     /// So many bytes more are thrown away.
     pub(crate) left: usize,
+    /// Since when it lingers.
+    pub(crate) since: Moment,
 }
 
 /// Who is in a slot of a loop.
@@ -106,7 +119,21 @@ pub(crate) enum Resident<N: BoardName> {
     Lingering(Lingering),
 }
 
+impl<N: BoardName> Resident<N> {
+    /// Whether it is a client that stays, and asks for nothing.
+    pub(crate) fn is_silent(&self) -> bool {
+        match self {
+            Resident::Lingering(_) => false,
+            Resident::Guest(guest) => guest.is_silent(),
+        }
+    }
+}
+
 impl<N: BoardName> Guest<N> {
+    fn is_silent(&self) -> bool {
+        self.visit.stayed && self.seated.is_silent()
+    }
+
     /// This is to be done for it next.
     pub(crate) fn with_task(self, task: Task) -> Guest<N> {
         let Guest { seated, visit } = self;
@@ -125,20 +152,70 @@ impl Visit {
         visit
     }
 
+    /// Its client asks for more.
+    pub(crate) fn renewed(self, alloc: Global) -> Visit {
+        let Visit {
+            client,
+            client_watch,
+            timer,
+            ended,
+            ..
+        } = self;
+        let mut visit = Visit::new(alloc, client);
+        visit.client_watch = client_watch;
+        visit.timer = timer;
+        visit.ended = ended;
+        visit.stayed = true;
+        visit
+    }
+
+    /// Its server's connection is given up amid a message.
+    pub(crate) fn break_off(&self) {
+        if let Some(live) = self.server.socket() {
+            reset(live.stream().as_raw_fd());
+        }
+    }
+
     pub(crate) fn new(alloc: Global, client: Line<Live>) -> Visit {
         Visit {
             client,
             server: Line::without_socket(alloc),
             at: None,
-            number: None,
-            failed: None,
-            stands: false,
+            tried: None,
+            came: None,
+            ended: false,
+            stayed: false,
             pauses: false,
             redials: 0,
             task: Task::Serve,
             client_watch: Watch::Nothing,
             server_watch: Watch::Nothing,
             timer: None,
+        }
+    }
+}
+
+/// Whose requests are given up, and told that they aren't served.
+#[derive(Drop)]
+pub(crate) enum Hopeless {
+    /// All.
+    All,
+    /// Those that waited for their place, and for so many milliseconds since they came, at this moment.
+    Late { now: Moment, millis: u64 },
+}
+
+impl Parked {
+    /// Whether its request is one of those, and isn't given up yet.
+    pub(crate) fn is_hopeless(&self, hopeless: &Hopeless) -> bool {
+        if self.late {
+            return false;
+        }
+        match (hopeless, &self.came) {
+            (Hopeless::All, _) => true,
+            (Hopeless::Late { .. }, None) => false,
+            (Hopeless::Late { now, millis }, Some(came)) => {
+                *millis <= now.get().saturating_sub(came.get())
+            }
         }
     }
 }

@@ -2,8 +2,9 @@ ghost use Rattle.std.specs.Prelude.{◌≡◌, ◌<◌, ◌≤◌, vec_len, IfSo
 ghost use Rattle.std.specs.Bool.{OnTrue};
 
 use crate::descriptors::Most;
-use crate::guest::{Guest, Parked, Resident};
+use crate::guest::{Guest, Hopeless, Parked, Resident};
 use crate::mail::Mailbox;
+use crate::outside::Outside;
 use dispatch_trace::Ticketed;
 use grant_board::BoardName;
 use pass_seat::{Asked, Held, Idle};
@@ -15,17 +16,17 @@ use std::os::fd::AsRawFd;
 use std::sync::atomic::{AtomicBool, AtomicU64, Ordering};
 use std::sync::{Condvar, Mutex, Wait};
 
-/// What a hall is made of.
-#[derive(Drop)]
+/// What a hall is made of. It has no `Drop`, as `Outside` has none.
 pub struct Rooms {
     /// One for each place.
     pub spots: Vec<Mutex<Option<Parked>>>,
     /// One for each loop.
     pub mail: Vec<Mailbox>,
-    /// Those of the servers, as they are found now.
-    pub addresses: Vec<Option<SocketAddr>>,
     /// So many connections of clients are had at a time.
     pub most: Most,
+    /// Where requests wait that find no place, and how many are there before no client is accepted.
+    pub outside: Outside,
+    pub most_outside: u64,
 }
 
 /// A request whose verdict was found at its place. It has no `Drop`: its pass is posted.
@@ -44,9 +45,12 @@ pub struct Hall<'a, N: BoardName> {
     pub(crate) spots: Vec<Mutex<Option<Parked>>>,
     /// The seats without a pass.
     pub(crate) idle: Mutex<Vec<Idle<N>>>,
+    /// Who waits for a place, and how many they are.
+    pub(crate) outside: Mutex<Outside>,
+    pub(crate) outsiders: AtomicU64,
+    /// As many are there when no client is accepted.
+    pub(crate) most_outside: u64,
     pub(crate) mail: Vec<Mailbox>,
-    /// The first address of each server, as it was found when all began. None: its name had none.
-    pub(crate) addresses: Vec<Option<SocketAddr>>,
     /// So many connections of clients are had at a time.
     pub(crate) most: Most,
     /// So many clients came, and so many are through.
@@ -54,6 +58,11 @@ pub struct Hall<'a, N: BoardName> {
     pub(crate) ended: AtomicU64,
     /// Requests wait that may time out, so that the first loop looks at the queues.
     pub(crate) waits: AtomicBool,
+    /// Nobody new is taken; and nobody can come any more.
+    pub(crate) stopping: AtomicBool,
+    pub(crate) deaf: AtomicBool,
+    /// Who waits is told that it isn't served.
+    pub(crate) refusing: AtomicBool,
     pub(crate) over: AtomicBool,
     /// The same, for who waits for it.
     pub(crate) ended_all: Mutex<bool>,
@@ -76,20 +85,26 @@ impl<'a, N: BoardName> Hall<'a, N> {
         let Rooms {
             spots,
             mail,
-            addresses,
             most,
+            outside,
+            most_outside,
         } = rooms;
         Hall {
             proxy,
             front,
             spots,
             idle: Mutex::new(seats),
+            outside: Mutex::new(outside),
+            outsiders: AtomicU64::new(0),
+            most_outside,
             mail,
-            addresses,
             most,
             came: AtomicU64::new(0),
             ended: AtomicU64::new(0),
             waits: AtomicBool::new(false),
+            stopping: AtomicBool::new(false),
+            deaf: AtomicBool::new(false),
+            refusing: AtomicBool::new(false),
             over: AtomicBool::new(false),
             ended_all: Mutex::new(false),
             bell: Condvar::new(),
@@ -104,17 +119,23 @@ impl<'a, N: BoardName> Hall<'a, N> {
             front: _,
             spots: _,
             idle,
+            outside,
+            outsiders: _,
+            most_outside: _,
             mail: _,
-            addresses: _,
             most: _,
             came: _,
             ended: _,
             waits: _,
+            stopping: _,
+            deaf: _,
+            refusing: _,
             over: _,
             ended_all: _,
             bell: _,
             failed,
         } = self;
+        outside.into_inner().end();
         let seats = idle.into_inner();
         if failed.load(Ordering::SeqCst) {
             (seats, Err(Stopped::NoMemory))
@@ -203,12 +224,38 @@ impl<N: BoardName> Hall<'_, N> {
     /// Notes that none waits, unless one is found that does. One that comes meanwhile is noted by whoever brings it.
     pub(crate) fn look_for_waits<R: Wait>(&self, rt: &R) {
         self.waits.store(false, Ordering::SeqCst);
+        if self.has_outside() {
+            self.waits.store(true, Ordering::SeqCst);
+            return;
+        }
         for spot in self.spots.as_slice() {
             if spot.lock(rt).is_some() {
                 self.waits.store(true, Ordering::SeqCst);
                 return;
             }
         }
+    }
+
+    /// The first place from this one on whose request is to be given up for that, and its ticket. Its client is told that it isn't served.
+    pub(crate) fn find_hopeless<R: Wait>(
+        &self,
+        rt: &R,
+        from: usize,
+        hopeless: &Hopeless,
+    ) -> Option<(usize, u64)> {
+        for place in from..self.spots.len() {
+            let Some(spot) = self.spots.as_slice().get(place) else {
+                return None;
+            };
+            let mut spot = spot.lock(rt);
+            if let Some(parked) = &mut *spot {
+                if parked.is_hopeless(hopeless) {
+                    parked.late = true;
+                    return Some((place, parked.at.ticket));
+                }
+            }
+        }
+        None
     }
 
     /// Whether requests wait that may time out.
@@ -222,16 +269,19 @@ impl<N: BoardName> Hall<'_, N> {
         servers.iter().any(|server| server.check.is_some())
     }
 
-    /// A server's address, where it is known.
-    pub(crate) fn address_of(&self, server: usize) -> Option<SocketAddr> {
-        *self.addresses.as_slice().get(server)?
+    /// A server's address, where it is known. It waits for no look-up.
+    pub(crate) fn address_of<R: Wait>(&self, rt: &R, server: usize) -> Option<SocketAddr> {
+        self.front.addresses.of(rt, self.front.config, server)
+    }
+
+    /// Whether it is steered while it serves.
+    pub(crate) fn has_controls(&self) -> bool {
+        self.front.controls.is_some()
     }
 
     /// Whether there are descriptors for one client more.
     pub(crate) fn has_room(&self) -> bool {
-        let ended = self.ended.load(Ordering::SeqCst);
-        let came = self.came.load(Ordering::SeqCst);
-        came.saturating_sub(ended) < self.most.clients
+        self.clients() < self.most.clients
     }
 
     /// A client came.
@@ -246,22 +296,6 @@ impl<N: BoardName> Hall<'_, N> {
         if most != 0 && most <= before.saturating_add(1) {
             self.close(rt);
         }
-    }
-
-    /// All is over: each thread is told.
-    pub(crate) fn close<R: Wait>(&self, rt: &R) {
-        self.over.store(true, Ordering::SeqCst);
-        *self.ended_all.lock(rt) = true;
-        self.bell.notify_all();
-        for mail in self.mail.as_slice() {
-            mail.ring();
-        }
-    }
-
-    /// The same, because there is no memory or no thread to be had.
-    pub(crate) fn give_up<R: Wait>(&self, rt: &R) {
-        self.failed.store(true, Ordering::SeqCst);
-        self.close(rt);
     }
 
     /// Each place is looked at by some loop.
@@ -297,9 +331,5 @@ impl<N: BoardName> Hall<'_, N> {
                 }
             }
         }
-    }
-
-    pub(crate) fn is_over(&self) -> bool {
-        self.over.load(Ordering::SeqCst)
     }
 }

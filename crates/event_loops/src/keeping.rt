@@ -40,8 +40,8 @@ impl<
         self.time(&seated, &mut visit, token.index());
         match soon {
             Soon::AtOnce => return Then::Goes(Guest { seated, visit }, hole),
-            Soon::Next => self.remember(token),
-            Soon::Later => self.put_off(token),
+            Soon::Next => self.agenda.note(token.index()),
+            Soon::Later => self.agenda.put_off(token.index()),
             Soon::Rests => {
                 let dials = seated.stage() == Stage::Dialing;
                 if !self.is_watched(&mut visit, token, dials) {
@@ -120,7 +120,8 @@ impl<
     }
 
     fn dismiss(&mut self, guest: Guest<N>) {
-        let Guest { seated, visit: _ } = guest;
+        let Guest { seated, visit } = guest;
+        visit.break_off();
         match seated.abandon() {
             Some(posting) => self.post(posting),
             None => {}
@@ -132,37 +133,5 @@ impl<
     pub(crate) fn close_slot(&mut self, hole: Hole, timer: Option<Keyword>) {
         self.untime(timer, hole.token().index());
         self.guests.close(hole);
-    }
-
-    /// It is gone on with once what a returned slot woke was looked at.
-    pub(crate) fn remember(&mut self, token: Token) {
-        if self.ready.push(token).is_err() {
-            self.sweeps = true;
-        }
-    }
-
-    /// It is gone on with in the next round.
-    pub(crate) fn put_off(&mut self, token: Token) {
-        if self.later.push(token).is_err() {
-            self.sweeps = true;
-        }
-    }
-
-    /// What was put off is gone on with. Where there was no memory to note that, all are.
-    pub(crate) fn take_up(&mut self) {
-        for _ in 0..self.later.len() {
-            if let Some(token) = self.later.pop() {
-                self.remember(token);
-            }
-        }
-        if !self.sweeps {
-            return;
-        }
-        self.sweeps = false;
-        for index in 0..self.room {
-            if let Some(token) = self.guests.token_of(index) {
-                self.work(token);
-            }
-        }
     }
 }

@@ -8,6 +8,7 @@
 #![tactic(auto)]
 
 mod accepting;
+mod admitting;
 mod checks;
 mod descriptors;
 mod dialing;
@@ -18,9 +19,14 @@ mod keeping;
 mod lingering;
 mod looping;
 mod mail;
+mod outside;
 mod parking;
 mod polls;
+mod resetting;
 mod serving;
+mod staying;
+mod steering;
+mod stopping;
 mod threads;
 mod timing;
 mod watching;
@@ -29,5 +35,6 @@ pub use descriptors::{Most, most_connections};
 pub use guest::Parked;
 pub use hall::{Hall, Rooms};
 pub use mail::Mailbox;
+pub use outside::Outside;
 pub use polls::polls_of;
 pub use threads::{Lends, Unbegun, loops_of, run_all};

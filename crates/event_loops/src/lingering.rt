@@ -9,6 +9,7 @@ use exchange_driver::{Heard, Live, Socket};
 use grant_board::BoardName;
 use loop_table::{Hole, Subject};
 use mio::Interest;
+use relay_workers::Gate;
 use std::net::{Net, Shutdown, TcpListener, TcpStream};
 use std::os::fd::AsRawFd;
 use std::sync::Wait;
@@ -16,6 +17,9 @@ use std::time::Clock;
 
 /// So many bytes of a client that lingers are thrown away.
 const MOST_THROWN: usize = 1 << 26;
+
+/// So long a client lingers at most, in milliseconds, while it sends.
+const MOST_MILLIS: u64 = 30_000;
 
 /// So often it is read in a row, before others are attended to.
 const READS: usize = 64;
@@ -39,10 +43,12 @@ impl<
             Some(client) if client.stream().shutdown(Shutdown::Write).is_ok() => {
                 self.lingering = self.lingering.saturating_add(1);
                 self.begin_time(Some(Keyword::Linger), key);
+                let since = self.gate.moment();
                 self.listen(
                     Lingering {
                         client,
                         left: MOST_THROWN,
+                        since,
                     },
                     hole,
                 );
@@ -58,6 +64,7 @@ impl<
         for _ in 0..READS {
             match lingering.client.hear(self.buffer.as_mut_slice()) {
                 Heard::Bytes(count) => {
+                    self.linger_on(&lingering, hole.token().index());
                     lingering.left = lingering.left.saturating_sub(count);
                     if lingering.left == 0 {
                         return self.end_lingering(hole);
@@ -67,8 +74,17 @@ impl<
                 Heard::Ended { .. } => return self.end_lingering(hole),
             }
         }
-        self.put_off(hole.token());
+        self.agenda.put_off(hole.token().index());
         self.lay(Resident::Lingering(lingering), hole);
+    }
+
+    // It sent something: its time begins anew, for a while.
+    fn linger_on(&mut self, lingering: &Lingering, key: usize) {
+        let now = self.gate.moment();
+        if now.get().saturating_sub(lingering.since.get()) < MOST_MILLIS {
+            self.untime(Some(Keyword::Linger), key);
+            self.begin_time(Some(Keyword::Linger), key);
+        }
     }
 
     // The poll tells when more comes. Where too many linger, it is closed at once.

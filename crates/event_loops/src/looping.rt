@@ -7,16 +7,18 @@ use crate::timing::Keywords;
 use due_key::Moment;
 use exchange_driver::Settings;
 use grant_board::BoardName;
-use loop_table::{Limits, Slots, Subject, Token};
+use loop_table::{Agenda, Limits, Slots, Subject};
 use mio::{Events, Poll, Registry};
 use relay_workers::Gate;
 use socket_gate::SocketGate;
-use std::collections::VecDeque;
 use std::net::{Net, TcpListener, TcpStream};
 use std::sync::Wait;
 use std::time::{Clock, Duration};
 
 const EVENTS: usize = 256;
+
+/// No time is over before all that the poll has to tell was looked at, but for so many times as many events.
+const BATCHES: u32 = 64;
 
 /// One loop: a thread's guests, and what it works with.
 pub(crate) struct Looper<'a, N: BoardName, R> {
@@ -34,22 +36,15 @@ pub(crate) struct Looper<'a, N: BoardName, R> {
     pub(crate) keywords: Keywords,
     /// What is read goes here first.
     pub(crate) buffer: Vec<u8>,
-    /// Guests with more to do once what was woken was looked at, and once others were attended to.
-    pub(crate) ready: Vec<Token>,
-    pub(crate) later: Vec<Token>,
-    /// There was no memory to note one of them.
-    pub(crate) sweeps: bool,
-    /// Guests that found no place, in the order of coming.
-    pub(crate) turned_away: VecDeque<Token>,
-    /// The first of them is tried again.
-    pub(crate) retries: bool,
+    /// Guests with more to do, by their slots: once what was woken was looked at, and once others were attended to.
+    pub(crate) agenda: Agenda,
     /// More clients may wait at the listener.
     pub(crate) more: bool,
     /// Something was short: descriptors, slots.
     pub(crate) short: bool,
     /// When what was short was last tried again.
     pub(crate) tried: Moment,
-    /// A place came free since then.
+    /// A place may have come free for those who wait for one.
     pub(crate) freed: bool,
     /// So many clients linger, and so many may.
     pub(crate) lingering: usize,
@@ -78,11 +73,7 @@ impl<
             limits: _,
             keywords: _,
             buffer: _,
-            ready: _,
-            later: _,
-            sweeps: _,
-            turned_away: _,
-            retries: _,
+            agenda: _,
             more: _,
             short: _,
             tried: _,
@@ -105,11 +96,16 @@ impl<
         let Ok(mut events) = Events::with_capacity(self.hall.proxy.alloc, EVENTS) else {
             return self.hall.give_up(self.rt);
         };
+        let mut batches = 0;
         for _ in self.rt.forever() {
             if self.hall.is_over() {
                 return;
             }
-            let wait = self.patience();
+            let wait = if batches == 0 {
+                self.patience()
+            } else {
+                Some(0)
+            };
             let _ = poll.poll(&mut events, wait.map(Duration::from_millis));
             if events.iter().count() == 0 {
                 // A wait that a signal ended tells of nothing, whatever there is: no time is over before that was looked at.
@@ -117,19 +113,29 @@ impl<
             }
             let now = self.gate.moment();
             self.limits.look_at_clock(now);
+            let is_full = EVENTS <= events.iter().count();
+            batches = if is_full && batches < BATCHES {
+                batches.saturating_add(1)
+            } else {
+                0
+            };
             self.attend(&events);
-            self.look_at_limits();
+            if batches == 0 {
+                self.look_at_limits();
+            }
+            self.go_on_with_places();
         }
     }
 
     /// Whether there is something to do at once.
     pub(crate) fn has_more(&self) -> bool {
-        self.more || self.sweeps || !self.later.is_empty()
+        self.more || !self.agenda.puts_nothing_off()
     }
 
     // Servers, clients and requests that wait first, then what others were told, the listener last.
     fn attend(&mut self, events: &Events) {
-        self.take_up();
+        self.agenda.turn_over();
+        self.go_on_with_places();
         let mut has_mail = false;
         for event in events.iter() {
             let told = Told::of(event);
@@ -139,6 +145,7 @@ impl<
                 Some(Subject::Client(token)) => self.hear_client(token, told),
                 Some(Subject::Server(token)) => self.hear_server(token, told),
                 Some(Subject::Waiting { place, ticket }) => self.hear_waiting(place, ticket),
+                Some(Subject::Outside(token)) => self.hear_outside(token),
                 None => {}
             }
             self.go_on_with_places();
@@ -157,6 +164,13 @@ impl<
         if let Some(mail) = self.hall.mail.as_slice().get(self.home) {
             let places = mail.take_all(self.rt);
             self.gate.wake(&places);
+        }
+        if self.hall.is_stopping() {
+            self.more = true;
+            self.dismiss_silent();
+        }
+        if self.home == 0 && self.hall.is_refusing() {
+            self.refuse_waiting();
         }
     }
 }

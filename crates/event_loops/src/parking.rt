@@ -3,6 +3,7 @@
 use crate::guest::{Guest, Parked, Task, Visit};
 use crate::keeping::Soon;
 use crate::looping::Looper;
+use crate::outside::Outsider;
 use crate::serving::Then;
 use crate::watching::watch;
 use dispatch_log::Refusal;
@@ -10,8 +11,8 @@ use dispatch_trace::Ticketed;
 use grant_board::BoardName;
 use loop_table::{Hole, Subject};
 use mio::Interest;
-use place_set::PlaceSet;
-use relay_workers::{Gate, arrive};
+use prio_rules::{Wish, decide};
+use relay_workers::{Gate, arrive_as};
 use seated_exchange::{Posting, Queued};
 use std::net::{Net, TcpListener, TcpStream};
 use std::os::fd::AsRawFd;
@@ -23,71 +24,55 @@ impl<
     N: BoardName,
     R: Net<Listener = TcpListener, Stream = TcpStream> + Clock + Print + Wait,
 > Looper<'a, N, R> {
-    /// A guest's request asks for a place. Who finds none waits for one, in the order of coming.
+    /// A guest's request asks for a place. Who finds none, or others who wait for one, waits outside.
     pub(crate) fn arrive(&mut self, guest: Guest<N>, hole: Hole) -> Then<N> {
         let Guest { seated, visit } = guest;
         match seated.into_queued() {
             Err(seated) => self.keep(Guest { seated, visit }, hole, Soon::Rests),
-            Ok(queued) if visit.stands && !self.retries => {
-                let seated = queued.unseated();
-                self.keep(Guest { seated, visit }, hole, Soon::Rests)
-            }
-            Ok(queued) if !self.retries && !self.turned_away.is_empty() => {
-                self.turn_away(queued, visit, hole)
-            }
-            Ok(queued) => match arrive(self.rt, self.hall.proxy, &mut self.gate, queued.view()) {
-                Ok(at) => self.park(queued, visit, at, hole),
-                Err(Refusal::PlacesFull) => self.turn_away(queued, visit, hole),
-                Err(_) => {
-                    let mut visit = visit;
-                    visit.task = Task::Refuse;
-                    let seated = queued.unseated();
-                    Then::Goes(Guest { seated, visit }, hole)
-                }
-            },
+            Ok(queued) => self.enter(queued, visit, hole),
+        }
+    }
+
+    fn enter(&mut self, queued: Queued, visit: Visit, hole: Hole) -> Then<N> {
+        if self.hall.is_refusing() {
+            return turn_away(queued, visit, hole);
+        }
+        let wish = decide(&self.hall.proxy.config, queued.view());
+        if self.hall.has_outside() {
+            return self.go_outside(queued, visit, &wish, hole);
+        }
+        match arrive_as(self.rt, self.hall.proxy, &mut self.gate, &wish) {
+            Ok(at) => self.park(queued, visit, at, hole),
+            Err(Refusal::PlacesFull) => self.go_outside(queued, visit, &wish, hole),
+            Err(_) => turn_away(queued, visit, hole),
         }
     }
 
     // It waits for a place.
-    fn turn_away(&mut self, queued: Queued, visit: Visit, hole: Hole) -> Then<N> {
-        let token = hole.token();
-        let mut visit = visit;
-        let noted = if self.retries {
-            self.turned_away.push_front(token).is_ok()
-        } else {
-            self.turned_away.push_back(token).is_ok()
-        };
-        self.retries = false;
-        visit.stands = noted;
-        let seated = queued.unseated();
-        if noted {
-            self.keep(Guest { seated, visit }, hole, Soon::Rests)
-        } else {
-            visit.task = Task::Refuse;
-            Then::Goes(Guest { seated, visit }, hole)
-        }
-    }
-
-    /// Those who wait for a place are tried again, until one finds none.
-    pub(crate) fn try_again(&mut self) {
-        for _ in 0..self.turned_away.len() {
-            let Some(token) = self.turned_away.pop_front() else {
-                return;
-            };
-            self.retries = true;
-            self.work(token);
-            if !self.retries {
-                return;
+    fn go_outside(&mut self, queued: Queued, visit: Visit, wish: &Wish, hole: Hole) -> Then<N> {
+        self.untime(visit.timer, hole.token().index());
+        let Visit { client, .. } = visit;
+        let mut client = client;
+        client.rest();
+        let now = self.gate.moment();
+        let came = self.wait_outside(wish, &now, queued, client);
+        match came {
+            Ok(()) => {
+                self.guests.close(hole);
+                Then::Rests
             }
-            self.retries = false;
-            self.go_on();
+            Err(outsider) => {
+                let Outsider { queued, client, .. } = outsider;
+                let visit = Visit::new(self.settings.alloc, client);
+                turn_away(queued, visit, hole)
+            }
         }
     }
 
     // It lies down in its place, which is looked at afterwards.
     fn park(&mut self, queued: Queued, visit: Visit, at: Ticketed, hole: Hole) -> Then<N> {
         self.untime(visit.timer, hole.token().index());
-        let Visit { client, failed, .. } = visit;
+        let Visit { client, .. } = visit;
         let mut client = client;
         client.rest();
         self.hall.lie_down(
@@ -96,8 +81,10 @@ impl<
                 queued,
                 client,
                 at,
-                failed,
+                failed: None,
                 watched: false,
+                came: None,
+                late: false,
             },
         );
         match self.hall.look(self.rt, at.place) {
@@ -122,7 +109,8 @@ impl<
         let Visit {
             client,
             at,
-            number,
+            tried,
+            came,
             ..
         } = visit;
         let place = posting.place();
@@ -135,8 +123,10 @@ impl<
                         queued,
                         client,
                         at,
-                        failed: number,
+                        failed: tried,
                         watched: false,
+                        came,
+                        late: false,
                     },
                 );
                 self.watch_waiting(at);
@@ -144,11 +134,7 @@ impl<
         }
         self.post(posting);
         // A thread that took the failure back before this one may have found nothing to go on with.
-        let mut here = PlaceSet::new();
-        if place < 4096 {
-            here.insert(place);
-        }
-        self.gate.wake(&here);
+        self.look_later_at(place);
         Then::Rests
     }
 
@@ -185,4 +171,12 @@ impl<
             self.go_on();
         }
     }
+}
+
+// The dispatcher doesn't take it, for another cause than want of places.
+fn turn_away<N: BoardName>(queued: Queued, visit: Visit, hole: Hole) -> Then<N> {
+    let mut visit = visit;
+    visit.task = Task::Refuse;
+    let seated = queued.unseated();
+    Then::Goes(Guest { seated, visit }, hole)
 }

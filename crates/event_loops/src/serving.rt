@@ -59,9 +59,10 @@ impl<
             Resident::Guest(guest) => {
                 let mut guest = guest;
                 guest.visit.client.wake(told.reads, told.writes);
+                guest.visit.ended = guest.visit.ended || told.closed;
                 let then = if told.broken {
                     self.tell(guest, hole, Notice::ClientFailed)
-                } else if told.closed && self.settings.rules.aborts && guest.seated.has_asked() {
+                } else if self.has_left(&guest) {
                     self.tell(guest, hole, Notice::ClientEnd)
                 } else {
                     Then::Goes(guest, hole)
@@ -69,6 +70,11 @@ impl<
                 self.go(then);
             }
         }
+    }
+
+    // Whether a client sends no more, and `option abortonclose` says that it waits for no answer then.
+    fn has_left(&self, guest: &Guest<N>) -> bool {
+        guest.visit.ended && self.settings.rules.aborts && guest.seated.has_asked()
     }
 
     /// The poll told of a server's connection.
@@ -119,7 +125,8 @@ impl<
             Task::Arrive => self.arrive(guest, hole),
             Task::Dial => self.dial(guest, hole),
             Task::Refuse => self.tell(guest, hole, Notice::Unserved),
-            Task::GiveUp => self.tell(guest, hole, Notice::Unreachable),
+            Task::GiveUp => self.tell_of_no_connection(guest, hole),
+            Task::Leave => self.tell(guest, hole, Notice::ClientEnd),
         }
     }
 
@@ -170,13 +177,18 @@ impl<
 
     // Where it goes from here, by its stage.
     fn place(&mut self, guest: Guest<N>, hole: Hole, soon: Soon) -> Then<N> {
+        if self.has_left(&guest) {
+            let mut guest = guest;
+            guest.visit.ended = false;
+            return Then::Goes(guest.with_task(Task::Leave), hole);
+        }
         match guest.seated.stage() {
             Stage::Asking | Stage::Passing => self.keep(guest, hole, soon),
             Stage::Waiting => Then::Goes(guest.with_task(Task::Arrive), hole),
             Stage::Dialing => Then::Goes(guest.with_task(Task::Dial), hole),
             Stage::Telling => {
                 if guest.seated.has_told() {
-                    self.finish(guest, hole)
+                    self.end_or_ask_again(guest, hole)
                 } else {
                     self.keep(guest, hole, soon)
                 }

@@ -3,17 +3,17 @@
 use crate::checks::Ringing;
 use crate::hall::Hall;
 use crate::looping::Looper;
+use crate::steering::run_controls;
 use crate::timing::Keywords;
 use due_key::Moment;
 use exchange_driver::Settings;
 use grant_board::BoardName;
-use loop_table::{Limits, Slots};
+use loop_table::{Agenda, Limits, Slots};
 use mio::Poll;
 use mixed_exchange::Rules;
 use relay_workers::checker;
 use socket_gate::{Pauses, SocketGate};
 use std::alloc::{AllocError, Global};
-use std::collections::VecDeque;
 use std::net::{Net, TcpListener, TcpStream};
 use std::sync::Wait;
 use std::sync::atomic::{AtomicBool, Ordering};
@@ -30,7 +30,7 @@ const CHECK_PAUSES: u64 = 1 << 62;
 const BUFFER: usize = 16_384;
 
 /// So often each direction of an exchange moves, before others are attended to.
-const TURNS: u32 = 16;
+const TURNS: u32 = 4;
 
 /// So many guests a loop has at once, at most.
 const MOST_GUESTS: u64 = 16_384;
@@ -73,9 +73,19 @@ pub fn run_all<
                 shared.hall().give_up(rt);
             }
         }
+        let mut steering = None;
+        if shared.hall().has_controls() {
+            steering = scope.spawn(move || run_controls(rt, shared.hall())).ok();
+            if steering.is_none() {
+                shared.hall().give_up(rt);
+            }
+        }
         begin_loops(scope, rt, shared, &mut loops);
         told.store(true, Ordering::SeqCst);
         if let Some(handle) = checking {
+            handle.join(rt);
+        }
+        if let Some(handle) = steering {
             handle.join(rt);
         }
     })
@@ -147,12 +157,19 @@ fn looper<
     let most_lingering = (hall.most.lingering / loops).min(MOST_LINGERING);
     let room = (hall.most.clients.min(MOST_GUESTS) + most_lingering) as usize;
     let mut limits = Limits::new(alloc);
-    let keywords = Keywords::of(alloc, &hall.proxy.config, &mut limits, room)?;
+    let keywords = Keywords::of(
+        alloc,
+        &hall.proxy.config,
+        hall.front.keeping,
+        &mut limits,
+        room,
+    )?;
     let rules = Rules {
         aborts: hall.proxy.config.abortonclose,
     };
     let buffer = vec![in alloc; 0u8; BUFFER]?;
     let gate = SocketGate::new(alloc, rt, hall.front)?;
+    let agenda = Agenda::with_room(alloc, room)?;
     let guests = Slots::with_room(alloc, room)?;
     Ok(Looper {
         rt,
@@ -170,11 +187,7 @@ fn looper<
         limits,
         keywords,
         buffer,
-        ready: Vec::new(alloc),
-        later: Vec::new(alloc),
-        sweeps: false,
-        turned_away: VecDeque::new(alloc),
-        retries: false,
+        agenda,
         more: true,
         short: false,
         tried: Moment::zero(),

@@ -1,6 +1,6 @@
 //! The times of a loop.
 
-use crate::guest::{Guest, Keyword, Resident, Visit};
+use crate::guest::{Guest, Hopeless, Keyword, Resident, Visit};
 use crate::keeping::Soon;
 use crate::looping::Looper;
 use crate::serving::Then;
@@ -32,27 +32,28 @@ const TURNAROUND: u64 = 1000;
 #[derive(Clone, Copy)]
 pub(crate) struct Keywords {
     client: Option<usize>,
-    queue: Option<usize>,
     connect: Option<usize>,
     server: Option<usize>,
+    stay: Option<usize>,
     linger: Option<usize>,
     turnaround: Option<usize>,
 }
 
 impl Keywords {
-    /// Those of a configuration, for the keys below `room`.
+    /// Those of a configuration, where a client stays so many milliseconds, for the keys below `room`.
     pub(crate) fn of(
         alloc: Global,
         config: &Config,
+        keeping: Option<u64>,
         limits: &mut Limits,
         room: usize,
     ) -> Result<Keywords, AllocError> {
         let turnaround = config.connect_timeout.unwrap_or(TURNAROUND).min(TURNAROUND);
         Ok(Keywords {
             client: timed(alloc, limits, config.client_timeout, room)?,
-            queue: timed(alloc, limits, config.queue_timeout, room)?,
             connect: timed(alloc, limits, config.connect_timeout, room)?,
             server: timed(alloc, limits, config.server_timeout, room)?,
+            stay: timed(alloc, limits, keeping, room)?,
             linger: timed(alloc, limits, Some(LINGER), room)?,
             turnaround: timed(alloc, limits, Some(turnaround), room)?,
         })
@@ -61,9 +62,9 @@ impl Keywords {
     fn number(&self, keyword: Keyword) -> Option<usize> {
         match keyword {
             Keyword::Client => self.client,
-            Keyword::Queue => self.queue,
             Keyword::Connect => self.connect,
             Keyword::Server => self.server,
+            Keyword::Stay => self.stay,
             Keyword::Linger => self.linger,
             Keyword::Turnaround => self.turnaround,
         }
@@ -88,11 +89,9 @@ fn wanted<N: BoardName>(seated: &Seated<N>, visit: &Visit) -> Option<Keyword> {
         return Some(Keyword::Turnaround);
     }
     match seated.clock()? {
+        Limit::Client if visit.stayed && seated.is_silent() => Some(Keyword::Stay),
         Limit::Client => Some(Keyword::Client),
-        Limit::Queue => match visit.at {
-            None => Some(Keyword::Queue),
-            Some(_) => None,
-        },
+        Limit::Queue => None,
         Limit::Connect => Some(Keyword::Connect),
         Limit::Server => Some(Keyword::Server),
     }
@@ -148,7 +147,7 @@ impl<
             return Some(0);
         }
         let mut least = self.limits.patience();
-        if self.lacks() {
+        if self.short {
             least = Some(least.unwrap_or(SOON).min(SOON));
         }
         if self.home == 0 && self.hall.has_waits() {
@@ -171,20 +170,14 @@ impl<
             self.end_time(overdue);
             self.go_on();
         }
-        if self.lacks() && SOON <= now.get().saturating_sub(self.tried.get()) {
+        if self.short && SOON <= now.get().saturating_sub(self.tried.get()) {
             self.tried = now;
             self.short = false;
             self.more = true;
-            self.try_again();
         }
         if self.home == 0 && self.hall.has_waits() {
             self.look_at_queues();
         }
-    }
-
-    // Whether something was short, or guests wait for a place: that is tried again after a while.
-    fn lacks(&self) -> bool {
-        self.short || !self.turned_away.is_empty()
     }
 
     // Requests that waited too long for a pass are told so.
@@ -194,7 +187,31 @@ impl<
             self.hall.proxy.turn(self.rt, &mut self.gate);
             self.go_on();
         }
+        if let Some(millis) = self.hall.proxy.config.queue_timeout {
+            self.refuse_late(&now);
+            // Of those who waited for their place the time counts from their coming on, which the dispatcher doesn't know.
+            self.give_up(&Hopeless::Late { now, millis });
+        }
         self.hall.look_for_waits(self.rt);
+    }
+
+    // Requests that wait at their places are given up.
+    fn give_up(&mut self, hopeless: &Hopeless) {
+        let mut from = 0;
+        for _ in self.rt.forever() {
+            let Some((place, ticket)) = self.hall.find_hopeless(self.rt, from, hopeless) else {
+                break;
+            };
+            self.hall.proxy.give_up(self.rt, &mut self.gate, ticket);
+            from = place.saturating_add(1);
+        }
+        self.go_on();
+    }
+
+    /// Who waits for a place or for a pass is told that it isn't served.
+    pub(crate) fn refuse_waiting(&mut self) {
+        self.refuse_outside();
+        self.give_up(&Hopeless::All);
     }
 
     // A timeout is over for who is in a slot.
@@ -222,8 +239,8 @@ impl<
                 guest.visit.pauses = false;
                 return self.dial(guest, hole);
             }
+            Some(Keyword::Stay) => return self.finish(guest, hole),
             Some(Keyword::Client) => Limit::Client,
-            Some(Keyword::Queue) => Limit::Queue,
             Some(Keyword::Connect) => Limit::Connect,
             Some(Keyword::Server) => Limit::Server,
             Some(Keyword::Linger) | None => return self.keep(guest, hole, Soon::Rests),

@@ -1,3 +1,4 @@
+pub mod Agendas
 pub mod Limits
 pub mod Runs
 pub mod Slots

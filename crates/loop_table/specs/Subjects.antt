@@ -2,7 +2,7 @@
 use Rattle.std.specs.Prelude.{◌≡◌, ◌<◌, ℕ, ◌+◌, ◌*◌}
 use Rattle.loop_table.specs.declared.token.Token.{Token}
 use Rattle.loop_table.specs.declared.subject.Subject.{Subject}
-use Rattle.loop_table.specs.declared.subject.Subject.TheVariants.{Listener, Mailbox, Client, Server, Waiting}
+use Rattle.loop_table.specs.declared.subject.Subject.TheVariants.{Listener, Mailbox, Client, Server, Waiting, Outside}
 
 abbrev pub token_number : Token → ℕ
 token_number token = token.generation * 1048576 + token.index
@@ -13,6 +13,7 @@ number_of Mailbox = 1
 number_of (Client token) = 8 * token_number token + 2
 number_of (Server token) = 8 * token_number token + 3
 number_of (Waiting place ticket) = 8 * (4096 * ticket + place) + 4
+number_of (Outside token) = 8 * token_number token + 5
 
 -- one and the same
 abbrev pub AreSame : Subject → Subject → Type 0
@@ -21,4 +22,5 @@ AreSame Mailbox Mailbox = Unit {0}
 AreSame (Client a) (Client b) = (a.index ≡ b.index) × (a.generation ≡ b.generation)
 AreSame (Server a) (Server b) = (a.index ≡ b.index) × (a.generation ≡ b.generation)
 AreSame (Waiting p t) (Waiting q u) = p < 4096 → q < 4096 → (p ≡ q) × (t ≡ u)
+AreSame (Outside a) (Outside b) = (a.index ≡ b.index) × (a.generation ≡ b.generation)
 AreSame _ _ = ⊥

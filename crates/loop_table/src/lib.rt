@@ -3,6 +3,7 @@
 //! All memory is taken when they are made: no call afterwards takes any, or fails for want of it.
 #![tactic(auto)]
 
+mod agenda;
 mod cells;
 pub mod laws;
 mod limits;
@@ -11,6 +12,7 @@ mod slots;
 mod subject;
 mod token;
 
+pub use agenda::Agenda;
 pub use limits::{Limits, Overdue};
 pub use running::Running;
 pub use slots::Slots;

@@ -104,6 +104,16 @@ impl<T> Slots<T> {
         }
     }
 
+    /// The value of a token. None exactly where it has none. `O(1)`.
+    pub fn get(&self, token: Token) -> Option<&T>
+        ensures { MatchOption result ((value : T) → ¬ (Holds self.now token value)) (λ value. Holds self.now token value.now) }
+    {
+        if !self.is_now(token) {
+            return None;
+        }
+        self.values[token.index].as_ref()
+    }
+
     /// Fills the hole of a token again, which keeps its token. The value comes back only where the hole isn't this table's. `O(1)`.
     pub fn fill(&mut self, hole: Hole, value: T) -> Result<(), T>
         ensures ok { OnOk result (IsOut self.old hole.token × (self.new ≡ filled self.old hole.token value)) }

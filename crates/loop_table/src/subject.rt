@@ -17,6 +17,8 @@ pub enum Subject {
     Server(Token),
     /// The client of a request that waits at its place.
     Waiting { place: usize, ticket: u64 },
+    /// The client of a request that waits for a place.
+    Outside(Token),
 }
 
 const SLOTS: usize = 1 << 20;
@@ -35,6 +37,7 @@ impl Subject {
             Subject::Mailbox => Some(1),
             Subject::Client(token) => Some(8 * token.number() + 2),
             Subject::Server(token) => Some(8 * token.number() + 3),
+            Subject::Outside(token) => Some(8 * token.number() + 5),
             Subject::Waiting { place, ticket } => {
                 if place < PLACES && ticket < TICKETS {
                     Some(8 * (PLACES * ticket as usize + place) + 4)
@@ -59,6 +62,7 @@ impl Subject {
                 place: above % PLACES,
                 ticket: (above / PLACES) as u64,
             }),
+            5 => Some(Subject::Outside(Token::of(above)?)),
             _ => None,
         }
     }

@@ -3,14 +3,14 @@ ghost use Rattle.proxy_run.specs.Faults.{IsEndOf};
 
 use crate::fault::RunFault;
 use proxy_config::{ReadError, read};
-use proxy_service::{ServeFault, listen_and_serve};
+use proxy_service::{RunOptions, ServeFault, listen_and_serve};
 use run_sizes::Sizes;
 use std::net::{Net, TcpListener, TcpStream};
 use std::sync::Wait;
 use std::thread::Threads;
 use std::time::Clock;
 
-/// Serves as a configuration says, and prints what came of it. It ends once so many clients were served, where they are counted.
+/// Serves as a configuration says, and prints what came of it. It ends once so many clients were served, where they are counted, or once it is told to.
 pub fn run<
     R: Net<Listener = TcpListener, Stream = TcpStream>
         + Clock
@@ -19,8 +19,11 @@ pub fn run<
         + AllocGlobal
         + Threads
         + Wait
-        + Sync,
->(rt: &R, bytes: &[u8], sizes: Sizes) -> Result<(), RunFault>
+        + Sync
+        + Copy
+        + Send
+        + 'static,
+>(rt: &R, bytes: &[u8], options: RunOptions, sizes: Sizes) -> Result<(), RunFault>
     ensures { IsEndOf (reading bytes.now) result }
 {
     let config = match read(rt.alloc(), bytes) {
@@ -28,7 +31,7 @@ pub fn run<
         Err(ReadError::Fault(fault)) => return Err(RunFault::Config(fault)),
         Err(ReadError::NoMemory) => return Err(RunFault::Serve(ServeFault::NoMemory)),
     };
-    match listen_and_serve(rt, config, sizes) {
+    match listen_and_serve(rt, config, options, sizes) {
         Ok(()) => Ok(()),
         Err(fault) => Err(RunFault::Serve(fault)),
     }

@@ -3,7 +3,7 @@
 ghost use Rattle.std.specs.Prelude.{◌≡◌, ◌≤◌};
 
 use proxy_config::Config;
-use run_sizes::{MOST_LOOPS, MOST_WORKERS, Sizes};
+use run_sizes::{MOST_LOOPS, MOST_WAITING, MOST_WORKERS, Sizes};
 use std::thread;
 use std::thread::Threads;
 
@@ -38,6 +38,7 @@ pub(crate) fn crew_of(rt: &impl Threads, config: &Config, sizes: Sizes) -> Crew
             loops,
             places: sizes.places,
             slots,
+            waiting: u64::from(sizes.waiting.unwrap_or(MOST_WAITING)),
         },
         workers,
         requests: sizes.requests,

@@ -1,5 +1,6 @@
 use relay_workers::Stopped;
 use std::alloc::AllocError;
+use std::net::SocketAddrV4;
 use thiserror::Error;
 use window_lines::TellFault;
 
@@ -9,9 +10,15 @@ pub enum ServeFault {
     /// Memory was refused, or a thread.
     #[error("no memory")]
     NoMemory,
-    /// The file can't be read, its address can't be listened at, or the clock can't be read.
+    /// The file can't be read, what comes at its address can't be taken, or the clock can't be read.
     #[error("read fault")]
     Read,
+    /// The address can't be listened at, for a reason that has this number of the system's.
+    #[error("read fault")]
+    Listen {
+        address: SocketAddrV4,
+        code: Option<i32>,
+    },
     /// What is printed was refused.
     #[error("write fault")]
     Write,

@@ -13,6 +13,7 @@ mod sharing;
 mod telling;
 
 pub use fault::ServeFault;
+pub use opening::{Doors, RunOptions};
 pub use record::Record;
 pub use recording::serve_recorded;
 pub use serving::{listen_and_serve, serve_at};

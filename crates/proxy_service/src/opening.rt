@@ -3,10 +3,27 @@
 use crate::crew::Crew;
 use crate::fault::ServeFault;
 use crate::preparing::never_queues;
+use control_socket::Controls;
 use libc::net::listen;
 use proxy_config::{Bind, Config};
-use std::net::{Ipv4Addr, Net, TcpListener, TcpStream};
+use std::net::{Ipv4Addr, Net, SocketAddrV4, TcpListener, TcpStream};
 use std::os::fd::AsRawFd;
+
+/// What is asked of a proxy beside its configuration.
+#[derive(Drop)]
+pub struct RunOptions {
+    /// How long a client may stay between two requests, in milliseconds. None: it has one.
+    pub keeping: Option<u64>,
+    /// What it is steered by while it serves.
+    pub controls: Option<Controls>,
+}
+
+/// Where clients come, and what is asked besides.
+#[derive(Drop)]
+pub struct Doors {
+    pub listener: TcpListener,
+    pub options: RunOptions,
+}
 
 /// So many clients may wait to be accepted, where the system allows it.
 const BACKLOG: i32 = 4096;
@@ -20,8 +37,13 @@ pub(crate) fn open<R: Net<Listener = TcpListener, Stream = TcpStream>>(
         Some(ip) => Ipv4Addr::from(ip),
         None => Ipv4Addr::UNSPECIFIED,
     };
-    let Ok(listener) = TcpListener::bind(rt, (ip, bind.port)) else {
-        return Err(ServeFault::Read);
+    let address = SocketAddrV4::new(ip, bind.port);
+    let listener = match TcpListener::bind(rt, address) {
+        Ok(listener) => listener,
+        Err(error) => {
+            let code = error.raw_os_error();
+            return Err(ServeFault::Listen { address, code });
+        }
     };
     if listen(listener.as_raw_fd(), BACKLOG) != 0 {
         return Err(ServeFault::Read);

@@ -8,10 +8,11 @@ ghost use Rattle.proxy_service.specs.Parts.{AreNew};
 
 use crate::crew::{Crew, crew_of};
 use crate::fault::ServeFault;
+use crate::opening::RunOptions;
 use crate::parts::{Parts, parts_of};
 use crate::record::Record;
 use crate::serving::{proxy_of, serve_clients};
-use crate::sharing::front_of;
+use crate::sharing::{beside_of, front_of};
 use grant_board::{BoardName, RelaySeat};
 use late_cert::Reports;
 use proxy_config::Config;
@@ -41,10 +42,14 @@ pub fn serve_recorded<
     R: Net<Listener = TcpListener, Stream = TcpStream>
         + Clock
         + Print
+        + Eprint
         + AllocGlobal
         + Threads
         + Wait
-        + Sync,
+        + Sync
+        + Copy
+        + Send
+        + 'static,
 >(
     rt: &R,
     config: Config,
@@ -63,10 +68,14 @@ fn serve_all<
     R: Net<Listener = TcpListener, Stream = TcpStream>
         + Clock
         + Print
+        + Eprint
         + AllocGlobal
         + Threads
         + Wait
-        + Sync,
+        + Sync
+        + Copy
+        + Send
+        + 'static,
 >(
     rt: &R,
     config: Config,
@@ -87,10 +96,14 @@ fn serve_on<
     R: Net<Listener = TcpListener, Stream = TcpStream>
         + Clock
         + Print
+        + Eprint
         + AllocGlobal
         + Threads
         + Wait
-        + Sync,
+        + Sync
+        + Copy
+        + Send
+        + 'static,
 >(
     rt: &R,
     config: Config,
@@ -103,7 +116,12 @@ fn serve_on<
 {
     let alloc = rt.alloc();
     let (proxy, relay) = proxy_of::<N>(alloc, config, parts);
-    let front = front_of(alloc, rt, &proxy.config, listener, watched.crew.requests)?;
+    let options = RunOptions {
+        keeping: None,
+        controls: None,
+    };
+    let beside = beside_of(alloc, &proxy.config, options)?;
+    let front = front_of(rt, &proxy.config, listener, watched.crew.requests, &beside)?;
     serve_watched(rt, &proxy, &front, relay, watched)?;
     Ok(proxy.desk.report(rt, alloc)?)
 }
@@ -111,7 +129,16 @@ fn serve_on<
 // Until no more clients come. What is decided last is copied when all have ended.
 fn serve_watched<
     N: BoardName + Send + Sync,
-    R: Net<Listener = TcpListener, Stream = TcpStream> + Clock + Print + Threads + Wait + Sync,
+    R: Net<Listener = TcpListener, Stream = TcpStream>
+        + Clock
+        + Print
+        + Eprint
+        + Threads
+        + Wait
+        + Sync
+        + Copy
+        + Send
+        + 'static,
     S: Lends<N> + Sync,
 >(
     rt: &R,
@@ -147,7 +174,16 @@ fn serve_watched<
 
 fn serve_lent<
     N: BoardName + Send + Sync,
-    R: Net<Listener = TcpListener, Stream = TcpStream> + Clock + Print + Threads + Wait + Sync,
+    R: Net<Listener = TcpListener, Stream = TcpStream>
+        + Clock
+        + Print
+        + Eprint
+        + Threads
+        + Wait
+        + Sync
+        + Copy
+        + Send
+        + 'static,
     S: Lends<N>,
 >(
     rt: &R,

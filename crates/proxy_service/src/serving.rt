@@ -6,9 +6,9 @@ ghost use Rattle.proxy_service.specs.Parts.{AreNew};
 
 use crate::crew::{Crew, crew_of};
 use crate::fault::ServeFault;
-use crate::opening::{announce, open};
+use crate::opening::{Doors, RunOptions, announce, open};
 use crate::parts::{Parts, parts_of};
-use crate::sharing::front_of;
+use crate::sharing::{Beside, beside_of, front_of};
 use crate::telling::tell_all;
 use grant_board::{BoardName, RelaySeat};
 use grant_desk::Desk;
@@ -21,6 +21,7 @@ use std::alloc::Global;
 use std::marker::Brand;
 use std::net::{Net, TcpListener, TcpStream};
 use std::sync::Wait;
+use std::thread;
 use std::thread::Threads;
 use std::time::Clock;
 
@@ -33,12 +34,15 @@ pub fn listen_and_serve<
         + AllocGlobal
         + Threads
         + Wait
-        + Sync,
->(rt: &R, config: Config, sizes: Sizes) -> Result<(), ServeFault>
+        + Sync
+        + Copy
+        + Send
+        + 'static,
+>(rt: &R, config: Config, options: RunOptions, sizes: Sizes) -> Result<(), ServeFault>
     requires config { IsSoundConfig config }
 {
     let listener = open(rt, config.bind)?;
-    serve_at(rt, config, listener, sizes)
+    serve_at(rt, config, Doors { listener, options }, sizes)
 }
 
 /// The same where clients come already.
@@ -50,14 +54,17 @@ pub fn serve_at<
         + AllocGlobal
         + Threads
         + Wait
-        + Sync,
->(rt: &R, config: Config, listener: TcpListener, sizes: Sizes) -> Result<(), ServeFault>
+        + Sync
+        + Copy
+        + Send
+        + 'static,
+>(rt: &R, config: Config, doors: Doors, sizes: Sizes) -> Result<(), ServeFault>
     requires config { IsSoundConfig config }
 {
     let crew = crew_of(rt, &config, sizes);
-    announce(rt, &listener, &config, crew)?;
+    announce(rt, &doors.listener, &config, crew)?;
     let parts = parts_of(rt.alloc(), &config, crew.threads.places)?;
-    serve_on::<Brand, _>(rt, config, parts, listener, crew)
+    serve_on::<Brand, _>(rt, config, parts, doors, crew)
 }
 
 // The same at a desk that is made of these parts.
@@ -66,20 +73,27 @@ fn serve_on<
     R: Net<Listener = TcpListener, Stream = TcpStream>
         + Clock
         + Print
+        + Eprint
         + AllocGlobal
         + Threads
         + Wait
-        + Sync,
->(rt: &R, config: Config, parts: Parts, listener: TcpListener, crew: Crew) -> Result<(), ServeFault>
+        + Sync
+        + Copy
+        + Send
+        + 'static,
+>(rt: &R, config: Config, parts: Parts, doors: Doors, crew: Crew) -> Result<(), ServeFault>
     requires named { parts.board ≡ N.board }
     requires parts { (setup : Setup) × AreNew setup parts × (N.terms ≡ terms_of setup) × (setup.places ≡ crew.threads.places) }
 {
     let alloc = rt.alloc();
     let (proxy, relay) = proxy_of::<N>(alloc, config, parts);
-    let front = front_of(alloc, rt, &proxy.config, listener, crew.requests)?;
+    let Doors { listener, options } = doors;
+    let beside = beside_of(alloc, &proxy.config, options)?;
+    let front = front_of(rt, &proxy.config, listener, crew.requests, &beside)?;
     let ended = serve_clients(rt, &proxy, &front, relay, crew.threads);
-    let Front { names, told, .. } = front;
-    tell_all(rt, &proxy, &names, told.into_inner())?;
+    drop(front);
+    let Beside { windows, .. } = beside;
+    tell_all(rt, &proxy, windows)?;
     ended
 }
 
@@ -110,10 +124,19 @@ pub(crate) fn proxy_of<N: BoardName>(
     (proxy, relay)
 }
 
-/// Until no more clients come.
+/// Until no more clients come. Beside that names are looked up, and windows are printed; all that were handed over are printed then.
 pub(crate) fn serve_clients<
     N: BoardName + Send + Sync,
-    R: Net<Listener = TcpListener, Stream = TcpStream> + Clock + Print + Threads + Wait + Sync,
+    R: Net<Listener = TcpListener, Stream = TcpStream>
+        + Clock
+        + Print
+        + Eprint
+        + Threads
+        + Wait
+        + Sync
+        + Copy
+        + Send
+        + 'static,
 >(
     rt: &R,
     proxy: &Proxy<N>,
@@ -126,7 +149,54 @@ pub(crate) fn serve_clients<
     requires idle { relay.view.passes ≡ [] }
     requires places { threads.places ≤ N.terms.places }
 {
-    let (_, served) = serve(rt, proxy, front, relay, threads);
-    served?;
-    Ok(())
+    front.addresses.start(rt)?;
+    let served = serve_printing(rt, proxy, front, relay, threads);
+    front.addresses.close(rt);
+    served
+}
+
+// The same, where names are looked up already.
+fn serve_printing<
+    N: BoardName + Send + Sync,
+    R: Net<Listener = TcpListener, Stream = TcpStream>
+        + Clock
+        + Print
+        + Eprint
+        + Threads
+        + Wait
+        + Sync,
+>(
+    rt: &R,
+    proxy: &Proxy<N>,
+    front: &Front<'_>,
+    relay: RelaySeat,
+    threads: relay_loops::Sizes,
+) -> Result<(), ServeFault>
+    requires named { (relay.board ≡ N.board) × (relay.view.terms ≡ N.terms) }
+    requires first { relay.view.first ≡ true }
+    requires idle { relay.view.passes ≡ [] }
+    requires places { threads.places ≤ N.terms.places }
+{
+    let windows = front.windows;
+    thread::scope(
+        thread::scope_env(),
+        rt,
+        move |scope|
+            requires named { (relay.board ≡ N.board) × (relay.view.terms ≡ N.terms) }
+            requires first { relay.view.first ≡ true }
+            requires idle { relay.view.passes ≡ [] }
+            requires places { threads.places ≤ N.terms.places }
+        {
+            let Some(printing) = scope.spawn(move || windows.print_all(rt)).ok() else {
+                return Err(ServeFault::NoMemory);
+            };
+            let (_, served) = serve(rt, proxy, front, relay, threads);
+            windows.end(rt);
+            printing.join(rt);
+            match served {
+                Ok(()) => Ok(()),
+                Err(stopped) => Err(ServeFault::from(stopped)),
+            }
+        },
+    )
 }

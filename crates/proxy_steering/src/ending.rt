@@ -6,19 +6,23 @@ use crate::stopping::{Due, Ending, GRACE, due_of, later};
 use control_socket::Tended;
 
 impl<P: Steered + Drop> Helm<P> {
-    /// Nobody new comes, and all is over once nobody is there, or so many milliseconds from now.
+    /// Nobody new comes, and all is over once nobody is there, or so many milliseconds from now, or at the moment that was said before where that is earlier.
     pub(crate) fn stop(&mut self, within: Option<u64>) {
         let now = self.proxy.moment().get();
         self.proxy.stop();
         if matches!(self.ending, Ending::Refuses { .. }) {
             return;
         }
-        let until = match within {
+        let before = match self.ending {
+            Ending::Stops { until, .. } => until,
+            Ending::Serves | Ending::Refuses { .. } => None,
+        };
+        let asked = match within {
             Some(millis) => Some(later(now, millis)),
             None => None,
         };
         self.ending = Ending::Stops {
-            until,
+            until: earlier(before, asked),
             was_empty: false,
         };
     }
@@ -46,5 +50,14 @@ impl<P: Steered + Drop> Helm<P> {
             }
         }
         Tended::Soon
+    }
+}
+
+// The earlier of two moments, where there are both.
+fn earlier(one: Option<u64>, other: Option<u64>) -> Option<u64> {
+    match (one, other) {
+        (Some(first), Some(second)) => Some(first.min(second)),
+        (Some(first), None) => Some(first),
+        (None, second) => second,
     }
 }

@@ -3,16 +3,15 @@
 ghost use Rattle.std.specs.Prelude.{◌≡◌, vec_len, IfOk};
 
 use crate::serving::Sizes;
-use event_loops::{Parked, Rooms, Unbegun, loops_of, most_connections, polls_of};
+use event_loops::{Outside, Parked, Rooms, Unbegun, loops_of, most_connections, polls_of};
 use grant_board::BoardName;
 use relay_workers::Proxy;
-use socket_gate::{Front, first_address};
+use socket_gate::Front;
 use std::alloc::{AllocError, Global};
 use std::net::{Net, TcpListener, TcpStream};
 use std::sync::Mutex;
 
-/// The rooms of a proxy, and its loops, with its listener in each loop's poll. Names of servers are looked up by the system, without a limit of its own. Fails where the
-/// system has no poll, too.
+/// The rooms of a proxy, and its loops, with its listener in each loop's poll. Fails where the system has no poll, too.
 pub(crate) fn rooms_of<R: Net<Listener = TcpListener, Stream = TcpStream>, N: BoardName>(
     rt: &R,
     proxy: &Proxy<N>,
@@ -23,17 +22,16 @@ pub(crate) fn rooms_of<R: Net<Listener = TcpListener, Stream = TcpStream>, N: Bo
 {
     let alloc = proxy.alloc;
     let spots = empty_spots(alloc, sizes.places)?;
-    let mut addresses = Vec::with_capacity(alloc, proxy.config.servers.len())?;
-    for server in proxy.config.servers.as_slice() {
-        addresses.push(first_address(rt, &server.address))?;
-    }
     let (polls, mail) = polls_of(rt, alloc, front, sizes.loops)?;
     let loops = loops_of(alloc, polls)?;
+    let most = most_connections(sizes.loops, sizes.slots);
+    let outside = Outside::new(alloc, most.clients, proxy.config.queue_timeout)?;
     let rooms = Rooms {
         spots,
         mail,
-        addresses,
-        most: most_connections(sizes.loops, sizes.slots),
+        most,
+        outside,
+        most_outside: sizes.waiting,
     };
     Ok((rooms, loops))
 }

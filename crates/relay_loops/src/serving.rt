@@ -19,6 +19,8 @@ pub struct Sizes {
     pub places: usize,
     /// So many requests are at servers at a time, at most.
     pub slots: usize,
+    /// While so many requests wait for a place, no client is accepted.
+    pub waiting: u64,
 }
 
 impl Sizes {

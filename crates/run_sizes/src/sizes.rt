@@ -7,11 +7,15 @@ pub const MOST_LOOPS: u32 = 64;
 /// So many runners there are at most.
 pub const MOST_WORKERS: u32 = 256;
 
+/// So many requests wait beyond the places at most before no client is accepted.
+pub const MOST_WAITING: u32 = 65_536;
+
 /// What the command line says.
 #[derive(Clone, Copy, Debug, PartialEq, Eq)]
 pub struct Sizes {
     pub workers: Option<u32>,
     pub loops: Option<u32>,
+    pub waiting: Option<u32>,
     pub places: usize,
     pub requests: u64,
     ghost some: { 0 < places },
@@ -19,19 +23,21 @@ pub struct Sizes {
 }
 
 impl Sizes {
-    /// So many runners, 1 to 256, and loops, 1 to 64, where they are given; so many requests live, 1 to 4,096; after so many clients it ends, at most
+    /// So many runners, 1 to 256, loops, 1 to 64, and requests that wait beyond the places, 1 to 65,536, where they are given; so many requests live, 1 to 4,096; after so many clients it ends, at most
     /// 999,999,999, 0: never. None where one of them is out of its range.
     pub fn new(
         workers: Option<u32>,
         loops: Option<u32>,
+        waiting: Option<u32>,
         places: u32,
         requests: u32,
     ) -> Option<Sizes>
-        ensures some { IfSome result (λ it. (it.workers ≡ workers) × (it.loops ≡ loops) × (it.places ≡ places) × (it.requests ≡ requests)) }
-        ensures variant { IsSome result ↔ AreWithin workers loops places requests }
+        ensures some { IfSome result (λ it. (it.workers ≡ workers) × (it.loops ≡ loops) × (it.waiting ≡ waiting) × (it.places ≡ places) × (it.requests ≡ requests)) }
+        ensures variant { IsSome result ↔ AreWithin workers loops waiting places requests }
     {
         if is_within(workers, MOST_WORKERS)
             && is_within(loops, MOST_LOOPS)
+            && is_within(waiting, MOST_WAITING)
             && 0 < places
             && places <= 4096
             && requests <= 999_999_999
@@ -39,6 +45,7 @@ impl Sizes {
             Some(Sizes {
                 workers,
                 loops,
+                waiting,
                 places: places as usize,
                 requests: u64::from(requests),
             })

@@ -1,16 +1,16 @@
 use proxy_config::{Config, read};
 use relay_workers::Gate;
 use script::Names;
+use server_names::Addresses;
 use socket_gate::{Clients, Front, SocketGate, has_left};
 use std::alloc::Global;
 use std::io::Write;
 use std::net::{Net, SocketAddr, TcpListener, TcpStream};
 use std::os::fd::AsRawFd;
 use std::process::Abort;
-use std::sync::Mutex;
 use std::thread;
 use std::time::{Clock, Duration, Instant};
-use window_lines::{Sums, Told};
+use window_printer::WindowPrinter;
 
 #[test]
 fn so_many_clients_come(rt: HostRuntime) {
@@ -69,14 +69,19 @@ fn a_gate_takes_clients_and_checks_servers(rt: HostRuntime) {
     let near = listening(&rt);
     let client = TcpStream::connect(&rt, address(&rt, &near)).expect(&rt, "a connection");
     let config = config_of(&rt, alloc, address(&rt, &far).port());
+    let names = Names::new(Vec::new(alloc));
+    let windows = WindowPrinter::new(alloc, names, 1).expect(&rt, "memory");
+    let addresses = Addresses::new(alloc, &config).expect(&rt, "memory");
     let front = Front {
         alloc,
         config: &config,
-        names: Names::new(Vec::new(alloc)),
         listener: near,
         clients: Clients::new(1),
         start: Instant::now(&rt).expect(&rt, "the time"),
-        told: Mutex::new(Told::new(Sums::new(alloc, 1).expect(&rt, "memory"))),
+        addresses: &addresses,
+        windows: &windows,
+        controls: None,
+        keeping: None,
     };
     let mut gate = SocketGate::new(alloc, &rt, &front).expect(&rt, "a gate");
     let mut accepted = gate.next().expect(&rt, "a client");

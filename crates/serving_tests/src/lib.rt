@@ -4,9 +4,13 @@
 #[cfg(test)]
 mod gates;
 #[cfg(test)]
+mod hanging;
+#[cfg(test)]
 mod runs;
 mod sizes;
 #[cfg(test)]
 mod texts;
+#[cfg(test)]
+mod windows;
 #[cfg(test)]
 mod workers;

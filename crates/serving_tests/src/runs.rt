@@ -1,5 +1,6 @@
+use crate::hanging::Hanging;
 use proxy_config::read;
-use proxy_service::serve_at;
+use proxy_service::{Doors, RunOptions, serve_at};
 use run_sizes::Sizes;
 use std::alloc::Global;
 use std::io::{Read, Write};
@@ -18,6 +19,8 @@ const ANSWER: &[u8] = b"HTTP/1.1 200 OK\r\nContent-Length: 2\r\nConnection: clos
 #[derive(Drop)]
 struct Row {
     settings: &'static str,
+    // Where the server is.
+    host: &'static str,
     clients: u32,
     // What each client says, and what it gets.
     says: &'static [u8],
@@ -38,14 +41,17 @@ enum Order {
     InTurn,
 }
 
+const NUMBERS: &str = "127.0.0.1";
+
 const WHOLE: &[u8] = b"HTTP/1.1 200 OK\r\nContent-Length: 2\r\n\r\nhi";
 
 // Then it waits until the proxy ends the connection.
 fn answer(mut client: TcpStream, text: &[u8]) -> bool {
     let mut head = [0u8; 1024];
-    client.read(&mut head).is_ok()
-        && client.write_all(text).is_ok()
-        && client.read(&mut head).is_ok()
+    let is_answered = client.read(&mut head).is_ok() && client.write_all(text).is_ok();
+    // Amid a message the end is a reset.
+    let _ = client.read(&mut head);
+    is_answered
 }
 
 fn answer_all(listener: &TcpListener, count: u32, text: &[u8]) -> bool {
@@ -102,13 +108,23 @@ fn serve_text<
         + AllocGlobal
         + Threads
         + Wait
-        + Sync,
+        + Sync
+        + Copy
+        + Send
+        + 'static,
 >(rt: &R, text: &str, listener: TcpListener, clients: u32, places: u32) -> bool {
     let Ok(config) = read(rt.alloc(), text.as_bytes()) else {
         return false;
     };
-    match Sizes::new(Some(clients), Some(2), places, clients) {
-        Some(sizes) => serve_at(rt, config, listener, sizes).is_ok(),
+    let doors = Doors {
+        listener,
+        options: RunOptions {
+            keeping: None,
+            controls: None,
+        },
+    };
+    match Sizes::new(Some(clients), Some(2), None, places, clients) {
+        Some(sizes) => serve_at(rt, config, doors, sizes).is_ok(),
         None => false,
     }
 }
@@ -122,7 +138,10 @@ fn serve_between<
         + AllocGlobal
         + Threads
         + Wait
-        + Sync,
+        + Sync
+        + Copy
+        + Send
+        + 'static,
 >(rt: &R, text: &str, near: TcpListener, far: &TcpListener, row: &Row) -> bool {
     let (answers, answer, order) = (row.answers, row.answer, row.order);
     let (clients, places) = (row.clients, row.places);
@@ -147,15 +166,19 @@ fn play<
         + Threads
         + Wait
         + Abort
-        + Sync,
+        + Sync
+        + Copy
+        + Send
+        + 'static,
 >(rt: &R, row: &Row) {
     let alloc = rt.alloc();
-    let far = TcpListener::bind(rt, "127.0.0.1:0").expect(rt, "a server");
-    let near = TcpListener::bind(rt, "127.0.0.1:0").expect(rt, "a proxy");
+    let host = row.host;
+    let far = listening(rt, host);
+    let near = listening(rt, NUMBERS);
     let port = port_of(rt, &far);
     let settings = row.settings;
     let text = format!(in alloc;
-        "listen w\n bind :1\n{settings} server none 127.0.0.1:1 weight 0\n server it 127.0.0.1:{port} maxconn 2\n"
+        "listen w\n bind :1\n{settings} server none 127.0.0.1:1 weight 0\n server it {host}:{port} maxconn 2\n"
     ).expect(rt, "memory");
     let proxy = near.local_addr().expect(rt, "the proxy's address");
     let mut clients = come(rt, alloc, proxy, row);
@@ -163,6 +186,13 @@ fn play<
     for client in clients.iter_mut() {
         gets(rt, alloc, client, row.gets);
     }
+}
+
+fn listening<R: Net<Listener = TcpListener, Stream = TcpStream> + Abort>(
+    rt: &R,
+    host: &str,
+) -> TcpListener {
+    TcpListener::bind(rt, (host, 0)).expect(rt, "a listener")
 }
 
 fn port_of(rt: &impl Abort, listener: &TcpListener) -> u16 {
@@ -180,6 +210,7 @@ fn gets(rt: &impl Abort, alloc: Global, client: &mut TcpStream, expected: &[u8])
 fn one_request(rt: HostRuntime) {
     let row = Row {
         settings: "",
+        host: NUMBERS,
         clients: 1,
         says: REQUEST,
         gets: ANSWER,
@@ -195,6 +226,7 @@ fn one_request(rt: HostRuntime) {
 fn two_at_once(rt: HostRuntime) {
     let row = Row {
         settings: " timeout server 5s\n",
+        host: NUMBERS,
         clients: 2,
         says: REQUEST,
         gets: ANSWER,
@@ -210,6 +242,7 @@ fn two_at_once(rt: HostRuntime) {
 fn a_silent_server_is_a_bad_gateway(rt: HostRuntime) {
     let row = Row {
         settings: " timeout server 50ms\n",
+        host: NUMBERS,
         clients: 1,
         says: REQUEST,
         gets: b"HTTP/1.1 502 Bad Gateway\r\nContent-Length: 0\r\nConnection: close\r\n\r\n",
@@ -225,6 +258,7 @@ fn a_silent_server_is_a_bad_gateway(rt: HostRuntime) {
 fn a_part_of_an_answer_is_handed_on_while_its_server_pauses(rt: HostRuntime) {
     let row = Row {
         settings: " timeout server 500ms\n",
+        host: NUMBERS,
         clients: 1,
         says: REQUEST,
         gets: b"HTTP/1.1 200 OK\r\nContent-Length: 2\r\nConnection: close\r\n\r\nh",
@@ -240,6 +274,7 @@ fn a_part_of_an_answer_is_handed_on_while_its_server_pauses(rt: HostRuntime) {
 fn a_silent_client_gets_nothing(rt: HostRuntime) {
     let row = Row {
         settings: " timeout client 50ms\n",
+        host: NUMBERS,
         clients: 1,
         says: b"",
         gets: b"",
@@ -255,6 +290,7 @@ fn a_silent_client_gets_nothing(rt: HostRuntime) {
 fn two_clients_share_one_place(rt: HostRuntime) {
     let row = Row {
         settings: "",
+        host: NUMBERS,
         clients: 2,
         says: REQUEST,
         gets: ANSWER,
@@ -270,6 +306,7 @@ fn two_clients_share_one_place(rt: HostRuntime) {
 fn leave_is_given_where_the_body_came_with_its_head(rt: HostRuntime) {
     let row = Row {
         settings: "",
+        host: NUMBERS,
         clients: 1,
         says: b"PUT / HTTP/1.1\r\nHost: h\r\nExpect: 100-continue\r\nContent-Length: 2\r\n\r\nab",
         gets: b"HTTP/1.1 100 Continue\r\n\r\nHTTP/1.1 200 OK\r\nContent-Length: 2\r\nConnection: close\r\n\r\nhi",
@@ -285,6 +322,7 @@ fn leave_is_given_where_the_body_came_with_its_head(rt: HostRuntime) {
 fn a_head_that_stays_a_part_is_a_bad_request(rt: HostRuntime) {
     let row = Row {
         settings: " timeout client 50ms\n",
+        host: NUMBERS,
         clients: 1,
         says: b"GET / HTTP/1.1\r\n",
         gets: b"HTTP/1.1 400 Bad Request\r\nContent-Length: 0\r\nConnection: close\r\n\r\n",
@@ -300,6 +338,7 @@ fn a_head_that_stays_a_part_is_a_bad_request(rt: HostRuntime) {
 fn an_answer_before_the_body_is_whole_is_handed_on(rt: HostRuntime) {
     let row = Row {
         settings: "",
+        host: NUMBERS,
         clients: 2,
         says: b"PUT / HTTP/1.1\r\nHost: h\r\nContent-Length: 100\r\n\r\nab",
         gets: ANSWER,
@@ -315,6 +354,7 @@ fn an_answer_before_the_body_is_whole_is_handed_on(rt: HostRuntime) {
 fn a_second_request_behind_the_first_cuts_no_answer(rt: HostRuntime) {
     let row = Row {
         settings: "",
+        host: NUMBERS,
         clients: 1,
         says: b"GET / HTTP/1.1\r\nHost: h\r\n\r\nGET / HTTP/1.1\r\nHost: h\r\n\r\n",
         gets: ANSWER,
@@ -324,4 +364,36 @@ fn a_second_request_behind_the_first_cuts_no_answer(rt: HostRuntime) {
         places: 8,
     };
     play(&rt, &row);
+}
+
+#[test]
+fn a_server_has_a_name(rt: HostRuntime) {
+    let row = Row {
+        settings: "",
+        host: "localhost",
+        clients: 2,
+        says: REQUEST,
+        gets: ANSWER,
+        answer: WHOLE,
+        answers: 2,
+        order: Order::InTurn,
+        places: 8,
+    };
+    play(&rt, &row);
+}
+
+#[test]
+fn a_look_up_that_hangs_holds_up_neither_start_nor_end(rt: HostRuntime) {
+    let row = Row {
+        settings: " server far a.name:80 weight 0\n",
+        host: NUMBERS,
+        clients: 1,
+        says: REQUEST,
+        gets: ANSWER,
+        answer: WHOLE,
+        answers: 1,
+        order: Order::InTurn,
+        places: 8,
+    };
+    play(&Hanging::new(rt), &row);
 }

@@ -33,7 +33,15 @@ static ROWS: [Row; 10] = [
 #[test]
 fn each_size_is_within_its_range(rt: HostRuntime) {
     for &(name, workers, loops, places, clients, answer) in &ROWS {
-        let sizes = Sizes::new(workers, loops, places, clients);
+        let sizes = Sizes::new(workers, loops, None, places, clients);
         assert_eq!(rt; sizes.is_some(), answer, "{name}");
+    }
+}
+
+#[test]
+fn so_many_wait_beyond_the_places(rt: HostRuntime) {
+    for &(waiting, answer) in &[(0, false), (1, true), (65_536, true), (65_537, false)] {
+        let sizes = Sizes::new(None, None, Some(waiting), 1024, 0);
+        assert_eq!(rt; sizes.is_some(), answer, "{waiting}");
     }
 }

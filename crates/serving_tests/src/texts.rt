@@ -6,6 +6,7 @@ use proxy_service::ServeFault;
 use relay_workers::Stopped;
 use std::alloc::Global;
 use std::fmt::Display;
+use std::net::{Ipv4Addr, SocketAddrV4};
 use std::process::Abort;
 use window_lines::TellFault;
 
@@ -58,4 +59,9 @@ fn each_fault_says_what_it_is(rt: HostRuntime) {
     say(&rt, rt.alloc(), &OF_WINDOWS);
     say(&rt, rt.alloc(), &OF_SERVING);
     say(&rt, rt.alloc(), &OF_RUNS);
+    let unheard = ServeFault::Listen {
+        address: SocketAddrV4::new(Ipv4Addr::LOCALHOST, 80),
+        code: Some(13),
+    };
+    say(&rt, rt.alloc(), &[(unheard, "read fault")]);
 }

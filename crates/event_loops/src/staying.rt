@@ -1,0 +1,78 @@
+//! Clients that stay for another request on the same connection (`run --keep-alive`).
+
+use crate::guest::{Guest, Resident};
+use crate::hall::Hall;
+use crate::looping::Looper;
+use crate::serving::Then;
+use exchange_machine::Terms;
+use grant_board::BoardName;
+use loop_table::Hole;
+use relay_http::Persistence;
+use std::net::{Net, TcpListener, TcpStream};
+use std::sync::Wait;
+use std::time::Clock;
+
+impl<N: BoardName> Hall<'_, N> {
+    /// A server's connection is new for each exchange. A client may stay where that is asked for, as long as there is room for others.
+    pub(crate) fn terms(&self) -> Terms {
+        Terms {
+            asks: Persistence::Close,
+            willing: self.front.keeping.is_some() && self.has_room() && !self.is_stopping(),
+            fresh: true,
+        }
+    }
+}
+
+impl<
+    'a,
+    N: BoardName,
+    R: Net<Listener = TcpListener, Stream = TcpStream> + Clock + Print + Wait,
+> Looper<'a, N, R> {
+    /// A guest was told everything: it asks again where it may, and else is through.
+    pub(crate) fn end_or_ask_again(&mut self, guest: Guest<N>, hole: Hole) -> Then<N> {
+        let Guest { seated, visit } = guest;
+        match seated.ask_again(self.settings.alloc) {
+            Err(seated) => self.finish(Guest { seated, visit }, hole),
+            Ok(seated) => {
+                let is_over = self.hall.is_stopping() && seated.is_silent();
+                let visit = visit.renewed(self.settings.alloc);
+                let guest = Guest { seated, visit };
+                if is_over {
+                    self.finish(guest, hole)
+                } else {
+                    Then::Goes(guest, hole)
+                }
+            }
+        }
+    }
+
+    /// Clients that stay and ask for nothing are through.
+    pub(crate) fn dismiss_silent(&mut self) {
+        for index in 0..self.room {
+            self.dismiss_silent_at(index);
+        }
+    }
+
+    fn dismiss_silent_at(&mut self, index: usize) {
+        let Some(token) = self.guests.token_of(index) else {
+            return;
+        };
+        let is_silent = match self.guests.get(token) {
+            Some(resident) => resident.is_silent(),
+            None => false,
+        };
+        if !is_silent {
+            return;
+        }
+        let Some((resident, hole)) = self.guests.lend(token) else {
+            return;
+        };
+        match Box::into_inner(resident) {
+            Resident::Lingering(lingering) => self.listen(lingering, hole),
+            Resident::Guest(guest) => {
+                let then = self.finish(guest, hole);
+                self.go(then);
+            }
+        }
+    }
+}

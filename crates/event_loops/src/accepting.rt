@@ -22,22 +22,22 @@ impl<
     /// Takes clients that wait at the listener. Where something is short it stops, and is tried again soon.
     pub(crate) fn accept_some(&mut self) {
         for _ in 0..BURST {
-            if self.short || self.hall.is_deaf() || self.hall.front.clients.are_all_taken() {
+            if self.short || self.shared.is_deaf() || self.shared.front.clients.are_all_taken() {
                 self.more = false;
                 return;
             }
-            if !self.hall.has_room() || self.hall.is_crowded() || self.guests.is_full() {
+            if !self.shared.has_room() || self.shared.is_crowded() || self.guests.is_full() {
                 self.short = true;
                 self.more = false;
                 return;
             }
-            match self.hall.front.listener.accept() {
+            match self.shared.front.listener.accept() {
                 Ok((client, _)) => self.greet(client),
                 Err(error) => {
                     self.more = error.kind() == ErrorKind::Interrupted;
                     let nobody = error.kind() == ErrorKind::WouldBlock;
                     if nobody {
-                        self.hall.note_nobody_comes();
+                        self.shared.note_nobody_comes();
                     }
                     self.short = !self.more && !nobody;
                     return;
@@ -48,21 +48,22 @@ impl<
 
     // A client came: it is a guest from now on, and what it sent already is read.
     fn greet(&mut self, client: TcpStream) {
-        if !self.hall.front.clients.take() {
+        if !self.shared.front.clients.take() {
             return;
         }
-        self.hall.note_client();
+        let presence = self.shared.note_client();
         let _ = client.set_nodelay(true);
         if client.set_nonblocking(true).is_err() {
-            return self.hall.note_end(self.rt);
+            return self.shared.note_end(self.rt, presence);
         }
         let Some(hole) = self.guests.open() else {
-            return self.hall.note_end(self.rt);
+            return self.shared.note_end(self.rt, presence);
         };
         let alloc = self.settings.alloc;
+        let line = Line::new(alloc, Live::new(client));
         let guest = Guest {
             seated: Seated::new(alloc),
-            visit: Visit::new(alloc, Line::new(alloc, Live::new(client))),
+            visit: Visit::new(alloc, presence, line),
         };
         self.go(Then::Goes(guest, hole));
         self.go_on();

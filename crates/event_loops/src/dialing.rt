@@ -57,7 +57,7 @@ impl<
         ensures { IfSome result (λ begun. server_of (held_by seated.now.exchange) ≡ Some begun.server) }
     {
         let server = seated.server()?;
-        let address = self.hall.address_of(self.rt, server)?;
+        let address = self.shared.address_of(self.rt, server)?;
         let stream = Dialed::connect(self.rt, address).ok()?;
         Some(Begun { server, stream })
     }
@@ -74,7 +74,7 @@ impl<
             Some(live) => live.stream().peer_addr().is_ok(),
         };
         if is_there {
-            self.tell(guest, hole, Notice::Connected(self.hall.terms()))
+            self.tell(guest, hole, Notice::Connected(self.shared.terms()))
         } else if broken {
             self.tell_of_no_connection(guest, hole)
         } else {
@@ -85,7 +85,7 @@ impl<
     /// There is no connection to a guest's server, whose name is looked up once more.
     pub(crate) fn tell_of_no_connection(&mut self, guest: Guest<N>, hole: Hole) -> Then<N> {
         if let Some(number) = guest.seated.server() {
-            self.hall.front.addresses.look_again(self.rt, number);
+            self.shared.front.addresses.look_again(self.rt, number);
         }
         self.tell(guest, hole, Notice::Unreachable)
     }

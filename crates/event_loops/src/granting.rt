@@ -1,21 +1,21 @@
 //! From a pass that was found to its guest, and back to the dispatcher.
 
-use crate::guest::{Guest, Parked, Task, Visit};
-use crate::hall::Granted;
+ghost use Rattle.std.specs.Prelude.{◌≡◌, [], false};
+ghost use Rattle.loop_shared.specs.Looks.{OwesNoLook};
+
+use crate::guest::{Guest, Task, Visit};
 use crate::keeping::Soon;
 use crate::looping::Looper;
 use crate::serving::Then;
 use grant_board::BoardName;
+use loop_shared::{Granted, Looked, OwedLooks, Parked};
 use loop_table::Hole;
 use pass_seat::{Held, Idle};
-use place_set::PlaceSet;
 use seated_exchange::{Posting, Stage};
 use std::net::{Net, TcpListener, TcpStream};
 use std::sync::Wait;
 use std::time::Clock;
 use verdict::{Cause, Ending, Verdict};
-
-const PLACES: usize = 4096;
 
 impl<
     'a,
@@ -23,24 +23,36 @@ impl<
     R: Net<Listener = TcpListener, Stream = TcpStream> + Clock + Print + Wait,
 > Looper<'a, N, R> {
     /// Looks at each place of which the gate was told, and goes on with the guests that wait for their turn, until there are no more.
-    pub(crate) fn go_on(&mut self) {
+    pub(crate) fn go_on(&mut self)
+        ensures told { OwesNoLook self.new.gate.woken }
+        ensures soon { self.new.agenda.soon ≡ [] }
+    {
         for _ in self.rt.forever() {
-            let woken = self.gate.take_woken();
-            if let Some(first) = woken.next(0) {
-                self.look_at_all(&woken, first);
-                continue;
-            }
-            let Some(number) = self.agenda.take() else {
-                return;
-            };
-            if let Some(token) = self.guests.token_of(number) {
-                self.work(token);
+            let mut owed = OwedLooks::of(self.gate.take_woken());
+            match owed.next() {
+                Some(place) => {
+                    self.look_at(place);
+                    self.look_at_all(owed);
+                }
+                None => {
+                    owed.end();
+                    let Some(number) = self.agenda.take() else {
+                        return;
+                    };
+                    if let Some(token) = self.guests.token_of(number) {
+                        self.work(token);
+                    }
+                }
             }
         }
     }
 
     /// The same; and places that came free meanwhile go to those who wait for one.
-    pub(crate) fn go_on_with_places(&mut self) {
+    pub(crate) fn go_on_with_places(&mut self)
+        ensures told { OwesNoLook self.new.gate.woken }
+        ensures soon { self.new.agenda.soon ≡ [] }
+        ensures freed { self.new.freed ≡ false }
+    {
         for _ in self.rt.forever() {
             self.go_on();
             if !self.freed {
@@ -51,18 +63,31 @@ impl<
         }
     }
 
-    // From the first of these places on.
-    fn look_at_all(&mut self, woken: &PlaceSet, first: usize) {
-        let mut next = Some(first);
-        for _ in 0..PLACES {
-            let Some(place) = next else {
-                return;
-            };
-            match self.hall.look(self.rt, place) {
-                Some(granted) => self.take_in(granted),
-                None => self.watch_place(place),
+    fn look_at_all(&mut self, owed: OwedLooks) {
+        let mut owed = owed;
+        for _ in self.rt.forever() {
+            match owed.next() {
+                Some(place) => self.look_at(place),
+                None => return owed.end(),
             }
-            next = woken.next(place.saturating_add(1));
+        }
+        unreachable!()
+    }
+
+    fn look_at(&mut self, place: usize) {
+        let looked = self.shared.look_at(self.rt, &self.registry, place);
+        self.follow(looked, place);
+    }
+
+    /// Goes on by what became of a look at a place.
+    pub(crate) fn follow(&mut self, looked: Looked<N>, place: usize) {
+        match looked {
+            Looked::Granted(granted) => self.take_in(granted),
+            Looked::Waits | Looked::Nobody => {}
+            Looked::Unwatched(ticket) => {
+                self.shared.proxy.give_up(self.rt, &mut self.gate, ticket);
+            }
+            Looked::NoSeat => self.shared.look_again(self.rt, self.home, place),
         }
     }
 
@@ -75,9 +100,9 @@ impl<
             }
             None => {
                 // No more guests have room than the descriptors that there are.
-                let Granted { held, parked: _ } = granted;
+                let Granted { held, parked } = granted;
                 self.give_back(held);
-                self.hall.note_end(self.rt);
+                self.shared.note_end(self.rt, parked.leave());
             }
         }
     }
@@ -86,6 +111,7 @@ impl<
     pub(crate) fn welcome(&mut self, granted: Granted<N>, hole: Hole) -> Then<N> {
         let Granted { held, parked } = granted;
         let Parked {
+            presence,
             queued,
             client,
             at,
@@ -94,7 +120,7 @@ impl<
             came,
             late,
         } = parked;
-        let mut visit = Visit::new(self.settings.alloc, client);
+        let mut visit = Visit::new(self.settings.alloc, presence, client);
         match held.verdict() {
             Verdict::Serve(number) => {
                 visit.at = Some(at);
@@ -151,21 +177,21 @@ impl<
     /// Says how an exchange ended, and takes it back at its own place.
     pub(crate) fn post(&mut self, posting: Posting<N>) {
         let place = posting.place();
-        let idle = posting.post(self.hall.proxy.desk.board());
-        self.sit_down(idle, place);
+        let idle = posting.post(self.shared.proxy.desk.board());
+        self.return_seat(idle, place);
     }
 
     // The same of one that no exchange had.
     fn give_back(&mut self, held: Held<N>) {
         let place = held.place();
-        let idle = held.post(self.hall.proxy.desk.board(), Ending::Done);
-        self.sit_down(idle, place);
+        let idle = held.post(self.shared.proxy.desk.board(), Ending::Done);
+        self.return_seat(idle, place);
     }
 
-    fn sit_down(&mut self, idle: Idle<N>, place: usize) {
-        self.hall.sit_down(self.rt, idle);
-        if self.hall.has(place) {
-            self.hall.proxy.collect(self.rt, &mut self.gate, place);
+    fn return_seat(&mut self, idle: Idle<N>, place: usize) {
+        self.shared.return_seat(self.rt, idle);
+        if self.shared.has(place) {
+            self.shared.proxy.collect(self.rt, &mut self.gate, place);
             self.freed = true;
         }
     }

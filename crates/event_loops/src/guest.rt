@@ -1,13 +1,15 @@
 //! Clients by how far they are.
 //!
-//! A `Guest` is one from its first byte to its last, but while its request waits: then it is `Parked`. One whose exchange is over lingers, until it closes its side.
+//! A `Guest` is one from its first byte to its last, but while its request waits: then it is `Parked` at its place, or an `Outsider`. One whose exchange is over
+//! lingers, until it closes its side.
 
 use crate::resetting::reset;
 use dispatch_trace::Ticketed;
 use due_key::Moment;
 use exchange_driver::{Line, Live};
 use grant_board::BoardName;
-use seated_exchange::{Queued, Seated};
+use loop_shared::Presence;
+use seated_exchange::Seated;
 use std::alloc::Global;
 use std::os::fd::AsRawFd;
 
@@ -28,9 +30,9 @@ pub(crate) enum Keyword {
     Turnaround,
 }
 
-/// What a loop has of a client beside its exchange.
-#[derive(Drop)]
+/// What a loop has of a client beside its exchange. It has no `Drop`, as its presence has none.
 pub(crate) struct Visit {
+    pub(crate) presence: Presence,
     pub(crate) client: Line<Live>,
     pub(crate) server: Line<Live>,
     /// Its place and its ticket, once it has them.
@@ -87,22 +89,6 @@ pub(crate) struct Guest<N: BoardName> {
     pub(crate) visit: Visit,
 }
 
-/// A client whose request waits for its pass.
-#[derive(Drop)]
-pub struct Parked {
-    pub(crate) queued: Queued,
-    pub(crate) client: Line<Live>,
-    pub(crate) at: Ticketed,
-    /// The server that was last tried for it in vain.
-    pub(crate) failed: Option<usize>,
-    /// Some loop's poll tells of its client.
-    pub(crate) watched: bool,
-    /// When it began to wait for its place, where it had to.
-    pub(crate) came: Option<Moment>,
-    /// It is given up, and its client is told so.
-    pub(crate) late: bool,
-}
-
 /// A client that was told everything: what it still sends is thrown away.
 #[derive(Drop)]
 pub(crate) struct Lingering {
@@ -154,19 +140,35 @@ impl Visit {
 
     /// Its client asks for more.
     pub(crate) fn renewed(self, alloc: Global) -> Visit {
-        let Visit {
-            client,
-            client_watch,
-            timer,
-            ended,
-            ..
-        } = self;
-        let mut visit = Visit::new(alloc, client);
+        let (client_watch, timer, ended) = (self.client_watch, self.timer, self.ended);
+        let (presence, client) = self.into_client();
+        let mut visit = Visit::new(alloc, presence, client);
         visit.client_watch = client_watch;
         visit.timer = timer;
         visit.ended = ended;
         visit.stayed = true;
         visit
+    }
+
+    /// What goes on when its request begins to wait: that its client is here, and its client.
+    pub(crate) fn into_client(self) -> (Presence, Line<Live>) {
+        let Visit {
+            presence,
+            client,
+            server: _,
+            at: _,
+            tried: _,
+            came: _,
+            ended: _,
+            stayed: _,
+            pauses: _,
+            redials: _,
+            task: _,
+            client_watch: _,
+            server_watch: _,
+            timer: _,
+        } = self;
+        (presence, client)
     }
 
     /// Its server's connection is given up amid a message.
@@ -176,8 +178,9 @@ impl Visit {
         }
     }
 
-    pub(crate) fn new(alloc: Global, client: Line<Live>) -> Visit {
+    pub(crate) fn new(alloc: Global, presence: Presence, client: Line<Live>) -> Visit {
         Visit {
+            presence,
             client,
             server: Line::without_socket(alloc),
             at: None,
@@ -191,31 +194,6 @@ impl Visit {
             client_watch: Watch::Nothing,
             server_watch: Watch::Nothing,
             timer: None,
-        }
-    }
-}
-
-/// Whose requests are given up, and told that they aren't served.
-#[derive(Drop)]
-pub(crate) enum Hopeless {
-    /// All.
-    All,
-    /// Those that waited for their place, and for so many milliseconds since they came, at this moment.
-    Late { now: Moment, millis: u64 },
-}
-
-impl Parked {
-    /// Whether its request is one of those, and isn't given up yet.
-    pub(crate) fn is_hopeless(&self, hopeless: &Hopeless) -> bool {
-        if self.late {
-            return false;
-        }
-        match (hopeless, &self.came) {
-            (Hopeless::All, _) => true,
-            (Hopeless::Late { .. }, None) => false,
-            (Hopeless::Late { now, millis }, Some(came)) => {
-                *millis <= now.get().saturating_sub(came.get())
-            }
         }
     }
 }

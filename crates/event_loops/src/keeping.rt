@@ -3,9 +3,9 @@
 use crate::guest::{Guest, Keyword, Resident, Visit, Watch};
 use crate::looping::Looper;
 use crate::serving::Then;
-use crate::watching::{watch, watch_anew};
 use exchange_driver::{Line, Live};
 use grant_board::BoardName;
+use loop_shared::{watch, watch_anew};
 use loop_table::{Hole, Subject, Token};
 use mio::Interest;
 use seated_exchange::Stage;
@@ -122,11 +122,12 @@ impl<
     fn dismiss(&mut self, guest: Guest<N>) {
         let Guest { seated, visit } = guest;
         visit.break_off();
+        let (presence, _client) = visit.into_client();
         match seated.abandon() {
             Some(posting) => self.post(posting),
             None => {}
         }
-        self.hall.note_end(self.rt);
+        self.shared.note_end(self.rt, presence);
     }
 
     /// A slot is free again, and no time runs for it.

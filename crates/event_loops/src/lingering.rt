@@ -4,9 +4,9 @@
 use crate::guest::{Guest, Keyword, Lingering, Resident};
 use crate::looping::Looper;
 use crate::serving::Then;
-use crate::watching::watch;
 use exchange_driver::{Heard, Live, Socket};
 use grant_board::BoardName;
+use loop_shared::watch;
 use loop_table::{Hole, Subject};
 use mio::Interest;
 use relay_workers::Gate;
@@ -38,8 +38,9 @@ impl<
             Some(posting) => self.post(posting),
             None => {}
         }
-        self.hall.note_end(self.rt);
-        match visit.client.into_socket() {
+        let (presence, client) = visit.into_client();
+        self.shared.note_end(self.rt, presence);
+        match client.into_socket() {
             Some(client) if client.stream().shutdown(Shutdown::Write).is_ok() => {
                 self.lingering = self.lingering.saturating_add(1);
                 self.begin_time(Some(Keyword::Linger), key);

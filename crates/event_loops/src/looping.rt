@@ -1,12 +1,13 @@
-ghost use Rattle.std.specs.Prelude.{◌<◌, vec_len};
+ghost use Rattle.std.specs.Prelude.{◌≡◌, ◌<◌, [], false, vec_len};
+ghost use Rattle.loop_shared.specs.Looks.{OwesNoLook};
 
-use crate::guest::Resident;
-use crate::hall::Hall;
+use crate::guest::{Guest, Resident};
 use crate::serving::Told;
 use crate::timing::Keywords;
 use due_key::Moment;
 use exchange_driver::Settings;
 use grant_board::BoardName;
+use loop_shared::Shared;
 use loop_table::{Agenda, Limits, Slots, Subject};
 use mio::{Events, Poll, Registry};
 use relay_workers::Gate;
@@ -23,7 +24,7 @@ const BATCHES: u32 = 64;
 /// One loop: a thread's guests, and what it works with.
 pub(crate) struct Looper<'a, N: BoardName, R> {
     pub(crate) rt: &'a R,
-    pub(crate) hall: &'a Hall<'a, N>,
+    pub(crate) shared: &'a Shared<'a, N>,
     /// The number of its mailbox.
     pub(crate) home: usize,
     pub(crate) registry: Registry,
@@ -63,7 +64,7 @@ impl<
         looper.go_round(poll);
         let Looper {
             rt,
-            hall,
+            shared,
             home: _,
             registry: _,
             gate: _,
@@ -85,7 +86,7 @@ impl<
         while let Some(resident) = residents.pop() {
             match resident {
                 None => {}
-                Some(resident) => hall.part_with(rt, Box::into_inner(resident)),
+                Some(resident) => part_with(rt, shared, Box::into_inner(resident)),
             }
         }
         residents.destroy_empty();
@@ -93,24 +94,16 @@ impl<
 
     fn go_round(&mut self, poll: Poll) {
         let mut poll = poll;
-        let Ok(mut events) = Events::with_capacity(self.hall.proxy.alloc, EVENTS) else {
-            return self.hall.give_up(self.rt);
+        let Ok(mut events) = Events::with_capacity(self.shared.proxy.alloc, EVENTS) else {
+            return self.shared.give_up(self.rt);
         };
         let mut batches = 0;
+        self.go_on_with_places();
         for _ in self.rt.forever() {
-            if self.hall.is_over() {
+            if self.shared.is_over() {
                 return;
             }
-            let wait = if batches == 0 {
-                self.patience()
-            } else {
-                Some(0)
-            };
-            let _ = poll.poll(&mut events, wait.map(Duration::from_millis));
-            if events.iter().count() == 0 {
-                // A wait that a signal ended tells of nothing, whatever there is: no time is over before that was looked at.
-                let _ = poll.poll(&mut events, Some(Duration::from_millis(0)));
-            }
+            self.sleep(&mut poll, &mut events, batches != 0);
             let now = self.gate.moment();
             self.limits.look_at_clock(now);
             let is_full = EVENTS <= events.iter().count();
@@ -124,6 +117,20 @@ impl<
                 self.look_at_limits();
             }
             self.go_on_with_places();
+        }
+    }
+
+    // Waits until the poll has something to tell or a time is over, unless more is known to be there. No look is owed then, and nobody waits for his turn.
+    fn sleep(&mut self, poll: &mut Poll, events: &mut Events, is_more: bool)
+        requires told { OwesNoLook self.old.gate.woken }
+        requires soon { self.old.agenda.soon ≡ [] }
+        requires freed { self.old.freed ≡ false }
+    {
+        let wait = if is_more { Some(0) } else { self.patience() };
+        let _ = poll.poll(events, wait.map(Duration::from_millis));
+        if events.iter().count() == 0 {
+            // A wait that a signal ended tells of nothing, whatever there is: no time is over before that was looked at.
+            let _ = poll.poll(events, Some(Duration::from_millis(0)));
         }
     }
 
@@ -161,16 +168,30 @@ impl<
 
     // What others were told of places.
     fn open_mail(&mut self) {
-        if let Some(mail) = self.hall.mail.as_slice().get(self.home) {
-            let places = mail.take_all(self.rt);
-            self.gate.wake(&places);
-        }
-        if self.hall.is_stopping() {
+        let places = self.shared.take_mail(self.rt, self.home);
+        self.gate.wake(&places);
+        if self.shared.is_stopping() {
             self.more = true;
             self.dismiss_silent();
         }
-        if self.home == 0 && self.hall.is_refusing() {
+        if self.home == 0 && self.shared.is_refusing() {
             self.refuse_waiting();
+        }
+    }
+}
+
+// A guest is over with all the others: its pass is posted, and its seat comes back.
+fn part_with<R: Wait, N: BoardName>(rt: &R, shared: &Shared<'_, N>, resident: Resident<N>) {
+    match resident {
+        Resident::Lingering(_lingering) => {}
+        Resident::Guest(guest) => {
+            let Guest { seated, visit } = guest;
+            let (presence, _client) = visit.into_client();
+            match seated.abandon() {
+                None => {}
+                Some(posting) => shared.return_seat(rt, posting.post(shared.proxy.desk.board())),
+            }
+            shared.note_end(rt, presence);
         }
     }
 }

@@ -1,21 +1,18 @@
 //! From a request to a place, and requests that wait there for their pass.
 
-use crate::guest::{Guest, Parked, Task, Visit};
+use crate::guest::{Guest, Task, Visit};
 use crate::keeping::Soon;
 use crate::looping::Looper;
-use crate::outside::Outsider;
 use crate::serving::Then;
-use crate::watching::watch;
 use dispatch_log::Refusal;
 use dispatch_trace::Ticketed;
 use grant_board::BoardName;
-use loop_table::{Hole, Subject};
-use mio::Interest;
+use loop_shared::{Looked, Outsider, Parked};
+use loop_table::Hole;
 use prio_rules::{Wish, decide};
 use relay_workers::{Gate, arrive_as};
 use seated_exchange::{Posting, Queued};
 use std::net::{Net, TcpListener, TcpStream};
-use std::os::fd::AsRawFd;
 use std::sync::Wait;
 use std::time::Clock;
 
@@ -34,14 +31,14 @@ impl<
     }
 
     fn enter(&mut self, queued: Queued, visit: Visit, hole: Hole) -> Then<N> {
-        if self.hall.is_refusing() {
+        if self.shared.is_refusing() {
             return turn_away(queued, visit, hole);
         }
-        let wish = decide(&self.hall.proxy.config, queued.view());
-        if self.hall.has_outside() {
+        let wish = decide(&self.shared.proxy.config, queued.view());
+        if self.shared.has_outside() {
             return self.go_outside(queued, visit, &wish, hole);
         }
-        match arrive_as(self.rt, self.hall.proxy, &mut self.gate, &wish) {
+        match arrive_as(self.rt, self.shared.proxy, &mut self.gate, &wish) {
             Ok(at) => self.park(queued, visit, at, hole),
             Err(Refusal::PlacesFull) => self.go_outside(queued, visit, &wish, hole),
             Err(_) => turn_away(queued, visit, hole),
@@ -51,19 +48,30 @@ impl<
     // It waits for a place.
     fn go_outside(&mut self, queued: Queued, visit: Visit, wish: &Wish, hole: Hole) -> Then<N> {
         self.untime(visit.timer, hole.token().index());
-        let Visit { client, .. } = visit;
+        let (presence, client) = visit.into_client();
         let mut client = client;
         client.rest();
-        let now = self.gate.moment();
-        let came = self.wait_outside(wish, &now, queued, client);
-        match came {
+        let outsider = Outsider {
+            presence,
+            queued,
+            client,
+            came: self.gate.moment(),
+            pin: wish.pin,
+        };
+        match self.wait_outside(wish, outsider) {
             Ok(()) => {
                 self.guests.close(hole);
                 Then::Rests
             }
             Err(outsider) => {
-                let Outsider { queued, client, .. } = outsider;
-                let visit = Visit::new(self.settings.alloc, client);
+                let Outsider {
+                    presence,
+                    queued,
+                    client,
+                    came: _,
+                    pin: _,
+                } = outsider;
+                let visit = Visit::new(self.settings.alloc, presence, client);
                 turn_away(queued, visit, hole)
             }
         }
@@ -72,12 +80,13 @@ impl<
     // It lies down in its place, which is looked at afterwards.
     fn park(&mut self, queued: Queued, visit: Visit, at: Ticketed, hole: Hole) -> Then<N> {
         self.untime(visit.timer, hole.token().index());
-        let Visit { client, .. } = visit;
+        let (presence, client) = visit.into_client();
         let mut client = client;
         client.rest();
-        self.hall.lie_down(
+        self.shared.park(
             self.rt,
             Parked {
+                presence,
                 queued,
                 client,
                 at,
@@ -87,11 +96,12 @@ impl<
                 late: false,
             },
         );
-        match self.hall.look(self.rt, at.place) {
-            Some(granted) => self.welcome(granted, hole),
-            None => {
+        match self.shared.look_at(self.rt, &self.registry, at.place) {
+            Looked::Granted(granted) => self.welcome(granted, hole),
+            looked => {
                 self.guests.close(hole);
-                self.watch_waiting(at);
+                self.shared.note_wait();
+                self.follow(looked, at.place);
                 Then::Rests
             }
         }
@@ -106,20 +116,16 @@ impl<
         hole: Hole,
     ) -> Then<N> {
         self.close_slot(hole, visit.timer);
-        let Visit {
-            client,
-            at,
-            tried,
-            came,
-            ..
-        } = visit;
+        let (at, tried, came) = (visit.at, visit.tried, visit.came);
+        let (presence, client) = visit.into_client();
         let place = posting.place();
         match at {
-            None => self.hall.note_end(self.rt),
+            None => self.shared.note_end(self.rt, presence),
             Some(at) => {
-                self.hall.lie_down(
+                self.shared.park(
                     self.rt,
                     Parked {
+                        presence,
                         queued,
                         client,
                         at,
@@ -129,7 +135,7 @@ impl<
                         late: false,
                     },
                 );
-                self.watch_waiting(at);
+                self.shared.note_wait();
             }
         }
         self.post(posting);
@@ -138,36 +144,10 @@ impl<
         Then::Rests
     }
 
-    // The request with this ticket waits at its place. Another loop may serve it meanwhile; then nothing is watched.
-    fn watch_waiting(&mut self, at: Ticketed) {
-        self.hall.note_wait();
-        self.watch_place(at.place);
-    }
-
-    /// A client that waits is watched for its leaving alone, by one loop.
-    pub(crate) fn watch_place(&mut self, place: usize) {
-        let Some(spot) = self.hall.spots.as_slice().get(place) else {
-            return;
-        };
-        let mut spot = spot.lock(self.rt);
-        if let Some(parked) = &mut *spot {
-            if !parked.watched {
-                if let Some(live) = parked.client.socket() {
-                    let subject = Subject::Waiting {
-                        place,
-                        ticket: parked.at.ticket,
-                    };
-                    let connection = live.stream().as_raw_fd();
-                    parked.watched = watch(&self.registry, connection, subject, Interest::READABLE);
-                }
-            }
-        }
-    }
-
     /// The poll told of a client that waited. Where it left, its request is given up.
     pub(crate) fn hear_waiting(&mut self, place: usize, ticket: u64) {
-        if self.hall.lies_left(self.rt, place, ticket) {
-            self.hall.proxy.give_up(self.rt, &mut self.gate, ticket);
+        if self.shared.lies_left(self.rt, place, ticket) {
+            self.shared.proxy.give_up(self.rt, &mut self.gate, ticket);
             self.go_on();
         }
     }

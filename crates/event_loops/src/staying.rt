@@ -1,27 +1,13 @@
 //! Clients that stay for another request on the same connection (`run --keep-alive`).
 
 use crate::guest::{Guest, Resident};
-use crate::hall::Hall;
 use crate::looping::Looper;
 use crate::serving::Then;
-use exchange_machine::Terms;
 use grant_board::BoardName;
 use loop_table::Hole;
-use relay_http::Persistence;
 use std::net::{Net, TcpListener, TcpStream};
 use std::sync::Wait;
 use std::time::Clock;
-
-impl<N: BoardName> Hall<'_, N> {
-    /// A server's connection is new for each exchange. A client may stay where that is asked for, as long as there is room for others.
-    pub(crate) fn terms(&self) -> Terms {
-        Terms {
-            asks: Persistence::Close,
-            willing: self.front.keeping.is_some() && self.has_room() && !self.is_stopping(),
-            fresh: true,
-        }
-    }
-}
 
 impl<
     'a,
@@ -34,7 +20,7 @@ impl<
         match seated.ask_again(self.settings.alloc) {
             Err(seated) => self.finish(Guest { seated, visit }, hole),
             Ok(seated) => {
-                let is_over = self.hall.is_stopping() && seated.is_silent();
+                let is_over = self.shared.is_stopping() && seated.is_silent();
                 let visit = visit.renewed(self.settings.alloc);
                 let guest = Guest { seated, visit };
                 if is_over {

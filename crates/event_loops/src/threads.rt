@@ -1,18 +1,15 @@
 //! The threads: loops, and one that has servers checked.
 
-use crate::checks::Ringing;
-use crate::hall::Hall;
 use crate::looping::Looper;
-use crate::steering::run_controls;
 use crate::timing::Keywords;
 use due_key::Moment;
 use exchange_driver::Settings;
 use grant_board::BoardName;
+use loop_shared::{Shared, run_checks, run_controls};
 use loop_table::{Agenda, Limits, Slots};
 use mio::Poll;
 use mixed_exchange::Rules;
-use relay_workers::checker;
-use socket_gate::{Pauses, SocketGate};
+use socket_gate::SocketGate;
 use std::alloc::{AllocError, Global};
 use std::net::{Net, TcpListener, TcpStream};
 use std::sync::Wait;
@@ -20,11 +17,6 @@ use std::sync::atomic::{AtomicBool, Ordering};
 use std::thread;
 use std::thread::{Scope, Threads};
 use std::time::Clock;
-
-/// The thread that has servers checked looks whether a check is due whenever so many milliseconds have passed, as long as the proxy runs.
-const CHECK_PAUSE: u64 = 10;
-
-const CHECK_PAUSES: u64 = 1 << 62;
 
 /// So many bytes are read at once, at most.
 const BUFFER: usize = 16_384;
@@ -65,19 +57,19 @@ pub fn run_all<
     thread::scope(thread::scope_env(), rt, move |scope| {
         let mut loops = loops;
         let mut checking = None;
-        if shared.hall().has_checks() {
+        if shared.lend().has_checks() {
             checking = scope
-                .spawn(move || run_checks(rt, shared.hall(), told))
+                .spawn(move || run_checks(rt, shared.lend(), told))
                 .ok();
             if checking.is_none() {
-                shared.hall().give_up(rt);
+                shared.lend().give_up(rt);
             }
         }
         let mut steering = None;
-        if shared.hall().has_controls() {
-            steering = scope.spawn(move || run_controls(rt, shared.hall())).ok();
+        if shared.lend().has_controls() {
+            steering = scope.spawn(move || run_controls(rt, shared.lend())).ok();
             if steering.is_none() {
-                shared.hall().give_up(rt);
+                shared.lend().give_up(rt);
             }
         }
         begin_loops(scope, rt, shared, &mut loops);
@@ -100,11 +92,11 @@ fn begin_loops<
     S: Lends<N> + Sync + 's,
 >(scope: &Scope<'s, E>, rt: &'s R, shared: &'s S, loops: &mut Vec<Unbegun>) {
     let Some(next) = loops.pop() else {
-        return shared.hall().wait_for_end(rt);
+        return shared.lend().wait_for_end(rt);
     };
-    let started = scope.spawn(move || run_loop(rt, shared.hall(), next)).ok();
+    let started = scope.spawn(move || run_loop(rt, shared.lend(), next)).ok();
     if started.is_none() {
-        shared.hall().give_up(rt);
+        shared.lend().give_up(rt);
     }
     begin_loops(scope, rt, shared, loops);
     if let Some(handle) = started {
@@ -112,28 +104,16 @@ fn begin_loops<
     }
 }
 
-fn run_checks<
-    R: Net<Listener = TcpListener, Stream = TcpStream> + Clock + Print + Wait,
-    N: BoardName,
->(rt: &R, hall: &Hall<'_, N>, stop: &AtomicBool) {
-    let Ok(gate) = SocketGate::new(hall.proxy.alloc, rt, hall.front) else {
-        return hall.give_up(rt);
-    };
-    let mut gate = Ringing { rt, hall, gate };
-    let mut pauses = Pauses::new(rt, CHECK_PAUSE, CHECK_PAUSES);
-    checker(rt, hall.proxy, &mut gate, &mut pauses, stop);
-}
-
 fn run_loop<
     R: Net<Listener = TcpListener, Stream = TcpStream> + Clock + Print + Wait,
     N: BoardName,
->(rt: &R, hall: &Hall<'_, N>, unbegun: Unbegun) {
+>(rt: &R, shared: &Shared<'_, N>, unbegun: Unbegun) {
     let Unbegun { poll, home } = unbegun;
-    match looper(rt, hall, &poll, home) {
-        Err(_) => hall.give_up(rt),
+    match looper(rt, shared, &poll, home) {
+        Err(_) => shared.give_up(rt),
         Ok(looper) => {
             looper.run(poll);
-            hall.close(rt);
+            shared.close(rt);
         }
     }
 }
@@ -145,35 +125,35 @@ fn looper<
     N: BoardName,
 >(
     rt: &'a R,
-    hall: &'a Hall<'a, N>,
+    shared: &'a Shared<'a, N>,
     poll: &Poll,
     home: usize,
 ) -> Result<Looper<'a, N, R>, AllocError> {
-    let alloc = hall.proxy.alloc;
+    let alloc = shared.proxy.alloc;
     let Ok(registry) = poll.registry().try_clone() else {
         return Err(AllocError);
     };
-    let loops = hall.mail.len().max(1) as u64;
-    let most_lingering = (hall.most.lingering / loops).min(MOST_LINGERING);
-    let room = (hall.most.clients.min(MOST_GUESTS) + most_lingering) as usize;
+    let loops = shared.loops().max(1) as u64;
+    let most_lingering = (shared.most.lingering / loops).min(MOST_LINGERING);
+    let room = (shared.most.clients.min(MOST_GUESTS) + most_lingering) as usize;
     let mut limits = Limits::new(alloc);
     let keywords = Keywords::of(
         alloc,
-        &hall.proxy.config,
-        hall.front.keeping,
+        &shared.proxy.config,
+        shared.front.keeping,
         &mut limits,
         room,
     )?;
     let rules = Rules {
-        aborts: hall.proxy.config.abortonclose,
+        aborts: shared.proxy.config.abortonclose,
     };
     let buffer = vec![in alloc; 0u8; BUFFER]?;
-    let gate = SocketGate::new(alloc, rt, hall.front)?;
+    let gate = SocketGate::new(alloc, rt, shared.front)?;
     let agenda = Agenda::with_room(alloc, room)?;
     let guests = Slots::with_room(alloc, room)?;
     Ok(Looper {
         rt,
-        hall,
+        shared,
         home,
         registry,
         gate,
@@ -197,13 +177,13 @@ fn looper<
     })
 }
 
-/// What lends the hall to threads. Of a type parameter it is known by a bound alone that it may be shared, so that it is shown of `Hall` once.
+/// What lends threads what they share. Of a type parameter it is known by a bound alone that it may be shared, so that it is shown of `Shared` once.
 pub trait Lends<N: BoardName> {
-    fn hall(&self) -> &Hall<'_, N>;
+    fn lend(&self) -> &Shared<'_, N>;
 }
 
-impl<N: BoardName> Lends<N> for Hall<'_, N> {
-    fn hall(&self) -> &Hall<'_, N> {
+impl<N: BoardName> Lends<N> for Shared<'_, N> {
+    fn lend(&self) -> &Shared<'_, N> {
         self
     }
 }

@@ -1,11 +1,12 @@
 //! The times of a loop.
 
-use crate::guest::{Guest, Hopeless, Keyword, Resident, Visit};
+use crate::guest::{Guest, Keyword, Resident, Visit};
 use crate::keeping::Soon;
 use crate::looping::Looper;
 use crate::serving::Then;
 use exchange_driver::Moved;
 use grant_board::BoardName;
+use loop_shared::Hopeless;
 use loop_table::{Hole, Limits, Overdue};
 use mixed_exchange::Clock as Limit;
 use proxy_config::Config;
@@ -150,8 +151,8 @@ impl<
         if self.short {
             least = Some(least.unwrap_or(SOON).min(SOON));
         }
-        if self.home == 0 && self.hall.has_waits() {
-            if let Some(millis) = self.hall.proxy.config.queue_timeout {
+        if self.home == 0 && self.shared.has_waits() {
+            if let Some(millis) = self.shared.proxy.config.queue_timeout {
                 let wait = (millis / 16).clamp(1, SELDOM);
                 least = Some(least.unwrap_or(wait).min(wait));
             }
@@ -175,7 +176,7 @@ impl<
             self.short = false;
             self.more = true;
         }
-        if self.home == 0 && self.hall.has_waits() {
+        if self.home == 0 && self.shared.has_waits() {
             self.look_at_queues();
         }
     }
@@ -183,26 +184,26 @@ impl<
     // Requests that waited too long for a pass are told so.
     fn look_at_queues(&mut self) {
         let now = self.gate.moment();
-        if self.hall.proxy.desk.expired(self.rt, now) {
-            self.hall.proxy.turn(self.rt, &mut self.gate);
+        if self.shared.proxy.desk.expired(self.rt, now) {
+            self.shared.proxy.turn(self.rt, &mut self.gate);
             self.go_on();
         }
-        if let Some(millis) = self.hall.proxy.config.queue_timeout {
+        if let Some(millis) = self.shared.proxy.config.queue_timeout {
             self.refuse_late(&now);
             // Of those who waited for their place the time counts from their coming on, which the dispatcher doesn't know.
             self.give_up(&Hopeless::Late { now, millis });
         }
-        self.hall.look_for_waits(self.rt);
+        self.shared.look_for_waits(self.rt);
     }
 
     // Requests that wait at their places are given up.
     fn give_up(&mut self, hopeless: &Hopeless) {
         let mut from = 0;
         for _ in self.rt.forever() {
-            let Some((place, ticket)) = self.hall.find_hopeless(self.rt, from, hopeless) else {
+            let Some((place, ticket)) = self.shared.find_hopeless(self.rt, from, hopeless) else {
                 break;
             };
-            self.hall.proxy.give_up(self.rt, &mut self.gate, ticket);
+            self.shared.proxy.give_up(self.rt, &mut self.gate, ticket);
             from = place.saturating_add(1);
         }
         self.go_on();

@@ -1,1 +1,2 @@
+mod Connecting
 mod Meaning

@@ -1,6 +1,7 @@
-//! What a pass means between any two calls, of however many threads: the log and the board together.
+//! What a pass means between any two calls, of however many threads: the log and the board together; and what a connection means.
 #![tactic(auto)]
 
+ghost use Rattle.pass_laws.specs.Connections.{ConnectionsAreTrue};
 ghost use Rattle.pass_laws.specs.Passes.{PassesAreTrue, PassesKeepBounds};
 
 /// The law of passes: where a board keeps its rule, and the log beside it is that of its keeper's book, each pass that
@@ -9,4 +10,10 @@ ghost use Rattle.pass_laws.specs.Passes.{PassesAreTrue, PassesKeepBounds};
 pub fn passes_are_true()
     ensures passes { PassesAreTrue }
     ensures bounds { PassesKeepBounds }
+{}
+
+/// The law of connections: an exchange that is connected to a server holds a pass by which the log gave a slot of that server to a request that isn't over,
+/// between any two calls, and whichever thread drives it.
+pub fn connections_are_true()
+    ensures { ConnectionsAreTrue }
 {}

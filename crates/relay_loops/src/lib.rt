@@ -1,7 +1,7 @@
 //! A proxy on event loops: what is made before its threads, the seats that they are lent, and what is left when they have ended.
 #![tactic(auto)]
 
-mod rooms;
+mod parts;
 mod serving;
 
 pub use serving::{Sizes, serve};

@@ -2,9 +2,10 @@
 
 ghost use Rattle.std.specs.Prelude.{◌≡◌, ◌≤◌, ◌+◌, true, [], IfOk};
 
-use crate::rooms::rooms_of;
-use event_loops::{Hall, run_all};
+use crate::parts::parts_of;
+use event_loops::run_all;
 use grant_board::{BoardName, RelaySeat};
+use loop_shared::Shared;
 use relay_workers::{Proxy, Stopped, join_all, split_off};
 use socket_gate::Front;
 use std::net::{Net, TcpListener, TcpStream};
@@ -57,12 +58,12 @@ pub fn serve<
         return (first, Err(Stopped::NoMemory));
     }
     let lent = seats.len();
-    let (seats, served) = match rooms_of(rt, proxy, front, sizes) {
+    let (seats, served) = match parts_of(rt, proxy, front, sizes) {
         Err(_) => (seats, Err(Stopped::NoMemory)),
-        Ok((rooms, loops)) => {
-            let hall = Hall::new(proxy, front, seats, rooms);
-            run_all(rt, &hall, loops);
-            hall.end()
+        Ok((parts, loops)) => {
+            let shared = Shared::new(proxy, front, seats, parts);
+            run_all(rt, &shared, loops);
+            shared.end()
         }
     };
     let all_back = seats.len() == lent;

@@ -1,4 +1,5 @@
-ghost use Rattle.std.specs.Prelude.{◌≡◌, ◌≤◌, IfOk, length};
+ghost use Rattle.std.specs.Prelude.{◌≡◌, ◌≤◌, ℕ, ⊥, IfOk, length};
+ghost use Rattle.place_set.specs.Sets.{Has};
 ghost use Rattle.relay_http.specs.States.{Serves};
 ghost use Rattle.relay_workers.specs.Windows.{HasEnded};
 
@@ -70,7 +71,8 @@ impl<'a, R: Net<Listener = TcpListener, Stream = TcpStream> + Clock> SocketGate<
 
     /// The places of which it was told since it was last asked.
     pub fn take_woken(&mut self) -> PlaceSet
-        ensures { result ≡ self.old.woken }
+        ensures taken { result ≡ self.old.woken }
+        ensures none { (place : ℕ) → Has self.new.woken place → ⊥ }
     {
         mem::replace(&mut self.woken, PlaceSet::new())
     }

@@ -6,7 +6,7 @@ use mio::{Interest, Registry, Token};
 use std::os::fd::RawFd;
 
 /// Has a poll tell of a stream. False where the system refuses it, or there is no number for it.
-pub(crate) fn watch(registry: &Registry, fd: RawFd, subject: Subject, interest: Interest) -> bool {
+pub fn watch(registry: &Registry, fd: RawFd, subject: Subject, interest: Interest) -> bool {
     let Some(number) = subject.number() else {
         return false;
     };
@@ -17,12 +17,7 @@ pub(crate) fn watch(registry: &Registry, fd: RawFd, subject: Subject, interest: 
 }
 
 /// The same of one that it may tell of already.
-pub(crate) fn watch_anew(
-    registry: &Registry,
-    fd: RawFd,
-    subject: Subject,
-    interest: Interest,
-) -> bool {
+pub fn watch_anew(registry: &Registry, fd: RawFd, subject: Subject, interest: Interest) -> bool {
     let Some(number) = subject.number() else {
         return false;
     };

@@ -1,5 +1,6 @@
 //! Requests beyond the places. They wait by class and due date, those of all loops in one order, and the next free place is for the first.
 
+use crate::presence::Presence;
 use anteroom::Anteroom;
 use due_key::{Key, Moment};
 use exchange_driver::{Line, Live};
@@ -13,19 +14,18 @@ use std::alloc::{AllocError, Global};
 /// So many requests wait for a place, at most.
 pub(crate) const MOST_OUTSIDE: usize = 131_072;
 
-/// A client whose request waits for a place.
-#[derive(Drop)]
-pub(crate) struct Outsider {
-    pub(crate) queued: Queued,
-    pub(crate) client: Line<Live>,
+/// A client whose request waits for a place. It has no `Drop`, as its presence has none.
+pub struct Outsider {
+    pub presence: Presence,
+    pub queued: Queued,
+    pub client: Line<Live>,
     /// When it began to wait.
-    pub(crate) came: Moment,
+    pub came: Moment,
     /// The server that it is bound to.
-    pub(crate) pin: Option<usize>,
+    pub pin: Option<usize>,
 }
 
 /// It with its key in the order of all.
-#[derive(Drop)]
 struct Standing {
     key: Key,
     outsider: Outsider,
@@ -71,16 +71,16 @@ impl Outside {
         &mut self,
         alloc: Global,
         wish: &Wish,
-        now: &Moment,
         outsider: Outsider,
     ) -> Result<Token, Outsider> {
         let Some(hole) = self.standing.open() else {
             return Err(outsider);
         };
         let token = hole.token();
+        let now = outsider.came;
         let came = self
             .order
-            .come(alloc, wish.class, wish.offset, *now, token.index());
+            .come(alloc, wish.class, wish.offset, now, token.index());
         let Ok(key) = came else {
             self.standing.close(hole);
             return Err(outsider);
@@ -107,8 +107,8 @@ impl Outside {
     }
 
     // Nobody may have looked at the clock for long.
-    fn begin_time(&mut self, number: usize, now: &Moment) {
-        self.limits.look_at_clock(*now);
+    fn begin_time(&mut self, number: usize, now: Moment) {
+        self.limits.look_at_clock(now);
         if let Some(patience) = self.patience {
             self.limits.begin(patience, number);
         }
@@ -164,13 +164,42 @@ impl Outside {
     }
 
     /// All that still wait are let go.
-    pub(crate) fn end(self) {
+    pub fn end(self) {
         let Outside {
             order: _,
             standing,
             limits: _,
             patience: _,
         } = self;
-        let _left = standing.into_values();
+        let mut standing = standing.into_values();
+        while let Some(stands) = standing.pop() {
+            match stands {
+                None => {}
+                Some(stands) => Box::into_inner(stands).end(),
+            }
+        }
+        standing.destroy_empty();
+    }
+}
+
+impl Outsider {
+    /// It waits no more: what is left is that its client is here.
+    pub fn leave(self) -> Presence {
+        let Outsider {
+            presence,
+            queued: _,
+            client: _,
+            came: _,
+            pin: _,
+        } = self;
+        presence
+    }
+}
+
+impl Standing {
+    // It is here no more, as nobody is.
+    fn end(self) {
+        let Standing { key: _, outsider } = self;
+        outsider.leave().end();
     }
 }

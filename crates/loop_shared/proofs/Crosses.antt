@@ -1,4 +1,4 @@
--- A hall may be lent to other threads.
+-- What threads share may be lent to them.
 use denote.RattleType.{RattleType}
 use denote.Ref.{NamedLft}
 use denote.Param.Send.{IsSync, sendable}
@@ -7,15 +7,15 @@ use Rattle.std.proofs.Crossing.{crosses}
 use Rattle.std.proofs.sync.Mutex.TheSendSync as mutex
 use Rattle.grant_board.specs.declared.board.BoardName as board_name
 use Rattle.pass_seat.proofs.idle.Idle.TheSendSync as idle
-use Rattle.event_loops.proofs.guest.Parked.TheSendSync as parked
-use Rattle.event_loops.proofs.mail.Mailbox.TheSendSync as mailbox
-use Rattle.event_loops.proofs.outside.Outside.TheSendSync as outside
-use Rattle.event_loops.specs.contracts.hall.Hall as hall
+use Rattle.loop_shared.proofs.parked.Parked.TheSendSync as parked
+use Rattle.loop_shared.proofs.mail.Mailbox.TheSendSync as mailbox
+use Rattle.loop_shared.proofs.outside.Outside.TheSendSync as outside
+use Rattle.loop_shared.specs.contracts.shared.Shared as shared
 use Rattle.relay_workers.proofs.Crosses.{proxy_sync}
 use Rattle.socket_gate.proofs.front.Front.TheSendSync as front
 
-pub hall_sync : (a : NamedLft) (N : RattleType) (g : board_name.Ghosts N.Denot) → IsSync (hall.the_row a N g)
-hall_sync a N g = declared_sync (hall.the_type a N g) (
+pub shared_sync : (a : NamedLft) (N : RattleType) (g : board_name.Ghosts N.Denot) → IsSync (shared.the_row a N g)
+shared_sync a N g = declared_sync (shared.the_type a N g) (
   search (proxy_sync N g, crosses, sendable) depth 60 fits 20000,
   (
     search (front.the_sync, mutex.the_sync, crosses, sendable) depth 60 fits 20000,

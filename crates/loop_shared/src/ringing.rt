@@ -1,21 +1,29 @@
+//! The thread that has servers checked, and how others than loops tell of places.
+
 ghost use Rattle.relay_http.specs.States.{Serves};
 
-use crate::hall::Hall;
+use crate::shared::Shared;
 use due_key::Moment;
 use grant_board::{BoardName, Pass};
 use place_set::PlaceSet;
-use relay_workers::Gate;
+use relay_workers::{Gate, checker};
 use reporting_core::Window;
-use socket_gate::SocketGate;
+use socket_gate::{Pauses, SocketGate};
 use std::net::{Net, TcpListener, TcpStream};
 use std::sync::Wait;
+use std::sync::atomic::AtomicBool;
 use std::time::Clock;
 
-/// The gate of the thread that has servers checked: what it is told of places, the loops are told.
+/// The thread that has servers checked looks whether a check is due whenever so many milliseconds have passed, as long as the proxy runs.
+const CHECK_PAUSE: u64 = 10;
+
+const CHECK_PAUSES: u64 = 1 << 62;
+
+/// A gate of a thread that is no loop: what it is told of places, the loops are told.
 #[derive(Drop)]
 pub(crate) struct Ringing<'a, N: BoardName, R> {
     pub(crate) rt: &'a R,
-    pub(crate) hall: &'a Hall<'a, N>,
+    pub(crate) shared: &'a Shared<'a, N>,
     pub(crate) gate: SocketGate<'a, R>,
 }
 
@@ -53,6 +61,19 @@ impl<
     }
 
     fn wake(&mut self, places: &PlaceSet) {
-        self.hall.post_places(self.rt, places);
+        self.shared.post_places(self.rt, places);
     }
+}
+
+/// Has servers checked, until it is told to stop.
+pub fn run_checks<
+    R: Net<Listener = TcpListener, Stream = TcpStream> + Clock + Print + Wait,
+    N: BoardName,
+>(rt: &R, shared: &Shared<'_, N>, stop: &AtomicBool) {
+    let Ok(gate) = SocketGate::new(shared.proxy.alloc, rt, shared.front) else {
+        return shared.give_up(rt);
+    };
+    let mut gate = Ringing { rt, shared, gate };
+    let mut pauses = Pauses::new(rt, CHECK_PAUSE, CHECK_PAUSES);
+    checker(rt, shared.proxy, &mut gate, &mut pauses, stop);
 }

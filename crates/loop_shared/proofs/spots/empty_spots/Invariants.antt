@@ -1,5 +1,5 @@
 use Rattle.std.proofs.Common.{◌≡◌, vec_len}
-use Rattle.relay_loops.proofs.rooms.empty_spots.Given as goal
+use Rattle.loop_shared.proofs.spots.empty_spots.Given as goal
 
 -- a spot for each place so far
 abbrev pub invariant-loop : goal.invariant-loop

@@ -1,0 +1,121 @@
+//! From outside to a place.
+//!
+//! Whoever comes outside looks for a place afterwards, and whoever frees a place looks outside afterwards: so one of the two should find the other. That is
+//! argued here, and in no clause.
+
+use crate::outside::Outsider;
+use crate::shared::Shared;
+use crate::watching::watch_anew;
+use dispatch_log::Refusal;
+use dispatch_trace::Ticketed;
+use due_key::Moment;
+use grant_board::BoardName;
+use loop_table::{Subject, Token};
+use mio::{Interest, Registry};
+use prio_rules::Wish;
+use relay_workers::{Gate, arrive_late};
+use socket_gate::has_left;
+use std::os::fd::AsRawFd;
+use std::sync::Wait;
+use std::sync::atomic::Ordering;
+
+/// What becomes of the request that is next.
+pub enum Turn {
+    /// It has a place.
+    Admitted(Outsider, Ticketed),
+    /// The dispatcher refuses it for another cause than want of places.
+    Refused(Outsider),
+    /// It waits on, or nobody does.
+    Rests,
+}
+
+impl<N: BoardName> Shared<'_, N> {
+    /// Whether somebody waits for a place.
+    pub fn has_outside(&self) -> bool {
+        self.outsiders() != 0
+    }
+
+    /// How many wait for a place.
+    pub fn outsiders(&self) -> u64 {
+        self.outsiders.load(Ordering::SeqCst)
+    }
+
+    /// Whether so many wait that nobody else is accepted.
+    pub fn is_crowded(&self) -> bool {
+        self.most_outside <= self.outsiders()
+    }
+
+    /// The first request of all has a place from now on, where there is one. It and its arrival are one step for all threads, so that no two loops turn two
+    /// requests round.
+    pub fn admit_first<R: Wait, G: Gate>(&self, rt: &R, gate: &mut G) -> Turn {
+        let mut outside = self.outside.lock(rt);
+        let Some((deferred, token)) = outside.next() else {
+            return Turn::Rests;
+        };
+        let arrived = arrive_late(rt, self.proxy, gate, deferred);
+        if matches!(arrived, Err(Refusal::PlacesFull)) {
+            return Turn::Rests;
+        }
+        let taken = outside.take(token);
+        self.outsiders.store(outside.len() as u64, Ordering::SeqCst);
+        match (taken, arrived) {
+            (Some(outsider), Ok(at)) => Turn::Admitted(outsider, at),
+            (Some(outsider), Err(_)) => Turn::Refused(outsider),
+            (None, _) => Turn::Rests,
+        }
+    }
+
+    /// A request waits for a place from now on, and the poll of this registry tells of its client. It comes back where there is no memory for it, or no room.
+    pub fn come_outside<R: Wait>(
+        &self,
+        rt: &R,
+        registry: &Registry,
+        wish: &Wish,
+        outsider: Outsider,
+    ) -> Result<(), Outsider> {
+        let mut outside = self.outside.lock(rt);
+        match outside.come(self.proxy.alloc, wish, outsider) {
+            Err(outsider) => Err(outsider),
+            Ok(token) => {
+                self.outsiders.store(outside.len() as u64, Ordering::SeqCst);
+                if let Some(live) = outside.client(token) {
+                    let connection = live.stream().as_raw_fd();
+                    let subject = Subject::Outside(token);
+                    watch_anew(registry, connection, subject, Interest::READABLE);
+                }
+                Ok(())
+            }
+        }
+    }
+
+    /// Takes a request out whose client left. None: it waits on, or is gone already.
+    pub fn leave_outside<R: Wait>(&self, rt: &R, token: Token) -> Option<Outsider> {
+        let mut outside = self.outside.lock(rt);
+        let left = match outside.client(token) {
+            None => false,
+            Some(live) => has_left(live.stream().as_raw_fd(), self.front.config.abortonclose),
+        };
+        if !left {
+            return None;
+        }
+        let taken = outside.take(token);
+        self.outsiders.store(outside.len() as u64, Ordering::SeqCst);
+        taken
+    }
+
+    /// Takes the one out that is next.
+    pub fn take_first<R: Wait>(&self, rt: &R) -> Option<Outsider> {
+        let mut outside = self.outside.lock(rt);
+        let first = outside.take_first();
+        self.outsiders.store(outside.len() as u64, Ordering::SeqCst);
+        first
+    }
+
+    /// Takes one out that has waited too long at this moment.
+    pub fn take_late<R: Wait>(&self, rt: &R, now: &Moment) -> Option<Outsider> {
+        let mut outside = self.outside.lock(rt);
+        let late = outside.take_late(*now);
+        self.outsiders.store(outside.len() as u64, Ordering::SeqCst);
+        late
+    }
+}

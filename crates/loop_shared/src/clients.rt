@@ -1,0 +1,36 @@
+//! Who is here, counted.
+
+use crate::presence::Presence;
+use crate::shared::Shared;
+use grant_board::BoardName;
+use std::sync::Wait;
+use std::sync::atomic::Ordering;
+
+impl<N: BoardName> Shared<'_, N> {
+    /// How many clients are here.
+    pub fn clients(&self) -> u64 {
+        let ended = self.ended.load(Ordering::SeqCst);
+        self.came.load(Ordering::SeqCst).saturating_sub(ended)
+    }
+
+    /// Whether there are descriptors for one client more.
+    pub fn has_room(&self) -> bool {
+        self.clients() < self.most.clients
+    }
+
+    /// A client came.
+    pub fn note_client(&self) -> Presence {
+        self.came.fetch_add(1, Ordering::SeqCst);
+        Presence::begin()
+    }
+
+    /// A client is through. Where it was the last one that may come, all threads are told.
+    pub fn note_end<R: Wait>(&self, rt: &R, presence: Presence) {
+        presence.end();
+        let before = self.ended.fetch_add(1, Ordering::SeqCst);
+        let most = self.front.clients.most();
+        if most != 0 && most <= before.saturating_add(1) {
+            self.close(rt);
+        }
+    }
+}

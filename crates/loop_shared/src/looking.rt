@@ -1,0 +1,109 @@
+//! Looks at places: a request that waits there, and its pass.
+
+ghost use Rattle.std.specs.Prelude.{◌≡◌, ◌<◌, IfSome};
+ghost use Rattle.loop_shared.specs.Looks.{EndsLook};
+
+use crate::granted::Granted;
+use crate::parked::Parked;
+use crate::shared::Shared;
+use crate::watching::watch;
+use dispatch_trace::Ticketed;
+use grant_board::BoardName;
+use loop_table::Subject;
+use mio::{Interest, Registry};
+use pass_seat::{Asked, Held};
+use std::os::fd::AsRawFd;
+use std::sync::Wait;
+
+/// What became of a look at a place.
+pub enum Looked<N: BoardName> {
+    /// The request that waited there, with its pass.
+    Granted(Granted<N>),
+    /// It waits on, and some loop's poll tells of its client.
+    Waits,
+    /// It waits on, and the system refuses to tell of its client. It is given up: this is its ticket.
+    Unwatched(u64),
+    /// It waits on, and no seat was left by which its pass could be asked for: the place is to be looked at again.
+    NoSeat,
+    /// Nobody waits there.
+    Nobody,
+}
+
+// What is found of a request's pass.
+enum Found<N: BoardName> {
+    Held(Held<N>),
+    NotYet,
+    NoSeat,
+}
+
+impl<N: BoardName> Shared<'_, N> {
+    /// Looks at a place. Whoever waits on there is watched for its leaving alone, by one loop.
+    pub fn look_at<R: Wait>(&self, rt: &R, registry: &Registry, place: usize) -> Looked<N> {
+        let Some(spot) = self.spots.as_slice().get(place) else {
+            return Looked::Nobody;
+        };
+        let mut spot = spot.lock(rt);
+        self.look_in(rt, registry, &mut *spot)
+    }
+
+    // What is in a spot comes out with its pass, or stays there.
+    fn look_in<R: Wait>(&self, rt: &R, registry: &Registry, spot: &mut Option<Parked>) -> Looked<N>
+        ensures { EndsLook spot.old spot.new result }
+    {
+        let Some(parked) = spot.take() else {
+            return Looked::Nobody;
+        };
+        let mut parked = parked;
+        let looked = match self.ask(rt, parked.at) {
+            Found::Held(held) => return Looked::Granted(Granted { held, parked }),
+            Found::NoSeat => Looked::NoSeat,
+            Found::NotYet if parked.watched || watches(registry, &parked) => {
+                parked.watched = true;
+                Looked::Waits
+            }
+            Found::NotYet => {
+                parked.late = true;
+                Looked::Unwatched(parked.at.ticket)
+            }
+        };
+        match spot.replace(parked) {
+            None => looked,
+            Some(_) => unreachable!(),
+        }
+    }
+
+    // The pass of a place and a ticket, where it is offered.
+    fn ask<R: Wait>(&self, rt: &R, at: Ticketed) -> Found<N> {
+        if !self.has(at.place) {
+            return Found::NotYet;
+        }
+        let popped = self.idle.lock(rt).pop();
+        let Some(idle) = popped else {
+            return Found::NoSeat;
+        };
+        match idle.take(self.proxy.desk.board(), at.place, at.ticket) {
+            Asked::Held(held) => Found::Held(held),
+            Asked::NotYet(idle) => {
+                self.return_seat(rt, idle);
+                Found::NotYet
+            }
+        }
+    }
+}
+
+// Has the poll of this registry tell of a client that waits. False where the system refuses that.
+fn watches(registry: &Registry, parked: &Parked) -> bool {
+    let Some(live) = parked.client.socket() else {
+        return true;
+    };
+    let subject = Subject::Waiting {
+        place: parked.at.place,
+        ticket: parked.at.ticket,
+    };
+    watch(
+        registry,
+        live.stream().as_raw_fd(),
+        subject,
+        Interest::READABLE,
+    )
+}

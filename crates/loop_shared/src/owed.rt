@@ -1,0 +1,36 @@
+ghost use Rattle.std.specs.Prelude.{◌≡◌, ◌≢◌, ◌↔◌, ℕ, MatchOption};
+ghost use Rattle.loop_shared.specs.Looks.{OwesNoLook};
+ghost use Rattle.place_set.specs.Sets.{Has};
+
+use place_set::PlaceSet;
+
+/// Places at which a loop owes a look. It has no `Drop`: it is ended once no look is owed, so that none is forgotten.
+pub struct OwedLooks {
+    pub places: PlaceSet,
+}
+
+impl OwedLooks {
+    pub fn of(places: PlaceSet) -> OwedLooks
+        ensures { result.places ≡ places }
+    {
+        OwedLooks { places }
+    }
+
+    /// A place at which a look is owed, and is none any more: the caller looks there. None: no look is owed.
+    pub fn next(&mut self) -> Option<usize>
+        ensures none { MatchOption result (OwesNoLook self.old.places) (Has self.old.places) }
+        ensures left { MatchOption result (self.new ≡ self.old) (λ it. (other : ℕ) → Has self.new.places other ↔ ((other ≢ it) × Has self.old.places other)) }
+    {
+        let Some(place) = self.places.next(0) else {
+            return None;
+        };
+        self.places.remove(place);
+        Some(place)
+    }
+
+    pub fn end(self)
+        requires { OwesNoLook self.places }
+    {
+        let OwedLooks { places: _ } = self;
+    }
+}

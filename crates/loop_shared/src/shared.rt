@@ -1,0 +1,218 @@
+ghost use Rattle.std.specs.Prelude.{◌≡◌, ◌<◌, ◌≤◌, vec_len};
+ghost use Rattle.std.specs.Bool.{OnTrue};
+
+use crate::descriptors::Most;
+use crate::mail::Mailbox;
+use crate::outside::Outside;
+use crate::parked::Parked;
+use crate::spots::leave_all;
+use exchange_machine::Terms;
+use grant_board::BoardName;
+use pass_seat::Idle;
+use place_set::PlaceSet;
+use relay_http::Persistence;
+use relay_workers::{Proxy, Stopped};
+use socket_gate::Front;
+use std::net::SocketAddr;
+use std::sync::atomic::{AtomicBool, AtomicU64, Ordering};
+use std::sync::{Condvar, Mutex, Wait};
+
+/// What it is made of. It has no `Drop`, as `Outside` has none.
+pub struct SharedParts {
+    /// One for each place.
+    pub spots: Vec<Mutex<Option<Parked>>>,
+    /// One for each loop.
+    pub mail: Vec<Mailbox>,
+    /// So many connections of clients are had at a time.
+    pub most: Most,
+    /// Where requests wait that find no place, and how many are there before no client is accepted.
+    pub outside: Outside,
+    pub most_outside: u64,
+}
+
+/// What all threads share.
+pub struct Shared<'a, N: BoardName> {
+    pub proxy: &'a Proxy<N>,
+    pub front: &'a Front<'a>,
+    /// Where the request of each place lies until its pass is there.
+    pub(crate) spots: Vec<Mutex<Option<Parked>>>,
+    /// The seats without a pass.
+    pub(crate) idle: Mutex<Vec<Idle<N>>>,
+    /// Who waits for a place, and how many they are.
+    pub(crate) outside: Mutex<Outside>,
+    pub(crate) outsiders: AtomicU64,
+    /// As many are there when no client is accepted.
+    pub(crate) most_outside: u64,
+    pub(crate) mail: Vec<Mailbox>,
+    /// So many connections of clients are had at a time.
+    pub most: Most,
+    /// So many clients came, and so many are through.
+    pub(crate) came: AtomicU64,
+    pub(crate) ended: AtomicU64,
+    /// Requests wait that may time out, so that the first loop looks at the queues.
+    pub(crate) waits: AtomicBool,
+    /// Nobody new is taken; and nobody can come any more.
+    pub(crate) stopping: AtomicBool,
+    pub(crate) deaf: AtomicBool,
+    /// Who waits is told that it isn't served.
+    pub(crate) refusing: AtomicBool,
+    pub(crate) over: AtomicBool,
+    /// The same, for who waits for it.
+    pub(crate) ended_all: Mutex<bool>,
+    pub(crate) bell: Condvar,
+    /// It is over because memory was short, or a thread.
+    pub(crate) failed: AtomicBool,
+    ghost sized: { vec_len spots ≤ N.terms.places },
+}
+
+impl<'a, N: BoardName> Shared<'a, N> {
+    /// What the threads of a proxy share, with these seats.
+    pub fn new(
+        proxy: &'a Proxy<N>,
+        front: &'a Front<'a>,
+        seats: Vec<Idle<N>>,
+        parts: SharedParts,
+    ) -> Shared<'a, N>
+        requires { vec_len parts.spots ≤ N.terms.places }
+    {
+        let SharedParts {
+            spots,
+            mail,
+            most,
+            outside,
+            most_outside,
+        } = parts;
+        Shared {
+            proxy,
+            front,
+            spots,
+            idle: Mutex::new(seats),
+            outside: Mutex::new(outside),
+            outsiders: AtomicU64::new(0),
+            most_outside,
+            mail,
+            most,
+            came: AtomicU64::new(0),
+            ended: AtomicU64::new(0),
+            waits: AtomicBool::new(false),
+            stopping: AtomicBool::new(false),
+            deaf: AtomicBool::new(false),
+            refusing: AtomicBool::new(false),
+            over: AtomicBool::new(false),
+            ended_all: Mutex::new(false),
+            bell: Condvar::new(),
+            failed: AtomicBool::new(false),
+        }
+    }
+
+    /// What was still to be done is over, and the seats come back.
+    pub fn end(self) -> (Vec<Idle<N>>, Result<(), Stopped>) {
+        let Shared {
+            proxy: _,
+            front: _,
+            spots,
+            idle,
+            outside,
+            outsiders: _,
+            most_outside: _,
+            mail: _,
+            most: _,
+            came: _,
+            ended: _,
+            waits: _,
+            stopping: _,
+            deaf: _,
+            refusing: _,
+            over: _,
+            ended_all: _,
+            bell: _,
+            failed,
+        } = self;
+        outside.into_inner().end();
+        leave_all(spots);
+        let seats = idle.into_inner();
+        if failed.load(Ordering::SeqCst) {
+            (seats, Err(Stopped::NoMemory))
+        } else {
+            (seats, Ok(()))
+        }
+    }
+}
+
+impl<N: BoardName> Shared<'_, N> {
+    /// Whether a place is one of the board's.
+    pub fn has(&self, place: usize) -> bool
+        ensures { OnTrue result (place < N.terms.places) }
+    {
+        place < self.spots.len()
+    }
+
+    /// How many places there are.
+    pub fn places(&self) -> usize {
+        self.spots.len()
+    }
+
+    /// How many loops there are.
+    pub fn loops(&self) -> usize {
+        self.mail.len()
+    }
+
+    /// A seat comes back. There is room for each.
+    pub fn return_seat<R: Wait>(&self, rt: &R, idle: Idle<N>) {
+        let _ = self.idle.lock(rt).push(idle);
+    }
+
+    /// Whether some server is checked.
+    pub fn has_checks(&self) -> bool {
+        let servers = self.front.config.servers.as_slice();
+        servers.iter().any(|server| server.check.is_some())
+    }
+
+    /// A server's address, where it is known. It waits for no look-up.
+    pub fn address_of<R: Wait>(&self, rt: &R, server: usize) -> Option<SocketAddr> {
+        self.front.addresses.of(rt, self.front.config, server)
+    }
+
+    /// Whether it is steered while it serves.
+    pub fn has_controls(&self) -> bool {
+        self.front.controls.is_some()
+    }
+
+    /// A server's connection is new for each exchange. A client may stay where that is asked for, as long as there is room for others.
+    pub fn terms(&self) -> Terms {
+        Terms {
+            asks: Persistence::Close,
+            willing: self.front.keeping.is_some() && self.has_room() && !self.is_stopping(),
+            fresh: true,
+        }
+    }
+
+    /// Each place is looked at by some loop.
+    pub fn post_places<R: Wait>(&self, rt: &R, places: &PlaceSet) {
+        let mut from = 0;
+        for _ in 0..4096 {
+            let Some(place) = places.next(from) else {
+                return;
+            };
+            if let Some(mail) = self.mail.as_slice().get(place % self.mail.len().max(1)) {
+                mail.send(rt, place);
+            }
+            from = place.saturating_add(1);
+        }
+    }
+
+    /// What a loop was told of places since it last asked.
+    pub fn take_mail<R: Wait>(&self, rt: &R, home: usize) -> PlaceSet {
+        match self.mail.as_slice().get(home) {
+            Some(mail) => mail.take_all(rt),
+            None => PlaceSet::new(),
+        }
+    }
+
+    /// A loop looks at a place in its next round.
+    pub fn look_again<R: Wait>(&self, rt: &R, home: usize, place: usize) {
+        if let Some(mail) = self.mail.as_slice().get(home) {
+            mail.send(rt, place);
+        }
+    }
+}

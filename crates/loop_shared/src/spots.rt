@@ -1,0 +1,28 @@
+ghost use Rattle.std.specs.Prelude.{◌≡◌, vec_len, IfOk};
+
+use crate::parked::Parked;
+use std::alloc::{AllocError, Global};
+use std::sync::Mutex;
+
+/// A spot for each place, at which nobody waits. Refused only where memory is short.
+pub fn empty_spots(alloc: Global, places: usize) -> Result<Vec<Mutex<Option<Parked>>>, AllocError>
+    ensures { IfOk result (λ made. vec_len made ≡ places) }
+{
+    let mut spots = Vec::with_capacity(alloc, places)?;
+    for _ in 0..places {
+        spots.push_reserved(Mutex::new(None));
+    }
+    Ok(spots)
+}
+
+/// Whoever still waits at a place is here no more.
+pub(crate) fn leave_all(spots: Vec<Mutex<Option<Parked>>>) {
+    let mut spots = spots;
+    while let Some(spot) = spots.pop() {
+        match spot.into_inner() {
+            None => {}
+            Some(parked) => parked.leave().end(),
+        }
+    }
+    spots.destroy_empty();
+}

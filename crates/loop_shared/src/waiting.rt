@@ -1,0 +1,97 @@
+//! Requests that wait at their places.
+
+use crate::parked::{Hopeless, Parked};
+use crate::shared::Shared;
+use grant_board::BoardName;
+use socket_gate::has_left;
+use std::os::fd::AsRawFd;
+use std::sync::Wait;
+use std::sync::atomic::Ordering;
+
+impl<N: BoardName> Shared<'_, N> {
+    /// A request lies in the spot of its place from now on. Whoever calls it looks there afterwards.
+    pub fn park<R: Wait>(&self, rt: &R, parked: Parked) {
+        let Some(spot) = self.spots.as_slice().get(parked.at.place) else {
+            return self.note_end(rt, parked.leave());
+        };
+        let before = spot.lock(rt).replace(parked);
+        match before {
+            None => {}
+            // Another request's ticket had the place, and is over.
+            Some(parked) => self.note_end(rt, parked.leave()),
+        }
+    }
+
+    /// Whether a ticket's request still lies at a place, its client gone.
+    pub fn lies_left<R: Wait>(&self, rt: &R, place: usize, ticket: u64) -> bool {
+        let Some(spot) = self.spots.as_slice().get(place) else {
+            return false;
+        };
+        let spot = spot.lock(rt);
+        match &*spot {
+            Some(parked) if parked.at.ticket == ticket => match parked.client.socket() {
+                Some(live) => has_left(live.stream().as_raw_fd(), self.front.config.abortonclose),
+                None => false,
+            },
+            _ => false,
+        }
+    }
+
+    /// A request waits. Where requests time out and none waited before, the first loop is told.
+    pub fn note_wait(&self) {
+        if self.front.config.queue_timeout.is_some() && !self.waits.swap(true, Ordering::SeqCst) {
+            if let Some(mail) = self.mail.as_slice().first() {
+                mail.ring();
+            }
+        }
+    }
+
+    /// Whether requests wait that may time out.
+    pub fn has_waits(&self) -> bool {
+        self.waits.load(Ordering::SeqCst)
+    }
+
+    /// Notes that none waits, unless one is found that does. One that comes meanwhile is noted by whoever brings it.
+    pub fn look_for_waits<R: Wait>(&self, rt: &R) {
+        self.waits.store(false, Ordering::SeqCst);
+        if self.has_outside() {
+            self.waits.store(true, Ordering::SeqCst);
+            return;
+        }
+        for spot in self.spots.as_slice() {
+            if spot.lock(rt).is_some() {
+                self.waits.store(true, Ordering::SeqCst);
+                return;
+            }
+        }
+    }
+
+    /// The first place from this one on whose request is to be given up for that, and its ticket. Its client is told that it isn't served.
+    pub fn find_hopeless<R: Wait>(
+        &self,
+        rt: &R,
+        from: usize,
+        hopeless: &Hopeless,
+    ) -> Option<(usize, u64)> {
+        for place in from..self.spots.len() {
+            let Some(spot) = self.spots.as_slice().get(place) else {
+                return None;
+            };
+            let mut spot = spot.lock(rt);
+            if let Some(parked) = &mut *spot {
+                if parked.is_hopeless(hopeless) {
+                    parked.late = true;
+                    return Some((place, parked.at.ticket));
+                }
+            }
+        }
+        None
+    }
+
+    /// Returns once all is over.
+    pub fn wait_for_end<R: Wait>(&self, rt: &R) {
+        let _over = self
+            .bell
+            .wait_while(rt, self.ended_all.lock(rt), |over| !*over);
+    }
+}

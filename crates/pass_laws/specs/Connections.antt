@@ -1,0 +1,25 @@
+-- What a connection means between any two calls: the log, the board and an exchange together.
+use Rattle.std.specs.Prelude.{◌≡◌, ℕ, Some, List, Contains}
+use Rattle.dispatch_log.specs.Histories.{History, state_of}
+use Rattle.grant_board.specs.Places.{HasKeeper, HasRelay}
+use Rattle.grant_board.specs.Rule.{BoardState, Orderly}
+use Rattle.grant_board.specs.Views.{Grant, Terms, KeeperPart, RelayView}
+use Rattle.mixed_exchange.specs.Passes.{held_by}
+use Rattle.mixed_exchange.specs.declared.exchange.Exchange.{Exchange}
+use Rattle.outstanding.specs.Books.{IsBook}
+use Rattle.outstanding.specs.Outstanding.{outstanding}
+use Rattle.seated_exchange.specs.Seats.{server_of}
+use Rattle.verdict.specs.declared.Verdict.TheVariants.{Serve}
+
+-- who holds these passes may have a connection to this server: by one of them the log gave a slot of it to a request that isn't over
+pub record MayConnect (history : History) (passes : List Grant) (server : ℕ) : Type 0 where
+  pub pass : Grant
+  pub held : Contains passes pass
+  pub given : Contains (outstanding (state_of history).rows) pass
+  pub serves : pass.verdict ≡ Serve server
+
+-- so it is of each exchange whose passes are those of a seat, and of the server to which it is connected
+abbrev pub ConnectionsAreTrue : Type 0
+ConnectionsAreTrue = (terms : Terms) (s : BoardState) (k : KeeperPart) (history : History) → Orderly terms s → HasKeeper s k → IsBook history k.view
+    → (j i : ℕ) (r : RelayView) (x : Exchange) (server : ℕ) → HasRelay s j i r → r.passes ≡ held_by x → server_of (held_by x) ≡ Some server
+    → MayConnect history (held_by x) server

@@ -1,0 +1,44 @@
+//! What is made before the threads.
+
+ghost use Rattle.std.specs.Prelude.{◌≡◌, vec_len, IfOk};
+
+use crate::serving::Sizes;
+use event_loops::{Unbegun, loops_of};
+use grant_board::BoardName;
+use loop_shared::{Outside, SharedParts, empty_spots, most_connections, polls_of};
+use relay_workers::Proxy;
+use socket_gate::Front;
+use std::alloc::AllocError;
+use std::net::{Net, TcpListener, TcpStream};
+
+/// What the threads of a proxy share, and its loops, with its listener in each loop's poll. Fails where the system has no poll, too.
+pub(crate) fn parts_of<R: Net<Listener = TcpListener, Stream = TcpStream>, N: BoardName>(
+    rt: &R,
+    proxy: &Proxy<N>,
+    front: &Front<'_>,
+    sizes: Sizes,
+) -> Result<(SharedParts, Vec<Unbegun>), AllocError>
+    ensures { IfOk result (λ made. vec_len made.0.spots ≡ sizes.places) }
+{
+    let alloc = proxy.alloc;
+    let (polls, mail) = polls_of(rt, alloc, front, sizes.loops)?;
+    let loops = loops_of(alloc, polls)?;
+    let most = most_connections(sizes.loops, sizes.slots);
+    let outside = Outside::new(alloc, most.clients, proxy.config.queue_timeout)?;
+    match empty_spots(alloc, sizes.places) {
+        Err(refused) => {
+            outside.end();
+            Err(refused)
+        }
+        Ok(spots) => {
+            let parts = SharedParts {
+                spots,
+                mail,
+                most,
+                outside,
+                most_outside: sizes.waiting,
+            };
+            Ok((parts, loops))
+        }
+    }
+}

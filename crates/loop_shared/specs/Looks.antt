@@ -1,5 +1,5 @@
 -- What becomes of a look at a spot.
-use Rattle.std.specs.Prelude.{◌≡◌, ℕ, ⊥, true, List, Option, Some, None}
+use Rattle.std.specs.Prelude.{◌≡◌, ℕ, true, List, Option, Some, None}
 use Rattle.grant_board.specs.declared.board.BoardName.{Ghosts}
 use Rattle.place_set.specs.Sets.{Has}
 use Rattle.loop_shared.specs.declared.looking.Looked.{Looked}

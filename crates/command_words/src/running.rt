@@ -16,6 +16,8 @@ pub struct Numbers {
     pub requests: u32,
     /// How long a client may stay between two requests, in milliseconds. None: it has one.
     pub keeping: Option<u32>,
+    /// Whether servers are told whose requests they get.
+    pub forwarded_for: bool,
 }
 
 /// How long a client may stay that asks for nothing, in milliseconds, where no word says it.
@@ -59,6 +61,8 @@ const KEEP: &str = "Lets a client stay for further requests on its connection";
 const STAY_HELP: &str =
     "A client that stays and asks for nothing is closed after so many ms, from 1 on";
 
+const FORWARDED: &str = "Adds a field X-Forwarded-For with its client's address to each request";
+
 const REQUESTS: &str = "Ends after so many clients; 0: never";
 
 /// The words of `run`.
@@ -67,6 +71,7 @@ pub(crate) fn run<'a>(alloc: Global, file: Arg<'a>) -> Result<Command<'a>, Alloc
     let command = with_threads(alloc, command)?;
     let command = with_bounds(alloc, command)?;
     let command = with_keeping(alloc, command)?;
+    let command = command.arg(flag(alloc, "forwarded-for", FORWARDED))?;
     with_controls(alloc, command)
 }
 
@@ -84,12 +89,16 @@ fn with_bounds<'a>(alloc: Global, command: Command<'a>) -> Result<Command<'a>, A
 }
 
 fn with_keeping<'a>(alloc: Global, command: Command<'a>) -> Result<Command<'a>, AllocError> {
-    let keep = Arg::new(alloc, "keep-alive")
-        .long("keep-alive")
-        .action(ArgAction::SetTrue)
-        .help(KEEP);
+    let keep = flag(alloc, "keep-alive", KEEP);
     let stay = bound(alloc, "keep-alive-timeout", STAY, STAY_HELP);
     command.arg(keep)?.arg(stay)
+}
+
+fn flag<'a>(alloc: Global, name: &'a str, help: &'a str) -> Arg<'a> {
+    Arg::new(alloc, name)
+        .long(name)
+        .action(ArgAction::SetTrue)
+        .help(help)
 }
 
 fn bound<'a>(alloc: Global, name: &'a str, default: &'a str, help: &'a str) -> Arg<'a> {
@@ -126,6 +135,7 @@ pub(crate) fn numbers_of(words: &ArgMatches) -> Option<Numbers> {
         places,
         requests,
         keeping,
+        forwarded_for: words.get_flag("forwarded-for"),
     })
 }
 

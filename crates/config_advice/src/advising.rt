@@ -142,7 +142,7 @@ const KEYWORDS: [(&str, &str); 34] = [
 const OPTIONS: [(&str, &str); 11] = [
     (
         "forwardfor",
-        "Leave it out: no field is added that names the client.",
+        "Leave it out: run --forwarded-for adds the field that names the client.",
     ),
     (
         "httpclose",

@@ -227,12 +227,19 @@ static KEYWORDS: [Row; 23] = [
 ];
 
 /// Lines of `option` by their second word.
-static OPTIONS: [Row; 11] = [
+static OPTIONS: [Row; 12] = [
     Row {
-        words: &["forwardfor", "originalto"],
+        words: &["forwardfor"],
         fate: Fate {
             weight: Some(Weight::Marked),
-            reason: "Each request would have had a field that names its client: here none is added.",
+            reason: "Each request would have had a field that names its client: run --forwarded-for adds X-Forwarded-For, always and under this name.",
+        },
+    },
+    Row {
+        words: &["originalto"],
+        fate: Fate {
+            weight: Some(Weight::Marked),
+            reason: "Each request would have had a field that names the address where its client came: here none is added.",
         },
     },
     Row {

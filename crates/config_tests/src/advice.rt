@@ -114,7 +114,7 @@ line 8:   mode
 line 3:   option forwardfor
                  ^^^^^^^^^^
   keyword: This word isn't one that can stand here.
-  instead: Leave it out: no field is added that names the client.
+  instead: Leave it out: run --forwarded-for adds the field that names the client.
 
 line 4:   option httpclose
                  ^^^^^^^^^

@@ -38,6 +38,7 @@ const SIZES: Numbers = Numbers {
     places: 1024,
     requests: 0,
     keeping: None,
+    forwarded_for: false,
 };
 
 static COMMANDS: [CommandRow; 30] = [

@@ -57,12 +57,12 @@ listen f
     timeout connect 2s
     bind 127.0.0.1:80
     # option forwardfor
-    #   Each request would have had a field that names its client: here none is added.
+    #   Each request would have had a field that names its client: run --forwarded-for adds X-Forwarded-For, always and under this name.
     # default_backend b
     #   Its servers stand below.
     server a h:1
 ",
-        notes: "line 6: option forwardfor: Each request would have had a field that names its client: here none is added.\n",
+        notes: "line 6: option forwardfor: Each request would have had a field that names its client: run --forwarded-for adds X-Forwarded-For, always and under this name.\n",
     },
     Row {
         file: PAIR,

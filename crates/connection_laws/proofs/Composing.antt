@@ -5,7 +5,7 @@ use Rattle.std.specs.List.{flat_map, AllByRecursion}
 use Rattle.std.proofs.lemmas.Grind.{flat_map-append}
 use Rattle.grant_board.specs.Views.{Grant}
 use Rattle.list_facts.proofs.Members.{all_append}
-use Rattle.relay_http.specs.declared.persistence.Persistence.{Persistence}
+use Rattle.relay_http.specs.declared.additions.Additions.{Additions}
 use Rattle.exchange_machine.specs.Histories.{History}
 use Rattle.exchange_machine.specs.Wholes.{Whole, IsWhole, asked, told}
 use Rattle.mixed_exchange.specs.Chains.{IsBegun, IsNext}
@@ -45,13 +45,13 @@ pass_out : (used : ℕ) (pass : Grant) (h : History) → (came_pass used pass h)
 pass_out zero pass h = sym (append-nil h.to_client)
 pass_out (suc n) pass h = sym (append-nil h.to_client)
 
-terms_in : (used : ℕ) (asks : Persistence) (h : History) → (connected_with used asks h).client_in ≡ h.client_in ++ []
-terms_in zero asks h = sym (append-nil h.client_in)
-terms_in (suc n) asks h = sym (append-nil h.client_in)
+terms_in : (used : ℕ) (adds : Additions) (h : History) → (connected_with used adds h).client_in ≡ h.client_in ++ []
+terms_in zero adds h = sym (append-nil h.client_in)
+terms_in (suc n) adds h = sym (append-nil h.client_in)
 
-terms_out : (used : ℕ) (asks : Persistence) (h : History) → (connected_with used asks h).to_client ≡ h.to_client ++ []
-terms_out zero asks h = sym (append-nil h.to_client)
-terms_out (suc n) asks h = sym (append-nil h.to_client)
+terms_out : (used : ℕ) (adds : Additions) (h : History) → (connected_with used adds h).to_client ≡ h.to_client ++ []
+terms_out zero adds h = sym (append-nil h.to_client)
+terms_out (suc n) adds h = sym (append-nil h.to_client)
 
 heard_in : (x : Exchange) (event : Event) (used : ℕ) (h : History) → (heard x event used h).client_in ≡ h.client_in ++ bytes_in event used
 heard_in x (Events.ClientBytes input) used h = refl
@@ -60,7 +60,7 @@ heard_in x (Events.ClientTook count) used h = sym (append-nil h.client_in)
 heard_in x (Events.ServerTook count) used h = sym (append-nil h.client_in)
 heard_in x (Events.Granted pass) used h = pass_in used pass h
 heard_in x Events.Unserved used h = sym (append-nil h.client_in)
-heard_in x (Events.Connected terms) used h = terms_in used terms.asks h
+heard_in x (Events.Connected terms) used h = terms_in used terms.adds h
 heard_in x Events.Unreachable used h = sym (append-nil h.client_in)
 heard_in x Events.ClientEnd used h = sym (append-nil h.client_in)
 heard_in x Events.ClientFailed used h = sym (append-nil h.client_in)
@@ -76,7 +76,7 @@ heard_out x (Events.ClientTook count) used h = refl
 heard_out x (Events.ServerTook count) used h = sym (append-nil h.to_client)
 heard_out x (Events.Granted pass) used h = pass_out used pass h
 heard_out x Events.Unserved used h = sym (append-nil h.to_client)
-heard_out x (Events.Connected terms) used h = terms_out used terms.asks h
+heard_out x (Events.Connected terms) used h = terms_out used terms.adds h
 heard_out x Events.Unreachable used h = sym (append-nil h.to_client)
 heard_out x Events.ClientEnd used h = sym (append-nil h.to_client)
 heard_out x Events.ClientFailed used h = sym (append-nil h.to_client)

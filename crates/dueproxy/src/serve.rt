@@ -37,6 +37,7 @@ pub(crate) fn serve_file<
         places,
         requests,
         keeping,
+        forwarded_for,
     } = numbers;
     let Some(sizes) = Sizes::new(workers, loops, waiting, places, requests) else {
         let _ = rt.eprintln(RANGES);
@@ -52,6 +53,7 @@ pub(crate) fn serve_file<
     };
     let options = RunOptions {
         keeping: keeping.map(u64::from),
+        forwarded_for,
         controls,
     };
     let ended = run(rt, &bytes, options, sizes);

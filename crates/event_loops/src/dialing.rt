@@ -74,7 +74,8 @@ impl<
             Some(live) => live.stream().peer_addr().is_ok(),
         };
         if is_there {
-            self.tell(guest, hole, Notice::Connected(self.shared.terms()))
+            let terms = self.shared.terms(&guest.visit.presence);
+            self.tell(guest, hole, Notice::Connected(terms))
         } else if broken {
             self.tell_of_no_connection(guest, hole)
         } else {

@@ -112,7 +112,7 @@ carries_on a b c came1 came2 came3 sent1 sent2 sent3 first second one two =
     }
 
 same_terms : (h : History) → AreSameTerms h h
-same_terms h = record { grants = refl; posts = refl; tries = refl; asks = refl }
+same_terms h = record { grants = refl; posts = refl; tries = refl; adds = refl }
 
 -- nothing was done
 pub drives_none : (client server : Wire) (h : History) (x : Exchange) → IsAt x h → Drives client client server server false false h x Quiet
@@ -137,7 +137,7 @@ drives_on c0 c1 c2 s0 s1 s2 a1 a2 b1 b2 h x y outcome one more =
         grants = two.same.grants ∙ one.same.grants;
         posts = two.same.posts ∙ one.same.posts;
         tries = two.same.tries ∙ one.same.tries;
-        asks = two.same.asks ∙ one.same.asks;
+        adds = two.same.adds ∙ one.same.adds;
       };
       at = two.at;
     }
@@ -182,7 +182,7 @@ pub client_signed : (c0 c1 s : Wire) (h : History) (sign : Sign) (y : Exchange) 
     → c1.waits ≡ c0.waits → IsAt y (ended outcome (signed h sign)) → Drives c0 c1 s s false false h y outcome
 client_signed c0 c1 s h sign y outcome left taken waits is =
     at_client_side c0 c1 s h (signed h sign) y outcome false (carries_none c0 c1 h.client_in h.to_client left taken waits) refl refl
-    (record { grants = refl; posts = refl; tries = refl; asks = refl }) is
+    (record { grants = refl; posts = refl; tries = refl; adds = refl }) is
 
 pub client_sent : (c0 c1 s : Wire) (h : History) (bytes : List ℕ) (count : ℕ) (y : Exchange) (outcome : Outcome) → c1.left ≡ c0.left
     → Appends c0.taken c1.taken (take count bytes) → c1.waits ≡ c0.waits → 0 < count → count ≤ length bytes
@@ -190,13 +190,13 @@ pub client_sent : (c0 c1 s : Wire) (h : History) (bytes : List ℕ) (count : ℕ
 client_sent c0 c1 s h bytes count y outcome left taken waits some within is =
     at_client_side c0 c1 s h (client_got h (take count bytes)) y outcome true
     (carries_sent c0 c1 h.client_in h.to_client bytes count left taken waits some within) refl refl
-    (record { grants = refl; posts = refl; tries = refl; asks = refl }) is
+    (record { grants = refl; posts = refl; tries = refl; adds = refl }) is
 
 pub client_used : (c0 c1 s : Wire) (h : History) (used : ℕ) (y : Exchange) (outcome : Outcome) → c1.left ≡ c0.left → c1.taken ≡ c0.taken
     → c1.waits ≡ drop used c0.waits → IsAt y (ended outcome (client_came h (take used c0.waits))) → Drives c0 c1 s s false false h y outcome
 client_used c0 c1 s h used y outcome left taken waits is =
     at_client_side c0 c1 s h (client_came h (take used c0.waits)) y outcome false (carries_used c0 c1 h.client_in h.to_client used left taken waits) refl refl
-    (record { grants = refl; posts = refl; tries = refl; asks = refl }) is
+    (record { grants = refl; posts = refl; tries = refl; adds = refl }) is
 
 pub client_heard : (c0 c1 s : Wire) (h : History) (bytes : List ℕ) (used : ℕ) (y : Exchange) (outcome : Outcome) → Consumes c0.left c1.left bytes
     → c1.taken ≡ c0.taken → c0.waits ≡ [] → c1.waits ≡ drop used bytes → 0 < length bytes → IsAt y (ended outcome (client_came h (take used bytes)))
@@ -204,7 +204,7 @@ pub client_heard : (c0 c1 s : Wire) (h : History) (bytes : List ℕ) (used : ℕ
 client_heard c0 c1 s h bytes used y outcome left taken none waits some is =
     at_client_side c0 c1 s h (client_came h (take used bytes)) y outcome true
     (carries_heard c0 c1 h.client_in h.to_client bytes used left taken none waits some) refl refl
-    (record { grants = refl; posts = refl; tries = refl; asks = refl }) is
+    (record { grants = refl; posts = refl; tries = refl; adds = refl }) is
 
 pub server_kept : (c s0 s1 : Wire) (h : History) (x : Exchange) → Consumes s0.left s1.left [] → Appends s0.taken s1.taken [] → s1.waits ≡ s0.waits → IsAt x h
     → Drives c c s0 s1 false false h x Quiet
@@ -215,7 +215,7 @@ pub server_signed : (c s0 s1 : Wire) (h : History) (sign : Sign) (y : Exchange) 
     → s1.waits ≡ s0.waits → IsAt y (ended outcome (signed h sign)) → Drives c c s0 s1 false false h y outcome
 server_signed c s0 s1 h sign y outcome left taken waits is =
     at_server_side c s0 s1 h (signed h sign) y outcome false (carries_none s0 s1 h.server_in h.to_server left taken waits) refl refl
-    (record { grants = refl; posts = refl; tries = refl; asks = refl }) is
+    (record { grants = refl; posts = refl; tries = refl; adds = refl }) is
 
 pub server_sent : (c s0 s1 : Wire) (h : History) (bytes : List ℕ) (count : ℕ) (y : Exchange) (outcome : Outcome) → s1.left ≡ s0.left
     → Appends s0.taken s1.taken (take count bytes) → s1.waits ≡ s0.waits → 0 < count → count ≤ length bytes
@@ -223,13 +223,13 @@ pub server_sent : (c s0 s1 : Wire) (h : History) (bytes : List ℕ) (count : ℕ
 server_sent c s0 s1 h bytes count y outcome left taken waits some within is =
     at_server_side c s0 s1 h (server_got h (take count bytes)) y outcome true
     (carries_sent s0 s1 h.server_in h.to_server bytes count left taken waits some within) refl refl
-    (record { grants = refl; posts = refl; tries = refl; asks = refl }) is
+    (record { grants = refl; posts = refl; tries = refl; adds = refl }) is
 
 pub server_used : (c s0 s1 : Wire) (h : History) (used : ℕ) (y : Exchange) (outcome : Outcome) → s1.left ≡ s0.left → s1.taken ≡ s0.taken
     → s1.waits ≡ drop used s0.waits → IsAt y (ended outcome (server_came h (take used s0.waits))) → Drives c c s0 s1 false false h y outcome
 server_used c s0 s1 h used y outcome left taken waits is =
     at_server_side c s0 s1 h (server_came h (take used s0.waits)) y outcome false (carries_used s0 s1 h.server_in h.to_server used left taken waits) refl refl
-    (record { grants = refl; posts = refl; tries = refl; asks = refl }) is
+    (record { grants = refl; posts = refl; tries = refl; adds = refl }) is
 
 pub server_heard : (c s0 s1 : Wire) (h : History) (bytes : List ℕ) (used : ℕ) (y : Exchange) (outcome : Outcome) → Consumes s0.left s1.left bytes
     → s1.taken ≡ s0.taken → s0.waits ≡ [] → s1.waits ≡ drop used bytes → 0 < length bytes → IsAt y (ended outcome (server_came h (take used bytes)))
@@ -237,4 +237,4 @@ pub server_heard : (c s0 s1 : Wire) (h : History) (bytes : List ℕ) (used : ℕ
 server_heard c s0 s1 h bytes used y outcome left taken none waits some is =
     at_server_side c s0 s1 h (server_came h (take used bytes)) y outcome true
     (carries_heard s0 s1 h.server_in h.to_server bytes used left taken none waits some) refl refl
-    (record { grants = refl; posts = refl; tries = refl; asks = refl }) is
+    (record { grants = refl; posts = refl; tries = refl; adds = refl }) is

@@ -13,7 +13,7 @@ pub record AreSameTerms (h now : History) : Type 0 where
   pub grants : now.grants ≡ h.grants
   pub posts : now.posts ≡ h.posts
   pub tries : now.tries ≡ h.tries
-  pub asks : now.asks ≡ h.asks
+  pub adds : now.adds ≡ h.adds
 
 -- What came of both sockets is what the history says came of the client and of the server, but for what waits; and what the sockets took is what it says both
 -- were sent. Behind it the exchange goes on as another and gives this away.

@@ -148,7 +148,7 @@ passing_signed p h s is = record {
   ended = λ on. ended_more h.signs s (is.ended on);
   well = λ on. shows_more h.signs ServerEnded s (is.well on);
   agreed = is.agreed;
-  asks = is.asks;
+  adds = is.adds;
   leave = is.leave;
 }
 
@@ -409,7 +409,7 @@ passing_ended p q h is ends ends_well same = subst (λ (r : Passing). IsPassing 
   ended = λ on. ends;
   well = ends_well;
   agreed = is.agreed;
-  asks = is.asks;
+  adds = is.adds;
   leave = is.leave;
 })
 
@@ -431,6 +431,6 @@ passing_marked p q h is same = subst (λ (r : Passing). IsPassing r h) (sym same
   ended = is.ended;
   well = is.well;
   agreed = is.agreed;
-  asks = is.asks;
+  adds = is.adds;
   leave = is.leave;
 })

@@ -109,12 +109,12 @@ passing_again p h is may =
     let start : start_of u.framing true ≡ Length 0 = ap (λ (f : Framing). start_of f true) framings ∙ start_bare p.framing may.bare in
     let fed = feeds_none p.up.coding u.taken u.passed (subst (λ (c : Coding). Feeds c p.up.coding u.taken u.passed) start u.feeds) in
     let behind : is.behind ≡ p.up_held.items = u.came_is ∙ ap (λ l. l ++ p.up_held.items) fed.0 in
-    let text : request_text p.asks p.view p.framing ≡ h.to_server ++ p.up.out =
-    ap (request_text p.asks p.view) (sym framings) ∙ sym (append-nil (request_text p.asks p.view u.framing))
-    ∙ ap (λ l. request_text p.asks p.view u.framing ++ l) (sym fed.1) ∙ sym u.given_is ∙ is.sent in
+    let text : request_text p.adds p.view p.framing ≡ h.to_server ++ p.up.out =
+    ap (request_text p.adds p.view) (sym framings) ∙ sym (append-nil (request_text p.adds p.view u.framing))
+    ∙ ap (λ l. request_text p.adds p.view u.framing ++ l) (sym fed.1) ∙ sym u.given_is ∙ is.sent in
     let last : IsTry p.view h.to_server =
     elim may.safe [
-      | inl safe ↦ repeated p.asks p.framing is.framed may.bare safe (record { rest = p.up.out; is = text })
+      | inl safe ↦ repeated p.adds p.framing is.framed may.bare safe (record { rest = p.up.out; is = text })
       | inr far ↦ unsent (none_sent h (is.unreached far))
     ] in (
       none_came p h is may.heads may.none,
@@ -153,7 +153,7 @@ passing_redialed p q h is may same =
         ended = λ on. absurd (true≢false (sym on));
         well = λ on. absurd (true≢false (sym on));
         agreed = is.agreed;
-        asks = is.asks;
+        adds = is.adds;
         leave = is.leave;
       }),
     )

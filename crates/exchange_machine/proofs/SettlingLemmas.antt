@@ -28,10 +28,10 @@ use Rattle.exchange_machine.proofs.SideLemmas.{up_whole, down_whole, down_as, pa
 
 pub passing_settles : (p : Passing) (h : History) (ending : Ending) (clean : Bool) → IsPassing p h
     → (p.phase ≡ Body) × (is_done p.up.coding ≡ true) × (is_done p.down.coding ≡ true) × (p.says ≢ Close)
-    → (clean ≡ true → (p.up.out ≡ []) × (p.down_held.items ≡ []) × (p.asks ≡ Persist) × (p.kept ≡ true)) → (ending ≡ Failed → p.reached ≡ false)
+    → (clean ≡ true → (p.up.out ≡ []) × (p.down_held.items ≡ []) × (p.adds.asks ≡ Persist) × (p.kept ≡ true)) → (ending ≡ Failed → p.reached ≡ false)
     → IsSettling (record { out = p.down; behind = p.up_held; clean = clean }) (posted h p.pass ending)
 passing_settles p h ending clean is done rests fair =
-    let up = up_whole p.asks p.view p.up.coding p.up_held.items is.behind is.request is.up done.1 in
+    let up = up_whole p.adds p.view p.up.coding p.up_held.items is.behind is.request is.up done.1 in
     let down = down_whole p.says p.kept p.view.method (framed_for p.view.version) p.down.coding p.down_held.items h.server_in is.answer
     (down_as Body done.0 is) done.2 in
     let head = is.asked.head in
@@ -40,13 +40,13 @@ passing_settles p h ending clean is done rests fair =
     × (p.kept ≡ true → is_kept_by_server (answer_of answered.head) answered.plan ≡ true)) is.asked.request_is (down.2, down.3, down.4) in
     let over = passing_ends p h ending false is fair (λ on. absurd (true≢false (sym on))) in
     record {
-      whole = record { pass = p.pass; head = head; body = up.0; asks = p.asks; forwarded = is.request; answer = down.0; kept = p.kept; says = p.says; text = is.answer };
+      whole = record { pass = p.pass; head = head; body = up.0; adds = p.adds; forwarded = is.request; answer = down.0; kept = p.kept; says = p.says; text = is.answer };
       unsent = p.up.out;
       extra = p.down_held.items;
       ends = record {
         is = record {
           head = is.asked.is;
-          request = subst (λ (r : Request). IsForwarded p.asks r up.0 is.request) is.asked.request_is up.2;
+          request = subst (λ (r : Request). IsForwarded p.adds r up.0 is.request) is.asked.request_is up.2;
           answered = told_of.0;
           delimits = told_of.1;
           wishes = λ other. ap wished (sym is.asked.request_is) ∙ (is.agreed other).1;

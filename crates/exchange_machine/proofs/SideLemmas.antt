@@ -13,6 +13,7 @@ use Rattle.relay_http.specs.Texts.{request_text, answer_text, interim_text}
 use Rattle.req_view.specs.Answer.{Answer, answer_of}
 use Rattle.req_view.specs.AnswerHeads.{SaysAnswer}
 use Rattle.relay_http.specs.Framings.{request_framing, answer_plan, is_interim}
+use Rattle.relay_http.specs.declared.additions.Additions.{Additions}
 use Rattle.relay_http.specs.declared.persistence.Persistence.{Persistence}
 use Rattle.relay_http.specs.declared.persistence.Persistence.TheVariants.{Close}
 use Rattle.relay_http.specs.declared.plans.Plan.{Plan}
@@ -85,17 +86,17 @@ by_part : {Part : List ℕ → List ℕ → Type 0} (came used rest given more t
 by_part came used rest given more text is part longest =
     longest.most used given (rest ++ more) part (ap (λ l. l ++ more) is ∙ append_assoc used rest more)
 
-pub up_front : (asks : Persistence) (r : Request) (c : Coding) (held came given more text : List ℕ) → IsUp asks r c held came given
-    → IsLongest (PartOfForwarded asks r) (came ++ more) text → IsFront given text
-up_front asks r c held came given more text u longest =
+pub up_front : (adds : Additions) (r : Request) (c : Coding) (held came given more text : List ℕ) → IsUp adds r c held came given
+    → IsLongest (PartOfForwarded adds r) (came ++ more) text → IsFront given text
+up_front adds r c held came given more text u longest =
     let s = feeds_sent u.framing true c u.taken u.passed u.feeds in
     by_part came s.used (s.rest ++ held) given more text
     (u.came_is ∙ ap (λ l. l ++ held) s.input_is ∙ append_assoc s.used s.rest held)
-    (subst (λ (l : List ℕ). PartOfForwarded asks r s.used l) (sym u.given_is) (forwards u.framing s.used u.passed u.framed s.part)) longest
+    (subst (λ (l : List ℕ). PartOfForwarded adds r s.used l) (sym u.given_is) (forwards u.framing s.used u.passed u.framed s.part)) longest
 
-pub up_whole : (asks : Persistence) (r : Request) (c : Coding) (held came given : List ℕ) → IsUp asks r c held came given → is_done c ≡ true
-    → (used : List ℕ) × (came ≡ used ++ held) × IsForwarded asks r used given
-up_whole asks r c held came given u done = (
+pub up_whole : (adds : Additions) (r : Request) (c : Coding) (held came given : List ℕ) → IsUp adds r c held came given → is_done c ≡ true
+    → (used : List ℕ) × (came ≡ used ++ held) × IsForwarded adds r used given
+up_whole adds r c held came given u done = (
   u.taken,
   u.came_is,
   record {
@@ -163,12 +164,12 @@ down_whole says kept method framed c held came given a done =
     )
 
 -- more of a request's body came, and its way took it
-pub up_more : (asks : Persistence) (r : Request) (c d : Coding) (out out' held came given sent bytes : List ℕ) → held ≡ [] → IsUp asks r c held came given
+pub up_more : (adds : Additions) (r : Request) (c d : Coding) (out out' held came given sent bytes : List ℕ) → held ≡ [] → IsUp adds r c held came given
     → given ≡ sent ++ out
     → ((start : Coding) (text x y : List ℕ) → Hears start c text out x y → Hears start d text out' (x ++ bytes) y)
-    → (given' : List ℕ) × IsUp asks r d held (came ++ bytes) given' × (given' ≡ sent ++ out')
-up_more asks r c d out out' held came given sent bytes none u is step =
-    let text = request_text asks r u.framing in
+    → (given' : List ℕ) × IsUp adds r d held (came ++ bytes) given' × (given' ≡ sent ++ out')
+up_more adds r c d out out' held came given sent bytes none u is step =
+    let text = request_text adds r u.framing in
     let before : Hears (start_of u.framing true) c text out u.taken sent = record { given = u.passed; feeds = u.feeds; sent = sym u.given_is ∙ is } in
     let after = step (start_of u.framing true) text u.taken sent before in (
       text ++ after.given,
@@ -232,7 +233,7 @@ pub passing_more : (p : Passing) (way : Way) (h : History) (bytes : List ℕ) �
     → ((start : Coding) (text x y : List ℕ) → Hears start p.up.coding text p.up.out x y → Hears start way.coding text way.out (x ++ bytes) y)
     → IsPassing (record p { up = way }) (client_came h bytes)
 passing_more p way h bytes is none step =
-    let more = up_more p.asks p.view p.up.coding way.coding p.up.out way.out p.up_held.items is.behind is.request h.to_server bytes none is.up is.sent step in
+    let more = up_more p.adds p.view p.up.coding way.coding p.up.out way.out p.up_held.items is.behind is.request h.to_server bytes none is.up is.sent step in
     record {
       behind = is.behind ++ bytes;
       asked = asked_more h.client_in bytes p.view is.behind is.asked;
@@ -250,21 +251,21 @@ passing_more p way h bytes is none step =
       ended = is.ended;
       well = is.well;
       agreed = is.agreed;
-      asks = is.asks;
+      adds = is.adds;
       leave = is.leave;
     }
 
 -- what a side gave is what a part became
-pub up_part : (asks : Persistence) (r : Request) (c : Coding) (held came given : List ℕ) → IsUp asks r c held came given
-    → IsOfPart (PartOfForwarded asks r) came given
-up_part asks r c held came given u =
+pub up_part : (adds : Additions) (r : Request) (c : Coding) (held came given : List ℕ) → IsUp adds r c held came given
+    → IsOfPart (PartOfForwarded adds r) came given
+up_part adds r c held came given u =
     let s = feeds_sent u.framing true c u.taken u.passed u.feeds in
     record {
       used = s.used;
       rest = s.rest ++ held;
       text = given;
       input_is = u.came_is ∙ ap (λ l. l ++ held) s.input_is ∙ append_assoc s.used s.rest held;
-      part = subst (λ (l : List ℕ). PartOfForwarded asks r s.used l) (sym u.given_is) (forwards u.framing s.used u.passed u.framed s.part);
+      part = subst (λ (l : List ℕ). PartOfForwarded adds r s.used l) (sym u.given_is) (forwards u.framing s.used u.passed u.framed s.part);
       front = front_same given;
     }
 
@@ -365,16 +366,16 @@ dialing_sound d h is = record {
 -- the server was reached: the request's head goes out, and its body begins
 pub dialing_passes : (d : Dialing) (p : Passing) (h : History) → IsDialing d h → p.view ≡ d.waiting.asked.view → p.pass ≡ d.pass → p.reached ≡ d.reached
     → p.framing ≡ d.waiting.asked.framing
-    → p.up.coding ≡ start_of d.waiting.asked.framing true → p.up.out ≡ request_text p.asks d.waiting.asked.view d.waiting.asked.framing
+    → p.up.coding ≡ start_of d.waiting.asked.framing true → p.up.out ≡ request_text p.adds d.waiting.asked.view d.waiting.asked.framing
     → p.up_held.items ≡ d.waiting.asked.held.items → p.phase ≡ Heads 0 → p.down_held.items ≡ []
     → p.down.out ≡ leave_text d.waiting.asked.view → p.ended ≡ false
-    → p.leave_left ≡ length p.down.out → p.well ≡ false → p.says ≡ Close → IsPassing p (connected_on h p.asks)
+    → p.leave_left ≡ length p.down.out → p.well ≡ false → p.says ≡ Close → IsPassing p (connected_on h p.adds)
 dialing_passes d p h is view pass reach framing coding out held phase empty leave running left unwell closed =
     let r = d.waiting.asked.view in
     let f = d.waiting.asked.framing in
-    let up : IsUp p.asks p.view p.up.coding p.up_held.items d.waiting.asked.held.items (request_text p.asks r f) =
-    subst (λ (v : Request). IsUp p.asks v p.up.coding p.up_held.items d.waiting.asked.held.items (request_text p.asks r f)) (sym view)
-    (subst (λ (c : Coding). IsUp p.asks r c p.up_held.items d.waiting.asked.held.items (request_text p.asks r f)) (sym coding)
+    let up : IsUp p.adds p.view p.up.coding p.up_held.items d.waiting.asked.held.items (request_text p.adds r f) =
+    subst (λ (v : Request). IsUp p.adds v p.up.coding p.up_held.items d.waiting.asked.held.items (request_text p.adds r f)) (sym view)
+    (subst (λ (c : Coding). IsUp p.adds r c p.up_held.items d.waiting.asked.held.items (request_text p.adds r f)) (sym coding)
     (record {
       framing = f;
       framed = is.asked.framed;
@@ -382,14 +383,14 @@ dialing_passes d p h is view pass reach framing coding out held phase empty leav
       passed = [];
       feeds = feeds_nil (start_of f true);
       came_is = sym held;
-      given_is = sym (append-nil (request_text p.asks r f));
+      given_is = sym (append-nil (request_text p.adds r f));
     })) in
     let heads : AtHeads p.view.method (framed_for p.view.version) 0 p.down_held.items h.server_in [] =
     record { interims = []; are = record { each = tt; few = omega arith }; count_is = refl; came_is = is.unsent.answer ∙ sym empty; given_is = refl } in
     record {
       behind = d.waiting.asked.held.items;
       asked = subst (λ (v : Request). IsAskedBy h.client_in v d.waiting.asked.held.items) (sym view) is.asked.asked;
-      request = request_text p.asks r f;
+      request = request_text p.adds r f;
       up = up;
       sent = sym out ∙ ap (λ l. l ++ p.up.out) (sym is.unsent.server);
       answer = [];
@@ -404,7 +405,7 @@ dialing_passes d p h is view pass reach framing coding out held phase empty leav
       ended = λ on. absurd (true≢false (sym on ∙ running));
       well = λ on. absurd (true≢false (sym on ∙ unwell));
       agreed = λ other. absurd (other closed);
-      asks = refl;
+      adds = refl;
       leave = λ none. record {
         left = p.down.out;
         behind = [];
@@ -418,8 +419,8 @@ pub passing_server : (p : Passing) (h : History) → IsPassing p h → ToServer 
 passing_server p h is =
     of_request p.view is.behind is.asked
     (front_part p.up.out is.sent
-    (subst (λ (a : Persistence). IsOfPart (PartOfForwarded a p.view) is.behind is.request) is.asks
-    (up_part p.asks p.view p.up.coding p.up_held.items is.behind is.request is.up)))
+    (subst (λ (a : Additions). IsOfPart (PartOfForwarded a p.view) is.behind is.request) is.adds
+    (up_part p.adds p.view p.up.coding p.up_held.items is.behind is.request is.up)))
 
 pub passing_client : (p : Passing) (h : History) → (is : IsPassing p h) → ClientText h (leave_text p.view ++ is.answer)
 passing_client p h is =
@@ -548,7 +549,7 @@ passing_answer p way h bytes is body none step grows =
       ended = is.ended;
       well = is.well;
       agreed = is.agreed;
-      asks = is.asks;
+      adds = is.adds;
       leave = λ none. leave_grows grows (is.leave none);
     }
 
@@ -674,7 +675,7 @@ passing_final p way held h count a len plan q is phase stood planned final told 
       ended = is.ended;
       well = is.well;
       agreed = said_wished p.willing p.view plan q.says told;
-      asks = is.asks;
+      adds = is.adds;
       leave = λ none. leave_grows (record { rest = text; is = out }) (is.leave none);
     })
 
@@ -708,7 +709,7 @@ passing_interim p way held h count a len q is phase says planned interim few out
       ended = is.ended;
       well = is.well;
       agreed = is.agreed;
-      asks = is.asks;
+      adds = is.adds;
       leave = λ none. leave_grows (record { rest = interim_text framed a; is = out }) (is.leave none);
     })
 
@@ -757,7 +758,7 @@ pub passing_used : (p : Passing) (way : Way) (q : Passing) (h : History) (used :
     → q.up_held.items ≡ drop used p.up_held.items → q ≡ record p { up = way; up_held = q.up_held } → IsPassing q h
 passing_used p way q h used seen is same step rest here =
     let u = is.up in
-    let text = request_text p.asks p.view u.framing in
+    let text = request_text p.adds p.view u.framing in
     let before : Hears (start_of u.framing true) p.up.coding text p.up.out u.taken h.to_server =
     record { given = u.passed; feeds = u.feeds; sent = sym u.given_is ∙ is.sent } in
     let after = step (start_of u.framing true) text u.taken h.to_server before in
@@ -789,7 +790,7 @@ passing_used p way q h used seen is same step rest here =
       ended = is.ended;
       well = is.well;
       agreed = is.agreed;
-      asks = is.asks;
+      adds = is.adds;
       leave = is.leave;
     })
 
@@ -859,7 +860,7 @@ passing_answer_used p way q h used seen is body same step grows rest here =
       ended = is.ended;
       well = is.well;
       agreed = is.agreed;
-      asks = is.asks;
+      adds = is.adds;
       leave = λ none. leave_grows grows (is.leave none);
     })
 
@@ -934,7 +935,7 @@ passing_told p q h count is out coding still same =
       ended = is.ended;
       well = is.well;
       agreed = is.agreed;
-      asks = is.asks;
+      adds = is.adds;
       leave = λ none.
           let was = still none in
           subst (λ (l : List ℕ). HasLeave q.leave_left (leave_text p.view) (h.to_client ++ front) l) (sym out)
@@ -994,7 +995,7 @@ passing_held p q h bytes is held same =
       ended = is.ended;
       well = is.well;
       agreed = is.agreed;
-      asks = is.asks;
+      adds = is.adds;
       leave = is.leave;
     })
 

@@ -6,6 +6,7 @@ use Rattle.list_facts.specs.Fronts.{IsFront}
 use Rattle.relay_http.specs.Messages.{PartOfForwarded, PartOfAnswered}
 use Rattle.relay_http.specs.Replies.{leave_text, refusal_text}
 use Rattle.relay_http.specs.Texts.{framed_for}
+use Rattle.relay_http.specs.declared.additions.Additions.{Additions}
 use Rattle.relay_http.specs.declared.persistence.Persistence.{Persistence}
 use Rattle.relay_http.specs.declared.fault.Fault.{Fault}
 use Rattle.relay_http.specs.declared.fault.Fault.TheVariants as Faulty
@@ -32,7 +33,7 @@ pub record IsOfPart (Part : List ℕ → List ℕ → Type 0) (input sent : List
 -- the server was sent a front of the forwarded text of what the client sent
 pub data ToServer (h : History) : Type 0 where
   nothing : h.to_server ≡ [] → ToServer h
-  of_request : (r : Request) (behind : List ℕ) → IsAskedBy h.client_in r behind → IsOfPart (PartOfForwarded h.asks r) behind h.to_server → ToServer h
+  of_request : (r : Request) (behind : List ℕ) → IsAskedBy h.client_in r behind → IsOfPart (PartOfForwarded h.adds r) behind h.to_server → ToServer h
 
 -- What the client is told: nothing yet; or that what it sent begins with no request, or that its time for one is over, or that memory is wanting; or one
 -- refusal, which has its reason, before a server was reached; or leave to go on, and then the answered text of what the server sent, or one such refusal,

@@ -17,7 +17,7 @@ pub record IsSettling (s : Settling) (h : History) : Type 0 where
   pub extra : List ℕ
   pub ends : Ends h whole s.behind.items s.out.out unsent extra
   pub stays : whole.says ≢ Close
-  pub clean : s.clean ≡ true → (unsent ≡ []) × (extra ≡ []) × (whole.asks ≡ Persist) × (whole.kept ≡ true)
+  pub clean : s.clean ≡ true → (unsent ≡ []) × (extra ≡ []) × (whole.adds.asks ≡ Persist) × (whole.kept ≡ true)
   pub server : ToServer h
   pub client : ClientText h (told whole)
   pub grants : h.grants ≡ passes_of h.posts

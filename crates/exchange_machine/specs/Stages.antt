@@ -81,7 +81,7 @@ pub record IsPassing (p : Passing) (h : History) : Type 0 where
   pub behind : List ℕ
   pub asked : IsAskedBy h.client_in p.view behind
   pub request : List ℕ
-  pub up : IsUp p.asks p.view p.up.coding p.up_held.items behind request
+  pub up : IsUp p.adds p.view p.up.coding p.up_held.items behind request
   pub sent : request ≡ h.to_server ++ p.up.out
   pub answer : List ℕ
   pub down : IsDown p.says p.kept p.view.method (framed_for p.view.version) p.phase p.down.coding p.down_held.items h.server_in answer
@@ -94,7 +94,7 @@ pub record IsPassing (p : Passing) (h : History) : Type 0 where
   pub ended : p.ended ≡ true → HasEnded h.signs
   pub well : p.well ≡ true → Shows h.signs ServerEnded
   pub agreed : p.says ≢ Close → (p.willing ≡ true) × (wished p.view ≡ p.says)
-  pub asks : p.asks ≡ h.asks
+  pub adds : p.adds ≡ h.adds
   pub leave : p.begun ≡ false → HasLeave p.leave_left (leave_text p.view) h.to_client p.down.out
 
 -- its pass was posted, and what the client is still told waits

@@ -10,7 +10,7 @@ use crate::texts::{put_leave, put_request};
 use crate::waiting::{Asked, Waiting};
 use crate::way::Way;
 use grant_board::Pass;
-use relay_http::Persistence;
+use relay_http::{Additions, Persistence};
 use std::alloc::Global;
 use verdict::Ending;
 
@@ -25,8 +25,8 @@ pub struct Dialing {
 /// How a server's connection is used.
 #[derive(Clone, Copy, Debug, PartialEq, Eq)]
 pub struct Terms {
-    /// What the server is told of its connection.
-    pub asks: Persistence,
+    /// What is added to the request.
+    pub adds: Additions,
     /// Whether the proxy would serve its client further.
     pub willing: bool,
     /// Whether the connection was opened for this request.
@@ -97,8 +97,8 @@ impl Dialing {
     ) -> Result<Passing, Dialing>
         requires up { up.out ≡ [] }
         requires down { down.out ≡ [] }
-        ensures passes { IfOk result (λ passing. (h : History) → stages.IsDialing self h → stages.IsPassing passing (connected_on h terms.asks)) }
-        ensures said { IfOk result (λ passing. (passing.asks ≡ terms.asks) × (passing.willing ≡ terms.willing) × (passing.fresh ≡ terms.fresh)) }
+        ensures passes { IfOk result (λ passing. (h : History) → stages.IsDialing self h → stages.IsPassing passing (connected_on h terms.adds)) }
+        ensures said { IfOk result (λ passing. (passing.adds ≡ terms.adds) × (passing.willing ≡ terms.willing) × (passing.fresh ≡ terms.fresh)) }
         ensures same { IfErr result (λ dialing. dialing ≡ self) }
     {
         let fits = put_request(
@@ -106,7 +106,7 @@ impl Dialing {
             alloc,
             &self.waiting.asked.view,
             self.waiting.asked.framing,
-            terms.asks,
+            terms.adds,
         );
         if !fits {
             return Err(self);
@@ -119,10 +119,10 @@ impl Dialing {
 
     // Both sides begin, behind the request's head and the leave.
     fn begin(self, alloc: Global, mut up: Way, down: Way, terms: Terms) -> Passing
-        requires up { up.out ≡ request_text terms.asks self.waiting.asked.view self.waiting.asked.framing }
+        requires up { up.out ≡ request_text terms.adds self.waiting.asked.view self.waiting.asked.framing }
         requires down { down.out ≡ leave_text self.waiting.asked.view }
-        ensures passes { (h : History) → stages.IsDialing self h → stages.IsPassing result (connected_on h terms.asks) }
-        ensures said { (result.asks ≡ terms.asks) × (result.willing ≡ terms.willing) × (result.fresh ≡ terms.fresh) }
+        ensures passes { (h : History) → stages.IsDialing self h → stages.IsPassing result (connected_on h terms.adds) }
+        ensures said { (result.adds ≡ terms.adds) × (result.willing ≡ terms.willing) × (result.fresh ≡ terms.fresh) }
     {
         up.begin(self.waiting.asked.framing, true);
         let leave_left = down.waiting().len();
@@ -149,7 +149,7 @@ impl Dialing {
             reached,
             framing,
             fresh: terms.fresh,
-            asks: terms.asks,
+            adds: terms.adds,
             willing: terms.willing,
             says: Persistence::Close,
             kept: false,

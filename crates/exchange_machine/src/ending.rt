@@ -139,7 +139,7 @@ impl Passing {
             reached,
             framing,
             fresh: _,
-            asks: _,
+            adds: _,
             willing: _,
             says: _,
             kept: _,
@@ -201,10 +201,10 @@ impl Passing {
     /// Was all of the request sent, and did nothing come behind the answer?
     pub fn is_clean(&self) -> bool
         ensures clean { IsTrue result
-            → (self.now.up.out ≡ []) × (self.now.down_held.items ≡ []) × (self.now.asks ≡ Persistence.Persist) × (self.now.kept ≡ true) }
-        ensures each { self.now.up.out ≡ [] → self.now.down_held.items ≡ [] → self.now.asks ≡ Persistence.Persist → self.now.kept ≡ true → IsTrue result }
+            → (self.now.up.out ≡ []) × (self.now.down_held.items ≡ []) × (self.now.adds.asks ≡ Persistence.Persist) × (self.now.kept ≡ true) }
+        ensures each { self.now.up.out ≡ [] → self.now.down_held.items ≡ [] → self.now.adds.asks ≡ Persistence.Persist → self.now.kept ≡ true → IsTrue result }
     {
-        self.asks == Persistence::Persist
+        self.adds.asks == Persistence::Persist
             && self.kept
             && self.up.waiting().is_empty()
             && self.down_held.is_empty()
@@ -247,7 +247,7 @@ impl Passing {
             reached: _,
             framing: _,
             fresh: _,
-            asks: _,
+            adds: _,
             willing: _,
             says: _,
             kept: _,
@@ -299,7 +299,7 @@ impl Passing {
             reached: _,
             framing: _,
             fresh: _,
-            asks: _,
+            adds: _,
             willing: _,
             says: _,
             kept: _,

@@ -7,6 +7,7 @@ ghost use Rattle.body_coder.specs.Runs.{IsSent};
 ghost use Rattle.body_coder.specs.Stops.{is_done};
 ghost use Rattle.body_coder.specs.declared.coding.Coding as codings;
 ghost use Rattle.relay_http.specs.Messages.{PartOfForwarded, PartOfAnswered, IsForwarded, IsAnswered};
+ghost use Rattle.relay_http.specs.declared.additions.Additions as additions;
 ghost use Rattle.relay_http.specs.declared.persistence.Persistence as words;
 ghost use Rattle.relay_http.specs.declared.fault.Fault as faults;
 ghost use Rattle.req_view.specs.Request.{Request};
@@ -39,11 +40,11 @@ pub fn what_a_way_sends()
 
 /// What a side gave is a front of what the message becomes of which these bytes came, by the definitions of whole messages.
 pub fn what_sides_send()
-    ensures up { (asks : words.Persistence) (r : Request) (c : codings.Coding) (held came given more text : List ℕ) → IsUp asks r c held came given
-        → IsLongest (PartOfForwarded asks r) (came ++ more) text → IsFront given text }
-    ensures whole_up { (asks : words.Persistence) (r : Request) (c : codings.Coding) (held came given : List ℕ) → IsUp asks r c held came given
+    ensures up { (adds : additions.Additions) (r : Request) (c : codings.Coding) (held came given more text : List ℕ) → IsUp adds r c held came given
+        → IsLongest (PartOfForwarded adds r) (came ++ more) text → IsFront given text }
+    ensures whole_up { (adds : additions.Additions) (r : Request) (c : codings.Coding) (held came given : List ℕ) → IsUp adds r c held came given
         → is_done c ≡ true
-        → (used : List ℕ) × (came ≡ used ++ held) × IsForwarded asks r used given }
+        → (used : List ℕ) × (came ≡ used ++ held) × IsForwarded adds r used given }
     ensures down { (says : words.Persistence) (kept : Bool) (method : List ℕ) (framed : Bool) (phase : downs.Down) (c : codings.Coding)
         (held came given more text : List ℕ)
         → IsDown says kept method framed phase c held came given → IsLongest (PartOfAnswered says method framed) (came ++ more) text → IsFront given text }

@@ -12,7 +12,7 @@ use crate::signs::Sign;
 use crate::way::Way;
 use grant_board::Pass;
 use relay_body::Framing;
-use relay_http::Persistence;
+use relay_http::{Additions, Persistence};
 use req_view::View;
 use std::alloc::AllocError;
 
@@ -31,8 +31,8 @@ pub struct Passing {
     pub(crate) framing: Framing,
     /// Whether the server's connection was opened for this request.
     pub(crate) fresh: bool,
-    /// What the server is told of its connection.
-    pub(crate) asks: Persistence,
+    /// What was added to the request.
+    pub(crate) adds: Additions,
     /// Whether the proxy would serve its client further.
     pub(crate) willing: bool,
     /// What the client is told of its own.

@@ -9,7 +9,7 @@ const OLD: &[u8] = b"GET /a HTTP/1.0\r\nHost: h\r\n\r\n";
 const OLD_KEPT: &[u8] = b"GET /a HTTP/1.0\r\nHost: h\r\nConnection: Keep-Alive\r\n\r\n";
 
 // requests that came behind one another, and their answers
-static CHAINS: [Row; 5] = [
+static CHAINS: [Row; 6] = [
     Row {
         name: "two requests in one piece",
         moves: &[
@@ -84,6 +84,26 @@ static CHAINS: [Row; 5] = [
         told: b"HTTP/1.1 200 OK\r\nContent-Length: 2\r\nConnection: keep-alive\r\n\r\nhiHTTP/1.1 200 OK\r\nContent-Length: 2\r\nConnection: close\r\n\r\nhi",
         counts: (2, 0, 0),
         stage: Stage::Leaving,
+    },
+    Row {
+        name: "a server is told whose request it is, and another isn't",
+        moves: &[
+            Move::Client(
+                b"POST /a HTTP/1.1\r\nX-Forwarded-For: 10.0.0.1\r\nHost: h\r\nContent-Length: 2\r\n\r\nabGET /a HTTP/1.1\r\nHost: h\r\n\r\n",
+            ),
+            Move::Grant,
+            Move::Named([192, 0, 2, 7]),
+            Move::Server(HI),
+            Move::Again,
+            Move::Grant,
+            Move::Connected(true),
+            Move::Server(HI),
+        ],
+        aborts: false,
+        sent: b"POST /a HTTP/1.1\r\nX-Forwarded-For: 10.0.0.1\r\nHost: h\r\nX-Forwarded-For: 192.0.2.7\r\nContent-Length: 2\r\n\r\nabGET /a HTTP/1.1\r\nHost: h\r\n\r\n",
+        told: b"HTTP/1.1 200 OK\r\nContent-Length: 2\r\n\r\nhiHTTP/1.1 200 OK\r\nContent-Length: 2\r\n\r\nhi",
+        counts: (2, 0, 0),
+        stage: Stage::Settling,
     },
     Row {
         name: "a request that is none is refused, and is the last",

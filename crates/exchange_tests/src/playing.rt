@@ -5,8 +5,9 @@ use crate::till::Till;
 use exchange_machine::Terms;
 use grant_board::Pass;
 use mixed_exchange::{Clock, Event, Exchange, Outcome, Rules, Step};
-use relay_http::Persistence;
+use relay_http::{Additions, Persistence};
 use std::alloc::Global;
+use std::net::{IpAddr, Ipv4Addr};
 use std::process::Abort;
 use verdict::Ending;
 
@@ -21,6 +22,8 @@ pub(crate) enum Move {
     Unserved,
     /// The server was reached, on a connection that is new or was used before.
     Connected(bool),
+    /// The same on a new connection, and the server is told that the client has this address.
+    Named([u8; 4]),
     Unreachable,
     ClientEnd,
     ClientFailed,
@@ -84,6 +87,18 @@ impl Cut {
             Cut::Pieces(_) | Cut::Two(_) => true,
             Cut::Random(_) => self.next() % 2 == 0,
         }
+    }
+}
+
+// Terms of a connection that both sides would keep.
+fn terms(fresh: bool, client: Option<IpAddr>) -> Terms {
+    Terms {
+        adds: Additions {
+            asks: Persistence::Persist,
+            client,
+        },
+        willing: true,
+        fresh,
     }
 }
 
@@ -215,11 +230,11 @@ impl Table {
             }
             Move::Grant => Event::Granted(self.grant(rt)),
             Move::Unserved => Event::Unserved,
-            Move::Connected(fresh) => Event::Connected(Terms {
-                asks: Persistence::Persist,
-                willing: true,
-                fresh,
-            }),
+            Move::Connected(fresh) => Event::Connected(terms(fresh, None)),
+            Move::Named(address) => {
+                let address = IpAddr::V4(Ipv4Addr::from_octets(address));
+                Event::Connected(terms(true, Some(address)))
+            }
             Move::Unreachable => Event::Unreachable,
             Move::ClientEnd => Event::ClientEnd,
             Move::ClientFailed => Event::ClientFailed,

@@ -1,8 +1,11 @@
 //! Who is here, counted.
 
+ghost use Rattle.std.specs.Prelude.{◌≡◌};
+
 use crate::presence::Presence;
 use crate::shared::Shared;
 use grant_board::BoardName;
+use std::net::IpAddr;
 use std::sync::Wait;
 use std::sync::atomic::Ordering;
 
@@ -18,10 +21,12 @@ impl<N: BoardName> Shared<'_, N> {
         self.clients() < self.most.clients
     }
 
-    /// A client came.
-    pub fn note_client(&self) -> Presence {
+    /// A client came, of this address.
+    pub fn note_client(&self, address: IpAddr) -> Presence
+        ensures { result.address ≡ address }
+    {
         self.came.fetch_add(1, Ordering::SeqCst);
-        Presence::begin()
+        Presence::begin(address)
     }
 
     /// A client is through. Where it was the last one that may come, all threads are told.

@@ -1,19 +1,20 @@
-ghost use Rattle.std.specs.Prelude.{◌≡◌, ◌<◌, ◌≤◌, vec_len};
+ghost use Rattle.std.specs.Prelude.{◌≡◌, ◌<◌, ◌≤◌, if◌then◌else◌, Some, None, vec_len};
 ghost use Rattle.std.specs.Bool.{OnTrue};
 
 use crate::descriptors::Most;
 use crate::mail::Mailbox;
 use crate::outside::Outside;
 use crate::parked::Parked;
+use crate::presence::Presence;
 use crate::spots::leave_all;
 use exchange_machine::Terms;
 use grant_board::BoardName;
 use pass_seat::Idle;
 use place_set::PlaceSet;
-use relay_http::Persistence;
+use relay_http::{Additions, Persistence};
 use relay_workers::{Proxy, Stopped};
 use socket_gate::Front;
-use std::net::SocketAddr;
+use std::net::{IpAddr, SocketAddr};
 use std::sync::atomic::{AtomicBool, AtomicU64, Ordering};
 use std::sync::{Condvar, Mutex, Wait};
 
@@ -178,10 +179,11 @@ impl<N: BoardName> Shared<'_, N> {
         self.front.controls.is_some()
     }
 
-    /// A server's connection is new for each exchange. A client may stay where that is asked for, as long as there is room for others.
-    pub fn terms(&self) -> Terms {
+    /// A server's connection is new for each exchange. It is told of its client, and a client may stay, where that is asked for; the latter as long as there
+    /// is room for others.
+    pub fn terms(&self, presence: &Presence) -> Terms {
         Terms {
-            asks: Persistence::Close,
+            adds: additions(self.front.forwarded_for, presence.address()),
             willing: self.front.keeping.is_some() && self.has_room() && !self.is_stopping(),
             fresh: true,
         }
@@ -214,5 +216,15 @@ impl<N: BoardName> Shared<'_, N> {
         if let Some(mail) = self.mail.as_slice().get(home) {
             mail.send(rt, place);
         }
+    }
+}
+
+// What is added to a request: its server closes its connection, and is told of the client where that is asked for.
+fn additions(names: bool, client: IpAddr) -> Additions
+    ensures { result ≡ record { asks = Persistence.Close; client = if names then Some client else None } }
+{
+    Additions {
+        asks: Persistence::Close,
+        client: if names { Some(client) } else { None },
     }
 }

@@ -22,8 +22,9 @@ use Rattle.relay_body.specs.declared.framing.Framing.{Framing}
 use Rattle.relay_body.specs.declared.framing.Framing.TheVariants.{Empty, Length, Chunked, ToEnd}
 use Rattle.relay_http.specs.Heads.{IsRequest}
 use Rattle.relay_http.specs.Messages.{IsForwarded}
-use Rattle.relay_http.specs.declared.persistence.Persistence.{Persistence}
+use Rattle.relay_http.specs.declared.additions.Additions.{Additions}
 use Rattle.req_view.specs.Request.{request_of}
+use Rattle.message_readings.specs.Alike.{IsNamed}
 use Rattle.message_readings.specs.Found.{FindsRequest}
 use Rattle.message_readings.proofs.Reading.{framed_by_itself}
 use Rattle.message_readings.proofs.Rereading.{reads_alike}
@@ -141,17 +142,16 @@ sent_body (Length count) used passed other is = (ap length is.1 ∙ is.0, refl)
 sent_body Chunked used passed other is = (plain_body is.0, body_good is.0 is.1, is.3 ∙ body_is is.0, is.3 ∙ text_kept is.0)
 sent_body ToEnd used passed other is = absurd (other refl)
 
-pub request_found : (asks : Persistence) (h : RequestHead) (used text : List ℕ) → IsRequest h → (sent : IsForwarded asks (request_of h) used text)
-    → FindsRequest (request_of h) sent.body text
-request_found asks h used text is sent =
-    let head = reads_alike asks h sent.framing is sent.framed in
+pub request_found : (adds : Additions) (h : RequestHead) (used text : List ℕ) → IsNamed adds.client → IsRequest h
+    → (sent : IsForwarded adds (request_of h) used text) → FindsRequest adds.client (request_of h) sent.body text
+request_found adds h used text named is sent =
+    let head = reads_alike adds h sent.framing named is sent.framed in
     let body = sent_body sent.framing used sent.body (framed_by_itself (request_of h) sent.framing sent.framed) sent.passes in
     record {
       message = record { head = head.head; body = sent.body };
       is = record { head = head.is; framing = sent.framing; framed = head.framed; text = sent.body; body = body };
       text_is = sent.text_is ∙ ap (λ l. l ++ sent.body) head.text_is;
-      method = head.method;
-      target = head.target;
+      asks = head.asks;
       body_is = refl;
       same = refl;
     }

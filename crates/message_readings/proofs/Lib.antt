@@ -1,5 +1,6 @@
 pub mod Answering
 pub mod Bodies
+pub mod Naming
 pub mod Reading
 pub mod Replying
 pub mod Rereading

@@ -2,7 +2,9 @@
 use Rattle.std.proofs.Common.{◌≡◌, ◌≢◌, ◌∙◌, ℕ, ◌^◌, ◌<◌, ◌≤◌, ◌==◌, ◌&&◌, ◌||◌, not, Bool, true, false, true≢false, cond, IsTrue, Option, Some, None, List, [], ◌∷◌, ◌++◌, length, map, filter, reverse, codes, decimal, refl, sym, ap, arith, append_assoc, append-nil, subst}
 use Rattle.std.specs.Prelude.{option_map, nat_le}
 use Rattle.std.specs.List.{flat_map, list_all, list_any, AllByRecursion}
+use Rattle.std.specs.Net.Text.{ip_text}
 use Rattle.std.specs.Str.{str_eq_ignore_ascii_case}
+use Rattle.std.specs.declared.net.ip_addr.IpAddr.{IpAddr}
 use Rattle.std.proofs.lemmas.Bool.Decides.{nat_tests}
 use Rattle.std.proofs.lemmas.Fmt.{digits_decimal, digits_value-decimal, decimal_nonempty, length-decimal-le}
 use Rattle.std.proofs.lemmas.Grind.{flat_map-append}
@@ -26,13 +28,15 @@ use Rattle.relay_body.specs.declared.framing.Framing.TheVariants.{Empty, Length,
 use Rattle.relay_http.specs.Fields.{kept, is_kept, is_among, of_request, parts_of}
 use Rattle.relay_http.specs.Framings.{request_framing, by_fields, common, is_number, is_chunked}
 use Rattle.relay_http.specs.Heads.{IsRequest}
-use Rattle.relay_http.specs.Texts.{request_text, field_text, fields_text, framing_text, host_text, connection_text, end_text}
+use Rattle.relay_http.specs.Texts.{request_text, field_text, fields_text, framing_text, host_text, client_text, connection_text, end_text}
+use Rattle.relay_http.specs.declared.additions.Additions.{Additions}
 use Rattle.relay_http.specs.declared.persistence.Persistence.{Persistence}
 use Rattle.relay_http.specs.declared.persistence.Persistence.TheVariants.{Close, Persist, KeepAlive}
 use Rattle.req_view.specs.Request.{NamedValue, Request, request_of, values_of, is_named}
 use Rattle.req_view.specs.declared.version.Version.{Version}
 use Rattle.req_view.specs.declared.version.Version.TheVariants.{Http10, Http11}
-use Rattle.message_readings.specs.Alike.{ReadsAlike}
+use Rattle.message_readings.specs.Alike.{IsNamed, ReadsAlike, names_of}
+use Rattle.message_readings.proofs.Naming.{IsPlain, plain_address, plain_trims, trims_once}
 use Rattle.message_readings.proofs.Reading.{framed_by_itself}
 
 abbrev pub sent_field : NamedValue → Field
@@ -56,13 +60,19 @@ connection_fields KeepAlive = sent_field (codes "Connection", codes "keep-alive"
 abbrev has_host : List NamedValue → Bool
 has_host fields = list_any (is_named (codes "Host")) fields
 
-abbrev all_fields : Persistence → Request → Framing → List Field
-all_fields asks r f =
-    map sent_field (kept of_request r.fields)
-    ++ (host_fields (has_host (kept of_request r.fields)) ++ (framing_fields f ++ connection_fields asks))
+abbrev client_fields : Option IpAddr → List Field
+client_fields None = []
+client_fields (Some address) = sent_field (codes "X-Forwarded-For", ip_text address) ∷ []
 
-abbrev sent_head : Persistence → Request → Framing → RequestHead
-sent_head asks r f = record { blank = []; method = r.method; target = r.target; minor = 1; line_end = crlf; fields = all_fields asks r f; last = crlf }
+-- those of the proxy's own
+abbrev own_fields : Additions → Request → Framing → List Field
+own_fields adds r f = host_fields (has_host (kept of_request r.fields)) ++ (client_fields adds.client ++ (framing_fields f ++ connection_fields adds.asks))
+
+abbrev all_fields : Additions → Request → Framing → List Field
+all_fields adds r f = map sent_field (kept of_request r.fields) ++ own_fields adds r f
+
+abbrev sent_head : Additions → Request → Framing → RequestHead
+sent_head adds r f = record { blank = []; method = r.method; target = r.target; minor = 1; line_end = crlf; fields = all_fields adds r f; last = crlf }
 
 -- the text
 line_is : (v : NamedValue) → print_field (sent_field v) ≡ field_text v
@@ -87,32 +97,38 @@ connection_is Close = refl
 connection_is Persist = refl
 connection_is KeepAlive = refl
 
-section_is : (asks : Persistence) (r : Request) (f : Framing) → print_section (all_fields asks r f) crlf
-    ≡ fields_text (kept of_request r.fields) ++ (host_text (kept of_request r.fields) ++ end_text asks f)
-section_is asks r f =
+client_is : (client : Option IpAddr) → flat_map print_field (client_fields client) ≡ client_text client
+client_is None = refl
+client_is (Some address) =
+    append-nil (print_field (sent_field (codes "X-Forwarded-For", ip_text address))) ∙ line_is (codes "X-Forwarded-For", ip_text address)
+
+-- some fields, and a section behind them
+behind : (xs ys : List Field) (text : List ℕ) → print_section ys crlf ≡ text → print_section (xs ++ ys) crlf ≡ flat_map print_field xs ++ text
+behind xs ys text e =
+    ap (λ l. l ++ crlf_bytes) (flat_map-append print_field xs ys) ∙ append_assoc (flat_map print_field xs) (flat_map print_field ys) crlf_bytes
+    ∙ ap (λ l. flat_map print_field xs ++ l) e
+
+section_is : (adds : Additions) (r : Request) (f : Framing) → print_section (all_fields adds r f) crlf
+    ≡ fields_text (kept of_request r.fields) ++ (host_text (kept of_request r.fields) ++ (client_text adds.client ++ end_text adds.asks f))
+section_is adds r f =
     let k = kept of_request r.fields in
     let h = host_fields (has_host k) in
+    let n = client_fields adds.client in
     let g = framing_fields f in
-    let c = connection_fields asks in
-    ap (λ l. l ++ crlf_bytes)
-    (flat_map-append print_field (map sent_field k) (h ++ (g ++ c))
-    ∙ ap (λ l. flat_map print_field (map sent_field k) ++ l)
-    (flat_map-append print_field h (g ++ c) ∙ ap (λ l. flat_map print_field h ++ l) (flat_map-append print_field g c)))
-    ∙ append_assoc (flat_map print_field (map sent_field k)) (flat_map print_field h ++ (flat_map print_field g ++ flat_map print_field c)) crlf_bytes
-    ∙ ap (λ l. flat_map print_field (map sent_field k) ++ l)
-    (append_assoc (flat_map print_field h) (flat_map print_field g ++ flat_map print_field c) crlf_bytes
-    ∙ ap (λ l. flat_map print_field h ++ l) (append_assoc (flat_map print_field g) (flat_map print_field c) crlf_bytes))
-    ∙ (λ i. kept_text k i ++ (host_is (has_host k) i ++ (framing_is f i ++ connection_is asks i)))
+    let c = connection_fields adds.asks in
+    behind (map sent_field k) (h ++ (n ++ (g ++ c))) _ (behind h (n ++ (g ++ c)) _ (behind n (g ++ c) _ (behind g c _ (connection_is adds.asks))))
+    ∙ (λ i. kept_text k i ++ (host_is (has_host k) i ++ (client_is adds.client i ++ (framing_is f i ++ connection_text adds.asks))))
 
-pub text_same : (asks : Persistence) (r : Request) (f : Framing) → request_text asks r f ≡ print_request (sent_head asks r f)
+pub text_same : (adds : Additions) (r : Request) (f : Framing) → request_text adds r f ≡ print_request (sent_head adds r f)
 unfolding print_request
-text_same asks r f =
-    let rest = fields_text (kept of_request r.fields) ++ (host_text (kept of_request r.fields) ++ end_text asks f) in
-    let section = print_section (all_fields asks r f) crlf in
+text_same adds r f =
+    let rest = fields_text (kept of_request r.fields)
+    ++ (host_text (kept of_request r.fields) ++ (client_text adds.client ++ end_text adds.asks f)) in
+    let section = print_section (all_fields adds r f) crlf in
     let version = codes " HTTP/1.1" in
     append_assoc r.method (space ∷ (r.target ++ codes " HTTP/1.1\r\n")) rest
     ∙ ap (λ l. r.method ++ (space ∷ l)) (append_assoc r.target (codes " HTTP/1.1\r\n") rest)
-    ∙ ap (λ l. r.method ++ (space ∷ (r.target ++ (codes " HTTP/1.1\r\n" ++ l)))) (sym (section_is asks r f))
+    ∙ ap (λ l. r.method ++ (space ∷ (r.target ++ (codes " HTTP/1.1\r\n" ++ l)))) (sym (section_is adds r f))
     ∙ sym (append_assoc ((r.method ++ (space ∷ r.target)) ++ version) crlf_bytes section
     ∙ append_assoc (r.method ++ (space ∷ r.target)) version (crlf_bytes ++ section)
     ∙ append_assoc r.method (space ∷ r.target) (version ++ (crlf_bytes ++ section)))
@@ -258,23 +274,32 @@ values_more name xs ys =
     ap (map (λ (v : NamedValue). v.1)) (filter-append (is_named name) xs ys)
     ∙ map-append (λ (v : NamedValue). v.1) (filter (is_named name) xs) (filter (is_named name) ys)
 
-values_all : (name : List ℕ) (asks : Persistence) (r : Request) (f : Framing)
+-- the values of fields one behind the other
+values_behind : (name : List ℕ) (xs ys : List Field)
+    → values_of name (map name_and_value (xs ++ ys)) ≡ values_of name (map name_and_value xs) ++ values_of name (map name_and_value ys)
+values_behind name xs ys =
+    ap (values_of name) (map-append name_and_value xs ys) ∙ values_more name (map name_and_value xs) (map name_and_value ys)
+
+skipping : (name : List ℕ) (xs ys : List Field) → values_of name (map name_and_value xs) ≡ []
+    → values_of name (map name_and_value (xs ++ ys)) ≡ values_of name (map name_and_value ys)
+skipping name xs ys none = values_behind name xs ys ∙ ap (λ l. l ++ values_of name (map name_and_value ys)) none
+
+values_all : (name : List ℕ) (adds : Additions) (r : Request) (f : Framing)
     → ((n : List ℕ) → str_eq_ignore_ascii_case n name ≡ true → is_among of_request n ≡ true)
-    → ((some : Bool) → values_of name (map name_and_value (host_fields some)) ≡ []) → values_of name (map name_and_value (connection_fields asks)) ≡ []
-    → values_of name (map name_and_value (all_fields asks r f)) ≡ values_of name (map name_and_value (framing_fields f))
-values_all name asks r f among host last =
+    → ((some : Bool) → values_of name (map name_and_value (host_fields some)) ≡ [])
+    → values_of name (map name_and_value (client_fields adds.client)) ≡ []
+    → values_of name (map name_and_value (connection_fields adds.asks)) ≡ []
+    → values_of name (map name_and_value (all_fields adds r f)) ≡ values_of name (map name_and_value (framing_fields f))
+values_all name adds r f among host client last =
     let k = kept of_request r.fields in
     let h = host_fields (has_host k) in
+    let n = client_fields adds.client in
     let g = framing_fields f in
-    let c = connection_fields asks in
-    ap (values_of name) (map-append name_and_value (map sent_field k) (h ++ (g ++ c)))
-    ∙ values_more name (map name_and_value (map sent_field k)) (map name_and_value (h ++ (g ++ c)))
-    ∙ ap (λ l. map (λ (v : NamedValue). v.1) l ++ values_of name (map name_and_value (h ++ (g ++ c)))) (none_kept of_request r.fields name among r.fields)
-    ∙ ap (values_of name) (map-append name_and_value h (g ++ c))
-    ∙ values_more name (map name_and_value h) (map name_and_value (g ++ c))
-    ∙ ap (λ l. l ++ values_of name (map name_and_value (g ++ c))) (host (has_host k))
-    ∙ ap (values_of name) (map-append name_and_value g c)
-    ∙ values_more name (map name_and_value g) (map name_and_value c)
+    let c = connection_fields adds.asks in
+    skipping name (map sent_field k) (h ++ (n ++ (g ++ c))) (ap (map (λ (v : NamedValue). v.1)) (none_kept of_request r.fields name among r.fields))
+    ∙ skipping name h (n ++ (g ++ c)) (host (has_host k))
+    ∙ skipping name n (g ++ c) client
+    ∙ values_behind name g c
     ∙ ap (λ l. values_of name (map name_and_value g) ++ l) last
     ∙ append-nil (values_of name (map name_and_value g))
 
@@ -323,12 +348,67 @@ framed_by (Length count) other small =
 framed_by Chunked other small = refl
 framed_by ToEnd other small = absurd (other refl)
 
-framed_same : (asks : Persistence) (r : Request) (f : Framing) → f ≢ ToEnd → ((count : ℕ) → f ≡ Length count → count < 10 ^ 18)
-    → request_framing (request_of (sent_head asks r f)) ≡ Some f
-framed_same asks r f other small =
-    (λ i. by_fields Http11 Empty (values_all (codes "Transfer-Encoding") asks r f coding_dropped host_codes (last_codes asks) i)
-    (flat_map parts (values_all (codes "Content-Length") asks r f length_dropped host_counts (last_counts asks) i)))
+client_codes : (client : Option IpAddr) → values_of (codes "Transfer-Encoding") (map name_and_value (client_fields client)) ≡ []
+client_codes None = refl
+client_codes (Some address) = refl
+
+client_counts : (client : Option IpAddr) → values_of (codes "Content-Length") (map name_and_value (client_fields client)) ≡ []
+client_counts None = refl
+client_counts (Some address) = refl
+
+framed_same : (adds : Additions) (r : Request) (f : Framing) → f ≢ ToEnd → ((count : ℕ) → f ≡ Length count → count < 10 ^ 18)
+    → request_framing (request_of (sent_head adds r f)) ≡ Some f
+framed_same adds r f other small =
+    (λ i. by_fields Http11 Empty
+    (values_all (codes "Transfer-Encoding") adds r f coding_dropped host_codes (client_codes adds.client) (last_codes adds.asks) i)
+    (flat_map parts (values_all (codes "Content-Length") adds r f length_dropped host_counts (client_counts adds.client) (last_counts adds.asks) i)))
     ∙ framed_by f other small
+
+-- what is handed on is read as it came
+kept_same : (p : NamedValue → Bool) (fs : List Field)
+    → map name_and_value (map sent_field (filter p (map name_and_value fs))) ≡ filter p (map name_and_value fs)
+kept_same p [] = refl
+kept_same p (x ∷ fs) = go (kept_same p fs) (p (name_and_value x)) refl
+  where
+    go : map name_and_value (map sent_field (filter p (map name_and_value fs))) ≡ filter p (map name_and_value fs)
+        → (b : Bool) → p (name_and_value x) ≡ b
+        → map name_and_value (map sent_field (filter p (map name_and_value (x ∷ fs)))) ≡ filter p (map name_and_value (x ∷ fs))
+    go later true e = rw e (λ i. (x.name, trims_once x.raw i) ∷ later i)
+    go later false e = rw e later
+
+-- whose request it is, among the proxy's own fields
+host_names : (some : Bool) → values_of (codes "X-Forwarded-For") (map name_and_value (host_fields some)) ≡ []
+host_names true = refl
+host_names false = refl
+
+framing_names : (f : Framing) → values_of (codes "X-Forwarded-For") (map name_and_value (framing_fields f)) ≡ []
+framing_names Empty = refl
+framing_names (Length count) = refl
+framing_names Chunked = refl
+framing_names ToEnd = refl
+
+last_names : (asks : Persistence) → values_of (codes "X-Forwarded-For") (map name_and_value (connection_fields asks)) ≡ []
+last_names Close = refl
+last_names Persist = refl
+last_names KeepAlive = refl
+
+client_names : (client : Option IpAddr) → IsNamed client
+    → values_of (codes "X-Forwarded-For") (map name_and_value (client_fields client)) ≡ names_of client
+client_names None is = refl
+client_names (Some address) is = ap (λ l. l ∷ []) (plain_trims (ip_text address) (plain_address address is))
+
+own_names : (adds : Additions) (r : Request) (f : Framing) → IsNamed adds.client
+    → values_of (codes "X-Forwarded-For") (map name_and_value (own_fields adds r f)) ≡ names_of adds.client
+own_names adds r f is =
+    let name = codes "X-Forwarded-For" in
+    let h = host_fields (has_host (kept of_request r.fields)) in
+    let n = client_fields adds.client in
+    let g = framing_fields f in
+    let c = connection_fields adds.asks in
+    skipping name h (n ++ (g ++ c)) (host_names (has_host (kept of_request r.fields)))
+    ∙ values_behind name n (g ++ c)
+    ∙ (λ i. client_names adds.client is i ++ (skipping name g c (framing_names f) ∙ last_names adds.asks) i)
+    ∙ append-nil (names_of adds.client)
 
 -- each part is of its class
 passes_all : (test : ℕ → Bool) (l : List ℕ) → list_all test l ≡ true → AllByRecursion (λ b. IsTrue (test b)) l
@@ -396,30 +476,51 @@ connection_good KeepAlive = (
   tt,
 )
 
-pub reads_alike : (asks : Persistence) (h : RequestHead) (f : Framing) → IsRequest h → request_framing (request_of h) ≡ Some f
-    → ReadsAlike asks (request_of h) f
-reads_alike asks h f is framed =
+client_good : (client : Option IpAddr) → IsNamed client → AllByRecursion IsField (client_fields client)
+unfolding is_token_byte
+client_good None is = tt
+client_good (Some address) is =
+    let text = ip_text address in (
+      record {
+        name = (omega arith, literal is_token_byte (codes "X-Forwarded-For") refl);
+        raw = spaced text
+            (All-from_recursion (λ b. IsTrue (is_value_byte b)) text (all_weaker IsPlain (λ b. IsTrue (is_value_byte b)) (λ b plain. plain.0) text
+            (plain_address address is)));
+      },
+      tt,
+    )
+
+pub reads_alike : (adds : Additions) (h : RequestHead) (f : Framing) → IsNamed adds.client → IsRequest h → request_framing (request_of h) ≡ Some f
+    → ReadsAlike adds (request_of h) f
+reads_alike adds h f named is framed =
     let r = request_of h in
     let small : (count : ℕ) → f ≡ Length count → count < 10 ^ 18 = λ count same.
     fields_small r.version (values_of (codes "Transfer-Encoding") r.fields) (parts_of (codes "Content-Length") r.fields) count (framed ∙ ap Some same) in
     let head = is.0.reads.0 in
-    let fields = all_append IsField (map sent_field (kept of_request r.fields)) (host_fields (has_host (kept of_request r.fields)) ++ (framing_fields f
-    ++ connection_fields asks))
+    let k = kept of_request r.fields in
+    let fields = all_append IsField (map sent_field k) (own_fields adds r f)
     (kept_good (λ v. is_kept of_request r.fields v.0) h.fields (recursion_from_All IsField h.fields head.fields))
-    (all_append IsField (host_fields (has_host (kept of_request r.fields))) (framing_fields f
-    ++ connection_fields asks) (host_good (has_host (kept of_request r.fields)))
-    (all_append IsField (framing_fields f) (connection_fields asks) (framing_good f small) (connection_good asks))) in
+    (all_append IsField (host_fields (has_host k)) (client_fields adds.client ++ (framing_fields f ++ connection_fields adds.asks)) (host_good (has_host k))
+    (all_append IsField (client_fields adds.client) (framing_fields f ++ connection_fields adds.asks) (client_good adds.client named)
+    (all_append IsField (framing_fields f) (connection_fields adds.asks) (framing_good f small) (connection_good adds.asks)))) in
     record {
-      head = sent_head asks r f;
+      head = sent_head adds r f;
       is = record {
         method = head.method;
         target = head.target;
         target_text = head.target_text;
         minor = omega arith;
-        fields = All-from_recursion IsField (all_fields asks r f) fields;
+        fields = All-from_recursion IsField (all_fields adds r f) fields;
       };
-      text_is = text_same asks r f;
-      method = refl;
-      target = refl;
-      framed = framed_same asks r f (framed_by_itself r f framed) small;
+      text_is = text_same adds r f;
+      asks = record {
+        method = refl;
+        target = refl;
+        more = map name_and_value (own_fields adds r f);
+        fields =
+            map-append name_and_value (map sent_field k) (own_fields adds r f)
+            ∙ ap (λ l. l ++ map name_and_value (own_fields adds r f)) (kept_same (λ v. is_kept of_request r.fields v.0) h.fields);
+        names = own_names adds r f named;
+      };
+      framed = framed_same adds r f (framed_by_itself r f framed) small;
     }

@@ -1,18 +1,19 @@
 -- What a server finds that reads by the grammar, and what a client finds.
-use Rattle.std.specs.Prelude.{◌≡◌, ℕ, List}
+use Rattle.std.specs.Prelude.{◌≡◌, ℕ, List, Option}
+use Rattle.std.specs.declared.net.ip_addr.IpAddr.{IpAddr}
 use Rattle.relay_http.specs.declared.plans.Plan.{Plan}
 use Rattle.req_view.specs.Answer.{Answer, answer_of}
 use Rattle.req_view.specs.Request.{Request}
+use Rattle.message_readings.specs.Alike.{AsksAlike}
 use Rattle.message_readings.specs.Messages.{Message, IsMessage, print_message}
 use Rattle.message_readings.specs.Replies.{Reply, IsReply, print_reply}
 
 -- the text is one request and no byte more, which asks for the same; and it has this body
-pub record FindsRequest (r : Request) (body text : List ℕ) : Type 0 where
+pub record FindsRequest (client : Option IpAddr) (r : Request) (body text : List ℕ) : Type 0 where
   pub message : Message
   pub is : IsMessage message
   pub text_is : text ≡ print_message message
-  pub method : message.head.method ≡ r.method
-  pub target : message.head.target ≡ r.target
+  pub asks : AsksAlike client r message.head
   pub body_is : message.body ≡ body
   pub same : is.text ≡ body
 

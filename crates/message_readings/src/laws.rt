@@ -9,11 +9,12 @@ ghost use Rattle.relay_http.specs.Messages.{IsFinal, IsForwarded, IsAnswered};
 ghost use Rattle.relay_http.specs.Persistences.{is_delimited};
 ghost use Rattle.relay_http.specs.Replies.{leave_text};
 ghost use Rattle.relay_http.specs.Texts.{framed_for};
+ghost use Rattle.relay_http.specs.declared.additions.Additions as additions;
 ghost use Rattle.relay_http.specs.declared.persistence.Persistence as persistences;
 ghost use Rattle.relay_http.specs.declared.plans.Plan as plans;
 ghost use Rattle.req_view.specs.Answer.{answer_of};
 ghost use Rattle.req_view.specs.Request.{Request, request_of};
-ghost use Rattle.message_readings.specs.Alike.{AnswersAlike, ReadsAlike};
+ghost use Rattle.message_readings.specs.Alike.{AnswersAlike, IsNamed, ReadsAlike};
 ghost use Rattle.message_readings.specs.Found.{FindsAnswer, FindsRequest};
 ghost use Rattle.message_readings.specs.Messages.{Message, IsMessage, print_message};
 ghost use Rattle.message_readings.specs.Replies.{Reply, AreReplies, print_reply};
@@ -32,8 +33,8 @@ pub fn one_answering()
 
 /// A head that is handed on is read by its server as what it is: one head, which asks for the same and frames its body as the client's did.
 pub fn a_server_reads_alike()
-    ensures { (asks : persistences.Persistence) (h : RequestHead) (framing : framings.Framing) → IsRequest h → request_framing (request_of h) ≡ Some framing
-        → ReadsAlike asks (request_of h) framing }
+    ensures { (adds : additions.Additions) (h : RequestHead) (framing : framings.Framing) → IsNamed adds.client → IsRequest h
+        → request_framing (request_of h) ≡ Some framing → ReadsAlike adds (request_of h) framing }
 {}
 
 /// And so is an answer's by its client, where its end shows.
@@ -44,8 +45,8 @@ pub fn a_client_reads_alike()
 
 /// A request that was handed on whole is one request, with the body that it was sent with, and no byte more. By `one_reading` it is read in no other way.
 pub fn a_server_finds_the_request()
-    ensures { (asks : persistences.Persistence) (h : RequestHead) (used text : List ℕ) → IsRequest h
-        → (sent : IsForwarded asks (request_of h) used text) → FindsRequest (request_of h) sent.body text }
+    ensures { (adds : additions.Additions) (h : RequestHead) (used text : List ℕ) → IsNamed adds.client → IsRequest h
+        → (sent : IsForwarded adds (request_of h) used text) → FindsRequest adds.client (request_of h) sent.body text }
 {}
 
 /// And so is an answer, with the leave and the heads before it, where its end shows. By `one_answering` it is read in no other way.

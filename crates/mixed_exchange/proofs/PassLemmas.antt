@@ -3,7 +3,7 @@ use Rattle.std.proofs.Common.{◌≡◌, ◌∙◌, ℕ, List, [], ◌++◌, ref
 use Rattle.std.specs.Prelude.{zero, suc}
 use Rattle.std.proofs.lemmas.List.{append_cancel_left, map-append}
 use Rattle.grant_board.specs.Views.{Grant}
-use Rattle.relay_http.specs.declared.persistence.Persistence.{Persistence}
+use Rattle.relay_http.specs.declared.additions.Additions.{Additions}
 use Rattle.exchange_machine.specs.Histories.{History, Post, passes_of}
 use Rattle.mixed_exchange.specs.Passes.{held_by, if_taken, came_with, gone_with}
 use Rattle.mixed_exchange.specs.Steps.{IsAt, heard, ended, after, came_pass, connected_with, FailsInTurn, TellsInTurn, IsOwn, IsOwnOf}
@@ -36,13 +36,13 @@ taken_posts : (used : ℕ) (pass : Grant) (h : History) → (came_pass used pass
 taken_posts zero pass h = refl
 taken_posts (suc n) pass h = refl
 
-told_grants : (used : ℕ) (asks : Persistence) (h : History) → (connected_with used asks h).grants ≡ h.grants ++ []
-told_grants zero asks h = sym (append-nil h.grants)
-told_grants (suc n) asks h = sym (append-nil h.grants)
+told_grants : (used : ℕ) (adds : Additions) (h : History) → (connected_with used adds h).grants ≡ h.grants ++ []
+told_grants zero adds h = sym (append-nil h.grants)
+told_grants (suc n) adds h = sym (append-nil h.grants)
 
-told_posts : (used : ℕ) (asks : Persistence) (h : History) → (connected_with used asks h).posts ≡ h.posts
-told_posts zero asks h = refl
-told_posts (suc n) asks h = refl
+told_posts : (used : ℕ) (adds : Additions) (h : History) → (connected_with used adds h).posts ≡ h.posts
+told_posts zero adds h = refl
+told_posts (suc n) adds h = refl
 
 heard_grants : (x : Exchange) (event : Event) (used : ℕ) (h : History) → (heard x event used h).grants ≡ h.grants ++ came_with event used
 heard_grants x (Events.ClientBytes input) used h = sym (append-nil h.grants)
@@ -51,7 +51,7 @@ heard_grants x (Events.ClientTook count) used h = sym (append-nil h.grants)
 heard_grants x (Events.ServerTook count) used h = sym (append-nil h.grants)
 heard_grants x (Events.Granted pass) used h = taken_grants used pass h
 heard_grants x Events.Unserved used h = sym (append-nil h.grants)
-heard_grants x (Events.Connected terms) used h = told_grants used terms.asks h
+heard_grants x (Events.Connected terms) used h = told_grants used terms.adds h
 heard_grants x Events.Unreachable used h = sym (append-nil h.grants)
 heard_grants x Events.ClientEnd used h = sym (append-nil h.grants)
 heard_grants x Events.ClientFailed used h = sym (append-nil h.grants)
@@ -67,7 +67,7 @@ heard_posts x (Events.ClientTook count) used h = refl
 heard_posts x (Events.ServerTook count) used h = refl
 heard_posts x (Events.Granted pass) used h = taken_posts used pass h
 heard_posts x Events.Unserved used h = refl
-heard_posts x (Events.Connected terms) used h = told_posts used terms.asks h
+heard_posts x (Events.Connected terms) used h = told_posts used terms.adds h
 heard_posts x Events.Unreachable used h = refl
 heard_posts x Events.ClientEnd used h = refl
 heard_posts x Events.ClientFailed used h = refl

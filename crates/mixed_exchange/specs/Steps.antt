@@ -2,7 +2,7 @@
 use Rattle.std.specs.Prelude.{◌≡◌, ◌≤◌, ℕ, zero, suc, Bool, true, false, ◌||◌, not, if◌then◌else◌, List, [], ◌∷◌, length, take, Option, Some, None}
 use Rattle.body_coder.specs.Stops.{is_done}
 use Rattle.grant_board.specs.Views.{Grant}
-use Rattle.relay_http.specs.declared.persistence.Persistence.{Persistence}
+use Rattle.relay_http.specs.declared.additions.Additions.{Additions}
 use Rattle.exchange_machine.specs.Histories.{History, connected_on, client_came, server_came, server_got, client_got, granted, posted, retried, signed}
 use Rattle.exchange_machine.specs.Settlings.{IsSettling}
 use Rattle.exchange_machine.specs.Wants.{takes_request, takes_answer, sends_request}
@@ -145,10 +145,10 @@ abbrev pub came_pass : ℕ → Grant → History → History
 came_pass zero pass h = h
 came_pass (suc n) pass h = granted h pass
 
--- what a server is told of its connection counts where its head was made for it
-abbrev pub connected_with : ℕ → Persistence → History → History
-connected_with zero asks h = h
-connected_with (suc n) asks h = connected_on h asks
+-- what is added to a request for a connection counts where its head was made for it
+abbrev pub connected_with : ℕ → Additions → History → History
+connected_with zero adds h = h
+connected_with (suc n) adds h = connected_on h adds
 
 -- the history, with what an event told, of which so much was taken; what a side took it took
 abbrev pub heard : Exchange → Event → ℕ → History → History
@@ -158,7 +158,7 @@ heard x (Events.ClientTook count) used h = client_got h (take count (to_client x
 heard x (Events.ServerTook count) used h = server_got h (take count (to_server x))
 heard x (Events.Granted pass) used h = came_pass used pass h
 heard x Events.Unserved used h = signed h Signs.Unserved
-heard x (Events.Connected terms) used h = connected_with used terms.asks h
+heard x (Events.Connected terms) used h = connected_with used terms.adds h
 heard x Events.Unreachable used h = signed h Signs.Unreachable
 heard x Events.ClientEnd used h = signed h Signs.ClientEnded
 heard x Events.ClientFailed used h = signed h Signs.ClientFailed

@@ -4,7 +4,7 @@ ghost use Rattle.exchange_machine.specs.Reasons.{told_for};
 ghost use Rattle.exchange_machine.specs.declared.signs.Sign.{Sign};
 ghost use Rattle.exchange_machine.specs.Stages.{IsAsking, IsDialing, IsPassing, IsTurn, IsUnread};
 ghost use Rattle.mixed_exchange.specs.Steps as steps;
-ghost use Rattle.relay_http.specs.declared.persistence.Persistence as words;
+ghost use Rattle.relay_http.specs.declared.additions.Additions as additions;
 ghost use Rattle.relay_http.specs.declared.refusing.Code as codes;
 
 use crate::event::Clock;
@@ -42,8 +42,8 @@ fn unmoved(exchange: Exchange) -> Step
         → steps.IsAt result.next (steps.ended result.outcome (client_got h (take count []))) }
     ensures server_took { (h : History) (count : ℕ) → steps.IsAt exchange h
         → steps.IsAt result.next (steps.ended result.outcome (server_got h (take count []))) }
-    ensures connected { (h : History) (asks : words.Persistence) → steps.IsAt exchange h
-        → steps.IsAt result.next (steps.ended result.outcome (steps.connected_with result.used asks h)) }
+    ensures connected { (h : History) (adds : additions.Additions) → steps.IsAt exchange h
+        → steps.IsAt result.next (steps.ended result.outcome (steps.connected_with result.used adds h)) }
     ensures fails { steps.FailsInTurn result.outcome result.next }
 {
     Step {
@@ -280,7 +280,7 @@ pub(crate) fn unserved(exchange: Exchange, sign: Sign) -> Step
 
 pub(crate) fn connected(exchange: Exchange, alloc: Global, terms: Terms) -> Step
     ensures at { (h : History) → steps.IsAt exchange h
-        → steps.IsAt result.next (steps.ended result.outcome (steps.connected_with result.used terms.asks h)) }
+        → steps.IsAt result.next (steps.ended result.outcome (steps.connected_with result.used terms.adds h)) }
     ensures fails { steps.FailsInTurn result.outcome result.next }
 {
     match exchange {
@@ -293,7 +293,7 @@ pub(crate) fn connected(exchange: Exchange, alloc: Global, terms: Terms) -> Step
 // On a connection in place of one that broke what waits goes out as it stands.
 fn reconnected(mut passing: Passing, alloc: Global, terms: Terms) -> Step
     ensures at { (h : History) → IsPassing passing h
-        → steps.IsAt result.next (steps.ended result.outcome (steps.connected_with result.used terms.asks h)) }
+        → steps.IsAt result.next (steps.ended result.outcome (steps.connected_with result.used terms.adds h)) }
     ensures fails { steps.FailsInTurn result.outcome result.next }
 {
     if !passing.is_dialing() {
@@ -310,7 +310,7 @@ fn reconnected(mut passing: Passing, alloc: Global, terms: Terms) -> Step
 
 fn begin(dialing: Dialing, alloc: Global, terms: Terms) -> Step
     ensures at { (h : History) → IsDialing dialing h
-        → steps.IsAt result.next (steps.ended result.outcome (steps.connected_with result.used terms.asks h)) }
+        → steps.IsAt result.next (steps.ended result.outcome (steps.connected_with result.used terms.adds h)) }
     ensures fails { steps.FailsInTurn result.outcome result.next }
 {
     let Ok(up) = Way::new(alloc) else {
@@ -333,8 +333,8 @@ fn begin(dialing: Dialing, alloc: Global, terms: Terms) -> Step
 }
 
 fn short(dialing: Dialing) -> Step
-    ensures at { (h : History) (asks : words.Persistence) → IsDialing dialing h
-        → steps.IsAt result.next (steps.ended result.outcome (steps.connected_with result.used asks h)) }
+    ensures at { (h : History) (adds : additions.Additions) → IsDialing dialing h
+        → steps.IsAt result.next (steps.ended result.outcome (steps.connected_with result.used adds h)) }
     ensures fails { steps.FailsInTurn result.outcome result.next }
 {
     let (waiting, pass) = dialing.give_up();

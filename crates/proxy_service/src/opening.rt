@@ -14,6 +14,8 @@ use std::os::fd::AsRawFd;
 pub struct RunOptions {
     /// How long a client may stay between two requests, in milliseconds. None: it has one.
     pub keeping: Option<u64>,
+    /// Whether servers are told whose requests they get.
+    pub forwarded_for: bool,
     /// What it is steered by while it serves.
     pub controls: Option<Controls>,
 }

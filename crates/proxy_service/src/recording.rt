@@ -118,6 +118,7 @@ fn serve_on<
     let (proxy, relay) = proxy_of::<N>(alloc, config, parts);
     let options = RunOptions {
         keeping: None,
+        forwarded_for: false,
         controls: None,
     };
     let beside = beside_of(alloc, &proxy.config, options)?;

@@ -58,5 +58,6 @@ pub(crate) fn front_of<'a, R: Clock + AllocGlobal>(
         windows: &beside.windows,
         controls: beside.options.controls.as_ref(),
         keeping: beside.options.keeping,
+        forwarded_for: beside.options.forwarded_for,
     })
 }

@@ -14,6 +14,7 @@ use Rattle.relay_http.specs.Messages.{IsForwarded, PartOfForwarded, IsInterim, I
 use Rattle.relay_http.specs.Messages.PartOfForwarded.{nothing, head_and_body as request}
 use Rattle.relay_http.specs.Messages.PartOfAnswered.{some_heads, head_and_body as answer}
 use Rattle.relay_http.specs.Texts.{request_text, answer_text, interim_text}
+use Rattle.relay_http.specs.declared.additions.Additions.{Additions}
 use Rattle.relay_http.specs.declared.persistence.Persistence.{Persistence}
 use Rattle.relay_http.specs.declared.plans.Plan.{Plan}
 use Rattle.relay_http.proofs.Passing.{body_part}
@@ -24,23 +25,24 @@ use Rattle.req_view.specs.Request.{Request}
 pub same_head : (h k : ResponseHead) (x y : List ℕ) → IsAnswer h → IsAnswer k → print_response h ++ x ≡ print_response k ++ y → (h ≡ k) × (x ≡ y)
 same_head h k x y is other e = response_unique (print_response h ++ x) h k x y (is.reads.0, refl) (other.reads.0, e)
 
-module _ (says : Persistence) where
-  pub forwarded_agree : (r : Request) {used text more_used more_text : List ℕ} (rest more_rest : List ℕ) → PartOfForwarded says r used text
-      → PartOfForwarded says r more_used more_text → used ++ rest ≡ more_used ++ more_rest → AreComparable text more_text
+module _ (adds : Additions) where
+  pub forwarded_agree : (r : Request) {used text more_used more_text : List ℕ} (rest more_rest : List ℕ) → PartOfForwarded adds r used text
+      → PartOfForwarded adds r more_used more_text → used ++ rest ≡ more_used ++ more_rest → AreComparable text more_text
   forwarded_agree r {more_text = more_text} rest more_rest nothing other e = inl (front_nil more_text)
   forwarded_agree r {text = text} rest more_rest one nothing e = inr (front_nil text)
   forwarded_agree r rest more_rest (request f u b is part) (request g v c same other) e =
       let one : Some f ≡ Some g = sym is ∙ same in
       let framings : f ≡ g = cc in
-      comparable_as refl (ap (λ (h : Framed.Framing). request_text says r h ++ c) framings)
-      (under (request_text says r f) (bodies_agree f true u b v c rest more_rest part (subst (λ (h : Framed.Framing). PartOfBody h true v c)
+      comparable_as refl (ap (λ (h : Framed.Framing). request_text adds r h ++ c) framings)
+      (under (request_text adds r f) (bodies_agree f true u b v c rest more_rest part (subst (λ (h : Framed.Framing). PartOfBody h true v c)
       (sym framings) other) e))
 
-  pub forwarded_part : {r : Request} {used text : List ℕ} → IsForwarded says r used text → PartOfForwarded says r used text
+  pub forwarded_part : {r : Request} {used text : List ℕ} → IsForwarded adds r used text → PartOfForwarded adds r used text
   forwarded_part {r} {used} w =
-      subst (λ (l : List ℕ). PartOfForwarded says r used l) (sym w.text_is) (request w.framing used w.body w.framed
+      subst (λ (l : List ℕ). PartOfForwarded adds r used l) (sym w.text_is) (request w.framing used w.body w.framed
       (body_part w.framing true used w.body w.passes))
 
+module _ (says : Persistence) where
   -- what stands behind the heads before an answer: nothing yet, or the answer's own and a part of its body
   data Tail (method : List ℕ) (framed : Bool) : List ℕ → List ℕ → Type 0 where
     none : Tail method framed [] []

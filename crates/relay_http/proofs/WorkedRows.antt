@@ -2,6 +2,8 @@
 use Rattle.std.proofs.Common.{◌≡◌, ◌∙◌, ℕ, ◌≤◌, List, [], ◌∷◌, Some, None, true, false, codes, length, refl, sym, ap, arith, subst}
 use base.Fml.{GName}
 use Rattle.std.specs.Fmt.{digits}
+use Rattle.std.specs.Net.Text.{hex, hex_groups_text, ipv6_text}
+use Rattle.std.specs.declared.net.ip_addr.IpAddr.TheVariants.{V4, V6}
 use Rattle.relay_body.specs.declared.framing.Framing.TheVariants.{Empty, Length, Chunked, ToEnd}
 use Rattle.relay_http.specs.Framings.{request_framing, answer_plan, bare}
 use Rattle.counted_io.specs.Streams.{Stream}
@@ -18,7 +20,7 @@ use Rattle.verdict.specs.declared.cause.Cause.TheVariants.{Aborted}
 use Rattle.verdict.specs.declared.Verdict.TheVariants.{Serve, Told}
 use Rattle.relay_http.specs.Persistences.{wished, answer_says}
 use Rattle.relay_http.specs.Replies.{leave_text}
-use Rattle.relay_http.specs.Texts.{request_text, answer_text, interim_text}
+use Rattle.relay_http.specs.Texts.{request_text, unnamed, answer_text, interim_text}
 use Rattle.req_view.specs.Answer.{Answer}
 use Rattle.req_view.specs.Request.{NamedValue, Request}
 use Rattle.req_view.specs.declared.version.Version.{Version}
@@ -51,7 +53,7 @@ unfolding naming_a_field post host length_is
 naming_a_field_framing = refl
 
 -- the field that Connection names isn't handed on
-naming_a_field_text : request_text Close naming_a_field (Length 3) ≡ codes "POST /a HTTP/1.1\r\nHost: h\r\nContent-Length: 3\r\nConnection: close\r\n\r\n"
+naming_a_field_text : request_text (unnamed Close) naming_a_field (Length 3) ≡ codes "POST /a HTTP/1.1\r\nHost: h\r\nContent-Length: 3\r\nConnection: close\r\n\r\n"
 unfolding naming_a_field post host length_is digits
 naming_a_field_text = refl
 
@@ -108,15 +110,29 @@ unfolding old_get
 no_framing = refl
 
 -- an old request without a Host field gets an empty one
-old_get_text : request_text Close (old_get []) Empty ≡ codes "GET /a HTTP/1.1\r\nHost:\r\nConnection: close\r\n\r\n"
+old_get_text : request_text (unnamed Close) (old_get []) Empty ≡ codes "GET /a HTTP/1.1\r\nHost:\r\nConnection: close\r\n\r\n"
 unfolding old_get
 old_get_text = refl
 
 -- and so does one whose Connection names Host
-host_named_text : request_text Close (post (host ∷ (codes "connection", codes "close , HOST") ∷ [])) Empty
+host_named_text : request_text (unnamed Close) (post (host ∷ (codes "connection", codes "close , HOST") ∷ [])) Empty
     ≡ codes "POST /a HTTP/1.1\r\nHost:\r\nConnection: close\r\n\r\n"
 unfolding post host
 host_named_text = refl
+
+-- whose request it is stands behind the fields that came, one of the same name among them
+named_text : request_text (record { asks = Close; client = Some (V4 (record { octets = 192 ∷ 0 ∷ 2 ∷ 7 ∷ [] })) })
+    (post (host ∷ (codes "x-forwarded-for", codes "10.0.0.1") ∷ length_is (codes "3") ∷ [])) (Length 3)
+    ≡ codes "POST /a HTTP/1.1\r\nHost: h\r\nx-forwarded-for: 10.0.0.1\r\nX-Forwarded-For: 192.0.2.7\r\nContent-Length: 3\r\nConnection: close\r\n\r\n"
+unfolding post host length_is digits
+named_text = refl
+
+-- also where Connection names that field
+named_anew_text : request_text (record { asks = Close; client = Some (V6 (record { segments = 0x2001 ∷ 0xdb8 ∷ 0 ∷ 0 ∷ 0 ∷ 0 ∷ 0 ∷ 1 ∷ [] })) })
+    (post (host ∷ (codes "Connection", codes "X-Forwarded-For") ∷ (codes "X-Forwarded-For", codes "10.0.0.1") ∷ [])) Empty
+    ≡ codes "POST /a HTTP/1.1\r\nHost: h\r\nX-Forwarded-For: 2001:db8::1\r\nConnection: close\r\n\r\n"
+unfolding post host ipv6_text hex_groups_text hex
+named_anew_text = refl
 
 chunked_answer : answer_plan (codes "GET") (answer 200 Http11 (chunked ∷ [])) ≡ Some (record { body = Chunked; stated = Chunked })
 unfolding answer chunked
@@ -199,7 +215,7 @@ unfolding old_get length_is
 no_leave_for_old = refl
 
 -- the body goes behind the head, and no byte past it
-naming_a_field_whole : IsForwarded Close naming_a_field (codes "abc") (codes "POST /a HTTP/1.1\r\nHost: h\r\nContent-Length: 3\r\nConnection: close\r\n\r\nabc")
+naming_a_field_whole : IsForwarded (unnamed Close) naming_a_field (codes "abc") (codes "POST /a HTTP/1.1\r\nHost: h\r\nContent-Length: 3\r\nConnection: close\r\n\r\nabc")
 unfolding naming_a_field post host length_is digits
 naming_a_field_whole = record { framing = Length 3; framed = refl; body = codes "abc"; passes = (refl, refl); text_is = refl }
 
@@ -209,24 +225,24 @@ length_of w same used text passes =
     (subst (λ (f : Framing). IsBody f true used text) (sym is) passes).0
 
 -- two bytes are no body of three
-not_yet_whole : (text : List ℕ) → ¬ (IsForwarded Close naming_a_field (codes "ab") text)
+not_yet_whole : (text : List ℕ) → ¬ (IsForwarded (unnamed Close) naming_a_field (codes "ab") text)
 not_yet_whole text w = omega (arith, length_of w.framing (sym naming_a_field_framing ∙ w.framed) (codes "ab") w.body w.passes)
 
 -- but a part, which becomes as much
-naming_a_field_part : PartOfForwarded Close naming_a_field (codes "ab")
+naming_a_field_part : PartOfForwarded (unnamed Close) naming_a_field (codes "ab")
     (codes "POST /a HTTP/1.1\r\nHost: h\r\nContent-Length: 3\r\nConnection: close\r\n\r\nab")
 unfolding naming_a_field post host length_is digits
 naming_a_field_part = head_and_body (Length 3) (codes "ab") (codes "ab") refl (omega arith, refl)
 
 -- a byte past the body is of no part
-few_bytes : (used text : List ℕ) → PartOfForwarded Close naming_a_field used text → length used ≤ 3
+few_bytes : (used text : List ℕ) → PartOfForwarded (unnamed Close) naming_a_field used text → length used ≤ 3
 few_bytes used text nothing = omega arith
 few_bytes used text (head_and_body w u body framed part) =
     let same : Some (Length 3) ≡ Some w = sym naming_a_field_framing ∙ framed in
     let is : Length 3 ≡ w = cc in
     (subst (λ (f : Framing). PartOfBody f true u body) (sym is) part).0
 
-past_the_body : (text : List ℕ) → ¬ (PartOfForwarded Close naming_a_field (codes "abcd") text)
+past_the_body : (text : List ℕ) → ¬ (PartOfForwarded (unnamed Close) naming_a_field (codes "abcd") text)
 past_the_body text part = omega (arith, few_bytes (codes "abcd") text part)
 
 -- where the input ends there, a byte is wanting
@@ -268,7 +284,7 @@ not_spent : (old new : Ends) (input : List ℕ) → new.pipe.turns ≡ 1 → ¬ 
 not_spent old new input left blames = omega (arith, left, blames.1)
 
 -- the same where the connection stays open
-kept_open_text : request_text Persist naming_a_field (Length 3) ≡ codes "POST /a HTTP/1.1\r\nHost: h\r\nContent-Length: 3\r\n\r\n"
+kept_open_text : request_text (unnamed Persist) naming_a_field (Length 3) ≡ codes "POST /a HTTP/1.1\r\nHost: h\r\nContent-Length: 3\r\n\r\n"
 unfolding naming_a_field post host length_is digits
 kept_open_text = refl
 

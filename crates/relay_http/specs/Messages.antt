@@ -7,6 +7,7 @@ use Rattle.relay_body.specs.declared.framing.Framing as Framed
 use Rattle.relay_http.specs.Framings.{request_framing, answer_plan, is_interim}
 use Rattle.relay_http.specs.Heads.{IsAnswer}
 use Rattle.relay_http.specs.Texts.{request_text, answer_text, interim_text}
+use Rattle.relay_http.specs.declared.additions.Additions.{Additions}
 use Rattle.relay_http.specs.declared.fault.Fault.{Fault}
 use Rattle.relay_http.specs.declared.fault.Fault.TheVariants.{NoMemory, Head, Framing, Read, Write, Turns, Closed}
 use Rattle.relay_http.specs.declared.messages.Role.{Role}
@@ -18,18 +19,18 @@ use Rattle.req_view.specs.AnswerHeads.{HasNoAnswer, NeverHasAnswer}
 use Rattle.req_view.specs.Request.{Request}
 
 -- `used` is the body of the request, and `text` is what the request becomes
-pub record IsForwarded (says : Persistence) (r : Request) (used text : List ℕ) : Type 0 where
+pub record IsForwarded (adds : Additions) (r : Request) (used text : List ℕ) : Type 0 where
   pub framing : Framed.Framing
   pub framed : request_framing r ≡ Some framing
   pub body : List ℕ
   pub passes : IsBody framing true used body
-  pub text_is : text ≡ request_text says r framing ++ body
+  pub text_is : text ≡ request_text adds r framing ++ body
 
 -- `used` is a part of its body, and `text` is what the head and it become; of a request that is framed badly, nothing
-pub data PartOfForwarded (says : Persistence) (r : Request) : List ℕ → List ℕ → Type 0 where
-  nothing : PartOfForwarded says r [] []
+pub data PartOfForwarded (adds : Additions) (r : Request) : List ℕ → List ℕ → Type 0 where
+  nothing : PartOfForwarded adds r [] []
   head_and_body : (framing : Framed.Framing) (used body : List ℕ) → request_framing r ≡ Some framing → PartOfBody framing true used body
-      → PartOfForwarded says r used (request_text says r framing ++ body)
+      → PartOfForwarded adds r used (request_text adds r framing ++ body)
 
 -- what is wrong with the bytes of a body
 abbrev pub NoBody : Framed.Framing → Fault → List ℕ → Type 0

@@ -1,10 +1,13 @@
 -- The texts of heads that are handed on.
-use Rattle.std.specs.Prelude.{ℕ, ◌+◌, ◌/◌, ◌%◌, ◌==◌, ◌&&◌, not, Bool, true, false, List, [], ◌∷◌, ◌++◌, if◌then◌else◌, codes, decimal}
+use Rattle.std.specs.Prelude.{ℕ, ◌+◌, ◌/◌, ◌%◌, ◌==◌, ◌&&◌, not, Bool, true, false, List, [], ◌∷◌, ◌++◌, if◌then◌else◌, Option, Some, None, codes, decimal}
 use Rattle.std.specs.List.{flat_map, list_any}
+use Rattle.std.specs.Net.Text.{ip_text}
+use Rattle.std.specs.declared.net.ip_addr.IpAddr.{IpAddr}
 use Rattle.httparse.specs.Ascii.{crlf_bytes, space}
 use Rattle.relay_body.specs.declared.framing.Framing.{Framing}
 use Rattle.relay_body.specs.declared.framing.Framing.TheVariants.{Empty, Length, Chunked, ToEnd}
 use Rattle.relay_http.specs.Fields.{kept, of_connection, of_request}
+use Rattle.relay_http.specs.declared.additions.Additions.{Additions}
 use Rattle.relay_http.specs.declared.persistence.Persistence.{Persistence}
 use Rattle.relay_http.specs.declared.persistence.Persistence.TheVariants.{Close, Persist, KeepAlive}
 use Rattle.relay_http.specs.declared.plans.Plan.{Plan}
@@ -45,10 +48,20 @@ request_line r = r.method ++ (space ∷ (r.target ++ codes " HTTP/1.1\r\n"))
 abbrev pub end_text : Persistence → Framing → List ℕ
 end_text says framing = framing_text framing ++ connection_text says
 
+-- the line that says whose request it is, where the server is told
+abbrev pub client_text : Option IpAddr → List ℕ
+client_text None = []
+client_text (Some address) = codes "X-Forwarded-For: " ++ (ip_text address ++ crlf_bytes)
+
+-- where it isn't
+abbrev pub unnamed : Persistence → Additions
+unnamed asks = record { asks = asks; client = None }
+
 -- a request's head
-abbrev pub request_text : Persistence → Request → Framing → List ℕ
-request_text says r framing =
-    request_line r ++ (fields_text (kept of_request r.fields) ++ (host_text (kept of_request r.fields) ++ end_text says framing))
+abbrev pub request_text : Additions → Request → Framing → List ℕ
+request_text adds r framing =
+    request_line r ++ (fields_text (kept of_request r.fields)
+    ++ (host_text (kept of_request r.fields) ++ (client_text adds.client ++ end_text adds.asks framing)))
 
 -- three digits
 abbrev pub status_text : ℕ → List ℕ

@@ -8,7 +8,7 @@ ghost use Rattle.relay_http.specs.Messages as messages;
 ghost use Rattle.relay_http.specs.Replies.{leave_text, refusal_text};
 ghost use Rattle.relay_http.specs.States as states;
 ghost use Rattle.relay_http.specs.States.{IsAt, Serves};
-ghost use Rattle.relay_http.specs.Texts.{framed_for};
+ghost use Rattle.relay_http.specs.Texts.{framed_for, unnamed};
 ghost use Rattle.req_view.specs.Request.{request_of};
 
 use crate::exchange::{Exchange, Stage};
@@ -62,7 +62,7 @@ impl Exchange {
     ) -> Result<(), Fault>
         requires ready { IsAt Stage.Asked self.old }
         requires serves { Serves pass.now.verdict }
-        ensures ok { OnOk result ((used : List ℕ) × (text : List ℕ) × messages.IsForwarded Persistence.Close view.now used text
+        ensures ok { OnOk result ((used : List ℕ) × (text : List ℕ) × messages.IsForwarded (unnamed Persistence.Close) view.now used text
             × Passes self.old.pipe.inbox self.new.pipe.inbox (R.remaining reader.old) (R.remaining reader.new) (W.contents writer.old)
             (W.contents writer.new) used text) }
         ensures forwarded { OnOk result (self.new.stage ≡ states.forwarded_on pass.now) }
@@ -70,7 +70,7 @@ impl Exchange {
         ensures untouched { self.old.stage ≡ Stage.Failed
             → (self.new ≡ self.old) × (R.remaining reader.new ≡ R.remaining reader.old) × (W.contents writer.new ≡ W.contents writer.old) }
         ensures err { self.old.stage ≢ Stage.Failed
-            → IfErr result (λ fault. (used : List ℕ) × (text : List ℕ) × messages.PartOfForwarded Persistence.Close view.now used text
+            → IfErr result (λ fault. (used : List ℕ) × (text : List ℕ) × messages.PartOfForwarded (unnamed Persistence.Close) view.now used text
             × Misses self.old.pipe.inbox (R.remaining reader.old) (R.remaining reader.new) (W.contents writer.old) (W.contents writer.new) used text
             (messages.LacksForwarded view.now) fault) }
         ensures failed { OnErr result (self.new.stage ≡ Stage.Failed) }

@@ -4,6 +4,7 @@ ghost use Rattle.relay_http.specs.Lines.{kept_line};
 ghost use Rattle.relay_http.specs.Replies as replies;
 ghost use Rattle.relay_http.specs.Texts as texts;
 
+use crate::additions::Additions;
 use crate::fields::{Way, is_kept, keeps_host};
 use crate::heads::{stated, status_digits};
 use crate::leave::waits_for_leave;
@@ -13,21 +14,23 @@ use itoa::Buffer;
 use relay_body::Framing;
 use req_view::{AnswerHead, Section, View};
 use std::alloc::{AllocError, Global};
+use std::net::IpAddr;
 
 /// The head of a request that is handed on to a server.
 pub fn request_head(
     alloc: Global,
     view: &View,
     framing: Framing,
-    asks: Persistence,
+    adds: Additions,
 ) -> Result<Vec<u8>, AllocError>
-    ensures { IfOk result (λ text. text.items ≡ texts.request_text asks view.now framing) }
+    ensures { IfOk result (λ text. text.items ≡ texts.request_text adds view.now framing) }
 {
     let mut text = Vec::new(alloc);
     add_request_line(&mut text, view)?;
     add_fields(&mut text, view.section(), Way::ToServer)?;
     add_host(&mut text, view.section())?;
-    add_end(&mut text, framing, asks)?;
+    add_client(&mut text, alloc, adds.client)?;
+    add_end(&mut text, framing, adds.asks)?;
     Ok(text)
 }
 
@@ -148,6 +151,25 @@ fn add_host(text: &mut Vec<u8>, section: &Section) -> Result<(), AllocError>
         return Ok(());
     }
     add(text, b"Host:\r\n")
+}
+
+// Whose request it is, where the server is told.
+fn add_client(text: &mut Vec<u8>, alloc: Global, client: Option<IpAddr>) -> Result<(), AllocError>
+    ensures { OnOk result (text.new.items ≡ text.old.items ++ texts.client_text client) }
+{
+    match client {
+        None => Ok(()),
+        Some(address) => add_address(text, alloc, address),
+    }
+}
+
+fn add_address(text: &mut Vec<u8>, alloc: Global, address: IpAddr) -> Result<(), AllocError>
+    ensures { OnOk result (text.new.items ≡ text.old.items ++ texts.client_text (Some address)) }
+{
+    let written = format!(in alloc; "{address}")?;
+    add(text, b"X-Forwarded-For: ")?;
+    add(text, written.as_bytes())?;
+    add(text, b"\r\n")
 }
 
 fn add_framing(text: &mut Vec<u8>, framing: Framing) -> Result<(), AllocError>

@@ -19,8 +19,8 @@ pub(crate) fn put_request<K: Sink>(
     persistence: Persistence,
 ) -> Result<(), Fault>
     requires { (K.stream sink.old).calls + pipe.old.turns < 2 ^ 64 }
-    ensures ok { OnOk result (Puts pipe.old pipe.new (K.stream sink.old) (K.stream sink.new) (texts.request_text persistence view.now framing)) }
-    ensures err { IfErr result (Halts pipe.old pipe.new (K.stream sink.old) (K.stream sink.new) (texts.request_text persistence view.now framing)) }
+    ensures ok { OnOk result (Puts pipe.old pipe.new (K.stream sink.old) (K.stream sink.new) (texts.request_text (texts.unnamed persistence) view.now framing)) }
+    ensures err { IfErr result (Halts pipe.old pipe.new (K.stream sink.old) (K.stream sink.new) (texts.request_text (texts.unnamed persistence) view.now framing)) }
 {
     put_request_line(pipe, sink, view)?;
     put_fields(pipe, sink, view.section(), Way::ToServer)?;

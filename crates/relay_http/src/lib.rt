@@ -1,6 +1,7 @@
 //! Messages handed on: from the bytes of a client to those of a server, and back.
 #![tactic(auto)]
 
+mod additions;
 mod aside;
 mod calls;
 mod exchange;
@@ -20,6 +21,7 @@ mod refusing;
 mod staying;
 mod steps;
 
+pub use additions::Additions;
 pub use aside::Aside;
 pub use exchange::{Exchange, Stage};
 pub use fault::Fault;

@@ -6,7 +6,7 @@ ghost use Rattle.relay_body.specs.Steps.{ends, Countable, Moves};
 ghost use Rattle.relay_http.specs.Emissions.{Puts, Halts};
 ghost use Rattle.relay_http.specs.Failures.{Fails};
 ghost use Rattle.relay_http.specs.Messages as messages;
-ghost use Rattle.relay_http.specs.Texts.{answer_text, interim_text, framed_for};
+ghost use Rattle.relay_http.specs.Texts.{answer_text, interim_text, framed_for, unnamed};
 ghost use Rattle.req_view.specs.Answer.{answer_of};
 
 use crate::fault::Fault;
@@ -50,10 +50,10 @@ pub(crate) fn pass_request<S: Source, K: Sink>(
     sink: &mut K,
 ) -> Result<(), Fault>
     requires { Countable (ends pipe.old (S.stream source.old) (K.stream sink.old)) }
-    ensures ok { OnOk result ((used : List ℕ) × (text : List ℕ) × messages.IsForwarded Persistence.Close view.now used text
+    ensures ok { OnOk result ((used : List ℕ) × (text : List ℕ) × messages.IsForwarded (unnamed Persistence.Close) view.now used text
         × Moves (ends pipe.old (S.stream source.old) (K.stream sink.old)) (ends pipe.new (S.stream source.new) (K.stream sink.new)) used text) }
     ensures empty { OnOk result (pipe.new.outbox ≡ []) }
-    ensures err { IfErr result (λ fault. (used : List ℕ) × (text : List ℕ) × messages.PartOfForwarded Persistence.Close view.now used text
+    ensures err { IfErr result (λ fault. (used : List ℕ) × (text : List ℕ) × messages.PartOfForwarded (unnamed Persistence.Close) view.now used text
         × Fails (ends pipe.old (S.stream source.old) (K.stream sink.old)) (ends pipe.new (S.stream source.new) (K.stream sink.new)) used text
         (messages.LacksForwarded view.now) fault) }
 {

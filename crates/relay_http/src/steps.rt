@@ -10,7 +10,7 @@ ghost use Rattle.relay_http.specs.Messages as messages;
 ghost use Rattle.relay_http.specs.Replies.{leave_text};
 ghost use Rattle.relay_http.specs.States as states;
 ghost use Rattle.relay_http.specs.States.{IsAt, Serves, emptied, Marks};
-ghost use Rattle.relay_http.specs.Texts.{framed_for};
+ghost use Rattle.relay_http.specs.Texts.{framed_for, unnamed};
 ghost use Rattle.req_view.specs.Request.{request_of};
 
 use crate::exchange::{Exchange, Stage};
@@ -106,14 +106,14 @@ impl Exchange {
         requires ready { IsAt Stage.Asked self.old }
         requires serves { Serves pass.now.verdict }
         requires countable { Countable (ends self.old.pipe (S.stream source.old) (K.stream sink.old)) }
-        ensures ok { OnOk result ((used : List ℕ) × (text : List ℕ) × messages.IsForwarded Persistence.Close view.now used text
+        ensures ok { OnOk result ((used : List ℕ) × (text : List ℕ) × messages.IsForwarded (unnamed Persistence.Close) view.now used text
             × Moves (ends self.old.pipe (S.stream source.old) (K.stream sink.old)) (ends self.new.pipe (S.stream source.new) (K.stream sink.new)) used text) }
         ensures forwarded { OnOk result (self.new.stage ≡ states.forwarded_on pass.now) }
         ensures closed { self.old.stage ≡ Stage.Failed → result ≡ Err Fault.Closed }
         ensures untouched { self.old.stage ≡ Stage.Failed
             → (self.new ≡ self.old) × (S.stream source.new ≡ S.stream source.old) × (K.stream sink.new ≡ K.stream sink.old) }
         ensures err { self.old.stage ≢ Stage.Failed
-            → IfErr result (λ fault. (used : List ℕ) × (text : List ℕ) × messages.PartOfForwarded Persistence.Close view.now used text
+            → IfErr result (λ fault. (used : List ℕ) × (text : List ℕ) × messages.PartOfForwarded (unnamed Persistence.Close) view.now used text
             × Fails (ends self.old.pipe (S.stream source.old) (K.stream sink.old)) (ends self.new.pipe (S.stream source.new) (K.stream sink.new)) used text
             (messages.LacksForwarded view.now) fault) }
         ensures failed { OnErr result (self.new.stage ≡ Stage.Failed) }

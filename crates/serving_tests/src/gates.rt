@@ -82,6 +82,7 @@ fn a_gate_takes_clients_and_checks_servers(rt: HostRuntime) {
         windows: &windows,
         controls: None,
         keeping: None,
+        forwarded_for: false,
     };
     let mut gate = SocketGate::new(alloc, &rt, &front).expect(&rt, "a gate");
     let mut accepted = gate.next().expect(&rt, "a client");

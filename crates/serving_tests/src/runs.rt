@@ -100,7 +100,7 @@ fn come<R: Abort + Net<Stream = TcpStream>>(
 }
 
 // Serves as a text says.
-fn serve_text<
+pub(crate) fn serve_text<
     R: Net<Listener = TcpListener, Stream = TcpStream>
         + Clock
         + Print
@@ -120,6 +120,7 @@ fn serve_text<
         listener,
         options: RunOptions {
             keeping: None,
+            forwarded_for: false,
             controls: None,
         },
     };

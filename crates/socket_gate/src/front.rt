@@ -25,6 +25,8 @@ pub struct Front<'a> {
     pub addresses: &'a Addresses,
     /// How long a client may stay between two requests, in milliseconds. None: it has one.
     pub keeping: Option<u64>,
+    /// Whether servers are told whose requests they get.
+    pub forwarded_for: bool,
     /// Where windows go that ended.
     pub windows: &'a WindowPrinter,
     /// What it is steered by while it serves, where it is.

@@ -6,7 +6,7 @@ use Rattle.relay_body.proofs.Stepping.{moves_none, moves_trans, moves_as}
 use Rattle.relay_http.specs.Messages.{NoBody, LacksForwarded}
 use Rattle.relay_http.specs.Messages.PartOfForwarded.{nothing, head_and_body}
 use Rattle.relay_http.specs.Messages.LacksForwarded.{no_framing, no_body}
-use Rattle.relay_http.specs.Texts.{request_text}
+use Rattle.relay_http.specs.Texts.{request_text, unnamed}
 use Rattle.relay_http.proofs.Failing.{moves_fails, moves_put, moves_halts, fails_put, fails_of, fails_as, fails_framing}
 use Rattle.relay_http.proofs.Passing.{part_none, body_part}
 use Rattle.relay_http.specs.declared.persistence.Persistence.TheVariants.{Close}
@@ -24,9 +24,9 @@ returns-in_err-put_request-clause-err g c =
     let is = sym c.request_framing.ensures ∙ c.in-Some.is in
     at_exit _ _ _ c.from_residual.ensures.1 (
       [],
-      request_text Close r framing ++ [],
+      request_text (unnamed Close) r framing ++ [],
       head_and_body framing [] [] is (part_none framing _),
-      fails_as (LacksForwarded r) refl (sym (append-nil (request_text Close r framing)))
+      fails_as (LacksForwarded r) refl (sym (append-nil (request_text (unnamed Close) r framing)))
           (fails_put (g.S.Source.stream c.args.source.now) (LacksForwarded r) c.in_err-put_request.ensures.err),
     )
 
@@ -39,7 +39,7 @@ returns-in_err-pass_body-clause-err g c =
     let part = c.in_err-pass_body.ensures.err in
     at_exit _ _ _ c.from_residual-in_err-pass_body.ensures.1 (
       part.0,
-      request_text Close r framing ++ part.1,
+      request_text (unnamed Close) r framing ++ part.1,
       head_and_body framing part.0 part.1 is part.2,
       moves_fails (NoBody framing) (LacksForwarded r) (λ l why. no_body framing is why) put
           (fails_of (LacksBody framing) (NoBody framing) (λ l lacks. lacks) (λ l lacks. lacks) part.3),
@@ -54,9 +54,9 @@ returns-in_err-send-clause-err g c =
     let passed = c.in_ok-pass_body.ensures.ok in
     at_exit _ _ _ c.from_residual-in_err-send.ensures.1 (
       passed.0,
-      request_text Close r framing ++ passed.1,
+      request_text (unnamed Close) r framing ++ passed.1,
       head_and_body framing passed.0 passed.1 is (body_part framing _ passed.0 passed.1 passed.2),
-      fails_as (LacksForwarded r) refl (append-nil (request_text Close r framing ++ passed.1))
+      fails_as (LacksForwarded r) refl (append-nil (request_text (unnamed Close) r framing ++ passed.1))
           (moves_halts (LacksForwarded r) (moves_trans put passed.3) c.in_err-send.ensures.err),
     )
 
@@ -69,7 +69,7 @@ returns-clause-ok g c =
     let passed = c.in_ok-pass_body.ensures.ok in
     let sent = moves_put (g.S.Source.stream c.pass_body.new.source) c.in_ok-send.ensures.ok in (
       passed.0,
-      request_text Close r framing ++ passed.1,
+      request_text (unnamed Close) r framing ++ passed.1,
       record { framing = framing; framed = is; body = passed.1; passes = passed.2; text_is = refl },
-      moves_as (append-nil passed.0) (append-nil (request_text Close r framing ++ passed.1)) (moves_trans (moves_trans put passed.3) sent),
+      moves_as (append-nil passed.0) (append-nil (request_text (unnamed Close) r framing ++ passed.1)) (moves_trans (moves_trans put passed.3) sent),
     )

@@ -1,6 +1,7 @@
 -- The streams count from 0 on.
 use Rattle.std.proofs.Common.{arith, rules}
 use Rattle.relay_http.specs.Messages.{PartOfForwarded, LacksForwarded}
+use Rattle.relay_http.specs.Texts.{unnamed}
 use Rattle.relay_http.proofs.Thinning.{thin_both_fault, thin_same}
 use Rattle.relay_http.specs.declared.persistence.Persistence.TheVariants.{Close}
 use Rattle.relay_http.proofs.exchange.Exchange.forward.Goals as goal
@@ -13,7 +14,7 @@ forward_between-requires-clause-countable g c = record {
 
 pub returns-clause-err : goal.returns-clause-err
 returns-clause-err g c = λ open_still.
-    thin_both_fault _ (PartOfForwarded Close c.args.view.now) (LacksForwarded c.args.view.now) _ _ _ _ _ _ (search rules) (search rules) (search rules)
+    thin_both_fault _ (PartOfForwarded (unnamed Close) c.args.view.now) (LacksForwarded c.args.view.now) _ _ _ _ _ _ (search rules) (search rules) (search rules)
     (search rules)
     c.args.self.now.drained (c.forward_between.ensures.err open_still)
 

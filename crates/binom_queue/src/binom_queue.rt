@@ -75,8 +75,13 @@ impl<K: Ord + Drop, V: Drop> PendQueue<K, V> for BinomQueue<K, V> {
 
     ghost pair_of = { λ node. node };
 
+    ghost links = { λ queue. queue.links };
+
+    // A link for each carry where the two lengths are added in binary.
+    ghost links_of_merge = { λ held more. count_ones held + count_ones more - count_ones (held + more) };
+
     /// It takes no memory, and never fails.
-    fn with_room(_alloc: Global, places: usize) -> Result<Self, AllocError>
+    fn with_room(alloc: Global, places: usize) -> Result<Self, AllocError>
         ensures empty { IfOk result (λ queue. queue.pairs ≡ []) }
         ensures room { IfOk result (λ queue. queue.room ≡ places) }
         ensures made { IsOk result }
@@ -85,7 +90,7 @@ impl<K: Ord + Drop, V: Drop> PendQueue<K, V> for BinomQueue<K, V> {
             roots: Forest::Empty,
             len: 0,
             room: places,
-            links: Links::none(),
+            links: Links::of_new_queue(alloc),
         })
     }
 

@@ -5,51 +5,7 @@ ghost use Rattle.binom_queue.specs.declared.forest.Forest.TheVariants.{Empty};
 ghost use Rattle.binom_queue.specs.Trees.{items, tree_items, trees, AreChildren, IsTree, AreRoots};
 
 use crate::forest::{Forest, Node, before, cut};
-use crate::links::Links;
-use std::cmp::Ordering;
-use std::mem;
-
-// The tree of two trees of one order.
-fn link<K: Ord + Drop, V: Drop>(
-    first: Box<Node<K, V>>,
-    second: Box<Node<K, V>>,
-    links: &mut Links,
-) -> Box<Node<K, V>>
-    requires first { IsTree K.cmp first.value }
-    requires second { IsTree K.cmp second.value }
-    requires order { second.value.order ≡ first.value.order }
-    requires small { first.value.order < 64 }
-    ensures tree { IsTree K.cmp result.value }
-    ensures order { result.value.order ≡ first.value.order + 1 }
-    ensures pairs { IsPermutation (tree_items first.value ++ tree_items second.value) (tree_items result.value) }
-    ensures links { links.new.count ≡ links.old.count + 1 }
-{
-    *links = links.and_one();
-    match first.pair.0.cmp(&second.pair.0) {
-        Ordering::Greater => under(second, first),
-        _ => under(first, second),
-    }
-}
-
-// The second tree as the first child of the first one.
-fn under<K: Ord + Drop, V: Drop>(
-    mut root: Box<Node<K, V>>,
-    mut child: Box<Node<K, V>>,
-) -> Box<Node<K, V>>
-    requires root { IsTree K.cmp root.value }
-    requires child { IsTree K.cmp child.value }
-    requires order { child.value.order ≡ root.value.order }
-    requires heap { K.cmp root.value.pair.0 child.value.pair.0 ≢ Greater }
-    requires small { root.value.order < 64 }
-    ensures tree { IsTree K.cmp result.value }
-    ensures order { result.value.order ≡ root.value.order + 1 }
-    ensures pairs { tree_items result.value ≡ root.value.pair ∷ (tree_items child.value ++ items root.value.child) }
-{
-    child.next = mem::replace(&mut root.child, Forest::Empty);
-    root.child = Forest::Of(child);
-    root.order += 1;
-    root
-}
+use crate::links::{Links, link};
 
 // Puts a tree before trees of no smaller order.
 pub(crate) fn add<K: Ord + Drop, V: Drop>(

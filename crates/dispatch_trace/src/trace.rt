@@ -33,11 +33,12 @@ impl<Q: PendQueue<Key, usize>> Model for Trace<Q> {
 
     ghost Value = { History };
 
+    ghost use Rattle.wait_queues.specs.Waitlists.{list_of};
     ghost use Rattle.dispatch_trace.specs.Traces.{history_of, IsTrace};
 
-    ghost view = { λ it. history_of (record { kept = it.ledger; log = it.log; waits = it.waiting; position = it.position }) };
+    ghost view = { λ it. history_of (record { kept = it.ledger; log = it.log; waits = list_of it.waiting; position = it.position }) };
 
-    ghost invariant = { λ it. IsTrace Q.pair_of (record { kept = it.ledger; log = it.log; waits = it.waiting; position = it.position }) };
+    ghost invariant = { λ it. IsTrace Q.pair_of (record { kept = it.ledger; log = it.log; waits = list_of it.waiting; position = it.position }) };
 }
 
 impl<Q: PendQueue<Key, usize>> Trace<Q> {

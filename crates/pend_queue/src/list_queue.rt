@@ -49,6 +49,10 @@ impl<K: Ord + Drop, V: Drop> PendQueue<K, V> for ListQueue<K, V> {
 
     ghost pair_of = { λ node. node };
 
+    ghost links = { λ queue. 0 };
+
+    ghost links_of_merge = { λ held more. 0 };
+
     fn with_room(alloc: Global, places: usize) -> Result<Self, AllocError> {
         let items = Vec::with_capacity(alloc, places)?;
         Ok(ListQueue { items })

@@ -18,6 +18,12 @@ pub trait PendQueue<K: Ord, V>: Drop {
 
     ghost pair_of: { Self.Node → K × V };
 
+    /// How often it has linked two trees of pairs. A queue without trees never does.
+    ghost links: { Self → ℕ };
+
+    /// How many links a merge of so many pairs and so many makes.
+    ghost links_of_merge: { ℕ → ℕ → ℕ };
+
     /// An empty queue. Fails only where memory for the room is refused.
     fn with_room(alloc: Global, places: usize) -> Result<Self, AllocError>
         ensures empty { IfOk result (λ queue. pairs queue ≡ []) }
@@ -84,6 +90,10 @@ pub trait PendQueue<K: Ord, V>: Drop {
         ensures room { room self.new ≡ room self.old }
         ensures emptied { pairs other.new ≡ [] }
         ensures other_room { room other.new ≡ room other.old }
+
+        // No other call says how many links it makes, so nothing else than one merge gives these.
+        ensures links { links self.new ≡ links self.old + links_of_merge (length (pairs self.old)) (length (pairs other.old)) }
+        ensures other_links { links other.new ≡ links other.old }
 
         // What that means: the pairs of both, by rising key.
         ensures ascending { IsAscending K.cmp (pairs self.new) }

@@ -1,4 +1,5 @@
 ghost use Rattle.std.specs.Prelude.{◌≡◌, [], None, replicate};
+ghost use Rattle.wait_queues.specs.Waitlists.{list_of};
 
 use crate::assertions::{holds, same};
 use crate::lists::node_of;
@@ -149,7 +150,7 @@ fn waiter(key: Key, queue: Queue) -> Waiter
 
 // Room for four, at two servers.
 fn nobody<Q: PendQueue<Key, usize>>(rt: &impl Abort, alloc: Global) -> WaitQueues<Q>
-    ensures { result ≡ record { waiters = replicate 4 None; order = []; servers = 2 } }
+    ensures { list_of result ≡ record { waiters = replicate 4 None; order = []; servers = 2 } }
 {
     WaitQueues::new(alloc, 2, 4).expect(rt, "memory")
 }
@@ -161,7 +162,7 @@ fn nobody_waits_at_first(rt: HostRuntime) {
 }
 
 fn find_nobody<Q: PendQueue<Key, usize>>(rt: &impl Abort, waiting: &mut WaitQueues<Q>)
-    requires { waiting.old ≡ record { waiters = replicate 4 None; order = []; servers = 2 } }
+    requires { list_of waiting.old ≡ record { waiters = replicate 4 None; order = []; servers = 2 } }
 {
     same(rt, waiting.oldest(), None);
     same(rt, waiting.heads(0).backend, None);
@@ -180,7 +181,7 @@ fn join_and_leave<Q: PendQueue<Key, usize>>(
     alloc: Global,
     waiting: &mut WaitQueues<Q>,
 )
-    requires { waiting.old ≡ record { waiters = replicate 4 None; order = []; servers = 2 } }
+    requires { list_of waiting.old ≡ record { waiters = replicate 4 None; order = []; servers = 2 } }
 {
     let waiter = waiter(key(7), Queue::Server(0));
     let node = node_of::<Q>(rt, alloc, waiter.key, 3);
@@ -204,7 +205,7 @@ fn join_and_move<Q: PendQueue<Key, usize>>(
     waiting: &mut WaitQueues<Q>,
     key: &Key,
 )
-    requires { waiting.old ≡ record { waiters = replicate 4 None; order = []; servers = 2 } }
+    requires { list_of waiting.old ≡ record { waiters = replicate 4 None; order = []; servers = 2 } }
 {
     let node = node_of::<Q>(rt, alloc, *key, 3);
     waiting.join(3, waiter(*key, Queue::Server(1)), node);

@@ -8,10 +8,10 @@ use Rattle.readable_log.specs.Readable.{IsReadable}
 use Rattle.dispatch_log.specs.States.{State}
 use Rattle.readable_log.specs.Windows.{base_rows}
 
--- a base with its live requests, for which there is room in any base of so many places
+-- a base with its live requests, for which there is room in any base of so many places, and no more
 pub record IsLog (base : State) (listed : List BaseRow) (capacity : ℕ) : Type 0 where
   pub listed_are : listed ≡ base_rows base.rows
-  pub room : length base.rows ≤ capacity
+  pub room : capacity ≡ length base.rows
 
 -- readable entries, no more than there is room for, with their grants and the moment of their last event
 pub record IsKept (base : List BaseRow) (list : List Entry) (granted : List SlotGrant) (moment most : ℕ) : Type 0 where

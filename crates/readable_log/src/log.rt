@@ -15,7 +15,7 @@ use std::mem;
 /// A window of a dispatcher's log: the state at its base, the entries since, in order, and the grants
 /// that they tell of. It always is readable: it begins with an event, moments never fall, and a ticket
 /// that is granted a slot has arrived and joined the queue that it leaves, in the window or before its
-/// base. Its room is taken once.
+/// base. Its room is taken once, and never changes.
 #[derive(Debug, Drop)]
 pub struct Log {
     base: Base,
@@ -28,7 +28,7 @@ pub struct Log {
 }
 
 impl Model for Log {
-    ghost use Rattle.std.specs.Prelude.{◌≤◌, vec_capacity};
+    ghost use Rattle.std.specs.Prelude.{◌≡◌, vec_capacity};
     ghost use Rattle.dispatch_log.specs.Logs.{Recorded};
     ghost use Rattle.readable_log.specs.LogParts.{IsKept, IsLog};
     ghost use Rattle.readable_log.specs.Windows.{base_rows};
@@ -37,7 +37,7 @@ impl Model for Log {
 
     ghost view = { λ log. record { base = log.base; entries = log.list.items; room = log.most } };
 
-    ghost invariant = { λ log. IsLog log.base log.listed.items (vec_capacity log.listed) × IsKept (base_rows log.base.rows) log.list.items log.granted.items log.moment log.most × (log.most ≤ vec_capacity log.list) × (log.most ≤ vec_capacity log.granted) };
+    ghost invariant = { λ log. IsLog log.base log.listed.items (vec_capacity log.listed) × IsKept (base_rows log.base.rows) log.list.items log.granted.items log.moment log.most × (vec_capacity log.list ≡ log.most) × (vec_capacity log.granted ≡ log.most) };
 }
 
 impl Log {

@@ -21,6 +21,18 @@ pub record Lined : Type 0 where
   pub moved : Line
   pub room : ℕ
 
+-- the same, and how many links the backend's queue has made
+pub record Queued : Type 0 where
+  pub own : List Line
+  pub backend : Line
+  pub moved : Line
+  pub room : ℕ
+  pub links : ℕ
+
+-- the queues alone
+abbrev pub lines_of : Queued → Lined
+lines_of queued = record { own = queued.own; backend = queued.backend; moved = queued.moved; room = queued.room }
+
 -- what is in one of the queues
 abbrev pub line_at : Lined → Queue → Line
 line_at lined Backend = lined.backend

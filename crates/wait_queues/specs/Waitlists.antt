@@ -1,5 +1,5 @@
 -- The requests that wait, as contracts see them.
-use Rattle.std.specs.Prelude.{◌≡◌, ◌≢◌, ℕ, ◌++◌, ◌∷◌, [], List, Option, None, Some, MatchOption, Contains, map, slice_get, slice_set}
+use Rattle.std.specs.Prelude.{◌≡◌, ◌≢◌, ℕ, ◌+◌, ◌≤◌, length, ◌++◌, ◌∷◌, [], List, Option, None, Some, MatchOption, Contains, map, slice_get, slice_set}
 use Rattle.std.specs.declared.cmp.Ordering.TheVariants.{Greater}
 use Rattle.due_key.specs.declared.key.Key.{Key}
 use Rattle.due_key.specs.Order.{key_cmp}
@@ -23,6 +23,22 @@ pub record Waitlist : Type 0 where
   pub waiters : Waiters
   pub order : List ℕ
   pub servers : ℕ
+
+-- the same, and how many links the backend's queue has made
+pub record WaitingQueues : Type 0 where
+  pub waiters : Waiters
+  pub order : List ℕ
+  pub servers : ℕ
+  pub links : ℕ
+
+-- the requests alone
+abbrev pub list_of : WaitingQueues → Waitlist
+list_of queues = record { waiters = queues.waiters; order = queues.order; servers = queues.servers }
+
+-- The backend's queue made the links of one merge, of as many as can wait at most. What tells how many links a merge makes is the queue's own.
+abbrev pub MergesOnce : (ℕ → ℕ → ℕ) → WaitingQueues → WaitingQueues → Type 0
+MergesOnce links_of_merge old new =
+    (held more : ℕ) × (held + more ≤ length old.waiters) × (new.links ≡ old.links + links_of_merge held more)
 
 -- one request more waits, as the last that joined
 abbrev pub with_waiter : Waitlist → ℕ → Waiter → Waitlist

@@ -26,7 +26,8 @@ impl Model for JoinOrder {
 }
 
 impl JoinOrder {
-    /// An empty order of the places below `room`, refused only where memory is short. `O(n)`.
+    /// An empty order of the places below `room`, refused only where memory is short: so always for
+    /// `usize::MAX` places, which take one cell more than can be counted. `O(n)`.
     pub fn with_room(alloc: Global, room: usize) -> Result<JoinOrder, AllocError>
         ensures { IfOk result (λ made. made ≡ record { places = []; room = room }) }
     {

@@ -1,6 +1,6 @@
-ghost use Rattle.std.specs.Prelude.{◌≡◌, ◌+◌, ◌<◌, ◌≤◌, [], IfOk, length, replicate, drop, slice_get, option_map};
+ghost use Rattle.std.specs.Prelude.{◌≡◌, ◌≢◌, ◌+◌, ◌<◌, ◌≤◌, [], IfOk, length, replicate, drop, slice_get, option_map};
 ghost use Rattle.due_key.specs.Order.{key_cmp};
-ghost use Rattle.dispatch_log.specs.declared.queue.Queue.TheVariants.{Server};
+ghost use Rattle.dispatch_log.specs.declared.queue.Queue.TheVariants.{Backend, Server};
 ghost use Rattle.slot_ledger.specs.Counts.{IsQueueOf};
 
 use dispatch_log::Queue;
@@ -22,22 +22,22 @@ pub(crate) struct Queues<Q: PendQueue<Key, usize>> {
 
 impl<Q: PendQueue<Key, usize>> Model for Queues<Q> {
     ghost use Rattle.std.specs.Prelude.{map};
-    ghost use Rattle.wait_queues.specs.Lines.{Lined, HaveRoom};
+    ghost use Rattle.wait_queues.specs.Lines.{Queued, HaveRoom};
 
-    ghost Value = { Lined };
+    ghost Value = { Queued };
 
-    ghost view = { λ queues. record { own = map Q.pairs queues.own.items; backend = Q.pairs queues.backend; moved = Q.pairs queues.moved; room = queues.places } };
+    ghost view = { λ queues. record { own = map Q.pairs queues.own.items; backend = Q.pairs queues.backend; moved = Q.pairs queues.moved; room = queues.places; links = Q.links queues.backend } };
 
     ghost invariant = { λ queues. HaveRoom queues.places (map Q.room queues.own.items) (Q.room queues.backend) (Q.room queues.moved) };
 }
 
 impl<Q: PendQueue<Key, usize>> Queues<Q> {
-    ghost use Rattle.wait_queues.specs.Lines.{line_at, first_key, with_line, with_moved, gathered};
+    ghost use Rattle.wait_queues.specs.Lines.{lines_of, line_at, first_key, with_line, with_moved, gathered};
     ghost use Rattle.pend_queue.specs.Pairs.{IsAbsent, HaveNoCommonKey, inserted, pair_at, without};
 
     /// Empty queues of so many servers and of the backend.
     pub(crate) fn new(alloc: Global, servers: usize, places: usize) -> Result<Queues<Q>, AllocError>
-        ensures { IfOk result (λ queues. queues ≡ record { own = replicate servers []; backend = []; moved = []; room = places }) }
+        ensures { IfOk result (λ queues. lines_of queues ≡ record { own = replicate servers []; backend = []; moved = []; room = places }) }
     {
         let mut own = Vec::with_capacity(alloc, servers)?;
         for server in 0..servers {
@@ -54,7 +54,7 @@ impl<Q: PendQueue<Key, usize>> Queues<Q> {
     /// The least keys of a server's queue and of the backend's.
     pub(crate) fn heads(&self, server: usize) -> Heads
         requires { server < length self.now.own }
-        ensures own { result.own ≡ first_key (line_at self.now (Server server)) }
+        ensures own { result.own ≡ first_key (line_at (lines_of self.now) (Server server)) }
         ensures backend { result.backend ≡ first_key self.now.backend }
     {
         Heads {
@@ -66,9 +66,9 @@ impl<Q: PendQueue<Key, usize>> Queues<Q> {
     /// Puts a request in a queue.
     pub(crate) fn push(&mut self, queue: Queue, node: Q::Node)
         requires within { IsQueueOf (length self.old.own) queue }
-        requires room { length (line_at self.old queue) < self.old.room }
-        requires absent { IsAbsent key_cmp (Q.pair_of node).0 (line_at self.old queue) }
-        ensures { self.new ≡ with_line self.old queue (inserted key_cmp (Q.pair_of node) (line_at self.old queue)) }
+        requires room { length (line_at (lines_of self.old) queue) < self.old.room }
+        requires absent { IsAbsent key_cmp (Q.pair_of node).0 (line_at (lines_of self.old) queue) }
+        ensures { lines_of self.new ≡ with_line (lines_of self.old) queue (inserted key_cmp (Q.pair_of node) (line_at (lines_of self.old) queue)) }
     {
         match queue {
             Queue::Backend => self.backend.push(node),
@@ -79,8 +79,9 @@ impl<Q: PendQueue<Key, usize>> Queues<Q> {
     /// Takes the first request out of a queue.
     pub(crate) fn pop(&mut self, queue: Queue) -> Option<Q::Node>
         requires { IsQueueOf (length self.old.own) queue }
-        ensures first { option_map Q.pair_of result ≡ slice_get (line_at self.old queue) 0 }
-        ensures rest { self.new ≡ with_line self.old queue (drop 1 (line_at self.old queue)) }
+        ensures links { queue ≢ Backend → self.new.links ≡ self.old.links }
+        ensures first { option_map Q.pair_of result ≡ slice_get (line_at (lines_of self.old) queue) 0 }
+        ensures rest { lines_of self.new ≡ with_line (lines_of self.old) queue (drop 1 (line_at (lines_of self.old) queue)) }
     {
         match queue {
             Queue::Backend => self.backend.pop(),
@@ -91,8 +92,8 @@ impl<Q: PendQueue<Key, usize>> Queues<Q> {
     /// Takes the request of a key out of a queue.
     pub(crate) fn remove(&mut self, queue: Queue, key: &Key) -> Option<Q::Node>
         requires { IsQueueOf (length self.old.own) queue }
-        ensures its { option_map Q.pair_of result ≡ pair_at key_cmp key.now (line_at self.old queue) }
-        ensures rest { self.new ≡ with_line self.old queue (without key_cmp key.now (line_at self.old queue)) }
+        ensures its { option_map Q.pair_of result ≡ pair_at key_cmp key.now (line_at (lines_of self.old) queue) }
+        ensures rest { lines_of self.new ≡ with_line (lines_of self.old) queue (without key_cmp key.now (line_at (lines_of self.old) queue)) }
     {
         match queue {
             Queue::Backend => self.backend.remove(key),
@@ -104,7 +105,8 @@ impl<Q: PendQueue<Key, usize>> Queues<Q> {
     pub(crate) fn set_aside(&mut self, node: Q::Node)
         requires room { length self.old.moved < self.old.room }
         requires absent { IsAbsent key_cmp (Q.pair_of node).0 self.old.moved }
-        ensures { self.new ≡ with_moved self.old (inserted key_cmp (Q.pair_of node) self.old.moved) }
+        ensures aside { lines_of self.new ≡ with_moved (lines_of self.old) (inserted key_cmp (Q.pair_of node) self.old.moved) }
+        ensures links { self.new.links ≡ self.old.links }
     {
         self.moved.push(node);
     }
@@ -113,7 +115,10 @@ impl<Q: PendQueue<Key, usize>> Queues<Q> {
     pub(crate) fn gather(&mut self)
         requires room { length self.old.backend + length self.old.moved ≤ self.old.room }
         requires apart { HaveNoCommonKey key_cmp self.old.backend self.old.moved }
-        ensures { self.new ≡ gathered self.old }
+        ensures merged { lines_of self.new ≡ gathered (lines_of self.old) }
+
+        // One merge and nothing else: no other call of a queue says how many links it makes.
+        ensures links { self.new.links ≡ self.old.links + Q.links_of_merge (length self.old.backend) (length self.old.moved) }
     {
         self.backend.merge(&mut self.moved);
     }

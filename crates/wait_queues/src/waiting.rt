@@ -2,7 +2,7 @@ ghost use Rattle.std.specs.Prelude.{◌≡◌, ◌<◌, [], map, None, Some, IfO
 ghost use Rattle.dispatch_log.specs.declared.queue.Queue.TheVariants.{Server};
 ghost use Rattle.slot_ledger.specs.Counts.{IsQueueOf};
 ghost use Rattle.wait_queues.specs.Order.{next_after};
-ghost use Rattle.wait_queues.specs.Waitlists.{WaitsAt, HasNoKey, NoneWaitsIn, IsFirstIn, AreFirst, IsOrderOf, with_waiter, without_waiter, with_waiter_anew, moved_waiter, since_before, in_next_window};
+ghost use Rattle.wait_queues.specs.Waitlists.{list_of, MergesOnce, WaitsAt, HasNoKey, NoneWaitsIn, IsFirstIn, AreFirst, IsOrderOf, with_waiter, without_waiter, with_waiter_anew, moved_waiter, since_before, in_next_window};
 
 use crate::by_place::{empty, put, take};
 use crate::order::JoinOrder;
@@ -34,14 +34,15 @@ pub struct Taken<N> {
 
 impl<Q: PendQueue<Key, usize>> Model for WaitQueues<Q> {
     ghost use Rattle.std.specs.Prelude.{length};
-    ghost use Rattle.wait_queues.specs.Waitlists.{Waitlist};
+    ghost use Rattle.wait_queues.specs.Lines.{lines_of};
+    ghost use Rattle.wait_queues.specs.Waitlists.{WaitingQueues};
     ghost use Rattle.wait_queues.specs.InQueues.{AreWaiting};
 
-    ghost Value = { Waitlist };
+    ghost Value = { WaitingQueues };
 
-    ghost view = { λ it. record { waiters = it.waiters.items; order = it.order.places; servers = length it.queues.own } };
+    ghost view = { λ it. record { waiters = it.waiters.items; order = it.order.places; servers = length it.queues.own; links = it.queues.links } };
 
-    ghost invariant = { λ it. AreWaiting it.queues it.waiters.items it.order };
+    ghost invariant = { λ it. AreWaiting (lines_of it.queues) it.waiters.items it.order };
 }
 
 impl<Q: PendQueue<Key, usize>> WaitQueues<Q> {
@@ -50,7 +51,7 @@ impl<Q: PendQueue<Key, usize>> WaitQueues<Q> {
     /// Nobody waits, in the queues of so many servers and in the backend's, each with room for all
     /// places. `O(s n)` in the servers and places.
     pub fn new(alloc: Global, servers: usize, places: usize) -> Result<WaitQueues<Q>, AllocError>
-        ensures { IfOk result (λ made. made ≡ record { waiters = replicate places None; order = []; servers = servers }) }
+        ensures { IfOk result (λ made. list_of made ≡ record { waiters = replicate places None; order = []; servers = servers }) }
     {
         Ok(WaitQueues {
             queues: Queues::new(alloc, servers, places)?,
@@ -65,7 +66,7 @@ impl<Q: PendQueue<Key, usize>> WaitQueues<Q> {
         requires within { IsQueueOf self.old.servers waiter.queue }
         requires own_key { HasNoKey self.old.waiters waiter.key }
         requires pair { Q.pair_of node ≡ (waiter.key, place) }
-        ensures { self.new ≡ with_waiter self.old place waiter }
+        ensures { list_of self.new ≡ with_waiter (list_of self.old) place waiter }
     {
         self.queues.gather();
         self.queues.push(waiter.queue, node);
@@ -76,8 +77,9 @@ impl<Q: PendQueue<Key, usize>> WaitQueues<Q> {
     /// The keys of the first requests of a server's queue and of the backend's. The queues' own cost.
     pub fn heads(&mut self, server: usize) -> Heads
         requires { server < self.old.servers }
-        ensures heads { AreFirst server result self.new }
-        ensures same { self.new ≡ self.old }
+        ensures heads { AreFirst server result (list_of self.new) }
+        ensures same { list_of self.new ≡ list_of self.old }
+        ensures links { MergesOnce Q.links_of_merge self.old self.new }
     {
         self.queues.gather();
         self.queues.heads(server)
@@ -89,7 +91,7 @@ impl<Q: PendQueue<Key, usize>> WaitQueues<Q> {
         requires { IsQueueOf self.old.servers queue }
         ensures first { MatchOption result (NoneWaitsIn queue self.old.waiters) (λ it. IsFirstIn queue self.old.waiters it.place it.waiter) }
         ensures pair { MatchOption result Unit (λ it. Q.pair_of it.node ≡ (it.waiter.key, it.place)) }
-        ensures left { MatchOption result (self.new ≡ self.old) (λ it. self.new ≡ without_waiter self.old it.place) }
+        ensures left { MatchOption result (list_of self.new ≡ list_of self.old) (λ it. list_of self.new ≡ without_waiter (list_of self.old) it.place) }
     {
         self.queues.gather();
         let Some(node) = self.queues.pop(queue) else {
@@ -111,7 +113,7 @@ impl<Q: PendQueue<Key, usize>> WaitQueues<Q> {
     pub fn leave(&mut self, place: usize) -> Q::Node
         requires { (waiter : Waiter) × WaitsAt self.old.waiters place waiter }
         ensures pair { (waiter : Waiter) × WaitsAt self.old.waiters place waiter × (Q.pair_of result ≡ (waiter.key, place)) }
-        ensures left { self.new ≡ without_waiter self.old place }
+        ensures left { list_of self.new ≡ without_waiter (list_of self.old) place }
     {
         self.queues.gather();
         let Some(waiter) = take(&mut self.waiters, place) else {
@@ -129,7 +131,10 @@ impl<Q: PendQueue<Key, usize>> WaitQueues<Q> {
     /// merged into the backend's queue together, at the next call that looks at it.
     pub fn shift(&mut self, server: usize, joined: usize) -> Option<usize>
         requires { server < self.old.servers }
-        ensures { MatchOption result (NoneWaitsIn (Server server) self.old.waiters × (self.new ≡ self.old)) (λ place. (waiter : Waiter) × IsFirstIn (Server server) self.old.waiters place waiter × (self.new ≡ with_waiter_anew self.old place (moved_waiter waiter joined))) }
+        ensures shifted { MatchOption result (NoneWaitsIn (Server server) self.old.waiters × (list_of self.new ≡ list_of self.old)) (λ place. (waiter : Waiter) × IsFirstIn (Server server) self.old.waiters place waiter × (list_of self.new ≡ with_waiter_anew (list_of self.old) place (moved_waiter waiter joined))) }
+
+        // Nothing is put into the backend's queue yet.
+        ensures links { self.new.links ≡ self.old.links }
     {
         let Some(node) = self.queues.pop(Queue::Server(server)) else {
             return None;
@@ -145,7 +150,8 @@ impl<Q: PendQueue<Key, usize>> WaitQueues<Q> {
 
     /// The log begins anew: all that wait joined before its first entry. `O(n)` in the places.
     pub fn begin_window(&mut self)
-        ensures { self.new ≡ in_next_window self.old }
+        ensures window { list_of self.new ≡ in_next_window (list_of self.old) }
+        ensures links { self.new.links ≡ self.old.links }
     {
         forget_joinings(&mut self.waiters);
     }

@@ -7,6 +7,7 @@ use Rattle.due_key.specs.declared.key.Key.{Key}
 use Rattle.dispatch_log.specs.declared.entry.Arrival.{Arrival}
 use Rattle.dispatch_log.specs.declared.entry.Entry.TheVariants.{Arrive}
 use Rattle.dispatch_log.specs.Histories.{refuses_arrival}
+use Rattle.wait_queues.specs.Waitlists.{list_of}
 use Rattle.dispatch_trace.specs.Histories.{MayBeginNext}
 use Rattle.dispatch_trace.specs.Traces.{Traced, IsTrace, history_of, noted}
 use Rattle.dispatch_log.specs.Logs.{Recorded}
@@ -24,7 +25,7 @@ use Rattle.dispatch_trace.proofs.trace.Trace.arrive.Goals as goal
 -- the trace before
 abbrev before : (g : given.Over) (c : After-later-now g) → Traced g.row.Q-Node.Denot
 before g c =
-    record { kept = c.self.inside.ledger; log = c.self.inside.log; waits = c.self.inside.waiting; position = c.self.inside.position }
+    record { kept = c.self.inside.ledger; log = c.self.inside.log; waits = list_of c.self.inside.waiting; position = c.self.inside.position }
 
 begins : (g : given.Over) (c : After-later-now g)
     → MayBeginNext (history_of (before g c)) c.args.moment (refuses_arrival (history_of (before g c)) c.args.pin)
@@ -52,7 +53,7 @@ module _ (g : given.Over) (c : After-arrival_of g) where
     kept = with_slots c.self.inside.ledger (slice_set c.self.inside.ledger.slots c.in_ok-place.place
         (Some (record { row = arrived arrival; node = Some admitted.0 })));
     log = noted c.self.inside.log (Arrive c.later-now.result arrival);
-    waits = c.self.inside.waiting;
+    waits = list_of c.self.inside.waiting;
     position = record { cursor = c.self.inside.position.cursor; last = c.later-now.result; ticket = arrival.ticket };
   })
   kept =
@@ -72,7 +73,7 @@ module _ (g : given.Over) (c : After-arrival_of g) where
   left : (now : Recorded) → now ≡ noted c.self.inside.log (Arrive c.later-now.result c.arrival_of.result) → IsTrace g.Q.PendQueue.pair_of (record {
     kept = c.admit.new.ledger;
     log = now;
-    waits = c.self.inside.waiting;
+    waits = list_of c.self.inside.waiting;
     position = record { cursor = c.self.inside.position.cursor; last = c.later-now.result; ticket = arrival.ticket };
   })
   left now noted_is = closed _ _ _ _ _ _ _ _ admitted.2 (logged now noted_is) refl kept

@@ -7,7 +7,7 @@ use Rattle.slot_ledger.specs.Counts.{IsQueueOf}
 use Rattle.slot_ledger.specs.Ledgers.{Kept, with_slots, scene_of as kept_scene}
 use Rattle.slot_ledger.specs.Slots.{with_phase, loosened}
 use Rattle.slot_ledger.proofs.Standing.{still_stands}
-use Rattle.wait_queues.specs.Waitlists.{Waitlist, AreFirst, without_waiter}
+use Rattle.wait_queues.specs.Waitlists.{Waitlist, AreFirst, without_waiter, list_of}
 use Rattle.dispatch_trace.specs.Histories.{waiting_of, IsGrant}
 use Rattle.dispatch_trace.proofs.Grants.{heads_are, not_empty, grant_within, grant_row, grant_kept, is_grant, grant_room, grant_arrived}
 use Rattle.dispatch_trace.proofs.Grants.{grant_joined, grant_waits, grant_begun}
@@ -40,7 +40,7 @@ unreachable-requires g c =
 -- what a grant rests on, once its request is taken from the queue
 calls : (g : given.Over) (c : In-Some-take g)
     → GrantCalls g.Q.PendQueue.pair_of
-    (record { kept = c.self.inside.ledger; log = c.self.inside.log; waits = c.self.inside.waiting; position = c.self.inside.position })
+    (record { kept = c.self.inside.ledger; log = c.self.inside.log; waits = list_of c.self.inside.waiting; position = c.self.inside.position })
     c.heads-heads.result c.in-Some.server c.next_queue-queue.result c.in-Some-take.taken.place c.in-Some-take.taken.waiter
 calls g c =
     grant_calls _ _ _ _ c.heads-heads.result c.in-Some.server c.next_queue-queue.result c.in-Some-take.taken.place c.in-Some-take.taken.waiter
@@ -95,7 +95,7 @@ served : (g : given.Over) (c : After-serve g)
 served g c =
     c.serve.ensures ∙ ap (λ (k : Kept _). with_slots k (with_phase (Serving c.in-Some.server) k.slots c.in-Some-take.taken.place)) c.loosen.ensures
 
-left : (g : given.Over) (c : In-Some-take g) → c.take.new.self ≡ without_waiter c.self.inside.waiting c.in-Some-take.taken.place
+left : (g : given.Over) (c : In-Some-take g) → list_of c.take.new.self ≡ without_waiter (list_of c.self.inside.waiting) c.in-Some-take.taken.place
 left g c = c.in-Some-take.ensures.left ∙ ap (λ (l : Waitlist). without_waiter l c.in-Some-take.taken.place) c.heads-heads.ensures.same
 
 pub invariant_of-self : goal.invariant_of-self

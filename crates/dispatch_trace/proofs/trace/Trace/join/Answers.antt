@@ -1,6 +1,7 @@
 use Rattle.std.proofs.Common.{◌≡◌, ◌+◌, length, ap, sym, ◌∙◌, subst}
 use Rattle.dispatch_log.specs.declared.entry.Entry.TheVariants.{Joined}
 use Rattle.dispatch_log.specs.Histories.{History}
+use Rattle.wait_queues.specs.Waitlists.{list_of}
 use Rattle.dispatch_trace.proofs.Stepping.{follows_on}
 use Rattle.slot_ledger.specs.Counts.{IsQueueOf}
 use Rattle.dispatch_trace.specs.Histories.{cursor_after}
@@ -20,7 +21,7 @@ row-requires g c = has_row _ _ c.args.it c.self.invariant (here_at _ _ c.args.it
 -- what a joining rests on
 calls : (g : given.Over) (c : After-row g)
     → JoinCalls g.Q.PendQueue.pair_of
-    (record { kept = c.self.inside.ledger; log = c.self.inside.log; waits = c.self.inside.waiting; position = c.self.inside.position }) c.args.it
+    (record { kept = c.self.inside.ledger; log = c.self.inside.log; waits = list_of c.self.inside.waiting; position = c.self.inside.position }) c.args.it
     c.args.queue
 calls g c = join_calls _ _ _ c.args.it c.args.queue c.self.invariant c.self.view_is c.requires.lawful c.requires.at
 
@@ -28,7 +29,7 @@ calls g c = join_calls _ _ _ c.args.it c.args.queue c.self.invariant c.self.view
 moved : (g : given.Over) (c : After-row g) → c.args.cursor ≡ cursor_after (history_of (record {
   kept = c.self.inside.ledger;
   log = c.self.inside.log;
-  waits = c.self.inside.waiting;
+  waits = list_of c.self.inside.waiting;
   position = c.self.inside.position;
 })) (Joined c.args.it.ticket c.args.queue)
 moved g c = c.requires.cursor ∙ ap (λ (h : History). cursor_after h (Joined c.args.it.ticket c.args.queue)) (sym c.self.view_is)

@@ -7,6 +7,7 @@ use Rattle.dispatch_log.specs.Logs.{Recorded}
 use Rattle.dispatch_log.specs.States.{State}
 use Rattle.dispatch_log.proofs.Windows.{shortened_length}
 use Rattle.readable_log.specs.Bases.{results_by}
+use Rattle.wait_queues.specs.Waitlists.{list_of}
 use Rattle.dispatch_trace.proofs.Rolling.{rows_long, kept_places, kept_limits, window_base, window_is}
 use Rattle.dispatch_trace.proofs.trace.Trace.roll.Goals as goal
 
@@ -46,8 +47,8 @@ invariant_of-self g c =
     let based = window_base _ _ c.self.invariant legal c.set_position.new.self
     (map results_by c.args.healths.now) c.limits.result.now c.server.result saved results
     c.limits.ensures c.server.ensures in
-    window_is _ _ c.self.invariant legal c.begin.new.self c.begin_window.new.self
-    (c.begin.ensures.window ∙ ap (λ (s : State). record { base = s; entries = []; room = c.self.inside.log.room }) based) c.begin_window.ensures
+    window_is _ _ c.self.invariant legal c.begin.new.self (list_of c.begin_window.new.self)
+    (c.begin.ensures.window ∙ ap (λ (s : State). record { base = s; entries = []; room = c.self.inside.log.room }) based) c.begin_window.ensures.window
 
 pub returns-clause-window : goal.returns-clause-window
 returns-clause-window g c =

@@ -1,4 +1,4 @@
-use Rattle.std.proofs.Common.{ℕ, ◌<◌, ◌≤◌, ◌++◌, ◌∷◌, [], List, length, subst, sym, ap, ◌∙◌, arith}
+use Rattle.std.proofs.Common.{ℕ, ◌<◌, ◌++◌, ◌∷◌, [], List, length, subst, sym, ap, ◌∙◌, arith}
 use Rattle.std.specs.Option.{unwrap_or}
 use Rattle.dispatch_log.specs.Logs.{Recorded}
 use Rattle.dispatch_log.specs.declared.entry.Entry.{Entry}
@@ -21,7 +21,7 @@ invariant_of-self c =
       subst (λ (l : List Entry). IsKept base l s.granted.items c.unwrap_or-self-inside.result s.most) (sym c.put.ensures.items)
           (subst (λ (m : ℕ). IsKept base (s.list.items ++ c.args.entry ∷ []) s.granted.items m s.most)
           (sym (c.unwrap_or-self-inside.ensures ∙ ap (λ o. unwrap_or o s.moment) c.moment_in.ensures)) kept),
-      subst (λ (n : ℕ). s.most ≤ n) (sym c.put.ensures.room) c.self.invariant.2,
+      c.put.ensures.room ∙ c.self.invariant.2,
       c.self.invariant.3,
     )
 

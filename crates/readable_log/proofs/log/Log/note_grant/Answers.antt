@@ -1,4 +1,4 @@
-use Rattle.std.proofs.Common.{◌≡◌, ℕ, ◌+◌, ◌<◌, ◌≤◌, ◌++◌, ◌∷◌, [], List, IsTrue, length, ap, subst, sym, arith}
+use Rattle.std.proofs.Common.{◌≡◌, ℕ, ◌+◌, ◌<◌, ◌≤◌, ◌++◌, ◌∷◌, [], List, IsTrue, length, ap, subst, sym, ◌∙◌, arith}
 use Rattle.dispatch_log.specs.Logs.{Recorded}
 use Rattle.dispatch_log.specs.declared.entry.Entry.{Entry}
 use Rattle.dispatch_log.specs.declared.entry.Entry.TheVariants.{Granted}
@@ -41,6 +41,6 @@ invariant_of-self c =
           (subst (λ (l : List SlotGrant). IsKept base (s.list.items ++ Granted a.key.ticket a.queue a.server ∷ []) l s.moment s.most) (sym c.put.ensures.items)
           (subst (λ (n : ℕ). IsKept base (s.list.items ++ Granted a.key.ticket a.queue a.server ∷ []) (s.granted.items ++ grant n ∷ []) s.moment s.most)
           (sym slot) kept)),
-      subst (λ (n : ℕ). s.most ≤ n) (sym c.put-2.ensures.room) c.self.invariant.2,
-      subst (λ (n : ℕ). s.most ≤ n) (sym c.put.ensures.room) c.self.invariant.3,
+      c.put-2.ensures.room ∙ c.self.invariant.2,
+      c.put.ensures.room ∙ c.self.invariant.3,
     )

@@ -1,8 +1,8 @@
 use Rattle.std.proofs.Common.{◌≡◌, [], ap, sym, ◌∙◌, subst}
 use Rattle.std.proofs.lemmas.Option.{same_Some, slice_get_within}
 use Rattle.wait_queues.specs.declared.waiters.Waiter.{Waiter}
-use Rattle.wait_queues.specs.Lines.{Lined}
-use Rattle.wait_queues.specs.Waitlists.{Waitlist, WaitsAt}
+use Rattle.wait_queues.specs.Lines.{Lined, lines_of}
+use Rattle.wait_queues.specs.Waitlists.{Waitlist, WaitsAt, list_of}
 use Rattle.wait_queues.proofs.Changes.{gather_kept, leave_kept, leaves}
 use Rattle.wait_queues.proofs.Lineup.{gather_room}
 use Rattle.wait_queues.proofs.waiting.WaitQueues.leave.Goals as goal
@@ -12,31 +12,31 @@ gather-requires-clause-room g c = gather_room _ _ c.self.invariant.lined_up
 
 pub take-requires : goal.take-requires
 take-requires g c =
-    slice_get_within _ _ _ (subst (λ (l : Waitlist). (waiter : Waiter) × WaitsAt l.waiters c.args.place waiter) (sym c.self.view_is) c.requires).1
+    slice_get_within _ _ _ (subst (λ (l : Waitlist). (waiter : Waiter) × WaitsAt l.waiters c.args.place waiter) (sym (ap list_of c.self.view_is)) c.requires).1
 
 pub unreachable-requires-in_default-remove : goal.unreachable-requires-in_default-remove
 unreachable-requires-in_default-remove g c =
-    let none : c.gather.new.self.moved ≡ [] = ap (λ (l : Lined). l.moved) c.gather.ensures in
-    let it = leaves c.gather.new.self _ c.args.place c.in-Some.waiter
-    (gather_kept _ _ _ _ c.self.invariant c.gather.ensures).lined_up none c.in-Some.ensures.taken in
+    let none : c.gather.new.self.moved ≡ [] = ap (λ (l : Lined). l.moved) c.gather.ensures.merged in
+    let it = leaves (lines_of c.gather.new.self) _ c.args.place c.in-Some.waiter
+    (gather_kept _ _ _ _ c.self.invariant c.gather.ensures.merged).lined_up none c.in-Some.ensures.taken in
     let missed = ap (Rattle.std.specs.Option.option_map g.Q.PendQueue.pair_of) (sym c.in_default-remove.is) ∙ c.remove.ensures.its ∙ it.there in
     cc
 
 pub invariant_of-self : goal.invariant_of-self
 invariant_of-self g c =
-    let up = gather_kept _ _ _ _ c.self.invariant c.gather.ensures in
-    let none : c.gather.new.self.moved ≡ [] = ap (λ (l : Lined). l.moved) c.gather.ensures in
-    let it = leaves c.gather.new.self _ c.args.place c.in-Some.waiter up.lined_up none c.in-Some.ensures.taken in
-    leave_kept c.gather.new.self _ c.self.inside.waiters.items _ c.self.inside.order _ c.args.place c.in-Some.waiter _ up none c.in-Some.ensures.taken it.parts
+    let up = gather_kept _ _ _ _ c.self.invariant c.gather.ensures.merged in
+    let none : c.gather.new.self.moved ≡ [] = ap (λ (l : Lined). l.moved) c.gather.ensures.merged in
+    let it = leaves (lines_of c.gather.new.self) _ c.args.place c.in-Some.waiter up.lined_up none c.in-Some.ensures.taken in
+    leave_kept (lines_of c.gather.new.self) _ c.self.inside.waiters.items _ c.self.inside.order _ c.args.place c.in-Some.waiter _ up none c.in-Some.ensures.taken it.parts
     it.rises c.in-Some-remove.ensures.rest c.in-Some.ensures.emptied c.remove-2.ensures
 
 pub returns-clause-pair : goal.returns-clause-pair
 returns-clause-pair g c =
-    let none : c.gather.new.self.moved ≡ [] = ap (λ (l : Lined). l.moved) c.gather.ensures in
-    let it = leaves c.gather.new.self _ c.args.place c.in-Some.waiter
-    (gather_kept _ _ _ _ c.self.invariant c.gather.ensures).lined_up none c.in-Some.ensures.taken in (
+    let none : c.gather.new.self.moved ≡ [] = ap (λ (l : Lined). l.moved) c.gather.ensures.merged in
+    let it = leaves (lines_of c.gather.new.self) _ c.args.place c.in-Some.waiter
+    (gather_kept _ _ _ _ c.self.invariant c.gather.ensures.merged).lined_up none c.in-Some.ensures.taken in (
       c.in-Some.waiter,
-      subst (λ (l : Waitlist). WaitsAt l.waiters c.args.place c.in-Some.waiter) c.self.view_is c.in-Some.ensures.taken,
+      subst (λ (l : Waitlist). WaitsAt l.waiters c.args.place c.in-Some.waiter) (ap list_of c.self.view_is) c.in-Some.ensures.taken,
       same_Some _ _
           (c.in-Some-remove.ensures.its ∙ it.there),
     )

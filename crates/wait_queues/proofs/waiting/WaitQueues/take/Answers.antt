@@ -1,8 +1,8 @@
 use Rattle.std.proofs.Common.{◌≡◌, [], length, ap, sym, ◌∙◌, subst}
 use Rattle.std.proofs.lemmas.Option.{slice_get_within}
 use Rattle.slot_ledger.specs.Counts.{IsQueueOf}
-use Rattle.wait_queues.specs.Lines.{Lined}
-use Rattle.wait_queues.specs.Waitlists.{Waitlist, NoneWaitsIn, IsFirstIn}
+use Rattle.wait_queues.specs.Lines.{Lined, lines_of}
+use Rattle.wait_queues.specs.Waitlists.{Waitlist, NoneWaitsIn, IsFirstIn, list_of}
 use Rattle.wait_queues.proofs.Changes.{gather_kept, take_kept, takes, stands_first, first_of_node, nothing_popped, missing}
 use Rattle.wait_queues.proofs.Lineup.{gather_room, gathered_whole, none_in}
 use Rattle.wait_queues.proofs.waiting.WaitQueues.take.Goals as goal
@@ -12,77 +12,77 @@ gather-requires-clause-room g c = gather_room _ _ c.self.invariant.lined_up
 
 pub invariant_of-self : goal.invariant_of-self
 invariant_of-self g c =
-    let same = nothing_popped c.gather.new.self c.pop.new.self c.args.queue c.in_default.ensures.first c.in_default.ensures.rest in
-    gather_kept _ _ _ _ c.self.invariant (same ∙ c.gather.ensures)
+    let same = nothing_popped (lines_of c.gather.new.self) (lines_of c.pop.new.self) c.args.queue c.in_default.ensures.first c.in_default.ensures.rest in
+    gather_kept _ _ _ _ c.self.invariant (same ∙ c.gather.ensures.merged)
 
 pub returns-in_default-clause-first : goal.returns-in_default-clause-first
 returns-in_default-clause-first g c =
-    let up = gather_kept _ _ _ _ c.self.invariant c.gather.ensures in
-    let none : c.gather.new.self.moved ≡ [] = ap (λ (l : Lined). l.moved) c.gather.ensures in
-    subst (λ (l : Waitlist). NoneWaitsIn c.args.queue l.waiters) c.self.view_is
-    (none_in c.gather.new.self c.self.inside.waiters.items c.args.queue up.lined_up (gathered_whole c.gather.new.self c.args.queue none)
+    let up = gather_kept _ _ _ _ c.self.invariant c.gather.ensures.merged in
+    let none : c.gather.new.self.moved ≡ [] = ap (λ (l : Lined). l.moved) c.gather.ensures.merged in
+    subst (λ (l : Waitlist). NoneWaitsIn c.args.queue l.waiters) (ap list_of c.self.view_is)
+    (none_in (lines_of c.gather.new.self) c.self.inside.waiters.items c.args.queue up.lined_up (gathered_whole (lines_of c.gather.new.self) c.args.queue none)
     (sym c.in_default.ensures.first))
 
 pub take-requires : goal.take-requires
 take-requires g c =
-    let up = gather_kept _ _ _ _ c.self.invariant c.gather.ensures in
-    let servers : length c.gather.new.self.own ≡ c.args.self.now.servers = ap (λ (l : Lined). length l.own) c.gather.ensures
-    ∙ ap (λ (l : Waitlist). l.servers) c.self.view_is in
+    let up = gather_kept _ _ _ _ c.self.invariant c.gather.ensures.merged in
+    let servers : length c.gather.new.self.own ≡ c.args.self.now.servers = ap (λ (l : Lined). length l.own) c.gather.ensures.merged
+    ∙ ap (λ (l : Waitlist). l.servers) (ap list_of c.self.view_is) in
     let within = subst (λ n. IsQueueOf n c.args.queue) (sym servers) c.requires in
     let first =
     first_of_node g.Q.PendQueue.pair_of _ c.pop.result c.in-Some.node c.pair.result.0.now c.pair.result.1.now c.pop.ensures.first c.in-Some.is
     c.pair.ensures in
-    slice_get_within _ _ _ (stands_first c.gather.new.self _ c.args.queue c.pair.result.0.now c.pair.result.1.now up.lined_up within first).1
+    slice_get_within _ _ _ (stands_first (lines_of c.gather.new.self) _ c.args.queue c.pair.result.0.now c.pair.result.1.now up.lined_up within first).1
 
 pub unreachable-requires : goal.unreachable-requires
 unreachable-requires g c =
-    let up = gather_kept _ _ _ _ c.self.invariant c.gather.ensures in
-    let servers : length c.gather.new.self.own ≡ c.args.self.now.servers = ap (λ (l : Lined). length l.own) c.gather.ensures
-    ∙ ap (λ (l : Waitlist). l.servers) c.self.view_is in
+    let up = gather_kept _ _ _ _ c.self.invariant c.gather.ensures.merged in
+    let servers : length c.gather.new.self.own ≡ c.args.self.now.servers = ap (λ (l : Lined). length l.own) c.gather.ensures.merged
+    ∙ ap (λ (l : Waitlist). l.servers) (ap list_of c.self.view_is) in
     let within = subst (λ n. IsQueueOf n c.args.queue) (sym servers) c.requires in
     let first =
     first_of_node g.Q.PendQueue.pair_of _ c.pop.result c.in-Some.node c.pair.result.0.now c.pair.result.1.now c.pop.ensures.first c.in-Some.is
     c.pair.ensures in
-    let it = stands_first c.gather.new.self _ c.args.queue c.pair.result.0.now c.pair.result.1.now up.lined_up within first in
+    let it = stands_first (lines_of c.gather.new.self) _ c.args.queue c.pair.result.0.now c.pair.result.1.now up.lined_up within first in
     missing c.self.inside.waiters.items c.pair.result.1.now it.0 c.take.result it.1 c.take.ensures.taken c.in_default-take.is
 
 pub invariant_of-self-2 : goal.invariant_of-self-2
 invariant_of-self-2 g c =
-    let up = gather_kept _ _ _ _ c.self.invariant c.gather.ensures in
-    let none : c.gather.new.self.moved ≡ [] = ap (λ (l : Lined). l.moved) c.gather.ensures in
-    let servers : length c.gather.new.self.own ≡ c.args.self.now.servers = ap (λ (l : Lined). length l.own) c.gather.ensures
-    ∙ ap (λ (l : Waitlist). l.servers) c.self.view_is in
+    let up = gather_kept _ _ _ _ c.self.invariant c.gather.ensures.merged in
+    let none : c.gather.new.self.moved ≡ [] = ap (λ (l : Lined). l.moved) c.gather.ensures.merged in
+    let servers : length c.gather.new.self.own ≡ c.args.self.now.servers = ap (λ (l : Lined). length l.own) c.gather.ensures.merged
+    ∙ ap (λ (l : Waitlist). l.servers) (ap list_of c.self.view_is) in
     let within = subst (λ n. IsQueueOf n c.args.queue) (sym servers) c.requires in
     let first =
     first_of_node g.Q.PendQueue.pair_of _ c.pop.result c.in-Some.node c.pair.result.0.now c.pair.result.1.now c.pop.ensures.first c.in-Some.is
     c.pair.ensures in
-    take_kept c.gather.new.self _ c.self.inside.waiters.items _ c.self.inside.order _ c.pair.result.1.now c.in-Some-take.waiter c.args.queue c.pair.result.0.now
+    take_kept (lines_of c.gather.new.self) _ c.self.inside.waiters.items _ c.self.inside.order _ c.pair.result.1.now c.in-Some-take.waiter c.args.queue c.pair.result.0.now
     up none within first c.in-Some-take.ensures.taken c.pop.ensures.rest c.in-Some-take.ensures.emptied c.remove.ensures
 
 pub returns-clause-first : goal.returns-clause-first
 returns-clause-first g c =
-    let up = gather_kept _ _ _ _ c.self.invariant c.gather.ensures in
-    let none : c.gather.new.self.moved ≡ [] = ap (λ (l : Lined). l.moved) c.gather.ensures in
-    let servers : length c.gather.new.self.own ≡ c.args.self.now.servers = ap (λ (l : Lined). length l.own) c.gather.ensures
-    ∙ ap (λ (l : Waitlist). l.servers) c.self.view_is in
+    let up = gather_kept _ _ _ _ c.self.invariant c.gather.ensures.merged in
+    let none : c.gather.new.self.moved ≡ [] = ap (λ (l : Lined). l.moved) c.gather.ensures.merged in
+    let servers : length c.gather.new.self.own ≡ c.args.self.now.servers = ap (λ (l : Lined). length l.own) c.gather.ensures.merged
+    ∙ ap (λ (l : Waitlist). l.servers) (ap list_of c.self.view_is) in
     let within = subst (λ n. IsQueueOf n c.args.queue) (sym servers) c.requires in
     let first =
     first_of_node g.Q.PendQueue.pair_of _ c.pop.result c.in-Some.node c.pair.result.0.now c.pair.result.1.now c.pop.ensures.first c.in-Some.is
     c.pair.ensures in
-    let it = takes c.gather.new.self _ c.args.queue c.pair.result.0.now c.pair.result.1.now c.in-Some-take.waiter up.lined_up within
-    (gathered_whole c.gather.new.self c.args.queue none) first c.in-Some-take.ensures.taken in
-    subst (λ (l : Waitlist). IsFirstIn c.args.queue l.waiters c.pair.result.1.now c.in-Some-take.waiter) c.self.view_is it.0.first
+    let it = takes (lines_of c.gather.new.self) _ c.args.queue c.pair.result.0.now c.pair.result.1.now c.in-Some-take.waiter up.lined_up within
+    (gathered_whole (lines_of c.gather.new.self) c.args.queue none) first c.in-Some-take.ensures.taken in
+    subst (λ (l : Waitlist). IsFirstIn c.args.queue l.waiters c.pair.result.1.now c.in-Some-take.waiter) (ap list_of c.self.view_is) it.0.first
 
 pub returns-clause-pair : goal.returns-clause-pair
 returns-clause-pair g c =
-    let up = gather_kept _ _ _ _ c.self.invariant c.gather.ensures in
-    let none : c.gather.new.self.moved ≡ [] = ap (λ (l : Lined). l.moved) c.gather.ensures in
-    let servers : length c.gather.new.self.own ≡ c.args.self.now.servers = ap (λ (l : Lined). length l.own) c.gather.ensures
-    ∙ ap (λ (l : Waitlist). l.servers) c.self.view_is in
+    let up = gather_kept _ _ _ _ c.self.invariant c.gather.ensures.merged in
+    let none : c.gather.new.self.moved ≡ [] = ap (λ (l : Lined). l.moved) c.gather.ensures.merged in
+    let servers : length c.gather.new.self.own ≡ c.args.self.now.servers = ap (λ (l : Lined). length l.own) c.gather.ensures.merged
+    ∙ ap (λ (l : Waitlist). l.servers) (ap list_of c.self.view_is) in
     let within = subst (λ n. IsQueueOf n c.args.queue) (sym servers) c.requires in
     let first =
     first_of_node g.Q.PendQueue.pair_of _ c.pop.result c.in-Some.node c.pair.result.0.now c.pair.result.1.now c.pop.ensures.first c.in-Some.is
     c.pair.ensures in
-    let it = takes c.gather.new.self _ c.args.queue c.pair.result.0.now c.pair.result.1.now c.in-Some-take.waiter up.lined_up within
-    (gathered_whole c.gather.new.self c.args.queue none) first c.in-Some-take.ensures.taken in
+    let it = takes (lines_of c.gather.new.self) _ c.args.queue c.pair.result.0.now c.pair.result.1.now c.in-Some-take.waiter up.lined_up within
+    (gathered_whole (lines_of c.gather.new.self) c.args.queue none) first c.in-Some-take.ensures.taken in
     c.pair.ensures ∙ ap (λ k. (k, c.pair.result.1.now)) (sym it.1)

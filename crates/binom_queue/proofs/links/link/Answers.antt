@@ -1,6 +1,6 @@
 use Rattle.std.proofs.lemmas.List.Sorted.{IsPermutation-middle, IsPermutation-cons, IsPermutation-append_comm}
 use Rattle.binom_queue.specs.Trees.{items, tree_items}
-use Rattle.binom_queue.proofs.grow.link.Goals as goal
+use Rattle.binom_queue.proofs.links.link.Goals as goal
 
 pub returns-in-Greater-clause-pairs : goal.returns-in-Greater-clause-pairs
 returns-in-Greater-clause-pairs g c = rw c.under.ensures.pairs

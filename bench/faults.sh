@@ -1,6 +1,6 @@
 #!/bin/bash
 # Puts `dueproxy run` before peers that are silent, go or aren't there, lets it run out of files, and has it serve so many clients that its log is full more than once; then one proxy stands while its peers break
-# (bench/standing.py, with a minute of load on a server that comes and goes, or LOAD_SECONDS). Prints a line for each thing that was tried, and fails where one failed. It needs ab (apache2-utils) and python3.
+# (bench/standing.py, with a minute of load on a server that comes and goes, or LOAD_SECONDS), and crowds come (bench/crowds.py, beside HAProxy where it is there). Prints a line for each thing that was tried, and fails where one failed. It needs ab (apache2-utils) and python3.
 . "$(dirname "$0")/common.sh"
 program=$(proved_program)
 clients=${CLIENTS:-140000}
@@ -8,6 +8,7 @@ failed=0
 trap 'kill $(jobs -p) 2>/dev/null || :; wait 2>/dev/null; rm -rf "$folder"' EXIT
 python3 "$here/bench/faults.py" "$program" "$folder" || failed=1
 python3 "$here/bench/standing.py" "$program" "$folder" || failed=1
+python3 "$here/bench/crowds.py" "$program" "$folder" || failed=1
 
 # A request leaves four to six entries in the log, and a window has 262,144.
 cat >"$folder/proxy.cfg" <<'CONF'

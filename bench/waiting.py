@@ -11,7 +11,7 @@ import time
 
 CLIENTS, COMMAND = int(sys.argv[1]), sys.argv[2:]
 PROXY, SERVER = 18285, 18286
-SPACE = 100
+SPACE = min(100, 500_000 // CLIENTS)
 TOLERANCE = 20
 ANSWER = b"HTTP/1.1 200 OK\r\nContent-Length: 2\r\nConnection: close\r\n\r\nok"
 served, blocked = [], asyncio.Event()

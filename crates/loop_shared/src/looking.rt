@@ -11,7 +11,7 @@ use dispatch_trace::Ticketed;
 use grant_board::BoardName;
 use loop_table::Subject;
 use mio::{Interest, Registry};
-use pass_seat::{Asked, Held};
+use pass_seat::{Asked, Held, Idle};
 use std::os::fd::AsRawFd;
 use std::sync::Wait;
 
@@ -27,13 +27,6 @@ pub enum Looked<N: BoardName> {
     NoSeat,
     /// Nobody waits there.
     Nobody,
-}
-
-// What is found of a request's pass.
-enum Found<N: BoardName> {
-    Held(Held<N>),
-    NotYet,
-    NoSeat,
 }
 
 impl<N: BoardName> Shared<'_, N> {
@@ -54,17 +47,20 @@ impl<N: BoardName> Shared<'_, N> {
             return Looked::Nobody;
         };
         let mut parked = parked;
-        let looked = match self.ask(rt, parked.at) {
-            Found::Held(held) => return Looked::Granted(Granted { held, parked }),
-            Found::NoSeat => Looked::NoSeat,
-            Found::NotYet if parked.watched || watches(registry, &parked) => {
-                parked.watched = true;
-                Looked::Waits
-            }
-            Found::NotYet => {
-                parked.late = true;
-                Looked::Unwatched(parked.at.ticket)
-            }
+        let popped = self.idle.lock(rt).pop();
+        let looked = match popped {
+            None => Looked::NoSeat,
+            Some(idle) => match self.ask(rt, idle, parked.at) {
+                Some(held) => return Looked::Granted(Granted { held, parked }),
+                None if parked.watched || watches(registry, &parked) => {
+                    parked.watched = true;
+                    Looked::Waits
+                }
+                None => {
+                    parked.late = true;
+                    Looked::Unwatched(parked.at.ticket)
+                }
+            },
         };
         match spot.replace(parked) {
             None => looked,
@@ -72,20 +68,19 @@ impl<N: BoardName> Shared<'_, N> {
         }
     }
 
-    // The pass of a place and a ticket, where it is offered.
-    fn ask<R: Wait>(&self, rt: &R, at: Ticketed) -> Found<N> {
+    // The pass of a place and a ticket, where it is offered. Else the seat comes back.
+    fn ask<R: Wait>(&self, rt: &R, idle: Idle<N>, at: Ticketed) -> Option<Held<N>>
+        ensures { IfSome result (λ held. (held.pass.place ≡ at.place) × (held.pass.ticket ≡ at.ticket)) }
+    {
         if !self.has(at.place) {
-            return Found::NotYet;
+            self.return_seat(rt, idle);
+            return None;
         }
-        let popped = self.idle.lock(rt).pop();
-        let Some(idle) = popped else {
-            return Found::NoSeat;
-        };
         match idle.take(self.proxy.desk.board(), at.place, at.ticket) {
-            Asked::Held(held) => Found::Held(held),
+            Asked::Held(held) => Some(held),
             Asked::NotYet(idle) => {
                 self.return_seat(rt, idle);
-                Found::NotYet
+                None
             }
         }
     }

@@ -75,20 +75,23 @@ impl<
     }
 
     fn look_at(&mut self, place: usize) {
-        let looked = self.shared.look_at(self.rt, &self.registry, place);
-        self.follow(looked, place);
+        match self.granted_at(place) {
+            Some(granted) => self.take_in(granted),
+            None => {}
+        }
     }
 
-    /// Goes on by what became of a look at a place.
-    pub(crate) fn follow(&mut self, looked: Looked<N>, place: usize) {
-        match looked {
-            Looked::Granted(granted) => self.take_in(granted),
+    /// Looks at a place: the request that waits there, with its pass. None: nobody waits there, or waits on.
+    pub(crate) fn granted_at(&mut self, place: usize) -> Option<Granted<N>> {
+        match self.shared.look_at(self.rt, &self.registry, place) {
+            Looked::Granted(granted) => return Some(granted),
             Looked::Waits | Looked::Nobody => {}
             Looked::Unwatched(ticket) => {
                 self.shared.proxy.give_up(self.rt, &mut self.gate, ticket);
             }
             Looked::NoSeat => self.shared.look_again(self.rt, self.home, place),
         }
+        None
     }
 
     // A request has its verdict, and takes a slot of this loop.

@@ -7,7 +7,7 @@ use crate::serving::Then;
 use dispatch_log::Refusal;
 use dispatch_trace::Ticketed;
 use grant_board::BoardName;
-use loop_shared::{Looked, Outsider, Parked};
+use loop_shared::{Outsider, Parked};
 use loop_table::Hole;
 use prio_rules::{Wish, decide};
 use relay_workers::{Gate, arrive_as};
@@ -96,12 +96,11 @@ impl<
                 late: false,
             },
         );
-        match self.shared.look_at(self.rt, &self.registry, at.place) {
-            Looked::Granted(granted) => self.welcome(granted, hole),
-            looked => {
+        match self.granted_at(at.place) {
+            Some(granted) => self.welcome(granted, hole),
+            None => {
                 self.guests.close(hole);
                 self.shared.note_wait();
-                self.follow(looked, at.place);
                 Then::Rests
             }
         }

@@ -276,7 +276,7 @@ fn serve<N: BoardName, R: Wait>(
             if take(desk, &mut relay, oldest) {
                 live.pop_front();
                 served += 1;
-                turn(rt, desk, served);
+                turn(rt, alloc, desk, served);
             } else {
                 yield_now();
             }
@@ -303,7 +303,7 @@ fn arrive<N: BoardName, R: Wait>(
     let moment = Moment::new(moment)?;
     match admit(rt, alloc, desk, moment) {
         Err(Refusal::LogFull) => {
-            desk.roll(rt);
+            let _ = desk.roll(rt, alloc);
             admit(rt, alloc, desk, moment).ok()
         }
         admitted => admitted.ok(),
@@ -344,11 +344,11 @@ fn take<N: BoardName>(desk: &Desk<N>, relay: &mut RelaySeat, stands: &Stands<N>)
     }
 }
 
-fn turn<N: BoardName, R: Wait>(rt: &R, desk: &Desk<N>, moment: u64) {
+fn turn<N: BoardName, R: Wait>(rt: &R, alloc: Global, desk: &Desk<N>, moment: u64) {
     let mut woken = PlaceSet::new();
     let moment = Moment::new(moment).unwrap_or(Moment::zero());
     if desk.turn(rt, moment, &mut woken).is_err() {
-        desk.roll(rt);
+        let _ = desk.roll(rt, alloc);
         let _ = desk.turn(rt, moment, &mut woken);
     }
 }

@@ -10,7 +10,7 @@ ghost use Rattle.dispatch_log.specs.Scenes.{is_up};
 ghost use Rattle.grant_board.specs.KeeperCalls.{new_keeper, FindsUnposted, IsClosed};
 ghost use Rattle.grant_desk.specs.Replies.{IsHeld, SomeHeld, SomeStep};
 ghost use Rattle.dispatch_trace.specs.Histories.{scene_of, HasEntryRoom};
-ghost use Rattle.late_cert.specs.Reports.{AreReports};
+ghost use Rattle.late_cert.specs.Certificates.{IsCertified};
 ghost use Rattle.late_cert.specs.Running.{IsWorstIn};
 ghost use Rattle.list_facts.specs.Weights.{AreIn};
 ghost use Rattle.readable_log.specs.Windows.{window_in};
@@ -184,7 +184,7 @@ impl<N: BoardName> Desk<N> {
     }
 
     /// Looks at each place that is out, by rising number, and takes what came back there; then a tick, where a request has waited too long.
-    /// Refused where the log is full: what was taken until then stays taken, and its places are in the set. `O(1)` for each place that is
+    /// Refused where the log is full, also where no place is out: what was taken until then stays taken, and its places are in the set. `O(1)` for each place that is
     /// out, beside the events.
     pub fn turn<R: Wait>(&self, rt: &R, moment: Moment, woken: &mut PlaceSet) -> Result<(), Refusal>
         ensures ok { OnOk result (SomeStep N.terms (λ old new. Turns moment old woken.old new woken.new)) }
@@ -198,14 +198,19 @@ impl<N: BoardName> Desk<N> {
         turned
     }
 
-    /// Begins the next window of the log.
-    pub fn roll<R: Wait>(&self, rt: &R) {
-        self.enter(rt).roll();
+    /// Begins the next window of the log, and answers the reports of the one that ended. Where memory is refused nothing changes.
+    pub fn roll<R: Wait>(&self, rt: &R, alloc: Global) -> Result<Reports, AllocError>
+        ensures { IfOk result (λ reports. SomeStep N.terms (λ old new. IsCertified old.history reports × (new ≡ record old { history = next_window old.history }))) }
+    {
+        let mut book = self.enter(rt);
+        let reports = book.report(alloc)?;
+        book.roll();
+        Ok(reports)
     }
 
     /// The reports of the present window. Fails only where memory is refused.
     pub fn report<R: Wait>(&self, rt: &R, alloc: Global) -> Result<Reports, AllocError>
-        ensures { IfOk result (λ reports. SomeHeld N.terms (λ held. AreReports (window_in held.history) reports)) }
+        ensures { IfOk result (λ reports. SomeHeld N.terms (λ held. IsCertified held.history reports)) }
     {
         self.enter(rt).report(alloc)
     }
@@ -240,7 +245,7 @@ impl<N: BoardName> Desk<N> {
     /// room. Where memory is refused nothing changes.
     pub fn make_room<R: Wait>(&self, rt: &R, alloc: Global) -> Result<Option<Window>, AllocError>
         ensures none { IfOk result (λ found. IfNone found (SomeHeld N.terms (λ held. HasEntryRoom held.history))) }
-        ensures some { IfOk result (λ found. IfSome found (λ window. SomeStep N.terms (λ old new. (HasEntryRoom old.history → ⊥) × AreReports (window_in old.history) window.reports × AreLines old.history window.servers.items × (new ≡ record old { history = next_window old.history })))) }
+        ensures some { IfOk result (λ found. IfSome found (λ window. SomeStep N.terms (λ old new. (HasEntryRoom old.history → ⊥) × IsCertified old.history window.reports × AreLines old.history window.servers.items × (new ≡ record old { history = next_window old.history })))) }
     {
         self.enter(rt).make_room(alloc)
     }

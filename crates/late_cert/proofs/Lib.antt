@@ -11,3 +11,4 @@ pub mod Fair
 pub mod Chosen
 pub mod Legal
 pub mod OneReport
+pub mod Certified

@@ -6,3 +6,4 @@ pub mod Worked
 pub mod Queues
 pub mod Running
 pub mod Table
+pub mod Certificates

@@ -8,7 +8,6 @@ use Rattle.std.proofs.lemmas.List.Elements.{All-head, All-tail}
 use Rattle.verdict.specs.declared.Verdict.{Verdict}
 use Rattle.grant_board.specs.Views.{first_mark, mark_of, Grant, grant, KeeperView}
 use Rattle.grant_board.specs.KeeperCalls.{Keeper, new_keeper, offer_after}
-use Rattle.std.proofs.lemmas.Bool.Decides.{Decides-eqb}
 use Rattle.list_facts.specs.Weights.{total}
 use Rattle.list_facts.proofs.Never.{false_true}
 use Rattle.dispatch_log.specs.declared.allowance.Intake.TheVariants.{Open}

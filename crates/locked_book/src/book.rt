@@ -11,7 +11,7 @@ ghost use Rattle.locked_book.specs.Ends.{IsAcceptable};
 ghost use Rattle.dispatch_log.specs.Histories.{first_window, next_window, state_of, effective, refuses_arrival, refuses_abort, refuses_tick, refuses_check, refuses_limit, SomeExpires, RefusedOrNoMemory};
 ghost use Rattle.dispatch_log.specs.Legal.{AddsEvent, IsLegal};
 ghost use Rattle.dispatch_trace.specs.Histories.{scene_of, HasEntryRoom};
-ghost use Rattle.late_cert.specs.Reports.{AreReports};
+ghost use Rattle.late_cert.specs.Certificates.{IsCertified};
 ghost use Rattle.late_cert.specs.Running.{IsWorstIn};
 ghost use Rattle.readable_log.specs.Windows.{window_in};
 ghost use Rattle.reporting_core.specs.Lines.{AreLines};
@@ -271,7 +271,7 @@ impl<Q: PendQueue<Key, usize>, N: BoardName> Book<Q, N> {
 
     /// The reports of the present window. `O(n log n)` in its grants; fails only where memory is refused.
     pub fn report(&self, alloc: Global) -> Result<Reports, AllocError>
-        ensures { IfOk result (AreReports (window_in self.now.history)) }
+        ensures { IfOk result (IsCertified self.now.history) }
     {
         self.core.report(alloc)
     }
@@ -304,7 +304,7 @@ impl<Q: PendQueue<Key, usize>, N: BoardName> Book<Q, N> {
     /// room. Where memory is refused nothing changes, and the board never does.
     pub fn make_room(&mut self, alloc: Global) -> Result<Option<Window>, AllocError>
         ensures none { IfOk result (λ found. IfNone found (HasEntryRoom self.old.history × (self.new ≡ self.old))) }
-        ensures some { IfOk result (λ found. IfSome found (λ window. (HasEntryRoom self.old.history → ⊥) × AreReports (window_in self.old.history) window.reports × AreLines self.old.history window.servers.items × (self.new ≡ record self.old { history = next_window self.old.history }))) }
+        ensures some { IfOk result (λ found. IfSome found (λ window. (HasEntryRoom self.old.history → ⊥) × IsCertified self.old.history window.reports × AreLines self.old.history window.servers.items × (self.new ≡ record self.old { history = next_window self.old.history }))) }
         ensures err { OnErr result (self.new ≡ self.old) }
     {
         self.core.make_room(alloc)
@@ -331,7 +331,8 @@ impl<Q: PendQueue<Key, usize>, N: BoardName> Book<Q, N> {
     }
 
     /// Looks at each place that is out, by rising number, and takes what came back there; then a tick, where a request has waited too long.
-    /// Refused where the log is full: what was taken until then stays taken. `O(1)` for each place that is out, beside the events.
+    /// Refused where the log is full, also where no place is out: what was taken until then stays taken. `O(1)` for each place that is out,
+    /// beside the events.
     pub fn turn(
         &mut self,
         board: &Board,
@@ -343,6 +344,9 @@ impl<Q: PendQueue<Key, usize>, N: BoardName> Book<Q, N> {
         ensures err { IfErr result (λ refusal. (refusal ≡ LogFull) × (refuses_tick self.new.history ≡ Some LogFull)) }
         ensures stopped { OnErr result (VisitsSome moment self.old woken.old self.new woken.new) }
     {
+        if !self.core.has_room() {
+            return Err(Refusal::LogFull);
+        }
         for number in 0..self.keeping.blocks() {
             self.turn_block(board, moment, number, woken)?;
         }

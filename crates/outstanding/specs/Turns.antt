@@ -1,10 +1,10 @@
 -- A turn: the places that are out are looked at by rising number, each once, and what came back there is taken.
-use Rattle.std.specs.Prelude.{◌≡◌, ◌⊎◌, ℕ, ◌+◌, ◌<◌, ◌≤◌, List, [], ◌∷◌, Contains}
+use Rattle.std.specs.Prelude.{◌≡◌, ◌⊎◌, ℕ, ◌+◌, ◌<◌, ◌≤◌, List, [], ◌∷◌, Contains, None}
 use Rattle.grant_board.specs.declared.returned.Return.{Return}
 use Rattle.grant_board.specs.Views.{count_at}
 use Rattle.grant_board.specs.KeeperCalls.{FindsUnposted}
 use Rattle.dispatch_log.specs.declared.entry.Entry.TheVariants.{Tick}
-use Rattle.dispatch_log.specs.Histories.{effective, SomeExpires}
+use Rattle.dispatch_log.specs.Histories.{effective, SomeExpires, refuses_tick}
 use Rattle.dispatch_log.specs.Legal.{AddsEvent}
 use Rattle.outstanding.specs.Calls.{Booked, TakesBack, CarriesOut}
 
@@ -32,8 +32,9 @@ pub record Walks (moment low high : ℕ) (old : Booked) (woken : List ℕ) (new 
 abbrev pub VisitsSome : ℕ → Booked → List ℕ → Booked → List ℕ → Type 0
 VisitsSome moment old woken new woken_then = (places : List ℕ) × VisitsFrom moment 0 places old woken new woken_then
 
--- each place that was out at first was among them; then the requests that waited too long were told so, where one had
+-- the log had room for an event, and each place that was out at first was among them; then the requests that waited too long were told so, where one had
 pub record Turns (moment : ℕ) (old : Booked) (woken : List ℕ) (new : Booked) (woken_then : List ℕ) : Type 0 where
+  pub asked : refuses_tick old.history ≡ None
   pub places : List ℕ
   pub between : Booked
   pub woken_between : List ℕ

@@ -4,6 +4,8 @@ ghost use Rattle.relay_http.specs.declared.exchange.Stage.TheVariants as stage;
 ghost use Rattle.relay_http.specs.declared.exchange.Stage.TheVariants.{Asked};
 ghost use Rattle.relay_workers.specs.Admissions.{IsAdmitted, IsAdmittedAs, IsAdmittedLate, IsTurnedAway, IsRefusedFor};
 ghost use Rattle.relay_workers.specs.declared.outcome.Outcome.TheVariants.{Answered};
+ghost use Rattle.relay_workers.specs.Outcomes.{after_reading};
+ghost use Rattle.relay_http.specs.declared.fault.Fault.{Fault};
 
 use crate::gate::Gate;
 use crate::outcome::Outcome;
@@ -44,6 +46,7 @@ pub fn admit<R: Wait, N: BoardName, G: Gate + Drop>(
     ensures asked { OnOk result (runner.new.exchange.stage ≡ Asked) }
     ensures begun { OnOk result (runner.new.exchange.begun ≡ false) }
     ensures err { IfErr result (λ outcome. outcome ≢ Answered) }
+    ensures told { IfErr result (λ outcome. (fault : Fault) × (outcome ≡ after_reading fault)) }
     ensures most { runner.new.exchange.most ≡ runner.old.exchange.most }
 {
     let mut client = client;

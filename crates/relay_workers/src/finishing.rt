@@ -34,6 +34,7 @@ pub fn finish<R: Wait, N: BoardName, G: Gate + Drop>(
 ) -> Result<Outcome, Admitted<G::Client>>
     requires named { (seat.old.board ≡ N.board) × (seat.old.view.terms ≡ N.terms) }
     requires holds { seat.old.view.passes ≡ granted.pass ∷ [] }
+    requires its_own { (granted.pass.place ≡ granted.admitted.at.place) × (granted.pass.ticket ≡ granted.admitted.at.ticket) }
     requires asked { (runner.old.exchange.stage ≡ stage.Asked) × (runner.old.exchange.begun ≡ false) }
     ensures idle { seat.new.view.passes ≡ [] }
     ensures done { OnOk result (seat.new.view.posts ≡ seat.old.view.posts ++ return_of granted.pass ending.Done ∷ []) }

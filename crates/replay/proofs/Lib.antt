@@ -1,5 +1,4 @@
 mod Fronts
 mod Runs
-mod Certified
 mod WorkedRows
 mod OneTrace

@@ -9,12 +9,12 @@ use Rattle.dispatch_log.proofs.Windows.{next_legal}
 use Rattle.dispatch_log.proofs.Dispatched.{dispatched}
 use Rattle.dispatch_core.proofs.Calls.{new_legal}
 use Rattle.readable_log.specs.Windows.{window_in}
-use Rattle.script.specs.Certificates.{IsCertified}
+use Rattle.late_cert.specs.Certificates.{IsCertified}
 use Rattle.script.specs.Headers.{Settings, settings_of}
 use Rattle.script.specs.ScriptTexts.{IsRolled, IsScriptText}
 use Rattle.replay.specs.Defaults.{default_names, opening, setup_of}
 use Rattle.replay.specs.TraceTexts.{IsTraceOf}
-use Rattle.replay.proofs.Certified.{certified}
+use Rattle.late_cert.proofs.Certified.{certified}
 
 -- the log of no event has no report
 opening_certified : (settings : Settings) → IsCertified (opening settings) []

@@ -4,7 +4,7 @@ use Rattle.std.specs.Str.Lines.{lines}
 use Rattle.dispatch_log.specs.Histories.{History}
 use Rattle.late_cert.specs.declared.report.Report.{Report}
 use Rattle.script.specs.declared.step.Step.{Step}
-use Rattle.script.specs.Certificates.{IsCertified}
+use Rattle.late_cert.specs.Certificates.{IsCertified}
 use Rattle.script.specs.Faults.{fault_of}
 use Rattle.script.specs.Headers.{Settings, settings_of}
 use Rattle.script.specs.Reports.{reports_text}

@@ -1,7 +1,7 @@
 ghost use Rattle.std.specs.Prelude.{◌≡◌, ◌++◌, ℕ, List, IfOk, IfErr, OnOk, string_bytes};
 ghost use Rattle.late_cert.specs.declared.report.Report.{Report};
 ghost use Rattle.script.specs.Reports.{reports_text};
-ghost use Rattle.script.specs.Certificates.{IsCertified};
+ghost use Rattle.late_cert.specs.Certificates.{IsCertified};
 ghost use Rattle.script.specs.ScriptTexts.{IsRolled};
 
 use crate::fault::Fault;

@@ -1,4 +1,4 @@
-ghost use Rattle.std.specs.Prelude.{◌≡◌, ◌≢◌, ℕ, ◌+◌, ◌≤◌, Some, None, Err, IfOk, IfErr, IfSome, OnOk, OnErr, string_bytes};
+ghost use Rattle.std.specs.Prelude.{◌≡◌, ◌≢◌, ℕ, ◌+◌, ◌≤◌, Some, None, Err, IfOk, IfErr, IfSome, OnOk, OnErr, string_bytes, length};
 ghost use Rattle.std.specs.Io.KnownBytes.{IsAtEnd, Keeps};
 ghost use Rattle.script.specs.Faults.{fault_of};
 ghost use Rattle.replay.specs.Transfers.{read_failures, write_failures};
@@ -57,6 +57,7 @@ pub fn replay_between<S: Source, K: Sink>(
     ensures read_failed { (S.stream source.new).failures ≡ (S.stream source.old).failures + read_failures result }
     ensures write_failed { (K.stream sink.new).failures ≡ (K.stream sink.old).failures + write_failures result }
     ensures few_reads { (S.stream source.new).calls ≤ 4194305 }
+    ensures each_read { OnOk result (IfSome (S.stream source.old).bytes (λ script. (S.stream source.new).calls ≤ length script + 1)) }
     ensures few_writes { IfSome (S.stream source.old).bytes (λ script. AreFewWrites script (K.stream sink.new).calls) }
     ensures same_source { (S.stream source.new).name ≡ (S.stream source.old).name }
     ensures same_sink { (K.stream sink.new).name ≡ (K.stream sink.old).name }

@@ -17,6 +17,9 @@ pub(crate) fn read_whole<S: Source>(alloc: Global, source: &mut S) -> Result<Vec
     requires fresh { (S.stream source.old).calls ≡ 0 }
     ensures read { IfOk result (λ all. Consumes (S.stream source.old).bytes (S.stream source.new).bytes all.items) }
     ensures to_the_end { OnOk result (IsAtEnd (S.stream source.new).bytes) }
+
+    // Each read but the last gave a byte.
+    ensures each { IfOk result (λ all. (S.stream source.new).calls ≤ vec_len all + 1) }
     ensures short { IfOk result (λ all. vec_len all ≤ MOST_BYTES) }
     ensures too_long { IfErr result (λ fault. (line : ℕ) → fault ≡ Fault.Script line
         → (line ≡ 0) × IfSome (S.stream source.old).bytes (λ script. MOST_BYTES < length script)) }

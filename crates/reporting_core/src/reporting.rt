@@ -1,8 +1,7 @@
 ghost use Rattle.std.specs.Prelude.{◌≡◌, IfOk, IfSome, IfNone, OnErr};
 ghost use Rattle.dispatch_log.specs.Histories.{next_window};
 ghost use Rattle.dispatch_trace.specs.Histories.{HasEntryRoom};
-ghost use Rattle.late_cert.specs.Reports.{AreReports};
-ghost use Rattle.readable_log.specs.Windows.{window_in};
+ghost use Rattle.late_cert.specs.Certificates.{IsCertified};
 ghost use Rattle.reporting_core.specs.Lines.{AreLines};
 
 use crate::dispatcher::ReportingCore;
@@ -22,7 +21,7 @@ pub struct Window {
 impl<Q: PendQueue<Key, usize>> ReportingCore<Q> {
     /// The reports of the present window, each with its critical set. `O(n log n)` in its grants; fails only where memory is refused.
     pub fn report(&self, alloc: Global) -> Result<Reports, AllocError>
-        ensures { IfOk result (AreReports (window_in self.now)) }
+        ensures { IfOk result (IsCertified self.now) }
     {
         certify(alloc, self.core.log())
     }
@@ -42,7 +41,7 @@ impl<Q: PendQueue<Key, usize>> ReportingCore<Q> {
     /// room. Where memory is refused nothing changes.
     pub fn make_room(&mut self, alloc: Global) -> Result<Option<Window>, AllocError>
         ensures none { IfOk result (λ found. IfNone found (HasEntryRoom self.old × (self.new ≡ self.old))) }
-        ensures some { IfOk result (λ found. IfSome found (λ window. (HasEntryRoom self.old → ⊥) × AreReports (window_in self.old) window.reports × AreLines self.old window.servers.items × (self.new ≡ next_window self.old))) }
+        ensures some { IfOk result (λ found. IfSome found (λ window. (HasEntryRoom self.old → ⊥) × IsCertified self.old window.reports × AreLines self.old window.servers.items × (self.new ≡ next_window self.old))) }
         ensures err { OnErr result (self.new ≡ self.old) }
     {
         if self.has_room() {

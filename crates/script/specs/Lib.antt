@@ -5,5 +5,4 @@ pub mod Faults
 pub mod Reading
 pub mod Traces
 pub mod Reports
-pub mod Certificates
 pub mod ScriptTexts

@@ -9,7 +9,7 @@ use Rattle.dispatch_log.specs.Histories.{History, next_window, effective, refuse
 use Rattle.dispatch_log.specs.Histories.{refuses_failure, refuses_abort, refuses_tick, refuses_check, refuses_limit}
 use Rattle.dispatch_log.specs.Legal.{AddsEvent}
 use Rattle.late_cert.specs.declared.report.Report.{Report}
-use Rattle.script.specs.Certificates.{IsCertified}
+use Rattle.late_cert.specs.Certificates.{IsCertified}
 use Rattle.script.specs.Reports.{roll_text}
 use Rattle.script.specs.declared.step.Step.{Step}
 use Rattle.script.specs.declared.step.Step.TheVariants.{Arrive, Done, Fail, Abort, Tick, Check, Limit, Roll}

@@ -18,7 +18,7 @@ fn wait_over_a_roll<N: BoardName, R: Abort + Wait>(
     let first = arrive(rt, alloc, desk, 0, offset(0));
     arrive(rt, alloc, desk, 1, offset(0));
     let third = arrive(rt, alloc, desk, 2, offset(-5));
-    desk.roll(rt);
+    holds(rt, desk.roll(rt, alloc).expect(rt, "memory").is_empty());
     serve(desk.board(), relay, first);
     turn(rt, desk, 10);
     serve(desk.board(), relay, third);

@@ -1,9 +1,9 @@
 use Rattle.std.proofs.lemmas.Result.{IfOk-weaker}
 use Rattle.readable_log.specs.Windows.{window_of}
-use Rattle.script.specs.Certificates.{IsCertified}
+use Rattle.late_cert.specs.Certificates.{IsCertified}
 use Rattle.late_cert.specs.Reports.{AreReports}
 use Rattle.readable_log.proofs.Windows.{same_window}
-use Rattle.replay.proofs.Certified.{certified}
+use Rattle.late_cert.proofs.Certified.{certified}
 use Rattle.replay.proofs.reports.reports_of.Goals as goal
 
 pub returns : goal.returns

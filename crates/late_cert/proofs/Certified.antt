@@ -7,7 +7,7 @@ use Rattle.late_cert.specs.Reports.{AreReports}
 use Rattle.late_cert.specs.declared.report.Report.{Report}
 use Rattle.late_cert.proofs.Legal.{legal_reports_sound, legal_reports_least}
 use Rattle.readable_log.specs.Windows.{Window, window_in}
-use Rattle.script.specs.Certificates.{IsCertified}
+use Rattle.late_cert.specs.Certificates.{IsCertified}
 
 pub certified : (history : History) (window : Window) (reports : List Report) → window ≡ window_in history → IsLegal history → IsDispatched history
     → AreReports window reports → IsCertified history reports

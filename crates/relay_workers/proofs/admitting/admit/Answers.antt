@@ -1,0 +1,5 @@
+use Rattle.relay_http.specs.declared.fault.Fault.TheVariants.{NoMemory}
+use Rattle.relay_workers.proofs.admitting.admit.Goals as goal
+
+pub returns-in-Err-arrive-clause-told : goal.returns-in-Err-arrive-clause-told
+returns-in-Err-arrive-clause-told g c = (NoMemory, c.tell-in-Err-arrive.ensures.same)

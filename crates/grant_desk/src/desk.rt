@@ -198,14 +198,15 @@ impl<N: BoardName> Desk<N> {
         turned
     }
 
-    /// Begins the next window of the log, and answers the reports of the one that ended. Where memory is refused nothing changes.
-    pub fn roll<R: Wait>(&self, rt: &R, alloc: Global) -> Result<Reports, AllocError>
-        ensures { IfOk result (λ reports. SomeStep N.terms (λ old new. IsCertified old.history reports × (new ≡ record old { history = next_window old.history }))) }
+    /// Begins the next window of the log, and hands out what is told of the one that ended. Where memory is refused nothing changes.
+    pub fn roll<R: Wait>(&self, rt: &R, alloc: Global) -> Result<Window, AllocError>
+        ensures { IfOk result (λ window. SomeStep N.terms (λ old new. IsCertified old.history window.reports × AreLines old.history window.servers.items × (new ≡ record old { history = next_window old.history }))) }
     {
         let mut book = self.enter(rt);
         let reports = book.report(alloc)?;
+        let servers = book.servers(alloc)?;
         book.roll();
-        Ok(reports)
+        Ok(Window { reports, servers })
     }
 
     /// The reports of the present window. Fails only where memory is refused.

@@ -32,7 +32,7 @@ pub trait Gate {
     /// The present moment.
     fn moment(&mut self) -> Moment;
 
-    /// Takes what is told of a window that ended since the log was full. Each goes to the gate of one thread, and they may come to the gates in another
+    /// Takes what is told of a window that ended, since the log was full or its time was over. Each goes to the gate of one thread, and they may come to the gates in another
     /// order than the one in which they ended.
     fn window(&mut self, window: Window)
         requires { HasEnded window };

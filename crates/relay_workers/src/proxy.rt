@@ -107,6 +107,13 @@ impl<N: BoardName> Proxy<N> {
         set
     }
 
+    /// The present window ends now, and the gate has it. Where there is no memory for that, the window goes on.
+    pub fn end_window<R: Wait, G: Gate>(&self, rt: &R, gate: &mut G) {
+        if let Ok(window) = self.desk.roll(rt, self.alloc) {
+            gate.window(window);
+        }
+    }
+
     // A call of the desk, and the gate is told at which places it offered. Where the log is full the next window begins, the gate has the one that ended, and
     // the call is made once more; where there is no memory for that, it stays refused.
     pub(crate) fn with_room<R: Wait, G: Gate, T: Drop, F: Fn() -> (Result<T, Refusal>, PlaceSet)>(

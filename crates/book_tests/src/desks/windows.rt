@@ -18,7 +18,9 @@ fn wait_over_a_roll<N: BoardName, R: Abort + Wait>(
     let first = arrive(rt, alloc, desk, 0, offset(0));
     arrive(rt, alloc, desk, 1, offset(0));
     let third = arrive(rt, alloc, desk, 2, offset(-5));
-    holds(rt, desk.roll(rt, alloc).expect(rt, "memory").is_empty());
+    let ended = desk.roll(rt, alloc).expect(rt, "memory");
+    holds(rt, ended.reports.is_empty());
+    same(rt, ended.servers.len(), 1);
     serve(desk.board(), relay, first);
     turn(rt, desk, 10);
     serve(desk.board(), relay, third);

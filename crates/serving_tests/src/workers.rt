@@ -25,6 +25,7 @@ use std::sync::atomic::{AtomicU64, Ordering};
 use worker_crew::{Tally, worker};
 
 mod checks;
+mod crews;
 mod fakes;
 mod outcomes;
 mod scenes;

@@ -7,36 +7,66 @@ use super::scenes::plain;
 use super::*;
 use std::sync::atomic::AtomicBool;
 
-// The checker's pauses are spent. Whether the server is up then.
-fn check_thrice<N: BoardName, R: Abort + Wait>(rt: &R, proxy: &Proxy<N>, up: bool) -> bool {
+// What a checker found: how often it looked, and whether the server is up then.
+type Checked = (u64, bool);
+
+// The checker's pauses are spent, or it was told to stop before.
+fn check_thrice<N: BoardName, R: Abort + Wait>(
+    rt: &R,
+    proxy: &Proxy<N>,
+    up: bool,
+    stopped: bool,
+) -> Checked {
     let seen = Seen::new();
     let mut gate = Fake::new(Scene { up, ..plain() }, &seen);
-    let stop = AtomicBool::new(false);
+    let stop = AtomicBool::new(stopped);
     checker(rt, proxy, &mut gate, &mut Few::new(3), &stop);
     let lines = proxy.desk.servers(rt, proxy.alloc).expect(rt, "memory");
-    lines.iter().all(|line| line.up)
+    let is_up = lines.iter().all(|line| line.up);
+    (seen.probes.load(Ordering::SeqCst), is_up)
 }
 
-fn up_after<N: BoardName, R: Abort + Wait>(
+// A server that fails its checks, is checked by none who was told to stop, and then passes.
+fn down_and_up<N: BoardName, R: Abort + Wait>(
     rt: &R,
     alloc: Global,
     config: Config,
     opened: Opened,
-    up: bool,
-) -> bool
+) -> [Checked; 3]
     requires named { opened.board ≡ N.board }
     requires terms { N.terms ≡ terms_of opened.core.setup }
 {
     let (proxy, idle) = start::<N>(alloc, config, opened);
-    let is_up = check_thrice(rt, &proxy, up);
+    let found = [
+        check_thrice(rt, &proxy, false, false),
+        check_thrice(rt, &proxy, true, true),
+        check_thrice(rt, &proxy, true, false),
+    ];
     close(proxy, idle);
-    is_up
+    found
+}
+
+// Each call of the gate's clock is a millisecond later.
+fn check_with<R: Abort + Wait>(rt: &R, alloc: Global, text: &[u8]) -> [Checked; 3] {
+    let config = read(alloc, text).expect(rt, "a configuration");
+    let opened = one_server(rt, alloc, 2, 4096);
+    down_and_up::<Brand, _>(rt, alloc, config, opened)
 }
 
 #[test]
-fn a_server_is_seen_down(rt: HostRuntime) {
-    let alloc = rt.alloc();
-    let config = config(&rt, alloc);
-    let opened = one_server(&rt, alloc, 2, 4096);
-    assert!(rt; !up_after::<Brand, _>(&rt, alloc, config, opened, false));
+fn a_server_is_seen_down_and_up_again(rt: HostRuntime) {
+    let text = b"listen w\n    bind :80\n    server a 127.0.0.1:9001 maxconn 2 check\n";
+    assert_eq!(rt;
+        check_with(&rt, rt.alloc(), text),
+        [(1, false), (0, false), (1, true)]
+    );
+}
+
+#[test]
+fn checks_come_again_after_their_interval(rt: HostRuntime) {
+    let text = b"listen w\n    bind :80\n    server a 127.0.0.1:9001 maxconn 2 check inter 1ms\n";
+    assert_eq!(rt;
+        check_with(&rt, rt.alloc(), text),
+        [(4, false), (0, false), (4, true)]
+    );
 }

@@ -13,6 +13,8 @@ pub(crate) struct Seen {
     pub(crate) answers: AtomicU64,
     /// Windows that ended.
     pub(crate) windows: AtomicU64,
+    /// Looks at checks of servers.
+    pub(crate) probes: AtomicU64,
 }
 
 impl Seen {
@@ -23,6 +25,7 @@ impl Seen {
             connects: AtomicU64::new(0),
             answers: AtomicU64::new(0),
             windows: AtomicU64::new(0),
+            probes: AtomicU64::new(0),
         }
     }
 }
@@ -152,6 +155,7 @@ impl<'a> Gate for Fake<'a> {
     }
 
     fn probe(&mut self, _server: usize) -> Option<bool> {
+        self.seen.probes.fetch_add(1, Ordering::SeqCst);
         Some(self.scene.up)
     }
 

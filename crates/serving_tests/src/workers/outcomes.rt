@@ -146,6 +146,31 @@ fn a_client_is_gone_while_served(rt: HostRuntime) {
     expect(&rt, rt.alloc(), scene, 6 * FORWARDED.len(), NOBODY);
 }
 
+// None is asked whether it is gone before its slot is offered.
+#[test]
+fn a_client_is_gone_once_its_slot_is_offered(rt: HostRuntime) {
+    let scene = Scene {
+        patience: 0,
+        taken: 0,
+        ..plain()
+    };
+    expect(&rt, rt.alloc(), scene, 6 * FORWARDED.len(), NOBODY);
+}
+
+#[test]
+fn a_client_is_gone_once_it_is_told(rt: HostRuntime) {
+    let scene = Scene {
+        failing: 24,
+        taken: 0,
+        ..plain()
+    };
+    let tally = Tally {
+        unavailable: 6,
+        ..NOBODY
+    };
+    expect(&rt, rt.alloc(), scene, 0, tally);
+}
+
 #[test]
 fn a_client_is_gone_after_a_byte(rt: HostRuntime) {
     let scene = Scene {

@@ -6,7 +6,6 @@ use Rattle.list_facts.specs.Fronts.{IsFront}
 use Rattle.relay_http.specs.Messages.{PartOfForwarded, PartOfAnswered}
 use Rattle.relay_http.specs.Replies.{leave_text, refusal_text}
 use Rattle.relay_http.specs.Texts.{framed_for}
-use Rattle.relay_http.specs.declared.additions.Additions.{Additions}
 use Rattle.relay_http.specs.declared.persistence.Persistence.{Persistence}
 use Rattle.relay_http.specs.declared.fault.Fault.{Fault}
 use Rattle.relay_http.specs.declared.fault.Fault.TheVariants as Faulty

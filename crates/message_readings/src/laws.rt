@@ -14,10 +14,12 @@ ghost use Rattle.relay_http.specs.declared.persistence.Persistence as persistenc
 ghost use Rattle.relay_http.specs.declared.plans.Plan as plans;
 ghost use Rattle.req_view.specs.Answer.{answer_of};
 ghost use Rattle.req_view.specs.Request.{Request, request_of};
-ghost use Rattle.message_readings.specs.Alike.{AnswersAlike, IsNamed, ReadsAlike};
+ghost use Rattle.message_readings.specs.Alike.{AnswersAlike, IsAddress, IsNamed, ReadsAlike};
 ghost use Rattle.message_readings.specs.Found.{FindsAnswer, FindsRequest};
 ghost use Rattle.message_readings.specs.Messages.{Message, IsMessage, print_message};
 ghost use Rattle.message_readings.specs.Replies.{Reply, AreReplies, print_reply};
+
+use std::net::IpAddr;
 
 /// Requests one after another are read in one way only: no byte of one is another's.
 pub fn one_reading()
@@ -30,6 +32,20 @@ pub fn one_answering()
     ensures { (methods : List (List ℕ)) (some others : List Reply) (rest behind : List ℕ) → AreReplies methods some → AreReplies methods others
         → flat_map print_reply some ++ rest ≡ flat_map print_reply others ++ behind → (some ≡ others) × (rest ≡ behind) }
 {}
+
+/// Each address meets what the laws below ask of one.
+pub fn what_an_address_keeps(address: IpAddr)
+    ensures { IsAddress address }
+{
+    match address {
+        IpAddr::V4(address) => {
+            let _octets = address.octets();
+        }
+        IpAddr::V6(address) => {
+            let _segments = address.segments();
+        }
+    }
+}
 
 /// A head that is handed on is read by its server as what it is: one head, which asks for the same and frames its body as the client's did.
 pub fn a_server_reads_alike()

@@ -45,38 +45,38 @@ refused 2\nrefused 5\nrefused 4\n",
     Replay {
         name: "a long queue of a fallen server moves by ticket",
         script: "\
-redispatch\nserver a 1 0 1 1 1\nserver b 1 0 1\nserver c 1 0 1\n\
-1 arrive 0 0 a\n2 arrive 0 0 a\n3 arrive 0 0 a\n4 arrive 0 0 a\n5 arrive 0 0 a\n\
-6 arrive 0 0 a\n7 arrive 0 0 a\n8 arrive 0 0 a\n9 arrive 0 0 a\n10 arrive 0 0 a\n\
-11 arrive 0 0 a\n12 arrive 0 0 a\n13 arrive 0 0 a\n14 arrive 0 0 a\n15 arrive 0 0 a\n\
-16 arrive 0 0 a\n17 arrive 0 0 a\n18 arrive 0 0 a\n19 arrive 0 0 a\n20 arrive 0 0 a\n\
-21 arrive 0 0 a\n22 arrive 0 0 a\n23 arrive 0 0 a\n24 arrive 0 0 a\n25 arrive 0 0 a\n\
-26 arrive 0 0 a\n27 arrive 0 0 a\n28 arrive 0 0 a\n29 arrive 0 0 a\n30 arrive 0 0 a\n\
-31 arrive 0 0 a\n32 arrive 0 0 a\n33 arrive 0 0 a\n34 arrive 0 0 a\n35 arrive 0 0 a\n\
-36 arrive 0 0 a\n37 arrive 0 0 a\n38 arrive 0 0 a\n39 arrive 0 0 a\n40 arrive 0 0 a\n\
-41 check a down\n",
+redispatch\nserver a 1 0 1 2 3\nserver b 1 0 1\nserver c 1 0 1\n\
+0 arrive 0 0 a\n0 arrive 0 0 a\n0 arrive 0 0 a\n0 arrive 0 0 a\n0 arrive 0 0 a\n\
+0 arrive 0 0 a\n0 arrive 0 0 a\n0 arrive 0 0 a\n0 arrive 0 0 a\n0 arrive 0 0 a\n\
+0 arrive 0 0 a\n0 arrive 0 0 a\n0 arrive 0 0 a\n0 arrive 0 0 a\n0 arrive 0 0 a\n\
+0 arrive 0 0 a\n0 arrive 0 0 a\n0 arrive 0 0 a\n0 arrive 0 0 a\n0 arrive 0 0 a\n\
+0 arrive 0 0 a\n0 arrive 0 0 a\n0 arrive 0 0 a\n0 arrive 0 0 a\n0 arrive 0 0 a\n\
+0 arrive 0 0 a\n0 arrive 0 0 a\n0 arrive 0 0 a\n0 arrive 0 0 a\n0 arrive 0 0 a\n\
+0 arrive 0 0 a\n0 arrive 0 0 a\n0 arrive 0 0 a\n0 arrive 0 0 a\n0 arrive 0 0 a\n\
+0 arrive 0 0 a\n0 arrive 0 0 a\n0 arrive 0 0 a\n0 arrive 0 0 a\n0 arrive 0 0 a\n\
+4 check a down\n5 check a down\n6 check a down\n",
         trace: "\
-1 arrive 1 0 1 a\n  direct 1 a\n2 arrive 2 0 2 a\n  join 2 a\n\
-3 arrive 3 0 3 a\n  join 3 a\n4 arrive 4 0 4 a\n  join 4 a\n\
-5 arrive 5 0 5 a\n  join 5 a\n6 arrive 6 0 6 a\n  join 6 a\n\
-7 arrive 7 0 7 a\n  join 7 a\n8 arrive 8 0 8 a\n  join 8 a\n\
-9 arrive 9 0 9 a\n  join 9 a\n10 arrive 10 0 10 a\n  join 10 a\n\
-11 arrive 11 0 11 a\n  join 11 a\n12 arrive 12 0 12 a\n  join 12 a\n\
-13 arrive 13 0 13 a\n  join 13 a\n14 arrive 14 0 14 a\n  join 14 a\n\
-15 arrive 15 0 15 a\n  join 15 a\n16 arrive 16 0 16 a\n  join 16 a\n\
-17 arrive 17 0 17 a\n  join 17 a\n18 arrive 18 0 18 a\n  join 18 a\n\
-19 arrive 19 0 19 a\n  join 19 a\n20 arrive 20 0 20 a\n  join 20 a\n\
-21 arrive 21 0 21 a\n  join 21 a\n22 arrive 22 0 22 a\n  join 22 a\n\
-23 arrive 23 0 23 a\n  join 23 a\n24 arrive 24 0 24 a\n  join 24 a\n\
-25 arrive 25 0 25 a\n  join 25 a\n26 arrive 26 0 26 a\n  join 26 a\n\
-27 arrive 27 0 27 a\n  join 27 a\n28 arrive 28 0 28 a\n  join 28 a\n\
-29 arrive 29 0 29 a\n  join 29 a\n30 arrive 30 0 30 a\n  join 30 a\n\
-31 arrive 31 0 31 a\n  join 31 a\n32 arrive 32 0 32 a\n  join 32 a\n\
-33 arrive 33 0 33 a\n  join 33 a\n34 arrive 34 0 34 a\n  join 34 a\n\
-35 arrive 35 0 35 a\n  join 35 a\n36 arrive 36 0 36 a\n  join 36 a\n\
-37 arrive 37 0 37 a\n  join 37 a\n38 arrive 38 0 38 a\n  join 38 a\n\
-39 arrive 39 0 39 a\n  join 39 a\n40 arrive 40 0 40 a\n  join 40 a\n\
-41 check a down\n  health a down\n  \
+0 arrive 1 0 0 a\n  direct 1 a\n0 arrive 2 0 0 a\n  join 2 a\n\
+0 arrive 3 0 0 a\n  join 3 a\n0 arrive 4 0 0 a\n  join 4 a\n\
+0 arrive 5 0 0 a\n  join 5 a\n0 arrive 6 0 0 a\n  join 6 a\n\
+0 arrive 7 0 0 a\n  join 7 a\n0 arrive 8 0 0 a\n  join 8 a\n\
+0 arrive 9 0 0 a\n  join 9 a\n0 arrive 10 0 0 a\n  join 10 a\n\
+0 arrive 11 0 0 a\n  join 11 a\n0 arrive 12 0 0 a\n  join 12 a\n\
+0 arrive 13 0 0 a\n  join 13 a\n0 arrive 14 0 0 a\n  join 14 a\n\
+0 arrive 15 0 0 a\n  join 15 a\n0 arrive 16 0 0 a\n  join 16 a\n\
+0 arrive 17 0 0 a\n  join 17 a\n0 arrive 18 0 0 a\n  join 18 a\n\
+0 arrive 19 0 0 a\n  join 19 a\n0 arrive 20 0 0 a\n  join 20 a\n\
+0 arrive 21 0 0 a\n  join 21 a\n0 arrive 22 0 0 a\n  join 22 a\n\
+0 arrive 23 0 0 a\n  join 23 a\n0 arrive 24 0 0 a\n  join 24 a\n\
+0 arrive 25 0 0 a\n  join 25 a\n0 arrive 26 0 0 a\n  join 26 a\n\
+0 arrive 27 0 0 a\n  join 27 a\n0 arrive 28 0 0 a\n  join 28 a\n\
+0 arrive 29 0 0 a\n  join 29 a\n0 arrive 30 0 0 a\n  join 30 a\n\
+0 arrive 31 0 0 a\n  join 31 a\n0 arrive 32 0 0 a\n  join 32 a\n\
+0 arrive 33 0 0 a\n  join 33 a\n0 arrive 34 0 0 a\n  join 34 a\n\
+0 arrive 35 0 0 a\n  join 35 a\n0 arrive 36 0 0 a\n  join 36 a\n\
+0 arrive 37 0 0 a\n  join 37 a\n0 arrive 38 0 0 a\n  join 38 a\n\
+0 arrive 39 0 0 a\n  join 39 a\n0 arrive 40 0 0 a\n  join 40 a\n\
+4 check a down\n5 check a down\n6 check a down\n  health a down\n  \
 move 2 a\n  move 3 a\n  move 4 a\n  move 5 a\n  move 6 a\n  move 7 a\n  \
 move 8 a\n  move 9 a\n  move 10 a\n  move 11 a\n  move 12 a\n  move 13 a\n  \
 move 14 a\n  move 15 a\n  move 16 a\n  move 17 a\n  move 18 a\n  move 19 a\n  \
@@ -84,7 +84,7 @@ move 20 a\n  move 21 a\n  move 22 a\n  move 23 a\n  move 24 a\n  move 25 a\n  \
 move 26 a\n  move 27 a\n  move 28 a\n  move 29 a\n  move 30 a\n  move 31 a\n  \
 move 32 a\n  move 33 a\n  move 34 a\n  move 35 a\n  move 36 a\n  move 37 a\n  \
 move 38 a\n  move 39 a\n  move 40 a\n  \
-grant 2 * b\n  grant 3 * c\nqueue * class 0 granted 2 worst 39 due 2 after 0 to 122 critical 2\n",
+grant 2 * b\n  grant 3 * c\nqueue * class 0 granted 2 worst 6 due 0 after 0 to 124 critical 2\n",
     },
 ];
 

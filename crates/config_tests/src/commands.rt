@@ -41,11 +41,25 @@ const SIZES: Numbers = Numbers {
     forwarded_for: false,
 };
 
-static COMMANDS: [CommandRow; 30] = [
+const STAYING: Numbers = Numbers {
+    workers: None,
+    loops: None,
+    waiting: None,
+    places: 1024,
+    requests: 0,
+    keeping: Some(10_000),
+    forwarded_for: true,
+};
+
+static COMMANDS: [CommandRow; 31] = [
     // What runs has its sizes.
     (
         "dueproxy run file --workers 7",
         Expected::Run("file", SIZES),
+    ),
+    (
+        "dueproxy run file --keep-alive --forwarded-for",
+        Expected::Run("file", STAYING),
     ),
     ("dueproxy run file --workers +5", Expected::Nothing(2)),
     ("dueproxy run file --workers 7x", Expected::Nothing(2)),

@@ -10,4 +10,6 @@ mod exchanges;
 #[cfg(test)]
 mod playing;
 #[cfg(test)]
+mod signals;
+#[cfg(test)]
 mod till;

@@ -2,12 +2,18 @@
 #![tactic(auto)]
 
 #[cfg(test)]
+mod echoes;
+#[cfg(test)]
 mod gates;
 #[cfg(test)]
 mod hanging;
 #[cfg(test)]
+mod peers;
+#[cfg(test)]
 mod runs;
 mod sizes;
+#[cfg(test)]
+mod stories;
 #[cfg(test)]
 mod texts;
 #[cfg(test)]

@@ -1,15 +1,17 @@
+use grant_board::{Board, Taking};
 use proxy_config::{Config, read};
 use relay_workers::Gate;
 use script::Names;
 use server_names::Addresses;
 use socket_gate::{Clients, Front, SocketGate, has_left};
 use std::alloc::Global;
-use std::io::Write;
+use std::io::{Read, Write};
 use std::net::{Net, SocketAddr, TcpListener, TcpStream};
 use std::os::fd::AsRawFd;
 use std::process::Abort;
 use std::thread;
 use std::time::{Clock, Duration, Instant};
+use verdict::{Ending, Verdict};
 use window_printer::WindowPrinter;
 
 #[test]
@@ -62,6 +64,31 @@ fn checked<G: Gate>(clock: &impl Clock, gate: &mut G) -> Option<bool> {
     None
 }
 
+// A pass of the only server, which is posted again.
+fn connects<R: Abort + Net<Listener = TcpListener, Stream = TcpStream>, G: Gate>(
+    rt: &R,
+    alloc: Global,
+    gate: &mut G,
+    far: &TcpListener,
+) {
+    let (board, mut keeper, mut relay) = Board::open(alloc, 1, &[1]).expect(rt, "a board");
+    keeper.offer(&board, 0, 1, Verdict::Serve(0));
+    let pass = match relay.try_take(&board, 0, 1) {
+        Taking::Taken(pass) => pass,
+        Taking::NotYet => panic!(rt; "not offered"),
+    };
+    let mut server = match pass.verdict() {
+        Verdict::Serve(_) => gate.connect(&pass).expect(rt, "a connection"),
+        Verdict::Told(_) => panic!(rt; "told"),
+    };
+    relay.post(&board, pass, Ending::Done);
+    server.write_all(b"x").expect(rt, "a byte written");
+    let (mut accepted, _) = far.accept().expect(rt, "a connection");
+    let mut byte = [0u8; 1];
+    accepted.read_exact(&mut byte).expect(rt, "a byte read");
+    assert_eq!(rt; byte, *b"x");
+}
+
 #[test]
 fn a_gate_takes_clients_and_checks_servers(rt: HostRuntime) {
     let alloc = rt.alloc();
@@ -88,6 +115,7 @@ fn a_gate_takes_clients_and_checks_servers(rt: HostRuntime) {
     let mut accepted = gate.next().expect(&rt, "a client");
     assert!(rt; gate.next().is_none());
     assert!(rt; !gate.gone(&mut accepted));
+    connects(&rt, alloc, &mut gate, &far);
     assert_eq!(rt; checked(&rt, &mut gate), Some(true));
     drop(far);
     assert_eq!(rt; checked(&rt, &mut gate), Some(false));

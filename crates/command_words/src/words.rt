@@ -1,6 +1,7 @@
 use crate::commands::commands;
 use crate::converting::{Sections, sections_of};
 use crate::inputs::{Input, input_of};
+use crate::logging::{LogWords, logs_of};
 use crate::running::{Numbers, RANGES, numbers_of};
 use crate::steering::{ControlWords, Order, controls_of, order_of};
 use clap::error::ErrorKind;
@@ -19,7 +20,7 @@ pub struct Only {
 #[derive(Debug, PartialEq, Eq, Drop)]
 pub enum Asked {
     /// Serve as the configuration in the file of this name says, with so many of each.
-    Run(String, Numbers, ControlWords),
+    Run(String, Numbers, ControlWords, LogWords),
     /// Run the script.
     Replay(Input),
     /// Show the proxy at work; whether it then goes on.
@@ -91,8 +92,11 @@ fn run_of(rt: &(impl Eprint + AllocGlobal), words: &ArgMatches) -> Asked {
     let Ok(controls) = controls_of(rt.alloc(), words) else {
         return no_memory(rt);
     };
+    let Ok(logs) = logs_of(rt.alloc(), words) else {
+        return no_memory(rt);
+    };
     match String::from_str(rt.alloc(), words.get_str("FILE").unwrap_or_default()) {
-        Ok(file) => Asked::Run(file, numbers, controls),
+        Ok(file) => Asked::Run(file, numbers, controls, logs),
         Err(_) => no_memory(rt),
     }
 }

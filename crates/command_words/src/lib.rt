@@ -4,7 +4,6 @@
 mod commands;
 mod converting;
 mod inputs;
-mod logging;
 mod running;
 mod steering;
 mod version;
@@ -12,7 +11,6 @@ mod words;
 
 pub use converting::Sections;
 pub use inputs::Input;
-pub use logging::LogWords;
 pub use running::{Numbers, RANGES};
 pub use steering::{ControlWords, Order};
 pub use words::{Asked, Only, ask};

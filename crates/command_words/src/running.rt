@@ -1,7 +1,6 @@
 //! The words of `run`.
 
 use crate::commands::told;
-use crate::logging::with_logs;
 use crate::steering::with_controls;
 use clap::{Arg, ArgAction, ArgMatches, Command};
 use proxy_words::number;
@@ -17,8 +16,6 @@ pub struct Numbers {
     pub requests: u32,
     /// How long a client may stay between two requests, in milliseconds. None: it has one.
     pub keeping: Option<u32>,
-    /// After so many milliseconds a window ends. None: once the log is full.
-    pub window: Option<u32>,
     /// Whether servers are told whose requests they get.
     pub forwarded_for: bool,
 }
@@ -38,9 +35,8 @@ and where no server has a maxconn a second line, since then no request ever wait
 
 Each loop is a thread for thousands of clients, from their first byte to their last.
 
-On standard output, for each 262144 entries of the log, with --window MS also
-whenever that time has passed, and at the end:
-  window N [from T to T] the reports of a window that ended follow (FORMATS)
+On standard output, for each 262144 entries of the log and at the end:
+  window N               the reports of a window that ended follow (FORMATS)
   server NAME up|down direct D granted G
                          at the end: what the server was given, at once and after
                          a wait, in all windows; the last window's reports follow
@@ -65,9 +61,6 @@ const KEEP: &str = "Lets a client stay for further requests on its connection";
 const STAY_HELP: &str =
     "A client that stays and asks for nothing is closed after so many ms, from 1 on";
 
-const WINDOW: &str =
-    "Ends a window of the log after so many ms, too, and prints its reports with the time, from 1 on";
-
 const FORWARDED: &str = "Adds a field X-Forwarded-For with its client's address to each request";
 
 const REQUESTS: &str = "Ends after so many clients; 0: never";
@@ -78,10 +71,8 @@ pub(crate) fn run<'a>(alloc: Global, file: Arg<'a>) -> Result<Command<'a>, Alloc
     let command = with_threads(alloc, command)?;
     let command = with_bounds(alloc, command)?;
     let command = with_keeping(alloc, command)?;
-    let command = command.arg(size(alloc, "window").value_name("MS").help(WINDOW))?;
     let command = command.arg(flag(alloc, "forwarded-for", FORWARDED))?;
-    let command = with_controls(alloc, command)?;
-    with_logs(alloc, command)
+    with_controls(alloc, command)
 }
 
 fn with_threads<'a>(alloc: Global, command: Command<'a>) -> Result<Command<'a>, AllocError> {
@@ -129,8 +120,7 @@ pub(crate) fn numbers_of(words: &ArgMatches) -> Option<Numbers> {
     let places = given(words, "places").ok()??;
     let requests = given(words, "requests").ok()??;
     let stay = given(words, "keep-alive-timeout").ok()??;
-    let window = given(words, "window").ok()?;
-    if stay == 0 || window == Some(0) {
+    if stay == 0 {
         return None;
     }
     let keeping = if words.get_flag("keep-alive") {
@@ -145,7 +135,6 @@ pub(crate) fn numbers_of(words: &ArgMatches) -> Option<Numbers> {
         places,
         requests,
         keeping,
-        window,
         forwarded_for: words.get_flag("forwarded-for"),
     })
 }

@@ -1,7 +1,6 @@
 use crate::commands::commands;
 use crate::converting::{Sections, sections_of};
 use crate::inputs::{Input, input_of};
-use crate::logging::{LogWords, logs_of};
 use crate::running::{Numbers, RANGES, numbers_of};
 use crate::steering::{ControlWords, Order, controls_of, order_of};
 use clap::error::ErrorKind;
@@ -20,7 +19,7 @@ pub struct Only {
 #[derive(Debug, PartialEq, Eq, Drop)]
 pub enum Asked {
     /// Serve as the configuration in the file of this name says, with so many of each.
-    Run(String, Numbers, ControlWords, LogWords),
+    Run(String, Numbers, ControlWords),
     /// Run the script.
     Replay(Input),
     /// Show the proxy at work; whether it then goes on.
@@ -92,11 +91,8 @@ fn run_of(rt: &(impl Eprint + AllocGlobal), words: &ArgMatches) -> Asked {
     let Ok(controls) = controls_of(rt.alloc(), words) else {
         return no_memory(rt);
     };
-    let Ok(logs) = logs_of(rt.alloc(), words) else {
-        return no_memory(rt);
-    };
     match String::from_str(rt.alloc(), words.get_str("FILE").unwrap_or_default()) {
-        Ok(file) => Asked::Run(file, numbers, controls, logs),
+        Ok(file) => Asked::Run(file, numbers, controls),
         Err(_) => no_memory(rt),
     }
 }

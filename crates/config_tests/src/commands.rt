@@ -38,7 +38,6 @@ const SIZES: Numbers = Numbers {
     places: 1024,
     requests: 0,
     keeping: None,
-    window: None,
     forwarded_for: false,
 };
 
@@ -49,21 +48,19 @@ const STAYING: Numbers = Numbers {
     places: 1024,
     requests: 0,
     keeping: Some(10_000),
-    window: Some(60_000),
     forwarded_for: true,
 };
 
-static COMMANDS: [CommandRow; 32] = [
+static COMMANDS: [CommandRow; 31] = [
     // What runs has its sizes.
     (
         "dueproxy run file --workers 7",
         Expected::Run("file", SIZES),
     ),
     (
-        "dueproxy run file --keep-alive --window 60000 --forwarded-for",
+        "dueproxy run file --keep-alive --forwarded-for",
         Expected::Run("file", STAYING),
     ),
-    ("dueproxy run file --window 0", Expected::Nothing(2)),
     ("dueproxy run file --workers +5", Expected::Nothing(2)),
     ("dueproxy run file --workers 7x", Expected::Nothing(2)),
     // A picture is of all or of a queue and class.
@@ -143,7 +140,7 @@ fn is_asked(asked: &Asked, expected: &Expected) -> bool {
 
 fn is_run(asked: &Asked, name: &str, numbers: &Numbers) -> bool {
     match asked {
-        Asked::Run(file, sizes, _, _) => file.as_str() == name && sizes == numbers,
+        Asked::Run(file, sizes, _) => file.as_str() == name && sizes == numbers,
         _ => false,
     }
 }

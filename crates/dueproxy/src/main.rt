@@ -7,7 +7,6 @@
 mod controls;
 mod converting;
 mod inputs;
-mod logs;
 mod reasons;
 mod replaying;
 mod serve;
@@ -19,7 +18,6 @@ use config_check::{Beside, check, check_in_full};
 use control_socket::ask as tell_proxy;
 use converting::convert_file;
 use demo::Looks;
-use logs::logs_of;
 use replaying::replay_input;
 use serve::serve_file;
 use show::show;
@@ -42,10 +40,7 @@ fn main(rt: HostRuntime) -> ExitCode {
         return ExitCode::from(NO_MEMORY);
     };
     let status = match ask(&rt, &words) {
-        Asked::Run(file, numbers, words, logs) => match logs_of(rt, &rt, logs) {
-            Ok(logs) => serve_file(&rt, &file, numbers, &words, logs),
-            Err(status) => status,
-        },
+        Asked::Run(file, numbers, words) => serve_file(&rt, &file, numbers, &words),
         Asked::Demo(keep) => show(&rt, looks_of(&rt), keep),
         Asked::Replay(input) => replay_input(&rt, &input),
         Asked::Check(file) => check(&rt, &file, beside_of(&rt)),

@@ -7,7 +7,6 @@ use config_check::{read_file, say_faults};
 use file_reasons::say_address_reason;
 use proxy_run::{RunFault, run, status_of};
 use proxy_service::{RunOptions, ServeFault};
-use request_log::Logs;
 use run_sizes::Sizes;
 use std::io::Error;
 use std::net::{Net, TcpListener, TcpStream};
@@ -30,7 +29,7 @@ pub(crate) fn serve_file<
         + Copy
         + Send
         + 'static,
->(rt: &R, file: &str, numbers: Numbers, words: &ControlWords, logs: Logs) -> u8 {
+>(rt: &R, file: &str, numbers: Numbers, words: &ControlWords) -> u8 {
     let Numbers {
         workers,
         loops,
@@ -38,7 +37,6 @@ pub(crate) fn serve_file<
         places,
         requests,
         keeping,
-        window,
         forwarded_for,
     } = numbers;
     let Some(sizes) = Sizes::new(workers, loops, waiting, places, requests) else {
@@ -55,10 +53,8 @@ pub(crate) fn serve_file<
     };
     let options = RunOptions {
         keeping: keeping.map(u64::from),
-        window: window.map(u64::from),
         forwarded_for,
         controls,
-        logs,
     };
     let ended = run(rt, &bytes, options, sizes);
     end_controls(rt, words);

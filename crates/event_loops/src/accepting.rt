@@ -7,7 +7,7 @@ use exchange_driver::{Line, Live};
 use grant_board::BoardName;
 use seated_exchange::Seated;
 use std::io::ErrorKind;
-use std::net::{Net, SocketAddr, TcpListener, TcpStream};
+use std::net::{IpAddr, Net, TcpListener, TcpStream};
 use std::sync::Wait;
 use std::time::Clock;
 
@@ -32,7 +32,7 @@ impl<
                 return;
             }
             match self.shared.front.listener.accept() {
-                Ok((client, address)) => self.greet(client, address),
+                Ok((client, address)) => self.greet(client, address.ip()),
                 Err(error) => {
                     self.more = error.kind() == ErrorKind::Interrupted;
                     let nobody = error.kind() == ErrorKind::WouldBlock;
@@ -47,11 +47,11 @@ impl<
     }
 
     // A client came: it is a guest from now on, and what it sent already is read.
-    fn greet(&mut self, client: TcpStream, address: SocketAddr) {
+    fn greet(&mut self, client: TcpStream, address: IpAddr) {
         if !self.shared.front.clients.take() {
             return;
         }
-        let presence = self.shared.note_client(address.ip());
+        let presence = self.shared.note_client(address);
         let _ = client.set_nodelay(true);
         if client.set_nonblocking(true).is_err() {
             return self.shared.note_end(self.rt, presence);
@@ -61,8 +61,6 @@ impl<
         };
         let alloc = self.settings.alloc;
         let line = Line::new(alloc, Live::new(client));
-        let mut presence = presence;
-        self.begin_account(&mut presence, &line, Some(address));
         let guest = Guest {
             seated: Seated::new(alloc),
             visit: Visit::new(alloc, presence, line),

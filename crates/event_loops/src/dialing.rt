@@ -43,9 +43,6 @@ impl<
                 let Begun { server: _, stream } = begun;
                 let _ = stream.set_nodelay(true);
                 let live = Live::new(TcpStream::from(stream));
-                if self.teller.is_some() {
-                    live.count_anew();
-                }
                 let Guest { seated, visit } = guest;
                 let mut visit = visit;
                 visit.server = Line::new(self.settings.alloc, live);

@@ -3,7 +3,6 @@
 ghost use Rattle.std.specs.Prelude.{◌≡◌, [], false};
 ghost use Rattle.loop_shared.specs.Looks.{OwesNoLook};
 
-use crate::accounting::{note_cause, note_unanswered};
 use crate::guest::{Guest, Task, Visit};
 use crate::keeping::Soon;
 use crate::looping::Looper;
@@ -12,7 +11,6 @@ use grant_board::BoardName;
 use loop_shared::{Granted, Looked, OwedLooks, Parked};
 use loop_table::Hole;
 use pass_seat::{Held, Idle};
-use request_lines::{By, During};
 use seated_exchange::{Posting, Stage};
 use std::net::{Net, TcpListener, TcpStream};
 use std::sync::Wait;
@@ -106,14 +104,7 @@ impl<
             None => {
                 // No more guests have room than the descriptors that there are.
                 let Granted { held, parked } = granted;
-                let mut parked = parked;
                 self.give_back(held);
-                self.tell_end(
-                    &mut parked.presence,
-                    &parked.client,
-                    By::Shortage,
-                    Some(During::Queue),
-                );
                 self.shared.note_end(self.rt, parked.leave());
             }
         }
@@ -135,7 +126,6 @@ impl<
         let mut visit = Visit::new(self.settings.alloc, presence, client);
         match held.verdict() {
             Verdict::Serve(number) => {
-                self.note_granted(&mut visit, number);
                 visit.at = Some(at);
                 visit.came = came;
                 visit.tried = Some(number);
@@ -145,7 +135,6 @@ impl<
                 Then::Goes(Guest { seated, visit }, hole)
             }
             Verdict::Told(cause) => {
-                note_cause(&mut visit.presence, cause, !late);
                 self.give_back(held);
                 let seated = queued.unseated();
                 let guest = Guest { seated, visit };
@@ -176,10 +165,8 @@ impl<
             }
             _ => {
                 let Guest { seated, visit } = guest;
-                let mut visit = visit;
                 if !seated.is_answered() {
                     visit.break_off();
-                    note_unanswered(&mut visit.presence);
                 }
                 let mut visit = visit.without_server(self.settings.alloc);
                 visit.at = None;

@@ -8,7 +8,6 @@ use grant_board::BoardName;
 use loop_shared::{watch, watch_anew};
 use loop_table::{Hole, Subject, Token};
 use mio::Interest;
-use request_lines::{By, During};
 use seated_exchange::Stage;
 use std::net::{Net, TcpListener, TcpStream};
 use std::os::fd::AsRawFd;
@@ -123,13 +122,7 @@ impl<
     fn dismiss(&mut self, guest: Guest<N>) {
         let Guest { seated, visit } = guest;
         visit.break_off();
-        let during = match seated.stage() {
-            Stage::Telling => Some(During::Last),
-            _ => None,
-        };
-        let (presence, client) = visit.into_client();
-        let mut presence = presence;
-        self.tell_end(&mut presence, &client, By::Client, during);
+        let (presence, _client) = visit.into_client();
         match seated.abandon() {
             Some(posting) => self.post(posting),
             None => {}

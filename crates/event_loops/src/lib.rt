@@ -8,7 +8,6 @@
 #![tactic(auto)]
 
 mod accepting;
-mod accounting;
 mod admitting;
 mod dialing;
 mod granting;

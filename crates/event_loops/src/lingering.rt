@@ -10,7 +10,6 @@ use loop_shared::watch;
 use loop_table::{Hole, Subject};
 use mio::Interest;
 use relay_workers::Gate;
-use request_lines::By;
 use std::net::{Net, Shutdown, TcpListener, TcpStream};
 use std::os::fd::AsRawFd;
 use std::sync::Wait;
@@ -34,8 +33,6 @@ impl<
     pub(crate) fn finish(&mut self, guest: Guest<N>, hole: Hole) -> Then<N> {
         let key = hole.token().index();
         let Guest { seated, visit } = guest;
-        let mut visit = visit;
-        self.tell_end(&mut visit.presence, &visit.client, By::Nobody, None);
         self.untime(visit.timer, key);
         match seated.abandon() {
             Some(posting) => self.post(posting),

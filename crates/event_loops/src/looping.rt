@@ -11,7 +11,6 @@ use loop_shared::Shared;
 use loop_table::{Agenda, Limits, Slots, Subject};
 use mio::{Events, Poll, Registry};
 use relay_workers::Gate;
-use request_log::Teller;
 use socket_gate::SocketGate;
 use std::net::{Net, TcpListener, TcpStream};
 use std::sync::Wait;
@@ -51,8 +50,6 @@ pub(crate) struct Looper<'a, N: BoardName, R> {
     /// So many clients linger, and so many may.
     pub(crate) lingering: usize,
     pub(crate) most_lingering: usize,
-    /// Who is told of exchanges that ended, where lines of them are wanted.
-    pub(crate) teller: Option<Teller<'a>>,
     ghost buffered: { 0 < vec_len buffer },
 }
 
@@ -65,7 +62,6 @@ impl<
     pub(crate) fn run(self, poll: Poll) {
         let mut looper = self;
         looper.go_round(poll);
-        looper.tell_of_rest();
         let Looper {
             rt,
             shared,
@@ -85,7 +81,6 @@ impl<
             freed: _,
             lingering: _,
             most_lingering: _,
-            teller: _,
         } = looper;
         let mut residents = guests.into_values();
         while let Some(resident) = residents.pop() {

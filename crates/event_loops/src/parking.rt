@@ -1,6 +1,5 @@
 //! From a request to a place, and requests that wait there for their pass.
 
-use crate::accounting::note_ticket;
 use crate::guest::{Guest, Task, Visit};
 use crate::keeping::Soon;
 use crate::looping::Looper;
@@ -12,7 +11,6 @@ use loop_shared::{Outsider, Parked};
 use loop_table::Hole;
 use prio_rules::{Wish, decide};
 use relay_workers::{Gate, arrive_as};
-use request_lines::By;
 use seated_exchange::{Posting, Queued};
 use std::net::{Net, TcpListener, TcpStream};
 use std::sync::Wait;
@@ -33,13 +31,10 @@ impl<
     }
 
     fn enter(&mut self, queued: Queued, visit: Visit, hole: Hole) -> Then<N> {
-        let mut visit = visit;
         if self.shared.is_refusing() {
-            self.note_asked(&mut visit, queued.view(), None);
             return turn_away(queued, visit, hole);
         }
         let wish = decide(&self.shared.proxy.config, queued.view());
-        self.note_asked(&mut visit, queued.view(), Some(&wish));
         if self.shared.has_outside() {
             return self.go_outside(queued, visit, &wish, hole);
         }
@@ -86,8 +81,6 @@ impl<
     fn park(&mut self, queued: Queued, visit: Visit, at: Ticketed, hole: Hole) -> Then<N> {
         self.untime(visit.timer, hole.token().index());
         let (presence, client) = visit.into_client();
-        let mut presence = presence;
-        note_ticket(&mut presence, at);
         let mut client = client;
         client.rest();
         self.shared.park(
@@ -126,11 +119,7 @@ impl<
         let (presence, client) = visit.into_client();
         let place = posting.place();
         match at {
-            None => {
-                let mut presence = presence;
-                self.tell_end(&mut presence, &client, By::Client, None);
-                self.shared.note_end(self.rt, presence);
-            }
+            None => self.shared.note_end(self.rt, presence),
             Some(at) => {
                 self.shared.park(
                     self.rt,

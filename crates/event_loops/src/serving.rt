@@ -152,7 +152,6 @@ impl<
         let Guest { seated, visit } = guest;
         let mut visit = visit;
         visit.task = Task::Serve;
-        self.note_notice(&mut visit, seated.stage(), &notice);
         let served = seated.tell(self.settings, notice);
         self.settle(served, visit, hole, Soon::AtOnce)
     }
@@ -166,8 +165,6 @@ impl<
             rest: _,
         } = served;
         let key = hole.token().index();
-        let mut visit = visit;
-        self.note_bytes(&mut visit, client.is_some(), server.is_some());
         self.note_moved(&visit, key, client, Keyword::Client);
         self.note_moved(&visit, key, server, Keyword::Server);
         let guest = Guest { seated, visit };

@@ -1,12 +1,10 @@
 //! Clients that stay for another request on the same connection (`run --keep-alive`).
 
-use crate::accounting::client_of;
 use crate::guest::{Guest, Resident};
 use crate::looping::Looper;
 use crate::serving::Then;
 use grant_board::BoardName;
 use loop_table::Hole;
-use request_lines::By;
 use std::net::{Net, TcpListener, TcpStream};
 use std::sync::Wait;
 use std::time::Clock;
@@ -23,11 +21,7 @@ impl<
             Err(seated) => self.finish(Guest { seated, visit }, hole),
             Ok(seated) => {
                 let is_over = self.shared.is_stopping() && seated.is_silent();
-                let mut visit = visit;
-                let client = client_of(&visit.presence);
-                self.tell_end(&mut visit.presence, &visit.client, By::Nobody, None);
-                let mut visit = visit.renewed(self.settings.alloc);
-                self.begin_account(&mut visit.presence, &visit.client, client);
+                let visit = visit.renewed(self.settings.alloc);
                 let guest = Guest { seated, visit };
                 if is_over {
                     self.finish(guest, hole)

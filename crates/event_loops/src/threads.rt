@@ -5,18 +5,17 @@ use crate::timing::Keywords;
 use due_key::Moment;
 use exchange_driver::Settings;
 use grant_board::BoardName;
-use loop_shared::{Shared, run_checks, run_controls, run_windows};
+use loop_shared::{Shared, run_checks, run_controls};
 use loop_table::{Agenda, Limits, Slots};
 use mio::Poll;
 use mixed_exchange::Rules;
-use request_log::Teller;
 use socket_gate::SocketGate;
 use std::alloc::{AllocError, Global};
 use std::net::{Net, TcpListener, TcpStream};
 use std::sync::Wait;
 use std::sync::atomic::{AtomicBool, Ordering};
 use std::thread;
-use std::thread::{JoinHandle, Scope, Threads};
+use std::thread::{Scope, Threads};
 use std::time::Clock;
 
 /// So many bytes are read at once, at most.
@@ -57,45 +56,31 @@ pub fn run_all<
     let told = &stop;
     thread::scope(thread::scope_env(), rt, move |scope| {
         let mut loops = loops;
-        let checking = if shared.lend().has_checks() {
-            let started = scope.spawn(move || run_checks(rt, shared.lend(), told));
-            kept(rt, shared.lend(), started.ok())
-        } else {
-            None
-        };
-        let steering = if shared.lend().has_controls() {
-            let started = scope.spawn(move || run_controls(rt, shared.lend()));
-            kept(rt, shared.lend(), started.ok())
-        } else {
-            None
-        };
-        let rolling = match shared.lend().front.window {
-            None => None,
-            Some(millis) => {
-                let started = scope.spawn(move || run_windows(rt, shared.lend(), millis));
-                kept(rt, shared.lend(), started.ok())
+        let mut checking = None;
+        if shared.lend().has_checks() {
+            checking = scope
+                .spawn(move || run_checks(rt, shared.lend(), told))
+                .ok();
+            if checking.is_none() {
+                shared.lend().give_up(rt);
             }
-        };
+        }
+        let mut steering = None;
+        if shared.lend().has_controls() {
+            steering = scope.spawn(move || run_controls(rt, shared.lend())).ok();
+            if steering.is_none() {
+                shared.lend().give_up(rt);
+            }
+        }
         begin_loops(scope, rt, shared, &mut loops);
         told.store(true, Ordering::SeqCst);
-        join(rt, checking);
-        join(rt, steering);
-        join(rt, rolling);
+        if let Some(handle) = checking {
+            handle.join(rt);
+        }
+        if let Some(handle) = steering {
+            handle.join(rt);
+        }
     })
-}
-
-// A thread that runs beside the loops. Where it can't be started, all is over.
-fn kept<R: Wait, N: BoardName, T>(rt: &R, shared: &Shared<'_, N>, started: Option<T>) -> Option<T> {
-    if started.is_none() {
-        shared.give_up(rt);
-    }
-    started
-}
-
-fn join<R: Threads + Wait>(rt: &R, thread: Option<JoinHandle<()>>) {
-    if let Some(handle) = thread {
-        handle.join(rt);
-    }
 }
 
 // A thread for each loop, the last one first. Where one can't be started, all is over.
@@ -189,13 +174,7 @@ fn looper<
         freed: false,
         lingering: 0,
         most_lingering: most_lingering as usize,
-        teller: teller_of(rt, shared),
     })
-}
-
-// What a loop tells of its exchanges with.
-fn teller_of<'a, R: Wait, N: BoardName>(rt: &R, shared: &'a Shared<'a, N>) -> Option<Teller<'a>> {
-    shared.front.log?.teller(rt)
 }
 
 /// What lends threads what they share. Of a type parameter it is known by a bound alone that it may be shared, so that it is shown of `Shared` once.

@@ -67,10 +67,9 @@ impl<
 
 /// Has servers checked, until it is told to stop.
 pub fn run_checks<
-    'a,
     R: Net<Listener = TcpListener, Stream = TcpStream> + Clock + Print + Wait,
     N: BoardName,
->(rt: &'a R, shared: &'a Shared<'a, N>, stop: &AtomicBool) {
+>(rt: &R, shared: &Shared<'_, N>, stop: &AtomicBool) {
     let Ok(gate) = SocketGate::new(shared.proxy.alloc, rt, shared.front) else {
         return shared.give_up(rt);
     };

@@ -96,20 +96,18 @@ impl<
 
 /// Attends to the controls of a proxy until all is over.
 pub fn run_controls<
-    'a,
     R: Net<Listener = TcpListener, Stream = TcpStream> + Clock + Print + Wait,
     N: BoardName,
->(rt: &'a R, shared: &'a Shared<'a, N>) {
+>(rt: &R, shared: &Shared<'_, N>) {
     if attend_to(rt, shared).is_err() {
         shared.give_up(rt);
     }
 }
 
 fn attend_to<
-    'a,
     R: Net<Listener = TcpListener, Stream = TcpStream> + Clock + Print + Wait,
     N: BoardName,
->(rt: &'a R, shared: &'a Shared<'a, N>) -> Result<(), AllocError> {
+>(rt: &R, shared: &Shared<'_, N>) -> Result<(), AllocError> {
     let Some(controls) = shared.front.controls else {
         return Ok(());
     };

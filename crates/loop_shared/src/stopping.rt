@@ -11,9 +11,6 @@ impl<N: BoardName> Shared<'_, N> {
     /// No client is taken any more but those who wait at the listener by now.
     pub fn stop(&self) {
         self.stopping.store(true, Ordering::SeqCst);
-        if let Some(log) = self.front.log {
-            log.note_stop();
-        }
         for mail in self.mail.as_slice() {
             mail.ring();
         }

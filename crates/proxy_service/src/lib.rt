@@ -3,7 +3,6 @@
 
 mod crew;
 mod fault;
-mod lending;
 mod opening;
 mod parts;
 mod preparing;
@@ -12,7 +11,6 @@ mod recording;
 mod serving;
 mod sharing;
 mod telling;
-mod writing;
 
 pub use fault::ServeFault;
 pub use opening::{Doors, RunOptions};

@@ -8,7 +8,6 @@ ghost use Rattle.proxy_service.specs.Parts.{AreNew};
 
 use crate::crew::{Crew, crew_of};
 use crate::fault::ServeFault;
-use crate::lending::Lends;
 use crate::opening::RunOptions;
 use crate::parts::{Parts, parts_of};
 use crate::record::Record;
@@ -18,7 +17,6 @@ use grant_board::{BoardName, RelaySeat};
 use late_cert::Reports;
 use proxy_config::Config;
 use relay_workers::Proxy;
-use request_log::Logs;
 use run_sizes::Sizes;
 use socket_gate::Front;
 use std::marker::Brand;
@@ -120,18 +118,11 @@ fn serve_on<
     let (proxy, relay) = proxy_of::<N>(alloc, config, parts);
     let options = RunOptions {
         keeping: None,
-        window: None,
         forwarded_for: false,
         controls: None,
-        logs: Logs {
-            access: None,
-            events: None,
-        },
     };
-    let loops = watched.crew.threads.loops;
-    let beside = beside_of(rt, &proxy.config, options, loops)?;
-    let requests = watched.crew.requests;
-    let front = front_of(alloc, &proxy.config, listener, requests, &beside);
+    let beside = beside_of(alloc, &proxy.config, options)?;
+    let front = front_of(rt, &proxy.config, listener, watched.crew.requests, &beside)?;
     serve_watched(rt, &proxy, &front, relay, watched)?;
     Ok(proxy.desk.report(rt, alloc)?)
 }
@@ -194,7 +185,7 @@ fn serve_lent<
         + Copy
         + Send
         + 'static,
-    S: Lends<N> + Sync,
+    S: Lends<N>,
 >(
     rt: &R,
     shared: &S,
@@ -207,7 +198,7 @@ fn serve_lent<
     requires idle { relay.view.passes ≡ [] }
     requires places { threads.places ≤ N.terms.places }
 {
-    serve_clients(rt, shared, front, relay, threads)
+    serve_clients(rt, shared.proxy(), front, relay, threads)
 }
 
 // Has a thread of the scope copy the log, and answers whether it could be started.
@@ -236,5 +227,16 @@ fn copy_all<N: BoardName, R: Clock + Wait>(rt: &R, proxy: &Proxy<N>, record: &Re
             return;
         }
         thread::sleep(rt, Duration::from_millis(PAUSE));
+    }
+}
+
+// What lends a proxy to threads. Of a type parameter it is known by a bound alone that it may be shared, so that it is shown of `Proxy` once.
+trait Lends<N: BoardName> {
+    fn proxy(&self) -> &Proxy<N>;
+}
+
+impl<N: BoardName> Lends<N> for Proxy<N> {
+    fn proxy(&self) -> &Proxy<N> {
+        self
     }
 }

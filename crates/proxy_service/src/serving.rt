@@ -6,17 +6,15 @@ ghost use Rattle.proxy_service.specs.Parts.{AreNew};
 
 use crate::crew::{Crew, crew_of};
 use crate::fault::ServeFault;
-use crate::lending::Lends;
 use crate::opening::{Doors, RunOptions, announce, open};
 use crate::parts::{Parts, parts_of};
 use crate::sharing::{Beside, beside_of, front_of};
 use crate::telling::tell_all;
-use crate::writing::{Writing, close_logs, end_writing, start_writing};
 use grant_board::{BoardName, RelaySeat};
 use grant_desk::Desk;
 use proxy_config::Config;
 use relay_loops::serve;
-use relay_workers::{Proxy, Stopped};
+use relay_workers::Proxy;
 use run_sizes::Sizes;
 use socket_gate::Front;
 use std::alloc::Global;
@@ -90,8 +88,8 @@ fn serve_on<
     let alloc = rt.alloc();
     let (proxy, relay) = proxy_of::<N>(alloc, config, parts);
     let Doors { listener, options } = doors;
-    let beside = beside_of(rt, &proxy.config, options, crew.threads.loops)?;
-    let front = front_of(alloc, &proxy.config, listener, crew.requests, &beside);
+    let beside = beside_of(alloc, &proxy.config, options)?;
+    let front = front_of(rt, &proxy.config, listener, crew.requests, &beside)?;
     let ended = serve_clients(rt, &proxy, &front, relay, crew.threads);
     drop(front);
     let Beside { windows, .. } = beside;
@@ -139,10 +137,9 @@ pub(crate) fn serve_clients<
         + Copy
         + Send
         + 'static,
-    S: Lends<N> + Sync,
 >(
     rt: &R,
-    shared: &S,
+    proxy: &Proxy<N>,
     front: &Front<'_>,
     relay: RelaySeat,
     threads: relay_loops::Sizes,
@@ -153,7 +150,7 @@ pub(crate) fn serve_clients<
     requires places { threads.places ≤ N.terms.places }
 {
     front.addresses.start(rt)?;
-    let served = serve_printing(rt, shared, front, relay, threads);
+    let served = serve_printing(rt, proxy, front, relay, threads);
     front.addresses.close(rt);
     served
 }
@@ -168,10 +165,9 @@ fn serve_printing<
         + Threads
         + Wait
         + Sync,
-    S: Lends<N> + Sync,
 >(
     rt: &R,
-    shared: &S,
+    proxy: &Proxy<N>,
     front: &Front<'_>,
     relay: RelaySeat,
     threads: relay_loops::Sizes,
@@ -194,16 +190,9 @@ fn serve_printing<
             let Some(printing) = scope.spawn(move || windows.print_all(rt)).ok() else {
                 return Err(ServeFault::NoMemory);
             };
-            let writing = start_writing(scope, rt, shared, front);
-            let (_, served) = if matches!(&writing, Writing::Failed) {
-                (relay, Err(Stopped::NoMemory))
-            } else {
-                serve(rt, shared.proxy(), front, relay, threads)
-            };
-            end_writing(rt, front, writing);
+            let (_, served) = serve(rt, proxy, front, relay, threads);
             windows.end(rt);
             printing.join(rt);
-            close_logs(rt, front);
             match served {
                 Ok(()) => Ok(()),
                 Err(stopped) => Err(ServeFault::from(stopped)),

@@ -108,9 +108,7 @@ fn a_gate_takes_clients_and_checks_servers(rt: HostRuntime) {
         addresses: &addresses,
         windows: &windows,
         controls: None,
-        log: None,
         keeping: None,
-        window: None,
         forwarded_for: false,
     };
     let mut gate = SocketGate::new(alloc, &rt, &front).expect(&rt, "a gate");

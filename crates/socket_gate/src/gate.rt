@@ -196,8 +196,7 @@ impl<'a, R: Net<Listener = TcpListener, Stream = TcpStream> + Clock + Wait> Gate
     }
 
     fn window(&mut self, window: Window) {
-        let ended = self.now();
-        self.front.windows.hand_over(self.rt, window, ended);
+        self.front.windows.hand_over(self.rt, window);
     }
 
     fn wake(&mut self, places: &PlaceSet) {

@@ -285,6 +285,56 @@ def a_hundred_control_clients():
         assert told == [0] * 100, told
 
 
+def raw(data):
+    """What is answered to these bytes, as far as it comes."""
+    got = b""
+    with socket.socket(socket.AF_UNIX) as client:
+        client.settimeout(10)
+        client.connect(CONTROL)
+        try:
+            client.sendall(data)
+            client.shutdown(socket.SHUT_WR)
+        except BrokenPipeError:
+            pass  # it was closed, and what it was told before that is there
+        try:
+            while more := client.recv(65536):
+                got += more
+        except ConnectionResetError:
+            pass
+    return got
+
+
+@case
+def what_is_no_command_changes_nothing():
+    """Bytes that are no words, lines without an end, and clients that leave amid their answers."""
+    with Proxy():
+        before = ctl("state")[1]
+        for data in (b"\0\0\n", b"limit a\0 3\n", b"limit \xff\xfe 3\n", b"limit a 99999999999999999999\n", b"limit a -1\n", b"\n", b"x" * (1 << 20),
+                     b"x" * (1 << 20) + b"\n"):
+            told = raw(data)
+            assert told.startswith(b"error:") and told.count(b"error:") == 1, (data[:20], told)
+        assert raw(b"") == b"" and raw(b"sta") == b""
+        assert raw(b"clients\n" * 10000).count(b"clients ") == 10000
+        for _ in range(50):
+            with socket.socket(socket.AF_UNIX) as client:
+                client.connect(CONTROL)
+                client.sendall(b"help\nstate --json\n" * 50)
+        silent = []
+        for _ in range(8):
+            client = socket.socket(socket.AF_UNIX)
+            client.connect(CONTROL)
+            client.setblocking(False)
+            try:
+                for _ in range(200):
+                    client.send(b"state --json\n" * 1000)
+            except BlockingIOError:
+                pass
+            silent.append(client)
+        assert ctl("state")[1] == before and Clients(8).join() == {"200": 8}
+        for client in silent:
+            client.close()
+
+
 @case
 def reports_are_certified_meanwhile():
     with Proxy(limit=1):

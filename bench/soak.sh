@@ -1,6 +1,8 @@
 #!/bin/bash
-# A million requests (REQUESTS) of 200 clients through `dueproxy run` and four servers: mixed classes and due dates, two servers that fall every two seconds, and one client in fifty that leaves early.
-# Prints what both ends counted, and the proxy's memory, files and threads after a tenth and at the end; fails where the counts don't agree. It needs a C compiler.
+# A million requests (REQUESTS) of 200 clients through `dueproxy run` and four servers: mixed classes and due dates, a tenth with bodies both ways of which
+# some come piece by piece, two servers that fall every two seconds, and one client in fifty that leaves, at any stage.
+# Prints what both ends counted, and the proxy's memory, files and threads after a tenth and at the end; fails where the counts don't agree, an answer isn't
+# its request's, or a server has more requests than slots. It needs a C compiler.
 . "$(dirname "$0")/common.sh"
 program=$(proved_program)
 requests=${REQUESTS:-1000000}

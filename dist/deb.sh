@@ -24,6 +24,7 @@ put 755 "$program" usr/bin/dueproxy
 strip --strip-unneeded "$root/usr/bin/dueproxy"
 put 644 "$here/dueproxy.service" lib/systemd/system/dueproxy.service
 put 644 "$here/dueproxy.cfg" etc/dueproxy/dueproxy.cfg
+put 644 "$here/dueproxy.logrotate" etc/logrotate.d/dueproxy
 put 644 "$here/copyright" usr/share/doc/dueproxy/copyright
 for name in FORMATS OPERATING; do
     put 644 "$here/../docs/$name.md" "usr/share/doc/dueproxy/$name.md"
@@ -40,7 +41,7 @@ mkdir "$root/DEBIAN"
 for name in postinst prerm postrm; do
     install -m 755 "$here/$name" "$root/DEBIAN/$name"
 done
-echo /etc/dueproxy/dueproxy.cfg >"$root/DEBIAN/conffiles"
+printf '%s\n' /etc/dueproxy/dueproxy.cfg /etc/logrotate.d/dueproxy >"$root/DEBIAN/conffiles"
 (cd "$root" && find etc lib usr -type f -print0 | LC_ALL=C sort -z | xargs -0 md5sum) >"$root/DEBIAN/md5sums"
 cat >"$root/DEBIAN/control" <<CONTROL
 Package: dueproxy

@@ -22,8 +22,9 @@ unit() {
     sed -n "s/^$1=//p" /lib/systemd/system/dueproxy.service
 }
 
+# Without what dpkg and systemd-analyze leave themselves.
 files() {
-    find /etc /usr /lib /run /var -xdev -not -path '/var/lib/dpkg/*' -not -path '/var/log/*' -not -path '/var/cache/*' | LC_ALL=C sort
+    find /etc /usr /lib /run /var -xdev -not -path '/var/lib/dpkg/*' -not -path '/var/log/*' -not -path '/var/cache/*' -not -path '/run/systemd' -not -path '/run/systemd/systemd-units-load' | LC_ALL=C sort
 }
 
 errors() {

@@ -4,13 +4,17 @@
 mod commands;
 mod converting;
 mod inputs;
+mod logging;
 mod running;
 mod steering;
 mod version;
+mod watching;
 mod words;
 
 pub use converting::Sections;
 pub use inputs::Input;
+pub use logging::LogWords;
 pub use running::{Numbers, RANGES};
 pub use steering::{ControlWords, Order};
-pub use words::{Asked, Only, ask};
+pub use watching::{AdminFault, AdminWords, admin_address};
+pub use words::{Asked, Beside, Only, ask};

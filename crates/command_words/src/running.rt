@@ -1,7 +1,9 @@
 //! The words of `run`.
 
 use crate::commands::told;
+use crate::logging::with_logs;
 use crate::steering::with_controls;
+use crate::watching::with_admin;
 use clap::{Arg, ArgAction, ArgMatches, Command};
 use proxy_words::number;
 use std::alloc::{AllocError, Global};
@@ -16,6 +18,8 @@ pub struct Numbers {
     pub requests: u32,
     /// How long a client may stay between two requests, in milliseconds. None: it has one.
     pub keeping: Option<u32>,
+    /// After so many milliseconds a window ends. None: once the log is full.
+    pub window: Option<u32>,
     /// Whether servers are told whose requests they get.
     pub forwarded_for: bool,
 }
@@ -31,12 +35,14 @@ const HELP: &str = "\
 Listens where the configuration says, and hands each request to a server, or lets it
 wait until one has a slot: by class, and then by due date. On standard error stands
   listening at ADDRESS: servers S workers W places P
-and where no server has a maxconn a second line, since then no request ever waits.
+and where no server has a maxconn a second line, since then no request ever waits;
+with --admin a last one, admin at http://ADDRESS/
 
 Each loop is a thread for thousands of clients, from their first byte to their last.
 
-On standard output, for each 262144 entries of the log and at the end:
-  window N               the reports of a window that ended follow (FORMATS)
+On standard output, for each 262144 entries of the log, with --window MS also
+whenever that time has passed, and at the end:
+  window N [from T to T] the reports of a window that ended follow (FORMATS)
   server NAME up|down direct D granted G
                          at the end: what the server was given, at once and after
                          a wait, in all windows; the last window's reports follow
@@ -61,6 +67,12 @@ const KEEP: &str = "Lets a client stay for further requests on its connection";
 const STAY_HELP: &str =
     "A client that stays and asks for nothing is closed after so many ms, from 1 on";
 
+const WINDOW: &str =
+    "Ends a window of the log after so many ms, too, and prints its reports with the time, from 100 on";
+
+// Who follows the log reads it some ten times in this time.
+const SHORTEST_WINDOW: u32 = 100;
+
 const FORWARDED: &str = "Adds a field X-Forwarded-For with its client's address to each request";
 
 const REQUESTS: &str = "Ends after so many clients; 0: never";
@@ -71,8 +83,11 @@ pub(crate) fn run<'a>(alloc: Global, file: Arg<'a>) -> Result<Command<'a>, Alloc
     let command = with_threads(alloc, command)?;
     let command = with_bounds(alloc, command)?;
     let command = with_keeping(alloc, command)?;
+    let command = command.arg(size(alloc, "window").value_name("MS").help(WINDOW))?;
     let command = command.arg(flag(alloc, "forwarded-for", FORWARDED))?;
-    with_controls(alloc, command)
+    let command = with_controls(alloc, command)?;
+    let command = with_logs(alloc, command)?;
+    with_admin(alloc, command)
 }
 
 fn with_threads<'a>(alloc: Global, command: Command<'a>) -> Result<Command<'a>, AllocError> {
@@ -120,7 +135,8 @@ pub(crate) fn numbers_of(words: &ArgMatches) -> Option<Numbers> {
     let places = given(words, "places").ok()??;
     let requests = given(words, "requests").ok()??;
     let stay = given(words, "keep-alive-timeout").ok()??;
-    if stay == 0 {
+    let window = given(words, "window").ok()?;
+    if stay == 0 || window.map_or(false, |window| window < SHORTEST_WINDOW) {
         return None;
     }
     let keeping = if words.get_flag("keep-alive") {
@@ -135,6 +151,7 @@ pub(crate) fn numbers_of(words: &ArgMatches) -> Option<Numbers> {
         places,
         requests,
         keeping,
+        window,
         forwarded_for: words.get_flag("forwarded-for"),
     })
 }

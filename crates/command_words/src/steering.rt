@@ -35,6 +35,7 @@ The commands:
   resume                 those take as many again that took some before
   reports                the reports of the window up to now
   clients                how many clients there are
+  reopen                 the files of the logs are opened anew by their names
   stop [--within MS]     nobody new comes; the proxy ends once who is there was
                          served, or after MS milliseconds; then ctl returns
   help                   the commands

@@ -1,12 +1,15 @@
 use crate::commands::commands;
 use crate::converting::{Sections, sections_of};
 use crate::inputs::{Input, input_of};
+use crate::logging::{LogWords, logs_of};
 use crate::running::{Numbers, RANGES, numbers_of};
 use crate::steering::{ControlWords, Order, controls_of, order_of};
+use crate::watching::{AdminWords, admin_of};
 use clap::error::ErrorKind;
 use clap::{ArgMatches, Command, Error};
 use due_key::Class;
 use proxy_words::{long_number, signed_long_number};
+use std::alloc::{AllocError, Global};
 
 /// The queue's name and the class that a picture is to show alone.
 #[derive(Debug, PartialEq, Eq, Drop)]
@@ -15,11 +18,19 @@ pub struct Only {
     pub class: Class,
 }
 
+/// What a proxy has beside its clients and servers.
+#[derive(Debug, PartialEq, Eq, Drop)]
+pub struct Beside {
+    pub controls: ControlWords,
+    pub logs: LogWords,
+    pub admin: AdminWords,
+}
+
 /// What the words of the command line ask for.
 #[derive(Debug, PartialEq, Eq, Drop)]
 pub enum Asked {
     /// Serve as the configuration in the file of this name says, with so many of each.
-    Run(String, Numbers, ControlWords),
+    Run(String, Numbers, Beside),
     /// Run the script.
     Replay(Input),
     /// Show the proxy at work; whether it then goes on.
@@ -88,13 +99,21 @@ fn run_of(rt: &(impl Eprint + AllocGlobal), words: &ArgMatches) -> Asked {
         let _ = rt.eprintln(RANGES);
         return Asked::Nothing(2);
     };
-    let Ok(controls) = controls_of(rt.alloc(), words) else {
+    let Ok(beside) = beside_of(rt.alloc(), words) else {
         return no_memory(rt);
     };
     match String::from_str(rt.alloc(), words.get_str("FILE").unwrap_or_default()) {
-        Ok(file) => Asked::Run(file, numbers, controls),
+        Ok(file) => Asked::Run(file, numbers, beside),
         Err(_) => no_memory(rt),
     }
+}
+
+fn beside_of(alloc: Global, words: &ArgMatches) -> Result<Beside, AllocError> {
+    Ok(Beside {
+        controls: controls_of(alloc, words)?,
+        logs: logs_of(alloc, words)?,
+        admin: admin_of(alloc, words)?,
+    })
 }
 
 fn order(rt: &(impl Eprint + AllocGlobal), words: &ArgMatches) -> Asked {

@@ -1,7 +1,7 @@
 //! What the words of the command line ask for.
 
 use crate::assertions::holds;
-use command_words::{Asked, Input, Numbers, Sections, ask};
+use command_words::{AdminFault, Asked, Input, Numbers, Sections, admin_address, ask};
 use due_key::Class;
 use std::alloc::Global;
 use std::process::Abort;
@@ -38,6 +38,7 @@ const SIZES: Numbers = Numbers {
     places: 1024,
     requests: 0,
     keeping: None,
+    window: None,
     forwarded_for: false,
 };
 
@@ -48,19 +49,22 @@ const STAYING: Numbers = Numbers {
     places: 1024,
     requests: 0,
     keeping: Some(10_000),
+    window: Some(60_000),
     forwarded_for: true,
 };
 
-static COMMANDS: [CommandRow; 31] = [
+static COMMANDS: [CommandRow; 33] = [
     // What runs has its sizes.
     (
         "dueproxy run file --workers 7",
         Expected::Run("file", SIZES),
     ),
     (
-        "dueproxy run file --keep-alive --forwarded-for",
+        "dueproxy run file --keep-alive --window 60000 --forwarded-for",
         Expected::Run("file", STAYING),
     ),
+    ("dueproxy run file --window 99", Expected::Nothing(2)),
+    ("dueproxy run file --window 0", Expected::Nothing(2)),
     ("dueproxy run file --workers +5", Expected::Nothing(2)),
     ("dueproxy run file --workers 7x", Expected::Nothing(2)),
     // A picture is of all or of a queue and class.
@@ -135,6 +139,22 @@ fn is_asked(asked: &Asked, expected: &Expected) -> bool {
         }
         Expected::Convert(file, frontend, backend) => is_convert(asked, file, *frontend, *backend),
         Expected::Nothing(number) => { matches!(asked, Asked::Nothing(status) if status == number) }
+    }
+}
+
+#[test]
+fn an_admin_address_is_one_of_this_machine(rt: HostRuntime) {
+    for word in ["127.0.0.1:8404", "127.9.9.9:1", "[::1]:8404"] {
+        assert!(rt; admin_address(word, false).is_ok());
+    }
+    for word in ["0.0.0.0:8404", "192.0.2.1:8404", "[::]:8404"] {
+        let fault = admin_address(word, false).err();
+        assert_eq!(rt; fault, Some(AdminFault::Reached));
+        assert!(rt; admin_address(word, true).is_ok());
+    }
+    for word in ["8404", "localhost:8404", "127.0.0.1"] {
+        let fault = admin_address(word, true).err();
+        assert_eq!(rt; fault, Some(AdminFault::NoAddress));
     }
 }
 

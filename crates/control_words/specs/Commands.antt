@@ -2,7 +2,7 @@
 use Rattle.std.specs.Prelude.{ℕ, true, false, List, [], ◌∷◌, Result, Ok, Err, Option, Some, None, ◌||◌, if◌then◌else◌, codes}
 use Rattle.std.specs.Str.{bytes_eq}
 use Rattle.control_words.specs.declared.command.Command.{Command}
-use Rattle.control_words.specs.declared.command.Command.TheVariants.{State, Limit, Drain, Ready, Pause, Resume, Reports, Clients, Stop, Help}
+use Rattle.control_words.specs.declared.command.Command.TheVariants.{State, Limit, Drain, Ready, Pause, Resume, Reports, Clients, Reopen, Stop, Help}
 use Rattle.control_words.specs.declared.command.Form.TheVariants.{Lines, Json, Stat, Servers}
 use Rattle.control_words.specs.declared.pieces.Misfit.{Misfit}
 use Rattle.control_words.specs.declared.pieces.Misfit.TheVariants.{Missing, Bad}
@@ -16,6 +16,7 @@ plain word =
     else if bytes_eq word (codes "resume") then Some Resume
     else if bytes_eq word (codes "reports") then Some Reports
     else if bytes_eq word (codes "clients") then Some Clients
+    else if bytes_eq word (codes "reopen") then Some Reopen
     else if bytes_eq word (codes "help") then Some Help
     else None
 

@@ -27,6 +27,8 @@ pub enum Command<'a> {
     Reports,
     /// How many clients there are.
     Clients,
+    /// The files of the logs are opened anew.
+    Reopen,
     /// All is over once those who are there were served, or after so many milliseconds.
     Stop { within: Option<u64> },
     /// Which commands there are.
@@ -108,6 +110,8 @@ fn plain<'a>(word: &[u8]) -> Option<Command<'a>>
         Some(Command::Reports)
     } else if is(word, "clients") {
         Some(Command::Clients)
+    } else if is(word, "reopen") {
+        Some(Command::Reopen)
     } else if is(word, "help") {
         Some(Command::Help)
     } else {

@@ -4,9 +4,11 @@
 //! 5 the script; 6 a configuration was converted, and something changes.
 #![tactic(auto)]
 
+mod admin;
 mod controls;
 mod converting;
 mod inputs;
+mod logs;
 mod reasons;
 mod replaying;
 mod serve;
@@ -40,7 +42,7 @@ fn main(rt: HostRuntime) -> ExitCode {
         return ExitCode::from(NO_MEMORY);
     };
     let status = match ask(&rt, &words) {
-        Asked::Run(file, numbers, words) => serve_file(&rt, &file, numbers, &words),
+        Asked::Run(file, numbers, words) => serve_file(rt, &rt, &file, numbers, words),
         Asked::Demo(keep) => show(&rt, looks_of(&rt), keep),
         Asked::Replay(input) => replay_input(&rt, &input),
         Asked::Check(file) => check(&rt, &file, beside_of(&rt)),

@@ -1,12 +1,13 @@
 //! `dueproxy run`: a proxy as its words say.
 
+use crate::admin::admin_of;
 use crate::controls::{controls_of, end_controls};
+use crate::logs::logs_of;
 use crate::reasons::say_unopened;
-use command_words::{ControlWords, Numbers, RANGES};
+use command_words::{AdminWords, Beside, ControlWords, LogWords, Numbers, RANGES};
 use config_check::{read_file, say_faults};
 use file_reasons::say_address_reason;
-use proxy_run::{RunFault, run, status_of};
-use proxy_service::{RunOptions, ServeFault};
+use proxy_run::{RunFault, RunOptions, ServeFault, run, status_of};
 use run_sizes::Sizes;
 use std::io::Error;
 use std::net::{Net, TcpListener, TcpStream};
@@ -29,17 +30,8 @@ pub(crate) fn serve_file<
         + Copy
         + Send
         + 'static,
->(rt: &R, file: &str, numbers: Numbers, words: &ControlWords) -> u8 {
-    let Numbers {
-        workers,
-        loops,
-        waiting,
-        places,
-        requests,
-        keeping,
-        forwarded_for,
-    } = numbers;
-    let Some(sizes) = Sizes::new(workers, loops, waiting, places, requests) else {
+>(host: HostRuntime, rt: &R, file: &str, numbers: Numbers, beside: Beside) -> u8 {
+    let Some(sizes) = sizes_of(numbers) else {
         let _ = rt.eprintln(RANGES);
         return 2;
     };
@@ -47,21 +39,62 @@ pub(crate) fn serve_file<
         Ok(bytes) => bytes,
         Err(error) => return say_unopened(rt, file, error),
     };
-    let controls = match controls_of(rt, words) {
-        Ok(controls) => controls,
+    let Beside {
+        controls: words,
+        logs,
+        admin,
+    } = beside;
+    let options = match options_of(host, rt, numbers, (&words, logs, &admin)) {
+        Ok(options) => options,
         Err(status) => return status,
     };
-    let options = RunOptions {
-        keeping: keeping.map(u64::from),
-        forwarded_for,
-        controls,
-    };
     let ended = run(rt, &bytes, options, sizes);
-    end_controls(rt, words);
+    end_controls(rt, &words);
     if let Err(fault) = ended {
         say(rt, &bytes, fault);
     }
     status_of(ended)
+}
+
+fn sizes_of(numbers: Numbers) -> Option<Sizes> {
+    Sizes::new(
+        numbers.workers,
+        numbers.loops,
+        numbers.waiting,
+        numbers.places,
+        numbers.requests,
+    )
+}
+
+// What is asked of it beside its configuration. Where something of that can't be had it is said, and the status is answered; the control socket comes last, since
+// it is to be taken away again.
+fn options_of<
+    R: Files
+        + Net<Listener = TcpListener, Stream = TcpStream>
+        + Eprint
+        + AllocGlobal
+        + Threads
+        + Wait
+        + Copy
+        + Send
+        + 'static,
+>(
+    host: HostRuntime,
+    rt: &R,
+    numbers: Numbers,
+    words: (&ControlWords, LogWords, &AdminWords),
+) -> Result<RunOptions, u8> {
+    let (controls, logs, admin) = words;
+    let admin = admin_of(rt, admin)?;
+    let logs = logs_of(host, rt, logs)?;
+    Ok(RunOptions {
+        keeping: numbers.keeping.map(u64::from),
+        window: numbers.window.map(u64::from),
+        forwarded_for: numbers.forwarded_for,
+        controls: controls_of(rt, controls)?,
+        logs,
+        admin,
+    })
 }
 
 // Says what went wrong, and why. A fault of the configuration is what was asked for.

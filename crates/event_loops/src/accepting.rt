@@ -7,8 +7,9 @@ use exchange_driver::{Line, Live};
 use grant_board::BoardName;
 use seated_exchange::Seated;
 use std::io::ErrorKind;
-use std::net::{IpAddr, Net, TcpListener, TcpStream};
+use std::net::{Net, SocketAddr, TcpListener, TcpStream};
 use std::sync::Wait;
+use std::sync::ledger::Ledger;
 use std::time::Clock;
 
 /// So many clients are taken at once, before others are attended to.
@@ -16,7 +17,7 @@ const BURST: usize = 64;
 
 impl<
     'a,
-    N: BoardName,
+    N: BoardName + Ledger,
     R: Net<Listener = TcpListener, Stream = TcpStream> + Clock + Print + Wait,
 > Looper<'a, N, R> {
     /// Takes clients that wait at the listener. Where something is short it stops, and is tried again soon.
@@ -32,7 +33,7 @@ impl<
                 return;
             }
             match self.shared.front.listener.accept() {
-                Ok((client, address)) => self.greet(client, address.ip()),
+                Ok((client, address)) => self.greet(client, address),
                 Err(error) => {
                     self.more = error.kind() == ErrorKind::Interrupted;
                     let nobody = error.kind() == ErrorKind::WouldBlock;
@@ -47,11 +48,11 @@ impl<
     }
 
     // A client came: it is a guest from now on, and what it sent already is read.
-    fn greet(&mut self, client: TcpStream, address: IpAddr) {
+    fn greet(&mut self, client: TcpStream, address: SocketAddr) {
         if !self.shared.front.clients.take() {
             return;
         }
-        let presence = self.shared.note_client(address);
+        let presence = self.shared.note_client(address.ip());
         let _ = client.set_nodelay(true);
         if client.set_nonblocking(true).is_err() {
             return self.shared.note_end(self.rt, presence);
@@ -61,6 +62,8 @@ impl<
         };
         let alloc = self.settings.alloc;
         let line = Line::new(alloc, Live::new(client));
+        let mut presence = presence;
+        self.begin_account(&mut presence, &line, Some(address));
         let guest = Guest {
             seated: Seated::new(alloc),
             visit: Visit::new(alloc, presence, line),

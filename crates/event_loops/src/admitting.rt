@@ -1,5 +1,6 @@
 //! Requests that wait outside for a place: they come, get one, leave, or are told that they get none.
 
+use crate::accounting::{note_refused, note_ticket};
 use crate::guest::{Guest, Task, Visit};
 use crate::looping::Looper;
 use crate::serving::Then;
@@ -11,13 +12,15 @@ use loop_table::Token;
 use place_set::PlaceSet;
 use prio_rules::Wish;
 use relay_workers::Gate;
+use request_lines::{By, During};
 use std::net::{Net, TcpListener, TcpStream};
 use std::sync::Wait;
+use std::sync::ledger::Ledger;
 use std::time::Clock;
 
 impl<
     'a,
-    N: BoardName,
+    N: BoardName + Ledger,
     R: Net<Listener = TcpListener, Stream = TcpStream> + Clock + Print + Wait,
 > Looper<'a, N, R> {
     /// Those who wait for a place get one, the first of all first, as long as there is one.
@@ -43,6 +46,8 @@ impl<
             came,
             pin: _,
         } = outsider;
+        let mut presence = presence;
+        note_ticket(&mut presence, at);
         self.shared.park(
             self.rt,
             Parked {
@@ -78,7 +83,10 @@ impl<
             came: _,
             pin: _,
         } = outsider;
+        let mut presence = presence;
+        note_refused(&mut presence, self.shared.is_refusing());
         let Some(hole) = self.guests.open() else {
+            self.tell_end(&mut presence, &client, By::Shortage, None);
             return self.shared.note_end(self.rt, presence);
         };
         let mut visit = Visit::new(self.settings.alloc, presence, client);
@@ -99,6 +107,13 @@ impl<
     /// The poll told of a client that waits for a place. Where it left, it is through.
     pub(crate) fn hear_outside(&mut self, token: Token) {
         if let Some(outsider) = self.shared.leave_outside(self.rt, token) {
+            let mut outsider = outsider;
+            self.tell_end(
+                &mut outsider.presence,
+                &outsider.client,
+                By::Client,
+                Some(During::Queue),
+            );
             self.shared.note_end(self.rt, outsider.leave());
         }
     }

@@ -15,6 +15,7 @@ use mio::net::TcpStream as Dialed;
 use seated_exchange::{Notice, Seated};
 use std::net::{Net, TcpListener, TcpStream};
 use std::sync::Wait;
+use std::sync::ledger::Ledger;
 use std::time::Clock;
 
 /// So often a connection is opened in place of one that broke before a byte reached the server.
@@ -29,7 +30,7 @@ struct Begun {
 
 impl<
     'a,
-    N: BoardName,
+    N: BoardName + Ledger,
     R: Net<Listener = TcpListener, Stream = TcpStream> + Clock + Print + Wait,
 > Looper<'a, N, R> {
     /// A connection to the server of a guest's pass is begun, without waiting. Where that server just failed it, some time passes first.
@@ -43,6 +44,9 @@ impl<
                 let Begun { server: _, stream } = begun;
                 let _ = stream.set_nodelay(true);
                 let live = Live::new(TcpStream::from(stream));
+                if self.teller.is_some() {
+                    live.count_anew();
+                }
                 let Guest { seated, visit } = guest;
                 let mut visit = visit;
                 visit.server = Line::new(self.settings.alloc, live);

@@ -3,23 +3,26 @@
 ghost use Rattle.std.specs.Prelude.{◌≡◌, [], false};
 ghost use Rattle.loop_shared.specs.Looks.{OwesNoLook};
 
+use crate::accounting::{note_cause, note_unanswered};
 use crate::guest::{Guest, Task, Visit};
 use crate::keeping::Soon;
 use crate::looping::Looper;
 use crate::serving::Then;
 use grant_board::BoardName;
+use lent_seats::{Lent, Taken};
 use loop_shared::{Granted, Looked, OwedLooks, Parked};
 use loop_table::Hole;
-use pass_seat::{Held, Idle};
+use request_lines::{By, During};
 use seated_exchange::{Posting, Stage};
 use std::net::{Net, TcpListener, TcpStream};
 use std::sync::Wait;
+use std::sync::ledger::Ledger;
 use std::time::Clock;
 use verdict::{Cause, Ending, Verdict};
 
 impl<
     'a,
-    N: BoardName,
+    N: BoardName + Ledger,
     R: Net<Listener = TcpListener, Stream = TcpStream> + Clock + Print + Wait,
 > Looper<'a, N, R> {
     /// Looks at each place of which the gate was told, and goes on with the guests that wait for their turn, until there are no more.
@@ -103,8 +106,15 @@ impl<
             }
             None => {
                 // No more guests have room than the descriptors that there are.
-                let Granted { held, parked } = granted;
-                self.give_back(held);
+                let Granted { taken, parked } = granted;
+                let mut parked = parked;
+                self.give_back(taken);
+                self.tell_end(
+                    &mut parked.presence,
+                    &parked.client,
+                    By::Shortage,
+                    Some(During::Queue),
+                );
                 self.shared.note_end(self.rt, parked.leave());
             }
         }
@@ -112,7 +122,7 @@ impl<
 
     /// A request has its verdict: it goes on with its pass, or is told why it has none.
     pub(crate) fn welcome(&mut self, granted: Granted<N>, hole: Hole) -> Then<N> {
-        let Granted { held, parked } = granted;
+        let Granted { taken, parked } = granted;
         let Parked {
             presence,
             queued,
@@ -124,18 +134,21 @@ impl<
             late,
         } = parked;
         let mut visit = Visit::new(self.settings.alloc, presence, client);
-        match held.verdict() {
+        match taken.verdict() {
             Verdict::Serve(number) => {
+                self.note_granted(&mut visit, number);
                 visit.at = Some(at);
                 visit.came = came;
                 visit.tried = Some(number);
                 visit.pauses = failed == Some(number);
                 visit.task = Task::Dial;
-                let seated = queued.grant(held);
+                let seated = queued.grant(taken);
                 Then::Goes(Guest { seated, visit }, hole)
             }
             Verdict::Told(cause) => {
-                self.give_back(held);
+                let stops = self.shared.is_refusing();
+                note_cause(&mut visit.presence, cause, !late, stops);
+                self.give_back(taken);
                 let seated = queued.unseated();
                 let guest = Guest { seated, visit };
                 if cause == Cause::Aborted && !late {
@@ -165,8 +178,10 @@ impl<
             }
             _ => {
                 let Guest { seated, visit } = guest;
+                let mut visit = visit;
                 if !seated.is_answered() {
                     visit.break_off();
+                    note_unanswered(&mut visit);
                 }
                 let mut visit = visit.without_server(self.settings.alloc);
                 visit.at = None;
@@ -180,19 +195,19 @@ impl<
     /// Says how an exchange ended, and takes it back at its own place.
     pub(crate) fn post(&mut self, posting: Posting<N>) {
         let place = posting.place();
-        let idle = posting.post(self.shared.proxy.desk.board());
-        self.return_seat(idle, place);
+        let lent = posting.post(self.shared.proxy.desk.board());
+        self.return_seat(lent, place);
     }
 
     // The same of one that no exchange had.
-    fn give_back(&mut self, held: Held<N>) {
-        let place = held.place();
-        let idle = held.post(self.shared.proxy.desk.board(), Ending::Done);
-        self.return_seat(idle, place);
+    fn give_back(&mut self, taken: Taken<N>) {
+        let place = taken.place();
+        let lent = taken.post(self.shared.proxy.desk.board(), Ending::Done);
+        self.return_seat(lent, place);
     }
 
-    fn return_seat(&mut self, idle: Idle<N>, place: usize) {
-        self.shared.return_seat(self.rt, idle);
+    fn return_seat(&mut self, lent: Lent<N>, place: usize) {
+        self.shared.return_seat(self.rt, lent);
         if self.shared.has(place) {
             self.shared.proxy.collect(self.rt, &mut self.gate, place);
             self.freed = true;

@@ -12,6 +12,7 @@ use loop_shared::Presence;
 use seated_exchange::Seated;
 use std::alloc::Global;
 use std::os::fd::AsRawFd;
+use std::sync::ledger::Ledger;
 
 /// The timeouts of a loop.
 #[derive(Clone, Copy, Debug, PartialEq, Eq)]
@@ -84,7 +85,7 @@ pub(crate) enum Watch {
 }
 
 /// A client that is served.
-pub(crate) struct Guest<N: BoardName> {
+pub(crate) struct Guest<N: BoardName + Ledger> {
     pub(crate) seated: Seated<N>,
     pub(crate) visit: Visit,
 }
@@ -100,12 +101,12 @@ pub(crate) struct Lingering {
 }
 
 /// Who is in a slot of a loop.
-pub(crate) enum Resident<N: BoardName> {
+pub(crate) enum Resident<N: BoardName + Ledger> {
     Guest(Guest<N>),
     Lingering(Lingering),
 }
 
-impl<N: BoardName> Resident<N> {
+impl<N: BoardName + Ledger> Resident<N> {
     /// Whether it is a client that stays, and asks for nothing.
     pub(crate) fn is_silent(&self) -> bool {
         match self {
@@ -115,7 +116,7 @@ impl<N: BoardName> Resident<N> {
     }
 }
 
-impl<N: BoardName> Guest<N> {
+impl<N: BoardName + Ledger> Guest<N> {
     fn is_silent(&self) -> bool {
         self.visit.stayed && self.seated.is_silent()
     }

@@ -8,10 +8,12 @@ use grant_board::BoardName;
 use loop_shared::{watch, watch_anew};
 use loop_table::{Hole, Subject, Token};
 use mio::Interest;
+use request_lines::{By, During};
 use seated_exchange::Stage;
 use std::net::{Net, TcpListener, TcpStream};
 use std::os::fd::AsRawFd;
 use std::sync::Wait;
+use std::sync::ledger::Ledger;
 use std::time::Clock;
 
 /// When there is more to do for a guest.
@@ -29,7 +31,7 @@ pub(crate) enum Soon {
 
 impl<
     'a,
-    N: BoardName,
+    N: BoardName + Ledger,
     R: Net<Listener = TcpListener, Stream = TcpStream> + Clock + Print + Wait,
 > Looper<'a, N, R> {
     /// A guest lies in its slot until there is more to do.
@@ -122,7 +124,13 @@ impl<
     fn dismiss(&mut self, guest: Guest<N>) {
         let Guest { seated, visit } = guest;
         visit.break_off();
-        let (presence, _client) = visit.into_client();
+        let during = match seated.stage() {
+            Stage::Telling => Some(During::Last),
+            _ => None,
+        };
+        let (presence, client) = visit.into_client();
+        let mut presence = presence;
+        self.tell_end(&mut presence, &client, By::Client, during);
         match seated.abandon() {
             Some(posting) => self.post(posting),
             None => {}

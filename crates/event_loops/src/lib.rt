@@ -8,6 +8,7 @@
 #![tactic(auto)]
 
 mod accepting;
+mod accounting;
 mod admitting;
 mod dialing;
 mod granting;

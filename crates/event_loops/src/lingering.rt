@@ -10,9 +10,11 @@ use loop_shared::watch;
 use loop_table::{Hole, Subject};
 use mio::Interest;
 use relay_workers::Gate;
+use request_lines::By;
 use std::net::{Net, Shutdown, TcpListener, TcpStream};
 use std::os::fd::AsRawFd;
 use std::sync::Wait;
+use std::sync::ledger::Ledger;
 use std::time::Clock;
 
 /// So many bytes of a client that lingers are thrown away.
@@ -26,13 +28,15 @@ const READS: usize = 64;
 
 impl<
     'a,
-    N: BoardName,
+    N: BoardName + Ledger,
     R: Net<Listener = TcpListener, Stream = TcpStream> + Clock + Print + Wait,
 > Looper<'a, N, R> {
     /// A guest was told everything: it is through, and lingers.
     pub(crate) fn finish(&mut self, guest: Guest<N>, hole: Hole) -> Then<N> {
         let key = hole.token().index();
         let Guest { seated, visit } = guest;
+        let mut visit = visit;
+        self.tell_end(&mut visit.presence, &visit.client, By::Nobody, None);
         self.untime(visit.timer, key);
         match seated.abandon() {
             Some(posting) => self.post(posting),

@@ -11,9 +11,11 @@ use loop_shared::Shared;
 use loop_table::{Agenda, Limits, Slots, Subject};
 use mio::{Events, Poll, Registry};
 use relay_workers::Gate;
+use request_log::Teller;
 use socket_gate::SocketGate;
 use std::net::{Net, TcpListener, TcpStream};
 use std::sync::Wait;
+use std::sync::ledger::Ledger;
 use std::time::{Clock, Duration};
 
 const EVENTS: usize = 256;
@@ -22,7 +24,7 @@ const EVENTS: usize = 256;
 const BATCHES: u32 = 64;
 
 /// One loop: a thread's guests, and what it works with.
-pub(crate) struct Looper<'a, N: BoardName, R> {
+pub(crate) struct Looper<'a, N: BoardName + Ledger, R> {
     pub(crate) rt: &'a R,
     pub(crate) shared: &'a Shared<'a, N>,
     /// The number of its mailbox.
@@ -50,18 +52,21 @@ pub(crate) struct Looper<'a, N: BoardName, R> {
     /// So many clients linger, and so many may.
     pub(crate) lingering: usize,
     pub(crate) most_lingering: usize,
+    /// Who is told of exchanges that ended, where lines of them are wanted.
+    pub(crate) teller: Option<Teller<'a>>,
     ghost buffered: { 0 < vec_len buffer },
 }
 
 impl<
     'a,
-    N: BoardName,
+    N: BoardName + Ledger,
     R: Net<Listener = TcpListener, Stream = TcpStream> + Clock + Print + Wait,
 > Looper<'a, N, R> {
     /// Until all clients that may come were served. Then what is still under way is over, and its passes are posted.
     pub(crate) fn run(self, poll: Poll) {
         let mut looper = self;
         looper.go_round(poll);
+        looper.tell_of_rest();
         let Looper {
             rt,
             shared,
@@ -81,6 +86,7 @@ impl<
             freed: _,
             lingering: _,
             most_lingering: _,
+            teller: _,
         } = looper;
         let mut residents = guests.into_values();
         while let Some(resident) = residents.pop() {
@@ -181,7 +187,11 @@ impl<
 }
 
 // A guest is over with all the others: its pass is posted, and its seat comes back.
-fn part_with<R: Wait, N: BoardName>(rt: &R, shared: &Shared<'_, N>, resident: Resident<N>) {
+fn part_with<R: Wait, N: BoardName + Ledger>(
+    rt: &R,
+    shared: &Shared<'_, N>,
+    resident: Resident<N>,
+) {
     match resident {
         Resident::Lingering(_lingering) => {}
         Resident::Guest(guest) => {

@@ -1,5 +1,6 @@
 //! From a request to a place, and requests that wait there for their pass.
 
+use crate::accounting::note_ticket;
 use crate::guest::{Guest, Task, Visit};
 use crate::keeping::Soon;
 use crate::looping::Looper;
@@ -11,14 +12,16 @@ use loop_shared::{Outsider, Parked};
 use loop_table::Hole;
 use prio_rules::{Wish, decide};
 use relay_workers::{Gate, arrive_as};
+use request_lines::By;
 use seated_exchange::{Posting, Queued};
 use std::net::{Net, TcpListener, TcpStream};
 use std::sync::Wait;
+use std::sync::ledger::Ledger;
 use std::time::Clock;
 
 impl<
     'a,
-    N: BoardName,
+    N: BoardName + Ledger,
     R: Net<Listener = TcpListener, Stream = TcpStream> + Clock + Print + Wait,
 > Looper<'a, N, R> {
     /// A guest's request asks for a place. Who finds none, or others who wait for one, waits outside.
@@ -31,10 +34,13 @@ impl<
     }
 
     fn enter(&mut self, queued: Queued, visit: Visit, hole: Hole) -> Then<N> {
+        let mut visit = visit;
         if self.shared.is_refusing() {
+            self.note_asked(&mut visit, queued.view(), None);
             return turn_away(queued, visit, hole);
         }
         let wish = decide(&self.shared.proxy.config, queued.view());
+        self.note_asked(&mut visit, queued.view(), Some(&wish));
         if self.shared.has_outside() {
             return self.go_outside(queued, visit, &wish, hole);
         }
@@ -81,6 +87,8 @@ impl<
     fn park(&mut self, queued: Queued, visit: Visit, at: Ticketed, hole: Hole) -> Then<N> {
         self.untime(visit.timer, hole.token().index());
         let (presence, client) = visit.into_client();
+        let mut presence = presence;
+        note_ticket(&mut presence, at);
         let mut client = client;
         client.rest();
         self.shared.park(
@@ -119,7 +127,11 @@ impl<
         let (presence, client) = visit.into_client();
         let place = posting.place();
         match at {
-            None => self.shared.note_end(self.rt, presence),
+            None => {
+                let mut presence = presence;
+                self.tell_end(&mut presence, &client, By::Client, None);
+                self.shared.note_end(self.rt, presence);
+            }
             Some(at) => {
                 self.shared.park(
                     self.rt,
@@ -153,7 +165,7 @@ impl<
 }
 
 // The dispatcher doesn't take it, for another cause than want of places.
-fn turn_away<N: BoardName>(queued: Queued, visit: Visit, hole: Hole) -> Then<N> {
+fn turn_away<N: BoardName + Ledger>(queued: Queued, visit: Visit, hole: Hole) -> Then<N> {
     let mut visit = visit;
     visit.task = Task::Refuse;
     let seated = queued.unseated();

@@ -10,10 +10,11 @@ use mio::event::Event;
 use seated_exchange::{Given, Notice, Served, Stage};
 use std::net::{Net, TcpListener, TcpStream};
 use std::sync::Wait;
+use std::sync::ledger::Ledger;
 use std::time::Clock;
 
 /// Whether there is more to do for a guest.
-pub(crate) enum Then<N: BoardName> {
+pub(crate) enum Then<N: BoardName + Ledger> {
     /// There is, at once.
     Goes(Guest<N>, Hole),
     /// It lies where it is found, or is over.
@@ -46,7 +47,7 @@ impl Told {
 
 impl<
     'a,
-    N: BoardName,
+    N: BoardName + Ledger,
     R: Net<Listener = TcpListener, Stream = TcpStream> + Clock + Print + Wait,
 > Looper<'a, N, R> {
     /// The poll told of a client. A reset ends its exchange, whatever it is at; an end of its input only where `option abortonclose` says so.
@@ -152,6 +153,7 @@ impl<
         let Guest { seated, visit } = guest;
         let mut visit = visit;
         visit.task = Task::Serve;
+        self.note_notice(&mut visit, seated.stage(), &notice);
         let served = seated.tell(self.settings, notice);
         self.settle(served, visit, hole, Soon::AtOnce)
     }
@@ -165,6 +167,8 @@ impl<
             rest: _,
         } = served;
         let key = hole.token().index();
+        let mut visit = visit;
+        self.note_bytes(&mut visit, client.is_some(), server.is_some());
         self.note_moved(&visit, key, client, Keyword::Client);
         self.note_moved(&visit, key, server, Keyword::Server);
         let guest = Guest { seated, visit };

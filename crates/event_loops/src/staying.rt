@@ -1,17 +1,20 @@
 //! Clients that stay for another request on the same connection (`run --keep-alive`).
 
+use crate::accounting::{client_of, note_come};
 use crate::guest::{Guest, Resident};
 use crate::looping::Looper;
 use crate::serving::Then;
 use grant_board::BoardName;
 use loop_table::Hole;
+use request_lines::By;
 use std::net::{Net, TcpListener, TcpStream};
 use std::sync::Wait;
+use std::sync::ledger::Ledger;
 use std::time::Clock;
 
 impl<
     'a,
-    N: BoardName,
+    N: BoardName + Ledger,
     R: Net<Listener = TcpListener, Stream = TcpStream> + Clock + Print + Wait,
 > Looper<'a, N, R> {
     /// A guest was told everything: it asks again where it may, and else is through.
@@ -21,7 +24,14 @@ impl<
             Err(seated) => self.finish(Guest { seated, visit }, hole),
             Ok(seated) => {
                 let is_over = self.shared.is_stopping() && seated.is_silent();
-                let visit = visit.renewed(self.settings.alloc);
+                let mut visit = visit;
+                let client = client_of(&visit.presence);
+                self.tell_end(&mut visit.presence, &visit.client, By::Nobody, None);
+                let mut visit = visit.renewed(self.settings.alloc);
+                self.begin_account(&mut visit.presence, &visit.client, client);
+                if !seated.is_silent() {
+                    note_come(&mut visit.presence);
+                }
                 let guest = Guest { seated, visit };
                 if is_over {
                     self.finish(guest, hole)

@@ -5,17 +5,19 @@ use crate::timing::Keywords;
 use due_key::Moment;
 use exchange_driver::Settings;
 use grant_board::BoardName;
-use loop_shared::{Shared, run_checks, run_controls};
+use loop_shared::{Shared, run_checks, run_controls, run_windows};
 use loop_table::{Agenda, Limits, Slots};
 use mio::Poll;
 use mixed_exchange::Rules;
+use request_log::Teller;
 use socket_gate::SocketGate;
 use std::alloc::{AllocError, Global};
 use std::net::{Net, TcpListener, TcpStream};
 use std::sync::Wait;
 use std::sync::atomic::{AtomicBool, Ordering};
+use std::sync::ledger::Ledger;
 use std::thread;
-use std::thread::{Scope, Threads};
+use std::thread::{JoinHandle, Scope, Threads};
 use std::time::Clock;
 
 /// So many bytes are read at once, at most.
@@ -49,38 +51,56 @@ pub fn loops_of(alloc: Global, polls: Vec<Poll>) -> Result<Vec<Unbegun>, AllocEr
 /// A scope with all threads in it. It returns once all is over and each thread has ended.
 pub fn run_all<
     R: Net<Listener = TcpListener, Stream = TcpStream> + Clock + Print + Threads + Wait + Sync,
-    N: BoardName + Send + Sync,
+    N: BoardName + Ledger + Send + Sync,
     S: Lends<N> + Sync,
 >(rt: &R, shared: &S, loops: Vec<Unbegun>) {
     let stop = AtomicBool::new(false);
     let told = &stop;
     thread::scope(thread::scope_env(), rt, move |scope| {
         let mut loops = loops;
-        let mut checking = None;
-        if shared.lend().has_checks() {
-            checking = scope
-                .spawn(move || run_checks(rt, shared.lend(), told))
-                .ok();
-            if checking.is_none() {
-                shared.lend().give_up(rt);
+        let checking = if shared.lend().has_checks() {
+            let started = scope.spawn(move || run_checks(rt, shared.lend(), told));
+            kept(rt, shared.lend(), started.ok())
+        } else {
+            None
+        };
+        let steering = if shared.lend().has_controls() {
+            let started = scope.spawn(move || run_controls(rt, shared.lend()));
+            kept(rt, shared.lend(), started.ok())
+        } else {
+            None
+        };
+        let rolling = match shared.lend().front.window {
+            None => None,
+            Some(millis) => {
+                let started = scope.spawn(move || run_windows(rt, shared.lend(), millis));
+                kept(rt, shared.lend(), started.ok())
             }
-        }
-        let mut steering = None;
-        if shared.lend().has_controls() {
-            steering = scope.spawn(move || run_controls(rt, shared.lend())).ok();
-            if steering.is_none() {
-                shared.lend().give_up(rt);
-            }
-        }
+        };
         begin_loops(scope, rt, shared, &mut loops);
         told.store(true, Ordering::SeqCst);
-        if let Some(handle) = checking {
-            handle.join(rt);
-        }
-        if let Some(handle) = steering {
-            handle.join(rt);
-        }
+        join(rt, checking);
+        join(rt, steering);
+        join(rt, rolling);
     })
+}
+
+// A thread that runs beside the loops. Where it can't be started, all is over.
+fn kept<R: Wait, N: BoardName + Ledger, T>(
+    rt: &R,
+    shared: &Shared<'_, N>,
+    started: Option<T>,
+) -> Option<T> {
+    if started.is_none() {
+        shared.give_up(rt);
+    }
+    started
+}
+
+fn join<R: Threads + Wait>(rt: &R, thread: Option<JoinHandle<()>>) {
+    if let Some(handle) = thread {
+        handle.join(rt);
+    }
 }
 
 // A thread for each loop, the last one first. Where one can't be started, all is over.
@@ -88,7 +108,7 @@ fn begin_loops<
     's,
     E,
     R: Net<Listener = TcpListener, Stream = TcpStream> + Clock + Print + Threads + Wait + Sync,
-    N: BoardName + Send + Sync + 's,
+    N: BoardName + Ledger + Send + Sync + 's,
     S: Lends<N> + Sync + 's,
 >(scope: &Scope<'s, E>, rt: &'s R, shared: &'s S, loops: &mut Vec<Unbegun>) {
     let Some(next) = loops.pop() else {
@@ -105,9 +125,10 @@ fn begin_loops<
 }
 
 fn run_loop<
+    'a,
     R: Net<Listener = TcpListener, Stream = TcpStream> + Clock + Print + Wait,
-    N: BoardName,
->(rt: &R, shared: &Shared<'_, N>, unbegun: Unbegun) {
+    N: BoardName + Ledger,
+>(rt: &'a R, shared: &'a Shared<'a, N>, unbegun: Unbegun) {
     let Unbegun { poll, home } = unbegun;
     match looper(rt, shared, &poll, home) {
         Err(_) => shared.give_up(rt),
@@ -122,7 +143,7 @@ fn run_loop<
 fn looper<
     'a,
     R: Net<Listener = TcpListener, Stream = TcpStream> + Clock + Print + Wait,
-    N: BoardName,
+    N: BoardName + Ledger,
 >(
     rt: &'a R,
     shared: &'a Shared<'a, N>,
@@ -174,15 +195,24 @@ fn looper<
         freed: false,
         lingering: 0,
         most_lingering: most_lingering as usize,
+        teller: teller_of(rt, shared),
     })
 }
 
+// What a loop tells of its exchanges with.
+fn teller_of<'a, R: Wait, N: BoardName + Ledger>(
+    rt: &R,
+    shared: &'a Shared<'a, N>,
+) -> Option<Teller<'a>> {
+    shared.front.log?.teller(rt)
+}
+
 /// What lends threads what they share. Of a type parameter it is known by a bound alone that it may be shared, so that it is shown of `Shared` once.
-pub trait Lends<N: BoardName> {
+pub trait Lends<N: BoardName + Ledger> {
     fn lend(&self) -> &Shared<'_, N>;
 }
 
-impl<N: BoardName> Lends<N> for Shared<'_, N> {
+impl<N: BoardName + Ledger> Lends<N> for Shared<'_, N> {
     fn lend(&self) -> &Shared<'_, N> {
         self
     }

@@ -15,6 +15,7 @@ use seated_exchange::{Notice, Seated};
 use std::alloc::{AllocError, Global};
 use std::net::{Net, TcpListener, TcpStream};
 use std::sync::Wait;
+use std::sync::ledger::Ledger;
 use std::time::Clock;
 
 /// How soon a loop looks again at what was short, in milliseconds.
@@ -85,7 +86,7 @@ fn timed(
 }
 
 // The timeout that is to run for a guest.
-fn wanted<N: BoardName>(seated: &Seated<N>, visit: &Visit) -> Option<Keyword> {
+fn wanted<N: BoardName + Ledger>(seated: &Seated<N>, visit: &Visit) -> Option<Keyword> {
     if visit.pauses {
         return Some(Keyword::Turnaround);
     }
@@ -100,7 +101,7 @@ fn wanted<N: BoardName>(seated: &Seated<N>, visit: &Visit) -> Option<Keyword> {
 
 impl<
     'a,
-    N: BoardName,
+    N: BoardName + Ledger,
     R: Net<Listener = TcpListener, Stream = TcpStream> + Clock + Print + Wait,
 > Looper<'a, N, R> {
     /// The timeout that a guest is under runs for it, and no other.

@@ -5,6 +5,7 @@
 
 mod driving;
 mod line;
+mod meter;
 mod moved;
 mod moves;
 mod socket;
@@ -12,6 +13,7 @@ mod streams;
 
 pub use driving::{Driven, Rest, Settings, drive};
 pub use line::Line;
+pub use meter::Meter;
 pub use moved::Moved;
 pub use socket::{Heard, Said, Socket};
 pub use streams::{Duplex, Live};

@@ -2,7 +2,9 @@ ghost use Rattle.std.specs.Prelude.{◌≡◌, ◌≤◌, ◌<◌, ℕ, length, 
 ghost use Rattle.std.specs.Io.KnownBytes.{Consumes, Appends};
 ghost use Rattle.exchange_driver.specs.Answers.{came, went, is_nothing, is_full};
 
+use crate::meter::Meter;
 use crate::socket::{Heard, Said, Socket};
+use std::cell::Cell;
 use std::io::{ErrorKind, Read, Write};
 use std::net::TcpStream;
 
@@ -24,6 +26,8 @@ pub struct Live {
     stream: TcpStream,
     is_dry: bool,
     is_full: bool,
+    /// What goes over it, where that is counted.
+    meter: Cell<Option<Meter>>,
 }
 
 impl<R: Read + Drop, W: Write + Drop> Duplex<R, W> {
@@ -46,6 +50,31 @@ impl Live {
             stream,
             is_dry: false,
             is_full: false,
+            meter: Cell::new(None),
+        }
+    }
+
+    /// What went over it since it was last counted anew. None: it isn't counted.
+    pub fn meter(&self) -> Option<Meter> {
+        self.meter.get()
+    }
+
+    /// What goes over it is counted from now on.
+    pub fn count_anew(&self) {
+        self.meter.set(Some(Meter::new()));
+    }
+
+    fn note_heard(&self, heard: Heard) {
+        if let (Some(mut meter), Heard::Bytes(count)) = (self.meter.get(), heard) {
+            meter.note_received(count);
+            self.meter.set(Some(meter));
+        }
+    }
+
+    fn note_said(&self, said: Said, bytes: &[u8]) {
+        if let (Some(mut meter), Said::Bytes(count)) = (self.meter.get(), said) {
+            meter.note_sent(&bytes[..count.min(bytes.len())]);
+            self.meter.set(Some(meter));
         }
     }
 
@@ -104,12 +133,14 @@ impl Socket for Live {
     fn hear(&mut self, buffer: &mut [u8]) -> Heard {
         let heard = hear(&mut self.stream, buffer);
         self.is_dry = heard.is_nothing();
+        self.note_heard(heard);
         heard
     }
 
     fn say(&mut self, bytes: &[u8]) -> Said {
         let said = say(&mut self.stream, bytes);
         self.is_full = said.is_full();
+        self.note_said(said, bytes);
         said
     }
 

@@ -6,6 +6,8 @@ mod bodies;
 #[cfg(test)]
 mod chains;
 #[cfg(test)]
+mod driving;
+#[cfg(test)]
 mod exchanges;
 #[cfg(test)]
 mod playing;

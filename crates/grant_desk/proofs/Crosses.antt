@@ -13,6 +13,7 @@ use Rattle.binom_queue.proofs.forest.Forest.TheLaws.TheKnot as knot
 use Rattle.grant_board.specs.declared.board.BoardName as board_name
 use Rattle.locked_book.proofs.book.Book.TheSendSync as book
 use Rattle.due_key.proofs.key.Key.TheSendSync as key
+use Rattle.log_tail.proofs.tail.Tail.TheSendSync as tail
 use Rattle.grant_board.proofs.board.Board.TheSendSync as board
 use Rattle.grant_desk.specs.contracts.desk.Desk as desk
 
@@ -27,5 +28,8 @@ pub desk_sync : (N : RattleType) (g : board_name.Ghosts N.Denot) → IsSync (des
 desk_sync N g =
     recorded_sync (desk.the_field N g).row _ _ (desk.the_type N g).to_one (struct_sync (shape (desk.the_type N g)) (
       search (queue_send, single_send, key.the_send, book.the_send, mutex.the_sync, crosses, sendable) depth 60 fits 20000,
-      (search (board.the_sync, crosses, sendable) depth 60 fits 20000, tt),
+      (
+        search (board.the_sync, crosses, sendable) depth 60 fits 20000,
+        (search (tail.the_send, mutex.the_sync, crosses, sendable) depth 60 fits 20000, tt),
+      ),
     ))

@@ -1,4 +1,4 @@
-ghost use Rattle.std.specs.Prelude.{◌≡◌, ◌<◌, ◌↔◌, [], length, drop, IfSome, IfNone, IfOk, IfErr, OnOk, OnErr, IsTrue, Some, pos, ◌+ℤ◌, true};
+ghost use Rattle.std.specs.Prelude.{◌≡◌, ◌<◌, ◌^◌, ◌↔◌, [], length, drop, IfSome, IfNone, IfOk, IfErr, OnOk, OnErr, IsTrue, Some, pos, ◌+ℤ◌, true};
 ghost use Rattle.std.specs.Sync.Mutex.{mutex_guard_value};
 ghost use Rattle.dispatch_log.specs.declared.entry.Entry.TheVariants.{Arrive, Abort, Tick, Check, Limit};
 ghost use Rattle.dispatch_log.specs.declared.refusal.Refusal.TheVariants.{LogFull};
@@ -29,6 +29,7 @@ use due_key::{Class, Key, Moment};
 use grant_board::{Board, BoardName, Closing, KeeperSeat, RelaySeat, Return};
 use late_cert::{Reports, Running};
 use locked_book::{Book, Deferred, Wanted};
+use log_tail::{Batch, Tail};
 use place_set::PlaceSet;
 use reporting_core::{ServerLine, Window};
 use std::alloc::{AllocError, Global};
@@ -46,6 +47,8 @@ pub type Queues = BinomQueue<Key, usize>;
 pub struct Desk<N: BoardName> {
     book: Mutex<Book<Queues, N>>,
     board: Board,
+    /// What waits to be read of the log, where that is wanted. Who has both locks took this one first.
+    tail: Mutex<Option<Tail>>,
     ghost named: { board ≡ N.board },
 }
 
@@ -62,6 +65,7 @@ impl<N: BoardName> Desk<N> {
         Desk {
             book: Mutex::new(Book::new(core, seat, running)),
             board,
+            tail: Mutex::new(None),
         }
     }
 
@@ -202,11 +206,38 @@ impl<N: BoardName> Desk<N> {
     pub fn roll<R: Wait>(&self, rt: &R, alloc: Global) -> Result<Window, AllocError>
         ensures { IfOk result (λ window. SomeStep N.terms (λ old new. IsCertified old.history window.reports × AreLines old.history window.servers.items × (new ≡ record old { history = next_window old.history }))) }
     {
+        let mut tail = self.tail.lock(rt);
         let mut book = self.enter(rt);
+        catch_up(&mut tail, book.entries());
         let reports = book.report(alloc)?;
         let servers = book.servers(alloc)?;
         book.roll();
+        turn(&mut tail);
         Ok(Window { reports, servers })
+    }
+
+    /// From now on what comes to the log is kept to be read, so many entries at most: `read_new` hands them out. Fails only where memory is refused.
+    pub fn follow<R: Wait>(&self, rt: &R, alloc: Global, room: usize) -> Result<(), AllocError>
+        requires { room < 2 ^ 32 }
+    {
+        let made = Tail::with_room(alloc, room)?;
+        let mut tail = self.tail.lock(rt);
+        *tail = Some(made);
+        Ok(())
+    }
+
+    /// What came to the log since it was last read, window after window, in place of what the batch has; nothing, where none is kept, or the batch has less room than was
+    /// asked for. `O(n)` in the new entries while the lock is held, no memory.
+    pub fn read_new<R: Wait>(&self, rt: &R, batch: &mut Batch) {
+        batch.clear();
+        let mut tail = self.tail.lock(rt);
+        let Some(tail) = &mut *tail else {
+            return;
+        };
+        tail.catch_up(self.enter(rt).entries());
+        if tail.room() <= batch.entries.capacity() {
+            tail.take(batch);
+        }
     }
 
     /// The reports of the present window. Fails only where memory is refused.
@@ -248,7 +279,14 @@ impl<N: BoardName> Desk<N> {
         ensures none { IfOk result (λ found. IfNone found (SomeHeld N.terms (λ held. HasEntryRoom held.history))) }
         ensures some { IfOk result (λ found. IfSome found (λ window. SomeStep N.terms (λ old new. (HasEntryRoom old.history → ⊥) × IsCertified old.history window.reports × AreLines old.history window.servers.items × (new ≡ record old { history = next_window old.history })))) }
     {
-        self.enter(rt).make_room(alloc)
+        let mut tail = self.tail.lock(rt);
+        let mut book = self.enter(rt);
+        catch_up(&mut tail, book.entries());
+        let made = book.make_room(alloc);
+        if let Ok(Some(_)) = &made {
+            turn(&mut tail);
+        }
+        made
     }
 
     /// The relay's seat as it was, and how many passes it has, each of which is outstanding.
@@ -296,7 +334,11 @@ impl<N: BoardName> Desk<N> {
         requires settled { relay.view.split ≡ relay.view.joined }
         ensures { SomeHeld N.terms (λ held. IsClosed held.view relay.view result.left) }
     {
-        let Desk { book, board } = self;
+        let Desk {
+            book,
+            board,
+            tail: _,
+        } = self;
         let book = book.into_inner();
         // Says what the book keeps.
         book.places();
@@ -311,5 +353,19 @@ impl<N: BoardName> Desk<N> {
         // Says what the book keeps.
         book.places();
         book
+    }
+}
+
+// What the present window has is kept to be read.
+fn catch_up(tail: &mut Option<Tail>, entries: &[Entry]) {
+    if let Some(tail) = tail {
+        tail.catch_up(entries);
+    }
+}
+
+// That it ended is, too.
+fn turn(tail: &mut Option<Tail>) {
+    if let Some(tail) = tail {
+        tail.turn();
     }
 }

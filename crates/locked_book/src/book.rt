@@ -292,6 +292,13 @@ impl<Q: PendQueue<Key, usize>, N: BoardName> Book<Q, N> {
         Vec::from_slice(alloc, &entries[count..])
     }
 
+    /// The entries of the present window.
+    pub fn entries(&self) -> &[Entry]
+        ensures { result.now ≡ self.now.history.log }
+    {
+        self.core.log().entries()
+    }
+
     /// The greatest lateness of a queue and class in the present window, in milliseconds; `None` only where none of them was granted a slot.
     /// `O(1)`, no memory.
     pub fn worst(&self, queue: Queue, class: Class) -> Option<i64>

@@ -5,8 +5,9 @@ use denote.Param.Send.{IsSync, sendable}
 use denote.Param.SendFields.{declared_sync}
 use Rattle.std.proofs.Crossing.{crosses}
 use Rattle.std.proofs.sync.Mutex.TheSendSync as mutex
+use Rattle.std.specs.declared.sync.ledger.Ledger as ledger_name
 use Rattle.grant_board.specs.declared.board.BoardName as board_name
-use Rattle.pass_seat.proofs.idle.Idle.TheSendSync as idle
+use Rattle.lent_seats.proofs.seats.Seats.TheSendSync as seats
 use Rattle.loop_shared.proofs.parked.Parked.TheSendSync as parked
 use Rattle.loop_shared.proofs.mail.Mailbox.TheSendSync as mailbox
 use Rattle.loop_shared.proofs.outside.Outside.TheSendSync as outside
@@ -14,15 +15,15 @@ use Rattle.loop_shared.specs.contracts.shared.Shared as shared
 use Rattle.relay_workers.proofs.Crosses.{proxy_sync}
 use Rattle.socket_gate.proofs.front.Front.TheSendSync as front
 
-pub shared_sync : (a : NamedLft) (N : RattleType) (g : board_name.Ghosts N.Denot) → IsSync (shared.the_row a N g)
-shared_sync a N g = declared_sync (shared.the_type a N g) (
+pub shared_sync : (a : NamedLft) (N : RattleType) (g : board_name.Ghosts N.Denot) (l : ledger_name.Ghosts N.Denot) → IsSync (shared.the_row a N g l)
+shared_sync a N g l = declared_sync (shared.the_type a N g l) (
   search (proxy_sync N g, crosses, sendable) depth 60 fits 20000,
   (
     search (front.the_sync, mutex.the_sync, crosses, sendable) depth 60 fits 20000,
     (
       search (parked.the_send, mutex.the_sync, crosses, sendable) depth 60 fits 20000,
       (
-        search (idle.the_send, mutex.the_sync, crosses, sendable) depth 60 fits 20000,
+        search (seats.the_send, mutex.the_sync, crosses, sendable) depth 60 fits 20000,
         (
           search (outside.the_send, mutex.the_sync, crosses, sendable) depth 60 fits 20000,
           (

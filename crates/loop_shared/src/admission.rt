@@ -18,6 +18,7 @@ use socket_gate::has_left;
 use std::os::fd::AsRawFd;
 use std::sync::Wait;
 use std::sync::atomic::Ordering;
+use std::sync::ledger::Ledger;
 
 /// What becomes of the request that is next.
 pub enum Turn {
@@ -29,7 +30,7 @@ pub enum Turn {
     Rests,
 }
 
-impl<N: BoardName> Shared<'_, N> {
+impl<N: BoardName + Ledger> Shared<'_, N> {
     /// Whether somebody waits for a place.
     pub fn has_outside(&self) -> bool {
         self.outsiders() != 0

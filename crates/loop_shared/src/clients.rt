@@ -8,8 +8,9 @@ use grant_board::BoardName;
 use std::net::IpAddr;
 use std::sync::Wait;
 use std::sync::atomic::Ordering;
+use std::sync::ledger::Ledger;
 
-impl<N: BoardName> Shared<'_, N> {
+impl<N: BoardName + Ledger> Shared<'_, N> {
     /// How many clients are here.
     pub fn clients(&self) -> u64 {
         let ended = self.ended.load(Ordering::SeqCst);

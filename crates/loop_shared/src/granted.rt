@@ -2,12 +2,13 @@ ghost use Rattle.std.specs.Prelude.{◌≡◌};
 
 use crate::parked::Parked;
 use grant_board::BoardName;
-use pass_seat::Held;
+use lent_seats::Taken;
+use std::sync::ledger::Ledger;
 
-/// A request whose verdict was found at its place. It has no `Drop`: its pass is posted.
-pub struct Granted<N: BoardName> {
-    pub held: Held<N>,
+/// A request whose verdict was found at its place, and a seat that is lent with its pass. It has no `Drop`: its pass is posted.
+pub struct Granted<N: BoardName + Ledger> {
+    pub taken: Taken<N>,
     pub parked: Parked,
-    ghost its_place: { held.pass.place ≡ parked.at.place },
-    ghost its_ticket: { held.pass.ticket ≡ parked.at.ticket },
+    ghost its_place: { taken.held.pass.place ≡ parked.at.place },
+    ghost its_ticket: { taken.held.pass.ticket ≡ parked.at.ticket },
 }

@@ -22,6 +22,7 @@ mod steering;
 mod stopping;
 mod waiting;
 mod watching;
+mod windows;
 
 pub use admission::Turn;
 pub use descriptors::{Most, most_connections};
@@ -38,3 +39,4 @@ pub use shared::{Shared, SharedParts};
 pub use spots::empty_spots;
 pub use steering::run_controls;
 pub use watching::{watch, watch_anew};
+pub use windows::run_windows;

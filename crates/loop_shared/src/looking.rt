@@ -9,14 +9,15 @@ use crate::shared::Shared;
 use crate::watching::watch;
 use dispatch_trace::Ticketed;
 use grant_board::BoardName;
+use lent_seats::{Lent, Taken};
 use loop_table::Subject;
 use mio::{Interest, Registry};
-use pass_seat::{Asked, Held, Idle};
 use std::os::fd::AsRawFd;
 use std::sync::Wait;
+use std::sync::ledger::Ledger;
 
 /// What became of a look at a place.
-pub enum Looked<N: BoardName> {
+pub enum Looked<N: BoardName + Ledger> {
     /// The request that waited there, with its pass.
     Granted(Granted<N>),
     /// It waits on, and some loop's poll tells of its client.
@@ -29,7 +30,7 @@ pub enum Looked<N: BoardName> {
     Nobody,
 }
 
-impl<N: BoardName> Shared<'_, N> {
+impl<N: BoardName + Ledger> Shared<'_, N> {
     /// Looks at a place. Whoever waits on there is watched for its leaving alone, by one loop.
     pub fn look_at<R: Wait>(&self, rt: &R, registry: &Registry, place: usize) -> Looked<N> {
         let Some(spot) = self.spots.as_slice().get(place) else {
@@ -47,11 +48,11 @@ impl<N: BoardName> Shared<'_, N> {
             return Looked::Nobody;
         };
         let mut parked = parked;
-        let popped = self.idle.lock(rt).pop();
-        let looked = match popped {
+        let lent = self.seats.lock(rt).lend();
+        let looked = match lent {
             None => Looked::NoSeat,
-            Some(idle) => match self.ask(rt, idle, parked.at) {
-                Some(held) => return Looked::Granted(Granted { held, parked }),
+            Some(lent) => match self.ask(rt, lent, parked.at) {
+                Some(taken) => return Looked::Granted(Granted { taken, parked }),
                 None if parked.watched || watches(registry, &parked) => {
                     parked.watched = true;
                     Looked::Waits
@@ -69,17 +70,17 @@ impl<N: BoardName> Shared<'_, N> {
     }
 
     // The pass of a place and a ticket, where it is offered. Else the seat comes back.
-    fn ask<R: Wait>(&self, rt: &R, idle: Idle<N>, at: Ticketed) -> Option<Held<N>>
-        ensures { IfSome result (λ held. (held.pass.place ≡ at.place) × (held.pass.ticket ≡ at.ticket)) }
+    fn ask<R: Wait>(&self, rt: &R, lent: Lent<N>, at: Ticketed) -> Option<Taken<N>>
+        ensures { IfSome result (λ taken. (taken.held.pass.place ≡ at.place) × (taken.held.pass.ticket ≡ at.ticket)) }
     {
         if !self.has(at.place) {
-            self.return_seat(rt, idle);
+            self.return_seat(rt, lent);
             return None;
         }
-        match idle.take(self.proxy.desk.board(), at.place, at.ticket) {
-            Asked::Held(held) => Some(held),
-            Asked::NotYet(idle) => {
-                self.return_seat(rt, idle);
+        match lent.take(self.proxy.desk.board(), at.place, at.ticket) {
+            Ok(taken) => Some(taken),
+            Err(lent) => {
+                self.return_seat(rt, lent);
                 None
             }
         }

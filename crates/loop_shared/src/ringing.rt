@@ -12,6 +12,7 @@ use socket_gate::{Pauses, SocketGate};
 use std::net::{Net, TcpListener, TcpStream};
 use std::sync::Wait;
 use std::sync::atomic::AtomicBool;
+use std::sync::ledger::Ledger;
 use std::time::Clock;
 
 /// The thread that has servers checked looks whether a check is due whenever so many milliseconds have passed, as long as the proxy runs.
@@ -21,7 +22,7 @@ const CHECK_PAUSES: u64 = 1 << 62;
 
 /// A gate of a thread that is no loop: what it is told of places, the loops are told.
 #[derive(Drop)]
-pub(crate) struct Ringing<'a, N: BoardName, R> {
+pub(crate) struct Ringing<'a, N: BoardName + Ledger, R> {
     pub(crate) rt: &'a R,
     pub(crate) shared: &'a Shared<'a, N>,
     pub(crate) gate: SocketGate<'a, R>,
@@ -29,7 +30,7 @@ pub(crate) struct Ringing<'a, N: BoardName, R> {
 
 impl<
     'a,
-    N: BoardName,
+    N: BoardName + Ledger,
     R: Net<Listener = TcpListener, Stream = TcpStream> + Clock + Print + Wait,
 > Gate for Ringing<'a, N, R> {
     type Client = TcpStream;
@@ -67,9 +68,10 @@ impl<
 
 /// Has servers checked, until it is told to stop.
 pub fn run_checks<
+    'a,
     R: Net<Listener = TcpListener, Stream = TcpStream> + Clock + Print + Wait,
-    N: BoardName,
->(rt: &R, shared: &Shared<'_, N>, stop: &AtomicBool) {
+    N: BoardName + Ledger,
+>(rt: &'a R, shared: &'a Shared<'a, N>, stop: &AtomicBool) {
     let Ok(gate) = SocketGate::new(shared.proxy.alloc, rt, shared.front) else {
         return shared.give_up(rt);
     };

@@ -1,5 +1,4 @@
-ghost use Rattle.std.specs.Prelude.{◌≡◌, ◌<◌, ◌≤◌, if◌then◌else◌, Some, None, vec_len};
-ghost use Rattle.std.specs.Bool.{OnTrue};
+ghost use Rattle.std.specs.Prelude.{◌≡◌, ◌<◌, ◌≤◌, ◌↔◌, IsTrue, if◌then◌else◌, Some, None, vec_len};
 
 use crate::descriptors::Most;
 use crate::mail::Mailbox;
@@ -9,13 +8,16 @@ use crate::presence::Presence;
 use crate::spots::leave_all;
 use exchange_machine::Terms;
 use grant_board::BoardName;
+use lent_seats::{Lent, Seats};
 use pass_seat::Idle;
 use place_set::PlaceSet;
 use relay_http::{Additions, Persistence};
-use relay_workers::{Proxy, Stopped};
+use relay_workers::Proxy;
 use socket_gate::Front;
+use std::alloc::AllocError;
 use std::net::{IpAddr, SocketAddr};
 use std::sync::atomic::{AtomicBool, AtomicU64, Ordering};
+use std::sync::ledger::{Blank, Ledger};
 use std::sync::{Condvar, Mutex, Wait};
 
 /// What it is made of. It has no `Drop`, as `Outside` has none.
@@ -32,13 +34,13 @@ pub struct SharedParts {
 }
 
 /// What all threads share.
-pub struct Shared<'a, N: BoardName> {
+pub struct Shared<'a, N: BoardName + Ledger> {
     pub proxy: &'a Proxy<N>,
     pub front: &'a Front<'a>,
     /// Where the request of each place lies until its pass is there.
     pub(crate) spots: Vec<Mutex<Option<Parked>>>,
-    /// The seats without a pass.
-    pub(crate) idle: Mutex<Vec<Idle<N>>>,
+    /// The seats: those that are idle and those that are lent.
+    pub(crate) seats: Mutex<Seats<N>>,
     /// Who waits for a place, and how many they are.
     pub(crate) outside: Mutex<Outside>,
     pub(crate) outsiders: AtomicU64,
@@ -63,18 +65,20 @@ pub struct Shared<'a, N: BoardName> {
     pub(crate) bell: Condvar,
     /// It is over because memory was short, or a thread.
     pub(crate) failed: AtomicBool,
-    ghost sized: { vec_len spots ≤ N.terms.places },
+    ghost sized: { vec_len spots ≡ N.terms.places },
 }
 
-impl<'a, N: BoardName> Shared<'a, N> {
-    /// What the threads of a proxy share, with these seats.
+impl<'a, N: BoardName + Ledger> Shared<'a, N> {
+    /// What the threads of a proxy share, with these seats, and an account of them on this blank.
     pub fn new(
         proxy: &'a Proxy<N>,
         front: &'a Front<'a>,
-        seats: Vec<Idle<N>>,
+        seats: (Vec<Idle<N>>, Blank),
         parts: SharedParts,
     ) -> Shared<'a, N>
-        requires { vec_len parts.spots ≤ N.terms.places }
+        requires spots { vec_len parts.spots ≡ N.terms.places }
+        requires ledger { (seats.1.name ≡ N.name) × (seats.1.parts ≡ N.parts) }
+        requires seats { vec_len seats.0 ≤ seats.1.parts }
     {
         let SharedParts {
             spots,
@@ -87,7 +91,7 @@ impl<'a, N: BoardName> Shared<'a, N> {
             proxy,
             front,
             spots,
-            idle: Mutex::new(seats),
+            seats: Mutex::new(Seats::open(seats.0, seats.1)),
             outside: Mutex::new(outside),
             outsiders: AtomicU64::new(0),
             most_outside,
@@ -106,13 +110,13 @@ impl<'a, N: BoardName> Shared<'a, N> {
         }
     }
 
-    /// What was still to be done is over, and the seats come back.
-    pub fn end(self) -> (Vec<Idle<N>>, Result<(), Stopped>) {
+    /// What was still to be done is over, and the seats that are idle come back. Ok: nothing was short.
+    pub fn end(self) -> (Vec<Idle<N>>, Result<(), AllocError>) {
         let Shared {
             proxy: _,
             front: _,
             spots,
-            idle,
+            seats,
             outside,
             outsiders: _,
             most_outside: _,
@@ -131,19 +135,19 @@ impl<'a, N: BoardName> Shared<'a, N> {
         } = self;
         outside.into_inner().end();
         leave_all(spots);
-        let seats = idle.into_inner();
+        let seats = seats.into_inner().end();
         if failed.load(Ordering::SeqCst) {
-            (seats, Err(Stopped::NoMemory))
+            (seats, Err(AllocError))
         } else {
             (seats, Ok(()))
         }
     }
 }
 
-impl<N: BoardName> Shared<'_, N> {
+impl<N: BoardName + Ledger> Shared<'_, N> {
     /// Whether a place is one of the board's.
     pub fn has(&self, place: usize) -> bool
-        ensures { OnTrue result (place < N.terms.places) }
+        ensures { IsTrue result ↔ (place < N.terms.places) }
     {
         place < self.spots.len()
     }
@@ -159,8 +163,8 @@ impl<N: BoardName> Shared<'_, N> {
     }
 
     /// A seat comes back. There is room for each.
-    pub fn return_seat<R: Wait>(&self, rt: &R, idle: Idle<N>) {
-        let _ = self.idle.lock(rt).push(idle);
+    pub fn return_seat<R: Wait>(&self, rt: &R, lent: Lent<N>) {
+        self.seats.lock(rt).give_back(lent);
     }
 
     /// Whether some server is checked.

@@ -14,11 +14,12 @@ use socket_gate::SocketGate;
 use std::alloc::AllocError;
 use std::net::{Net, TcpListener, TcpStream};
 use std::sync::Wait;
+use std::sync::ledger::Ledger;
 use std::time::Clock;
 
 /// A proxy that is steered, with a gate that tells the loops of places.
 #[derive(Drop)]
-struct Steering<'a, N: BoardName, R> {
+struct Steering<'a, N: BoardName + Ledger, R> {
     rt: &'a R,
     shared: &'a Shared<'a, N>,
     gate: Ringing<'a, N, R>,
@@ -26,7 +27,7 @@ struct Steering<'a, N: BoardName, R> {
 
 impl<
     'a,
-    N: BoardName,
+    N: BoardName + Ledger,
     R: Net<Listener = TcpListener, Stream = TcpStream> + Clock + Print + Wait,
 > Steered for Steering<'a, N, R> {
     fn names(&self) -> &Names {
@@ -69,6 +70,13 @@ impl<
             .limit(self.rt, &mut self.gate, server, intake)
     }
 
+    fn reopen(&self) -> bool {
+        match self.shared.front.log {
+            Some(log) => log.reopen(self.rt),
+            None => false,
+        }
+    }
+
     fn moment(&mut self) -> Moment {
         self.gate.moment()
     }
@@ -96,18 +104,20 @@ impl<
 
 /// Attends to the controls of a proxy until all is over.
 pub fn run_controls<
+    'a,
     R: Net<Listener = TcpListener, Stream = TcpStream> + Clock + Print + Wait,
-    N: BoardName,
->(rt: &R, shared: &Shared<'_, N>) {
+    N: BoardName + Ledger,
+>(rt: &'a R, shared: &'a Shared<'a, N>) {
     if attend_to(rt, shared).is_err() {
         shared.give_up(rt);
     }
 }
 
 fn attend_to<
+    'a,
     R: Net<Listener = TcpListener, Stream = TcpStream> + Clock + Print + Wait,
-    N: BoardName,
->(rt: &R, shared: &Shared<'_, N>) -> Result<(), AllocError> {
+    N: BoardName + Ledger,
+>(rt: &'a R, shared: &'a Shared<'a, N>) -> Result<(), AllocError> {
     let Some(controls) = shared.front.controls else {
         return Ok(());
     };

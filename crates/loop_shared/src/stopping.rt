@@ -6,11 +6,15 @@ use libc::net::{SHUT_RDWR, shutdown};
 use std::os::fd::AsRawFd;
 use std::sync::Wait;
 use std::sync::atomic::Ordering;
+use std::sync::ledger::Ledger;
 
-impl<N: BoardName> Shared<'_, N> {
+impl<N: BoardName + Ledger> Shared<'_, N> {
     /// No client is taken any more but those who wait at the listener by now.
     pub fn stop(&self) {
         self.stopping.store(true, Ordering::SeqCst);
+        if let Some(log) = self.front.log {
+            log.note_stop();
+        }
         for mail in self.mail.as_slice() {
             mail.ring();
         }

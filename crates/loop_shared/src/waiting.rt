@@ -7,8 +7,9 @@ use socket_gate::has_left;
 use std::os::fd::AsRawFd;
 use std::sync::Wait;
 use std::sync::atomic::Ordering;
+use std::sync::ledger::Ledger;
 
-impl<N: BoardName> Shared<'_, N> {
+impl<N: BoardName + Ledger> Shared<'_, N> {
     /// A request lies in the spot of its place from now on. Whoever calls it looks there afterwards.
     pub fn park<R: Wait>(&self, rt: &R, parked: Parked) {
         let Some(spot) = self.spots.as_slice().get(parked.at.place) else {

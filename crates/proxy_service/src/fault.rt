@@ -1,4 +1,4 @@
-use relay_workers::Stopped;
+use relay_loops::LoopsFault;
 use std::alloc::AllocError;
 use std::net::SocketAddrV4;
 use thiserror::Error;
@@ -22,9 +22,9 @@ pub enum ServeFault {
     /// What is printed was refused.
     #[error("write fault")]
     Write,
-    /// All pauses of a wait were made. No event loop makes such pauses.
-    #[error("turns spent")]
-    Turns,
+    /// A seat of a place didn't come back, which no path is known to do.
+    #[error("a seat was lost")]
+    SeatsLost,
 }
 
 impl From<AllocError> for ServeFault {
@@ -52,16 +52,16 @@ impl From<TellFault> for ServeFault {
     }
 }
 
-impl From<Stopped> for ServeFault {
+impl From<LoopsFault> for ServeFault {
     ghost use Rattle.std.specs.Prelude.{◌≡◌};
-    ghost use Rattle.proxy_service.specs.Faults.{of_stopping};
+    ghost use Rattle.proxy_service.specs.Faults.{of_loops};
 
-    ghost from_gives = { λ it fault. fault ≡ of_stopping it };
+    ghost from_gives = { λ it fault. fault ≡ of_loops it };
 
-    fn from(stopped: Stopped) -> ServeFault {
-        match stopped {
-            Stopped::NoMemory => ServeFault::NoMemory,
-            Stopped::PausesSpent => ServeFault::Turns,
+    fn from(fault: LoopsFault) -> ServeFault {
+        match fault {
+            LoopsFault::NoMemory => ServeFault::NoMemory,
+            LoopsFault::SeatsLost => ServeFault::SeatsLost,
         }
     }
 }

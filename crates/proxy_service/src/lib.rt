@@ -3,6 +3,7 @@
 
 mod crew;
 mod fault;
+mod lending;
 mod opening;
 mod parts;
 mod preparing;
@@ -11,6 +12,8 @@ mod recording;
 mod serving;
 mod sharing;
 mod telling;
+mod watching;
+mod writing;
 
 pub use fault::ServeFault;
 pub use opening::{Doors, RunOptions};

@@ -3,9 +3,11 @@
 use crate::crew::Crew;
 use crate::fault::ServeFault;
 use crate::preparing::never_queues;
+use admin_http::Admin;
 use control_socket::Controls;
 use libc::net::listen;
 use proxy_config::{Bind, Config};
+use request_log::Logs;
 use std::net::{Ipv4Addr, Net, SocketAddrV4, TcpListener, TcpStream};
 use std::os::fd::AsRawFd;
 
@@ -14,10 +16,16 @@ use std::os::fd::AsRawFd;
 pub struct RunOptions {
     /// How long a client may stay between two requests, in milliseconds. None: it has one.
     pub keeping: Option<u64>,
+    /// After so many milliseconds a window ends. None: once the log is full.
+    pub window: Option<u64>,
     /// Whether servers are told whose requests they get.
     pub forwarded_for: bool,
     /// What it is steered by while it serves.
     pub controls: Option<Controls>,
+    /// Which logs are written.
+    pub logs: Logs,
+    /// Where it is asked how it goes. What is asked for is counted only then.
+    pub admin: Option<Admin>,
 }
 
 /// Where clients come, and what is asked besides.

@@ -1,4 +1,4 @@
-ghost use Rattle.std.specs.Prelude.{◌<◌, ◌≤◌, IfOk};
+ghost use Rattle.std.specs.Prelude.{◌<◌, ◌≤◌, ◌+◌, ◌^◌, IfOk};
 ghost use Rattle.proxy_config.specs.Sound.{IsSoundConfig};
 ghost use Rattle.proxy_service.specs.Parts.{AreNew};
 ghost use Rattle.proxy_service.specs.Setups.{setup_of};
@@ -10,6 +10,7 @@ use grant_desk::Queues;
 use late_cert::Running;
 use proxy_config::Config;
 use std::alloc::{AllocError, Global};
+use std::sync::ledger::Blank;
 
 /// What a desk is made of, and the seat of its relays.
 pub(crate) struct Parts {
@@ -18,13 +19,16 @@ pub(crate) struct Parts {
     pub(crate) board: Board,
     pub(crate) keeper: KeeperSeat,
     pub(crate) relay: RelaySeat,
+    /// What is accounted of its seats on.
+    pub(crate) ledger: Blank,
 }
 
 /// Those of a configuration, for so many live requests.
 pub(crate) fn parts_of(alloc: Global, config: &Config, places: usize) -> Result<Parts, AllocError>
     requires config { IsSoundConfig config.now }
     requires places { (0 < places) × (places ≤ 4096) }
-    ensures { IfOk result (AreNew (setup_of config.now places)) }
+    ensures parts { IfOk result (AreNew (setup_of config.now places)) }
+    ensures ledger { IfOk result (λ parts. 2 ^ 64 ≤ parts.ledger.parts + 1) }
 {
     let setup = setup_of(alloc, config, places)?;
     let limits = limits_of(alloc, &setup)?;
@@ -37,5 +41,6 @@ pub(crate) fn parts_of(alloc: Global, config: &Config, places: usize) -> Result<
         board,
         keeper,
         relay,
+        ledger: Blank::new(u64::MAX),
     })
 }

@@ -13,7 +13,7 @@ use std::alloc::{AllocError, Global};
 use std::str;
 
 /// The entries of a window's log.
-const LOG: usize = 262_144;
+pub(crate) const LOG: usize = 262_144;
 
 /// The setup of a dispatcher for so many live requests.
 pub(crate) fn setup_of(alloc: Global, config: &Config, places: usize) -> Result<Setup, AllocError>

@@ -1,6 +1,6 @@
 //! A service whose log is copied while it serves.
 
-ghost use Rattle.std.specs.Prelude.{◌≡◌, ◌≤◌, true, []};
+ghost use Rattle.std.specs.Prelude.{◌≡◌, ◌≤◌, ◌+◌, ◌^◌, true, []};
 ghost use Rattle.dispatch_log.specs.declared.setup.Setup.{Setup};
 ghost use Rattle.outstanding.specs.Books.{terms_of};
 ghost use Rattle.proxy_config.specs.Sound.{IsSoundConfig};
@@ -8,20 +8,24 @@ ghost use Rattle.proxy_service.specs.Parts.{AreNew};
 
 use crate::crew::{Crew, crew_of};
 use crate::fault::ServeFault;
+use crate::lending::Lends;
 use crate::opening::RunOptions;
 use crate::parts::{Parts, parts_of};
 use crate::record::Record;
 use crate::serving::{proxy_of, serve_clients};
 use crate::sharing::{beside_of, front_of};
-use grant_board::{BoardName, RelaySeat};
+use grant_board::BoardName;
 use late_cert::Reports;
 use proxy_config::Config;
+use relay_loops::{SeatSource, Site};
 use relay_workers::Proxy;
+use request_log::Logs;
 use run_sizes::Sizes;
 use socket_gate::Front;
 use std::marker::Brand;
 use std::net::{Net, TcpListener, TcpStream};
 use std::sync::Wait;
+use std::sync::ledger::Ledger;
 use std::thread;
 use std::thread::{Scope, Threads};
 use std::time::{Clock, Duration};
@@ -92,7 +96,7 @@ fn serve_all<
 
 // The same at a desk that is made of these parts.
 fn serve_on<
-    N: BoardName + Send + Sync,
+    N: BoardName + Ledger + Send + Sync,
     R: Net<Listener = TcpListener, Stream = TcpStream>
         + Clock
         + Print
@@ -112,24 +116,39 @@ fn serve_on<
     watched: Watched<'_>,
 ) -> Result<Reports, ServeFault>
     requires named { parts.board ≡ N.board }
+    requires ledger { (parts.ledger.name ≡ N.name) × (parts.ledger.parts ≡ N.parts) }
+    requires room { 2 ^ 64 ≤ parts.ledger.parts + 1 }
     requires parts { (setup : Setup) × AreNew setup parts × (N.terms ≡ terms_of setup) × (setup.places ≡ watched.crew.threads.places) }
 {
     let alloc = rt.alloc();
-    let (proxy, relay) = proxy_of::<N>(alloc, config, parts);
+    let (proxy, source) = proxy_of::<N>(alloc, config, parts);
     let options = RunOptions {
         keeping: None,
+        window: None,
         forwarded_for: false,
         controls: None,
+        logs: Logs {
+            access: None,
+            events: None,
+            numbers: None,
+        },
+        admin: None,
     };
-    let beside = beside_of(alloc, &proxy.config, options)?;
-    let front = front_of(rt, &proxy.config, listener, watched.crew.requests, &beside)?;
-    serve_watched(rt, &proxy, &front, relay, watched)?;
+    let threads = watched.crew.threads;
+    let beside = beside_of(rt, &proxy.config, options, threads)?;
+    let requests = watched.crew.requests;
+    let front = front_of(alloc, &proxy.config, listener, requests, &beside);
+    let site = Site {
+        proxy: &proxy,
+        front: &front,
+    };
+    serve_watched(rt, &site, &front, source, watched)?;
     Ok(proxy.desk.report(rt, alloc)?)
 }
 
 // Until no more clients come. What is decided last is copied when all have ended.
 fn serve_watched<
-    N: BoardName + Send + Sync,
+    N: BoardName + Ledger + Send + Sync,
     R: Net<Listener = TcpListener, Stream = TcpStream>
         + Clock
         + Print
@@ -145,28 +164,32 @@ fn serve_watched<
     rt: &R,
     shared: &S,
     front: &Front<'_>,
-    relay: RelaySeat,
+    source: SeatSource,
     watched: Watched<'_>,
 ) -> Result<(), ServeFault>
-    requires named { (relay.board ≡ N.board) × (relay.view.terms ≡ N.terms) }
-    requires first { relay.view.first ≡ true }
-    requires idle { relay.view.passes ≡ [] }
-    requires places { watched.crew.threads.places ≤ N.terms.places }
+    requires named { (source.first.board ≡ N.board) × (source.first.view.terms ≡ N.terms) }
+    requires first { source.first.view.first ≡ true }
+    requires idle { source.first.view.passes ≡ [] }
+    requires ledger { (source.ledger.name ≡ N.name) × (source.ledger.parts ≡ N.parts) }
+    requires room { 2 ^ 64 ≤ source.ledger.parts + 1 }
+    requires places { watched.crew.threads.places ≡ N.terms.places }
 {
     let Watched { crew, record } = watched;
     thread::scope(
         thread::scope_env(),
         rt,
         move |scope|
-            requires named { (relay.board ≡ N.board) × (relay.view.terms ≡ N.terms) }
-            requires first { relay.view.first ≡ true }
-            requires idle { relay.view.passes ≡ [] }
-            requires places { crew.threads.places ≤ N.terms.places }
+            requires named { (source.first.board ≡ N.board) × (source.first.view.terms ≡ N.terms) }
+            requires first { source.first.view.first ≡ true }
+            requires idle { source.first.view.passes ≡ [] }
+            requires ledger { (source.ledger.name ≡ N.name) × (source.ledger.parts ≡ N.parts) }
+            requires room { 2 ^ 64 ≤ source.ledger.parts + 1 }
+            requires places { crew.threads.places ≡ N.terms.places }
         {
             if !start_copying(scope, rt, shared, record) {
                 return Err(ServeFault::NoMemory);
             }
-            let served = serve_lent(rt, shared, front, relay, crew.threads);
+            let served = serve_lent(rt, shared, front, source, crew.threads);
             record.close();
             served
         },
@@ -174,7 +197,7 @@ fn serve_watched<
 }
 
 fn serve_lent<
-    N: BoardName + Send + Sync,
+    N: BoardName + Ledger + Send + Sync,
     R: Net<Listener = TcpListener, Stream = TcpStream>
         + Clock
         + Print
@@ -185,20 +208,22 @@ fn serve_lent<
         + Copy
         + Send
         + 'static,
-    S: Lends<N>,
+    S: Lends<N> + Sync,
 >(
     rt: &R,
     shared: &S,
     front: &Front<'_>,
-    relay: RelaySeat,
+    source: SeatSource,
     threads: relay_loops::Sizes,
 ) -> Result<(), ServeFault>
-    requires named { (relay.board ≡ N.board) × (relay.view.terms ≡ N.terms) }
-    requires first { relay.view.first ≡ true }
-    requires idle { relay.view.passes ≡ [] }
-    requires places { threads.places ≤ N.terms.places }
+    requires named { (source.first.board ≡ N.board) × (source.first.view.terms ≡ N.terms) }
+    requires first { source.first.view.first ≡ true }
+    requires idle { source.first.view.passes ≡ [] }
+    requires ledger { (source.ledger.name ≡ N.name) × (source.ledger.parts ≡ N.parts) }
+    requires room { 2 ^ 64 ≤ source.ledger.parts + 1 }
+    requires places { threads.places ≡ N.terms.places }
 {
-    serve_clients(rt, shared.proxy(), front, relay, threads)
+    serve_clients(rt, shared, front, source, threads)
 }
 
 // Has a thread of the scope copy the log, and answers whether it could be started.
@@ -206,7 +231,7 @@ fn start_copying<
     's,
     E,
     R: Clock + Threads + Wait + Sync,
-    N: BoardName + Send + Sync + 's,
+    N: BoardName + Ledger + Send + Sync + 's,
     S: Lends<N> + Sync + 's,
 >(scope: &Scope<'s, E>, rt: &'s R, shared: &'s S, record: &'s Record) -> bool {
     let started = scope
@@ -216,7 +241,7 @@ fn start_copying<
 }
 
 // Copies the log as it grows, until no more is decided.
-fn copy_all<N: BoardName, R: Clock + Wait>(rt: &R, proxy: &Proxy<N>, record: &Record) {
+fn copy_all<N: BoardName + Ledger, R: Clock + Wait>(rt: &R, proxy: &Proxy<N>, record: &Record) {
     let mut copied = 0;
     for _ in rt.forever() {
         let is_last = record.is_closed();
@@ -227,16 +252,5 @@ fn copy_all<N: BoardName, R: Clock + Wait>(rt: &R, proxy: &Proxy<N>, record: &Re
             return;
         }
         thread::sleep(rt, Duration::from_millis(PAUSE));
-    }
-}
-
-// What lends a proxy to threads. Of a type parameter it is known by a bound alone that it may be shared, so that it is shown of `Proxy` once.
-trait Lends<N: BoardName> {
-    fn proxy(&self) -> &Proxy<N>;
-}
-
-impl<N: BoardName> Lends<N> for Proxy<N> {
-    fn proxy(&self) -> &Proxy<N> {
-        self
     }
 }

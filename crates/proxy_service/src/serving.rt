@@ -1,4 +1,4 @@
-ghost use Rattle.std.specs.Prelude.{◌≡◌, ◌≤◌, [], true};
+ghost use Rattle.std.specs.Prelude.{◌≡◌, ◌≤◌, ◌+◌, ◌^◌, [], true};
 ghost use Rattle.dispatch_log.specs.declared.setup.Setup.{Setup};
 ghost use Rattle.outstanding.specs.Books.{terms_of};
 ghost use Rattle.proxy_config.specs.Sound.{IsSoundConfig};
@@ -6,14 +6,17 @@ ghost use Rattle.proxy_service.specs.Parts.{AreNew};
 
 use crate::crew::{Crew, crew_of};
 use crate::fault::ServeFault;
+use crate::lending::Lends;
 use crate::opening::{Doors, RunOptions, announce, open};
 use crate::parts::{Parts, parts_of};
 use crate::sharing::{Beside, beside_of, front_of};
 use crate::telling::tell_all;
+use crate::watching::{announce_admin, end_watching, start_watching};
+use crate::writing::{close_logs, end_writing, start_writing};
 use grant_board::{BoardName, RelaySeat};
 use grant_desk::Desk;
 use proxy_config::Config;
-use relay_loops::serve;
+use relay_loops::{LoopsFault, SeatSource, Site, serve};
 use relay_workers::Proxy;
 use run_sizes::Sizes;
 use socket_gate::Front;
@@ -21,6 +24,7 @@ use std::alloc::Global;
 use std::marker::Brand;
 use std::net::{Net, TcpListener, TcpStream};
 use std::sync::Wait;
+use std::sync::ledger::Ledger;
 use std::thread;
 use std::thread::Threads;
 use std::time::Clock;
@@ -69,7 +73,7 @@ pub fn serve_at<
 
 // The same at a desk that is made of these parts.
 fn serve_on<
-    N: BoardName + Send + Sync,
+    N: BoardName + Ledger + Send + Sync,
     R: Net<Listener = TcpListener, Stream = TcpStream>
         + Clock
         + Print
@@ -83,31 +87,41 @@ fn serve_on<
         + 'static,
 >(rt: &R, config: Config, parts: Parts, doors: Doors, crew: Crew) -> Result<(), ServeFault>
     requires named { parts.board ≡ N.board }
+    requires ledger { (parts.ledger.name ≡ N.name) × (parts.ledger.parts ≡ N.parts) }
+    requires room { 2 ^ 64 ≤ parts.ledger.parts + 1 }
     requires parts { (setup : Setup) × AreNew setup parts × (N.terms ≡ terms_of setup) × (setup.places ≡ crew.threads.places) }
 {
     let alloc = rt.alloc();
-    let (proxy, relay) = proxy_of::<N>(alloc, config, parts);
+    let (proxy, source) = proxy_of::<N>(alloc, config, parts);
     let Doors { listener, options } = doors;
-    let beside = beside_of(alloc, &proxy.config, options)?;
-    let front = front_of(rt, &proxy.config, listener, crew.requests, &beside)?;
-    let ended = serve_clients(rt, &proxy, &front, relay, crew.threads);
+    let beside = beside_of(rt, &proxy.config, options, crew.threads)?;
+    let front = front_of(alloc, &proxy.config, listener, crew.requests, &beside);
+    announce_admin(rt, &front);
+    let site = Site {
+        proxy: &proxy,
+        front: &front,
+    };
+    let ended = serve_clients(rt, &site, &front, source, crew.threads);
     drop(front);
-    let Beside { windows, .. } = beside;
-    tell_all(rt, &proxy, windows)?;
+    let Beside { windows, log, .. } = beside;
+    let told = tell_all(rt, &proxy, windows);
+    close_logs(rt, log.as_ref());
+    told?;
     ended
 }
 
-/// A proxy that did nothing so far, of these parts, and the seat of its relays.
-pub(crate) fn proxy_of<N: BoardName>(
+/// A proxy that did nothing so far, of these parts, and what its relays' seats come from.
+pub(crate) fn proxy_of<N: BoardName + Ledger>(
     alloc: Global,
     config: Config,
     parts: Parts,
-) -> (Proxy<N>, RelaySeat)
+) -> (Proxy<N>, SeatSource)
     requires named { parts.board ≡ N.board }
     requires parts { (setup : Setup) × AreNew setup parts × (N.terms ≡ terms_of setup) }
-    ensures named { (result.1.board ≡ N.board) × (result.1.view.terms ≡ N.terms) }
-    ensures first { result.1.view.first ≡ true }
-    ensures idle { result.1.view.passes ≡ [] }
+    ensures named { (result.1.first.board ≡ N.board) × (result.1.first.view.terms ≡ N.terms) }
+    ensures first { result.1.first.view.first ≡ true }
+    ensures idle { result.1.first.view.passes ≡ [] }
+    ensures ledger { result.1.ledger ≡ parts.ledger }
 {
     let Parts {
         core,
@@ -115,18 +129,23 @@ pub(crate) fn proxy_of<N: BoardName>(
         board,
         keeper,
         relay,
+        ledger,
     } = parts;
     let proxy = Proxy {
         alloc,
         desk: Desk::new(core, board, keeper, running),
         config,
     };
-    (proxy, relay)
+    let source = SeatSource {
+        first: relay,
+        ledger,
+    };
+    (proxy, source)
 }
 
 /// Until no more clients come. Beside that names are looked up, and windows are printed; all that were handed over are printed then.
 pub(crate) fn serve_clients<
-    N: BoardName + Send + Sync,
+    N: BoardName + Ledger + Send + Sync,
     R: Net<Listener = TcpListener, Stream = TcpStream>
         + Clock
         + Print
@@ -137,27 +156,30 @@ pub(crate) fn serve_clients<
         + Copy
         + Send
         + 'static,
+    S: Lends<N> + Sync,
 >(
     rt: &R,
-    proxy: &Proxy<N>,
+    shared: &S,
     front: &Front<'_>,
-    relay: RelaySeat,
+    source: SeatSource,
     threads: relay_loops::Sizes,
 ) -> Result<(), ServeFault>
-    requires named { (relay.board ≡ N.board) × (relay.view.terms ≡ N.terms) }
-    requires first { relay.view.first ≡ true }
-    requires idle { relay.view.passes ≡ [] }
-    requires places { threads.places ≤ N.terms.places }
+    requires named { (source.first.board ≡ N.board) × (source.first.view.terms ≡ N.terms) }
+    requires first { source.first.view.first ≡ true }
+    requires idle { source.first.view.passes ≡ [] }
+    requires ledger { (source.ledger.name ≡ N.name) × (source.ledger.parts ≡ N.parts) }
+    requires room { 2 ^ 64 ≤ source.ledger.parts + 1 }
+    requires places { threads.places ≡ N.terms.places }
 {
     front.addresses.start(rt)?;
-    let served = serve_printing(rt, proxy, front, relay, threads);
+    let served = serve_printing(rt, shared, front, source, threads);
     front.addresses.close(rt);
     served
 }
 
 // The same, where names are looked up already.
 fn serve_printing<
-    N: BoardName + Send + Sync,
+    N: BoardName + Ledger + Send + Sync,
     R: Net<Listener = TcpListener, Stream = TcpStream>
         + Clock
         + Print
@@ -165,38 +187,77 @@ fn serve_printing<
         + Threads
         + Wait
         + Sync,
+    S: Lends<N> + Sync,
 >(
     rt: &R,
-    proxy: &Proxy<N>,
+    shared: &S,
     front: &Front<'_>,
-    relay: RelaySeat,
+    source: SeatSource,
     threads: relay_loops::Sizes,
 ) -> Result<(), ServeFault>
-    requires named { (relay.board ≡ N.board) × (relay.view.terms ≡ N.terms) }
-    requires first { relay.view.first ≡ true }
-    requires idle { relay.view.passes ≡ [] }
-    requires places { threads.places ≤ N.terms.places }
+    requires named { (source.first.board ≡ N.board) × (source.first.view.terms ≡ N.terms) }
+    requires first { source.first.view.first ≡ true }
+    requires idle { source.first.view.passes ≡ [] }
+    requires ledger { (source.ledger.name ≡ N.name) × (source.ledger.parts ≡ N.parts) }
+    requires room { 2 ^ 64 ≤ source.ledger.parts + 1 }
+    requires places { threads.places ≡ N.terms.places }
 {
     let windows = front.windows;
     thread::scope(
         thread::scope_env(),
         rt,
         move |scope|
-            requires named { (relay.board ≡ N.board) × (relay.view.terms ≡ N.terms) }
-            requires first { relay.view.first ≡ true }
-            requires idle { relay.view.passes ≡ [] }
-            requires places { threads.places ≤ N.terms.places }
+            requires named { (source.first.board ≡ N.board) × (source.first.view.terms ≡ N.terms) }
+            requires first { source.first.view.first ≡ true }
+            requires idle { source.first.view.passes ≡ [] }
+            requires ledger { (source.ledger.name ≡ N.name) × (source.ledger.parts ≡ N.parts) }
+            requires room { 2 ^ 64 ≤ source.ledger.parts + 1 }
+            requires places { threads.places ≡ N.terms.places }
         {
             let Some(printing) = scope.spawn(move || windows.print_all(rt)).ok() else {
                 return Err(ServeFault::NoMemory);
             };
-            let (_, served) = serve(rt, proxy, front, relay, threads);
+            let writing = start_writing(scope, rt, shared, front);
+            let watching = start_watching(scope, rt, front);
+            let (_, served) = if writing.has_failed() || watching.has_failed() {
+                unserved(source)
+            } else {
+                serve_lent(rt, shared, source, threads)
+            };
+            end_watching(rt, front, watching);
+            end_writing(rt, front, writing);
             windows.end(rt);
             printing.join(rt);
             match served {
                 Ok(()) => Ok(()),
-                Err(stopped) => Err(ServeFault::from(stopped)),
+                Err(fault) => Err(ServeFault::from(fault)),
             }
         },
     )
+}
+
+// Nobody is served, since a thread is missing.
+fn unserved(source: SeatSource) -> (RelaySeat, Result<(), LoopsFault>) {
+    let SeatSource { first, ledger: _ } = source;
+    (first, Err(LoopsFault::NoMemory))
+}
+
+fn serve_lent<
+    R: Net<Listener = TcpListener, Stream = TcpStream> + Clock + Print + Threads + Wait + Sync,
+    N: BoardName + Ledger + Send + Sync,
+    S: Lends<N> + Sync,
+>(
+    rt: &R,
+    shared: &S,
+    source: SeatSource,
+    threads: relay_loops::Sizes,
+) -> (RelaySeat, Result<(), LoopsFault>)
+    requires named { (source.first.board ≡ N.board) × (source.first.view.terms ≡ N.terms) }
+    requires first { source.first.view.first ≡ true }
+    requires idle { source.first.view.passes ≡ [] }
+    requires ledger { (source.ledger.name ≡ N.name) × (source.ledger.parts ≡ N.parts) }
+    requires room { 2 ^ 64 ≤ source.ledger.parts + 1 }
+    requires places { threads.places ≡ N.terms.places }
+{
+    serve(rt, shared.lend(), source, threads)
 }

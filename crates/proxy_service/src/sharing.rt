@@ -1,15 +1,21 @@
 //! What the threads of a proxy share beside its dispatcher.
 
-ghost use Rattle.std.specs.Prelude.{◌≡◌, IfOk};
+ghost use Rattle.std.specs.Prelude.{◌≡◌};
 
 use crate::fault::ServeFault;
 use crate::opening::RunOptions;
-use crate::preparing::names_of;
+use crate::preparing::{LOG, names_of};
+use admin_http::Admin;
+use control_socket::Controls;
+use line_sink::Sink;
 use proxy_config::Config;
+use proxy_numbers::{Proportions, ProxyNumbers};
+use request_log::{Extent, Logs, RequestLog, base_of};
 use server_names::Addresses;
 use socket_gate::{Clients, Front};
-use std::alloc::Global;
+use std::alloc::{AllocError, Global};
 use std::net::TcpListener;
+use std::sync::Arc;
 use std::time::{Clock, Instant};
 use window_printer::WindowPrinter;
 
@@ -18,46 +24,108 @@ use window_printer::WindowPrinter;
 pub(crate) struct Beside {
     pub(crate) windows: WindowPrinter,
     pub(crate) addresses: Addresses,
-    pub(crate) options: RunOptions,
+    pub(crate) controls: Option<Controls>,
+    pub(crate) keeping: Option<u64>,
+    pub(crate) window: Option<u64>,
+    pub(crate) forwarded_for: bool,
+    pub(crate) log: Option<RequestLog>,
+    pub(crate) admin: Option<Admin>,
+    /// Moments are milliseconds since then.
+    pub(crate) start: Instant,
 }
 
-/// That of a configuration, before any of it goes on.
-pub(crate) fn beside_of(
-    alloc: Global,
+/// That of a configuration, for so many loops and places, before any of it goes on.
+pub(crate) fn beside_of<R: Clock + AllocGlobal>(
+    rt: &R,
     config: &Config,
     options: RunOptions,
+    threads: relay_loops::Sizes,
 ) -> Result<Beside, ServeFault> {
+    let alloc = rt.alloc();
+    let Ok(start) = Instant::now(rt) else {
+        return Err(ServeFault::Read);
+    };
+    let RunOptions {
+        keeping,
+        window,
+        forwarded_for,
+        controls,
+        mut logs,
+        admin,
+    } = options;
+    if admin.is_some() {
+        logs.numbers = Some(numbers_of(alloc, config, threads.places)?);
+    }
+    let servers = config.servers.len();
     let names = names_of(alloc, config)?;
+    let loops = threads.loops;
+    let base = base_of(rt, start);
+    let windows = WindowPrinter::new(alloc, names, servers)?
+        .dated(window.map(|_| base))
+        .onto(sink_of(&logs)?);
+    let extent = Extent {
+        servers,
+        loops,
+        start,
+        base,
+    };
     Ok(Beside {
-        windows: WindowPrinter::new(alloc, names, config.servers.len())?,
+        windows,
         addresses: Addresses::new(alloc, config)?,
-        options,
+        controls,
+        keeping,
+        window,
+        forwarded_for,
+        log: RequestLog::new(alloc, logs, extent)?,
+        admin,
+        start,
     })
 }
 
+// What is counted of a proxy to which nothing happened.
+fn numbers_of(alloc: Global, config: &Config, places: usize) -> Result<ProxyNumbers, AllocError> {
+    let mut limits = Vec::with_capacity(alloc, config.servers.len())?;
+    for server in config.servers.as_slice() {
+        limits.push(server.maxconn)?;
+    }
+    let proportions = Proportions {
+        places,
+        entries: LOG,
+    };
+    ProxyNumbers::new(alloc, limits.as_slice(), proportions)
+}
+
+// Where the lines of windows go together with those of the access log.
+fn sink_of(logs: &Logs) -> Result<Option<Arc<Sink>>, AllocError> {
+    match &logs.access {
+        Some(access) if access.has_windows => Ok(Some(Arc::try_clone(&access.sink)?)),
+        _ => Ok(None),
+    }
+}
+
 /// What the gates share, from now on.
-pub(crate) fn front_of<'a, R: Clock + AllocGlobal>(
-    rt: &R,
+pub(crate) fn front_of<'a>(
+    alloc: Global,
     config: &'a Config,
     listener: TcpListener,
     requests: u64,
     beside: &'a Beside,
-) -> Result<Front<'a>, ServeFault>
-    ensures { IfOk result (λ front. front.config.now ≡ config.now) }
+) -> Front<'a>
+    ensures { result.config.now ≡ config.now }
 {
-    let Ok(start) = Instant::now(rt) else {
-        return Err(ServeFault::Read);
-    };
-    Ok(Front {
-        alloc: rt.alloc(),
+    Front {
+        alloc,
         config,
         listener,
         clients: Clients::new(requests),
-        start,
+        start: beside.start,
         addresses: &beside.addresses,
         windows: &beside.windows,
-        controls: beside.options.controls.as_ref(),
-        keeping: beside.options.keeping,
-        forwarded_for: beside.options.forwarded_for,
-    })
+        controls: beside.controls.as_ref(),
+        log: beside.log.as_ref(),
+        admin: beside.admin.as_ref(),
+        keeping: beside.keeping,
+        window: beside.window,
+        forwarded_for: beside.forwarded_for,
+    }
 }

@@ -57,6 +57,7 @@ impl<P: Steered + Drop> Helm<P> {
             Command::State(form) => Ok(Answer::Now(self.state_text(form)?)),
             Command::Reports => Ok(Answer::Now(self.reports_text()?)),
             Command::Clients => Ok(Answer::Now(self.clients_text()?)),
+            Command::Reopen => Ok(Answer::Now(self.reopened_text()?)),
             Command::Help => Ok(Answer::Now(String::from_str(self.alloc, HELP)?)),
             Command::Limit { server, intake } => self.set_intake(&server, intake),
             Command::Drain { server, waits } => self.drain(&server, waits),

@@ -19,6 +19,7 @@ pause                     no server takes anybody: requests wait, in their order
 resume                    those take as many again that took some before
 reports                   the reports of the window up to now
 clients                   how many clients there are
+reopen                    the files of the logs are opened anew by their names
 stop [--within MS]        nobody new comes; all is over once who is there was
                           served, or after MS milliseconds
 help                      this
@@ -114,6 +115,16 @@ impl<P: Steered + Drop> Helm<P> {
     pub(crate) fn clients_text(&self) -> Result<String, AllocError> {
         let clients = self.proxy.clients();
         format!(in self.alloc; "clients {clients}\n")
+    }
+
+    /// That the logs are being opened anew, where there are files of theirs. What can't be opened is named on the proxy's standard error.
+    pub(crate) fn reopened_text(&self) -> Result<String, AllocError> {
+        let said = if self.proxy.reopen() {
+            "ok reopening\n"
+        } else {
+            "error: no log goes to a file: --access-log FILE or --event-log FILE names one\n"
+        };
+        String::from_str(self.alloc, said)
     }
 
     pub(crate) fn stopping_text(&self) -> Result<String, AllocError> {

@@ -38,6 +38,9 @@ pub trait Steered {
     /// A server takes so many from now on. Refused as the dispatcher's `limit`.
     fn limit(&mut self, server: usize, intake: Intake) -> Result<(), Refusal>;
 
+    /// Has the files of its logs opened anew. False: it writes none.
+    fn reopen(&self) -> bool;
+
     /// The present moment.
     fn moment(&mut self) -> Moment;
 

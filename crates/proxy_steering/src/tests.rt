@@ -19,6 +19,7 @@ struct Noted {
     stopped: bool,
     refused: bool,
     over: bool,
+    has_logs: bool,
 }
 
 impl Steered for Noted {
@@ -60,6 +61,10 @@ impl Steered for Noted {
         }
     }
 
+    fn reopen(&self) -> bool {
+        self.has_logs
+    }
+
     fn moment(&mut self) -> Moment {
         Moment::new(self.now).unwrap_or(Moment::zero())
     }
@@ -99,6 +104,7 @@ fn helm(alloc: Global) -> Result<Helm<Noted>, AllocError> {
         stopped: false,
         refused: false,
         over: false,
+        has_logs: false,
     };
     Helm::new(alloc, noted, &[4, 0])
 }
@@ -135,6 +141,21 @@ fn servers_are_closed_and_opened(rt: HostRuntime) -> Result<(), Fail> {
     assert_eq!(rt; text.as_str(), "ok server a limit 4 served 0\n");
     let text = answer(&mut helm, alloc, "drain c")?;
     assert_eq!(rt; text.as_str(), "error: there is no server c\n");
+    Ok(())
+}
+
+#[test]
+fn files_of_logs_are_opened_anew(rt: HostRuntime) -> Result<(), Fail> {
+    let alloc = rt.alloc();
+    let mut helm = helm(alloc)?;
+    let text = answer(&mut helm, alloc, "reopen")?;
+    assert_eq!(rt;
+        text.as_str(),
+        "error: no log goes to a file: --access-log FILE or --event-log FILE names one\n"
+    );
+    helm.proxy.has_logs = true;
+    let text = answer(&mut helm, alloc, "reopen")?;
+    assert_eq!(rt; text.as_str(), "ok reopening\n");
     Ok(())
 }
 

@@ -4,4 +4,4 @@
 mod parts;
 mod serving;
 
-pub use serving::{Sizes, serve};
+pub use serving::{LoopsFault, SeatSource, Site, Sizes, serve};

@@ -10,9 +10,10 @@ use relay_workers::Proxy;
 use socket_gate::Front;
 use std::alloc::AllocError;
 use std::net::{Net, TcpListener, TcpStream};
+use std::sync::ledger::Ledger;
 
 /// What the threads of a proxy share, and its loops, with its listener in each loop's poll. Fails where the system has no poll, too.
-pub(crate) fn parts_of<R: Net<Listener = TcpListener, Stream = TcpStream>, N: BoardName>(
+pub(crate) fn parts_of<R: Net<Listener = TcpListener, Stream = TcpStream>, N: BoardName + Ledger>(
     rt: &R,
     proxy: &Proxy<N>,
     front: &Front<'_>,

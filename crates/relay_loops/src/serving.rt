@@ -1,15 +1,18 @@
 //! A proxy on event loops, from its first client to its last.
 
-ghost use Rattle.std.specs.Prelude.{◌≡◌, ◌≤◌, ◌+◌, true, [], IfOk};
+ghost use Rattle.std.specs.Prelude.{◌≡◌, ◌≤◌, ◌+◌, ◌^◌, true, []};
+ghost use Rattle.relay_loops.specs.Returns.{ReturnsSeats};
 
 use crate::parts::parts_of;
 use event_loops::run_all;
 use grant_board::{BoardName, RelaySeat};
 use loop_shared::Shared;
-use relay_workers::{Proxy, Stopped, join_all, split_off};
+use relay_workers::{Proxy, join_all, split_off};
 use socket_gate::Front;
+use std::alloc::AllocError;
 use std::net::{Net, TcpListener, TcpStream};
 use std::sync::Wait;
+use std::sync::ledger::{Blank, Ledger};
 use std::thread::Threads;
 use std::time::Clock;
 
@@ -31,37 +34,66 @@ impl Sizes {
     }
 }
 
-/// Serves until as many clients as may come were served. The seat is the board's first; each place and each thread has one split off it, which is joined
-/// again. `NoMemory` also where a thread can't be started, or where fewer seats came back than were lent, which no path is known to do.
+/// A proxy, and what its gates share.
+#[derive(Drop)]
+pub struct Site<'a, N: BoardName> {
+    pub proxy: &'a Proxy<N>,
+    pub front: &'a Front<'a>,
+}
+
+/// What the seats of places and threads come from.
+#[derive(Drop)]
+pub struct SeatSource {
+    /// The board's first seat, which the others are split off.
+    pub first: RelaySeat,
+    /// What is accounted of them on: nothing so far.
+    pub ledger: Blank,
+}
+
+/// Why loops ended while clients still came, or what was missing when they had ended.
+#[derive(Clone, Copy, Debug, PartialEq, Eq)]
+pub enum LoopsFault {
+    /// Memory was refused, a poll, or a thread.
+    NoMemory,
+    /// A seat was still lent, which no path is known to do.
+    SeatsLost,
+}
+
+/// Serves until as many clients as may come were served. Each place and each thread has a seat split off the first, which is joined again.
 pub fn serve<
+    'a,
     R: Net<Listener = TcpListener, Stream = TcpStream> + Clock + Print + Threads + Wait + Sync,
-    N: BoardName + Send + Sync,
+    N: BoardName + Ledger + Send + Sync,
 >(
     rt: &R,
-    proxy: &Proxy<N>,
-    front: &Front<'_>,
-    seat: RelaySeat,
+    site: &'a Site<'a, N>,
+    source: SeatSource,
     sizes: Sizes,
-) -> (RelaySeat, Result<(), Stopped>)
-    requires named { (seat.board ≡ N.board) × (seat.view.terms ≡ N.terms) }
-    requires first { seat.view.first ≡ true }
-    requires idle { seat.view.passes ≡ [] }
-    requires places { sizes.places ≤ N.terms.places }
-    ensures same { (result.0.board ≡ seat.board) × (result.0.view.terms ≡ seat.view.terms) × (result.0.view.first ≡ true) }
+) -> (RelaySeat, Result<(), LoopsFault>)
+    requires named { (source.first.board ≡ N.board) × (source.first.view.terms ≡ N.terms) }
+    requires first { source.first.view.first ≡ true }
+    requires idle { source.first.view.passes ≡ [] }
+    requires ledger { (source.ledger.name ≡ N.name) × (source.ledger.parts ≡ N.parts) }
+    requires room { 2 ^ 64 ≤ source.ledger.parts + 1 }
+    requires places { sizes.places ≡ N.terms.places }
+    ensures same { (result.0.board ≡ source.first.board) × (result.0.view.terms ≡ source.first.view.terms) × (result.0.view.first ≡ true) }
     ensures idle { result.0.view.passes ≡ [] }
-    ensures joined { IfOk result.1 (λ done. result.0.view.split + seat.view.joined ≡ result.0.view.joined + seat.view.split) }
+    ensures joined { ReturnsSeats result.1 source.first result.0 }
 {
-    let mut first = seat;
+    let proxy = site.proxy;
+    let front = site.front;
+    let SeatSource { first, ledger } = source;
+    let mut first = first;
     let mut seats = Vec::new(proxy.alloc);
     if !split_off(proxy, &mut first, &mut seats, sizes.seats()) {
         join_all(proxy, &mut first, seats);
-        return (first, Err(Stopped::NoMemory));
+        return (first, Err(LoopsFault::NoMemory));
     }
     let lent = seats.len();
     let (seats, served) = match parts_of(rt, proxy, front, sizes) {
-        Err(_) => (seats, Err(Stopped::NoMemory)),
+        Err(_) => (seats, Err(AllocError)),
         Ok((parts, loops)) => {
-            let shared = Shared::new(proxy, front, seats, parts);
+            let shared = Shared::new(proxy, front, (seats, ledger), parts);
             run_all(rt, &shared, loops);
             shared.end()
         }
@@ -69,7 +101,10 @@ pub fn serve<
     let all_back = seats.len() == lent;
     join_all(proxy, &mut first, seats);
     if !all_back {
-        return (first, Err(Stopped::NoMemory));
+        return (first, Err(LoopsFault::SeatsLost));
     }
-    (first, served)
+    match served {
+        Ok(()) => (first, Ok(())),
+        Err(_) => (first, Err(LoopsFault::NoMemory)),
+    }
 }

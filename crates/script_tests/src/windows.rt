@@ -42,9 +42,11 @@ fn two_windows_are_told_and_summed(rt: HostRuntime) {
         sums.add(window);
     }
     let mut text = String::new(rt.alloc());
-    push_window(&mut text, &names, 2, &[]).expect(&rt, "memory");
+    push_window(&mut text, &names, 2, "", &[]).expect(&rt, "memory");
+    push_window(&mut text, &names, 3, " from 0 to 9", &[]).expect(&rt, "memory");
     push_servers(&mut text, &names, sums.lines()).expect(&rt, "memory");
     let expected = "window 2
+window 3 from 0 to 9
 server a down direct 4 granted 4
 server b up direct 2 granted 18446744073709551615
 ";

@@ -1,5 +1,5 @@
 -- What is held of an exchange and of its seat.
-use Rattle.std.specs.Prelude.{◌≡◌, ℕ, Bool, true, false, ◌&&◌, List, [], ◌∷◌, Option, Some, None}
+use Rattle.std.specs.Prelude.{ℕ, Bool, true, false, ◌&&◌, List, [], ◌∷◌, Option, Some, None}
 use Rattle.atomic_table.specs.Seated.{TableId}
 use Rattle.exchange_machine.specs.Histories.{History}
 use Rattle.exchange_machine.specs.Stages.{IsWaiting}
@@ -15,10 +15,19 @@ use Rattle.verdict.specs.declared.Verdict.TheVariants.{Serve, Told}
 abbrev pub HasWaited : Waiting → Type 0
 HasWaited w = ∥ ((h : History) × IsWaiting w h) ∥₁
 
+abbrev pub has_one : List Grant → Bool
+has_one [] = false
+has_one (pass ∷ passes) = true
+
 -- the passes of a seat, where there is one
 abbrev pub passes_at : Option Relay → List Grant
 passes_at None = []
 passes_at (Some seat) = seat.view.passes
+
+-- a seat that is there has a pass
+abbrev pub is_taken : Option Relay → Bool
+is_taken None = true
+is_taken (Some seat) = has_one seat.view.passes
 
 -- its board and its terms, or else these
 abbrev pub board_at : TableId → Option Relay → TableId

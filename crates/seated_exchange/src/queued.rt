@@ -6,9 +6,10 @@ ghost use Rattle.seated_exchange.specs.Seats.{HasWaited};
 use crate::seated::Seated;
 use exchange_machine::Waiting;
 use grant_board::BoardName;
+use lent_seats::Taken;
 use mixed_exchange::Exchange;
-use pass_seat::Held;
 use req_view::View;
+use std::sync::ledger::Ledger;
 
 /// An exchange that waits for a pass: it holds none, so that it may be let go.
 #[derive(Drop)]
@@ -31,20 +32,21 @@ impl Queued {
     }
 
     /// Its pass came, of a slot of a server.
-    pub fn grant<N: BoardName>(self, held: Held<N>) -> Seated<N>
-        requires { Serves held.pass.verdict }
-        ensures pass { held_by result.exchange ≡ held.pass ∷ [] }
+    pub fn grant<N: BoardName + Ledger>(self, taken: Taken<N>) -> Seated<N>
+        requires { Serves taken.held.pass.verdict }
+        ensures pass { held_by result.exchange ≡ taken.held.pass ∷ [] }
     {
         let Queued { waiting } = self;
-        let (seat, pass) = held.into_parts();
-        Seated::of(Exchange::Dialing(waiting.grant(pass)), Some(seat))
+        let (seat, pass, out) = taken.into_parts();
+        let seat = Some(seat);
+        Seated::of(Exchange::Dialing(waiting.grant(pass)), seat, Some(out))
     }
 
     /// It goes on without a pass: it is told why.
-    pub fn unseated<N: BoardName>(self) -> Seated<N>
+    pub fn unseated<N: BoardName + Ledger>(self) -> Seated<N>
         ensures none { held_by result.exchange ≡ [] }
     {
         let Queued { waiting } = self;
-        Seated::of(Exchange::Waiting(waiting), None)
+        Seated::of(Exchange::Waiting(waiting), None, None)
     }
 }

@@ -1,4 +1,4 @@
-ghost use Rattle.std.specs.Prelude.{◌≡◌, ◌<◌, ◌≤◌, ◌++◌, ◌∷◌, [], true, false, length, IfOk, IfErr, IfSome, MatchOption};
+ghost use Rattle.std.specs.Prelude.{◌≡◌, ◌<◌, ◌≤◌, ◌++◌, ◌∷◌, [], true, false, length, is_some, IfOk, IfErr, IfSome, MatchOption};
 ghost use Rattle.exchange_driver.specs.Drives.{IsDownAtRest, IsUpAtRest};
 ghost use Rattle.grant_board.specs.RelayCalls.{post_after};
 ghost use Rattle.exchange_machine.specs.Histories.{History};
@@ -6,26 +6,30 @@ ghost use Rattle.mixed_exchange.specs.Chains as chains;
 ghost use Rattle.mixed_exchange.specs.Passes.{held_by, gone_with};
 ghost use Rattle.mixed_exchange.specs.Steps as steps;
 ghost use Rattle.mixed_exchange.specs.Steps.{HasHistory};
-ghost use Rattle.seated_exchange.specs.Seats.{passes_at, board_at, terms_at, all_serve, server_of, served_by, may_end};
+ghost use Rattle.seated_exchange.specs.Seats.{passes_at, board_at, terms_at, is_taken, all_serve, server_of, served_by, may_end};
 
 use crate::notice::Notice;
 use crate::queued::Queued;
 use exchange_driver::{Driven, Line, Moved, Rest, Settings, Socket, drive};
 use grant_board::{Board, BoardName, Pass, RelaySeat};
+use lent_seats::{Lent, Out, Taken};
 use mixed_exchange::{Clock, Exchange, Outcome, Step};
-use pass_seat::{Held, Idle};
 use std::alloc::Global;
 use std::marker::PhantomData;
+use std::sync::ledger::Ledger;
 use verdict::{Ending, Verdict};
 
-/// An exchange, and the seat of the pass that it holds, where it holds one. It has no `Drop`, as a pass has none.
-pub struct Seated<N: BoardName> {
+/// An exchange, and the seat of the pass that it holds, where it holds one, which is lent to it. It has no `Drop`, as a pass has none.
+pub struct Seated<N: BoardName + Ledger> {
     exchange: Exchange,
     seat: Option<RelaySeat>,
+    out: Option<Out<N>>,
     name: PhantomData<N>,
     ghost named: { board_at N.board seat ≡ N.board },
     ghost terms: { terms_at N.terms seat ≡ N.terms },
     ghost holds: { passes_at seat ≡ held_by exchange },
+    ghost taken: { is_taken seat ≡ true },
+    ghost lent: { is_some out ≡ is_some seat },
     ghost serves: { all_serve (held_by exchange) ≡ true },
     ghost at: { HasHistory exchange },
 }
@@ -43,14 +47,14 @@ pub enum Stage {
 }
 
 /// A pass to be posted, with its seat, and how its exchange ended.
-pub struct Posting<N: BoardName> {
-    held: Held<N>,
+pub struct Posting<N: BoardName + Ledger> {
+    taken: Taken<N>,
     ending: Ending,
-    ghost may_end: { may_end held.pass.verdict ending ≡ true },
+    ghost may_end: { may_end taken.held.pass.verdict ending ≡ true },
 }
 
 /// What an exchange gives away.
-pub enum Given<N: BoardName> {
+pub enum Given<N: BoardName + Ledger> {
     Nothing,
     Posts(Posting<N>),
     /// The server's connection is to be given up, and another one opened on the same pass.
@@ -58,7 +62,7 @@ pub enum Given<N: BoardName> {
 }
 
 /// What became of an exchange: what it gave away, at which side bytes moved, and whether there is more to do.
-pub struct Served<N: BoardName> {
+pub struct Served<N: BoardName + Ledger> {
     pub seated: Seated<N>,
     pub given: Given<N>,
     pub client: Option<Moved>,
@@ -66,42 +70,44 @@ pub struct Served<N: BoardName> {
     pub rest: Rest,
 }
 
-impl<N: BoardName> Posting<N> {
+impl<N: BoardName + Ledger> Posting<N> {
     /// The place of the pass.
     pub fn place(&self) -> usize
-        ensures { result ≡ self.now.held.pass.place }
+        ensures { result ≡ self.now.taken.held.pass.place }
     {
-        self.held.place()
+        self.taken.place()
     }
 
-    /// Spends the pass: says how its exchange ended. One step, and no memory.
-    pub fn post(self, board: &Board) -> Idle<N>
+    /// Spends the pass: says how its exchange ended. One step, and no memory. Its seat is to be given back.
+    pub fn post(self, board: &Board) -> Lent<N>
         requires { board.now ≡ N.board }
-        ensures { result.seat.view ≡ post_after self.held.seat.view self.held.pass self.ending }
+        ensures { result.idle.seat.view ≡ post_after self.taken.held.seat.view self.taken.held.pass self.ending }
     {
-        let Posting { held, ending } = self;
-        held.post(board, ending)
+        let Posting { taken, ending } = self;
+        taken.post(board, ending)
     }
 }
 
 // An exchange behind an outcome, and what that gives away.
-struct Parted<N: BoardName> {
+struct Parted<N: BoardName + Ledger> {
     seated: Seated<N>,
     given: Given<N>,
 }
 
-impl<N: BoardName> Seated<N> {
+impl<N: BoardName + Ledger> Seated<N> {
     /// Of a new client.
     pub fn new(alloc: Global) -> Seated<N>
         ensures none { held_by result.exchange ≡ [] }
     {
-        Seated::of(Exchange::new(alloc), None)
+        Seated::of(Exchange::new(alloc), None, None)
     }
 
-    pub(crate) fn of(exchange: Exchange, seat: Option<RelaySeat>) -> Seated<N>
+    pub(crate) fn of(exchange: Exchange, seat: Option<RelaySeat>, out: Option<Out<N>>) -> Seated<N>
         requires named { board_at N.board seat ≡ N.board }
         requires terms { terms_at N.terms seat ≡ N.terms }
         requires holds { passes_at seat ≡ held_by exchange }
+        requires taken { is_taken seat ≡ true }
+        requires lent { is_some out ≡ is_some seat }
         requires serves { all_serve (held_by exchange) ≡ true }
         requires at { HasHistory exchange }
         ensures { result.exchange ≡ exchange }
@@ -109,6 +115,7 @@ impl<N: BoardName> Seated<N> {
         Seated {
             exchange,
             seat,
+            out,
             name: PhantomData,
         }
     }
@@ -213,10 +220,15 @@ impl<N: BoardName> Seated<N> {
         let Seated {
             exchange,
             seat: _,
+            out,
             name: _,
         } = self;
+        match out {
+            None => {}
+            Some(_) => unreachable!(),
+        }
         match exchange.ask_again(alloc) {
-            Ok(next) => Ok(Seated::of(next, None)),
+            Ok(next) => Ok(Seated::of(next, None, None)),
             Err(_exchange) => unreachable!(),
         }
     }
@@ -226,13 +238,18 @@ impl<N: BoardName> Seated<N> {
         let Seated {
             exchange,
             seat,
+            out,
             name,
         } = self;
         match exchange {
-            Exchange::Waiting(waiting) => Ok(Queued::of(waiting)),
+            Exchange::Waiting(waiting) => match out {
+                None => Ok(Queued::of(waiting)),
+                Some(_) => unreachable!(),
+            },
             exchange => Err(Seated {
                 exchange,
                 seat,
+                out,
                 name,
             }),
         }
@@ -253,6 +270,7 @@ impl<N: BoardName> Seated<N> {
         let Seated {
             exchange,
             seat,
+            out,
             name: _,
         } = self;
         let Driven {
@@ -262,7 +280,7 @@ impl<N: BoardName> Seated<N> {
             server,
             rest,
         } = drive(exchange, settings, client, server, buffer);
-        let Parted { seated, given } = part(exchange, seat, outcome);
+        let Parted { seated, given } = part(exchange, seat, out, outcome);
         Served {
             seated,
             given,
@@ -277,6 +295,7 @@ impl<N: BoardName> Seated<N> {
         let Seated {
             exchange,
             seat,
+            out,
             name: _,
         } = self;
         let Step {
@@ -284,7 +303,7 @@ impl<N: BoardName> Seated<N> {
             used: _,
             outcome,
         } = exchange.step(settings.alloc, settings.rules, notice.event());
-        let Parted { seated, given } = part(next, seat, outcome);
+        let Parted { seated, given } = part(next, seat, out, outcome);
         Served {
             seated,
             given,
@@ -297,11 +316,12 @@ impl<N: BoardName> Seated<N> {
     /// It is over, however far it is: its pass is to be posted, as done, since the server isn't to blame.
     pub fn abandon(self) -> Option<Posting<N>>
         ensures done { IfSome result (λ posting. posting.ending ≡ Ending.Done) }
-        ensures pass { MatchOption result (held_by self.exchange ≡ []) (λ posting. held_by self.exchange ≡ posting.held.pass ∷ []) }
+        ensures pass { MatchOption result (held_by self.exchange ≡ []) (λ posting. held_by self.exchange ≡ posting.taken.held.pass ∷ []) }
     {
         let Seated {
             exchange,
             seat,
+            out,
             name: _,
         } = self;
         let (pass, ending) = match exchange {
@@ -312,9 +332,12 @@ impl<N: BoardName> Seated<N> {
             | Exchange::Settling(_)
             | Exchange::Leaving(_)
             | Exchange::Telling(_)
-            | Exchange::Over => return None,
+            | Exchange::Over => match out {
+                None => return None,
+                Some(_) => unreachable!(),
+            },
         };
-        Some(with_seat(seat, pass, ending))
+        Some(with_seat(seat, out, pass, ending))
     }
 }
 
@@ -329,9 +352,16 @@ fn served_by(verdict: Verdict) -> Option<usize>
 }
 
 // What an outcome gives away, with the seat of its pass.
-fn part<N: BoardName>(exchange: Exchange, seat: Option<RelaySeat>, outcome: Outcome) -> Parted<N>
+fn part<N: BoardName + Ledger>(
+    exchange: Exchange,
+    seat: Option<RelaySeat>,
+    out: Option<Out<N>>,
+    outcome: Outcome,
+) -> Parted<N>
     requires named { board_at N.board seat ≡ N.board }
     requires terms { terms_at N.terms seat ≡ N.terms }
+    requires taken { is_taken seat ≡ true }
+    requires lent { is_some out ≡ is_some seat }
     requires holds { passes_at seat ≡ gone_with outcome ++ held_by exchange }
     requires serves { all_serve (gone_with outcome ++ held_by exchange) ≡ true }
     requires own { steps.IsOwn outcome }
@@ -341,54 +371,52 @@ fn part<N: BoardName>(exchange: Exchange, seat: Option<RelaySeat>, outcome: Outc
 {
     match outcome {
         Outcome::Quiet | Outcome::Starved => Parted {
-            seated: Seated::of(exchange, seat),
+            seated: Seated::of(exchange, seat, out),
             given: Given::Nothing,
         },
         Outcome::Retries => Parted {
-            seated: Seated::of(exchange, seat),
+            seated: Seated::of(exchange, seat, out),
             given: Given::Retries,
         },
         Outcome::Posts(pass, ending) | Outcome::StarvedPosts(pass, ending) => {
-            posts(exchange, seat, pass, ending)
+            let posting = with_seat(seat, out, pass, ending);
+            posts(exchange, posting)
         }
         Outcome::Returns(_pass) => unreachable!(),
     }
 }
 
 // The pass goes back with its seat.
-fn posts<N: BoardName>(
-    exchange: Exchange,
-    seat: Option<RelaySeat>,
-    pass: Pass,
-    ending: Ending,
-) -> Parted<N>
-    requires named { board_at N.board seat ≡ N.board }
-    requires terms { terms_at N.terms seat ≡ N.terms }
-    requires holds { passes_at seat ≡ pass ∷ [] }
-    requires may_end { may_end pass.verdict ending ≡ true }
+fn posts<N: BoardName + Ledger>(exchange: Exchange, posting: Posting<N>) -> Parted<N>
     requires none { held_by exchange ≡ [] }
     requires at { HasHistory exchange }
     ensures exchange { result.seated.exchange ≡ exchange }
 {
     Parted {
-        seated: Seated::of(exchange, None),
-        given: Given::Posts(with_seat(seat, pass, ending)),
+        seated: Seated::of(exchange, None, None),
+        given: Given::Posts(posting),
     }
 }
 
-fn with_seat<N: BoardName>(seat: Option<RelaySeat>, pass: Pass, ending: Ending) -> Posting<N>
+fn with_seat<N: BoardName + Ledger>(
+    seat: Option<RelaySeat>,
+    out: Option<Out<N>>,
+    pass: Pass,
+    ending: Ending,
+) -> Posting<N>
     requires named { board_at N.board seat ≡ N.board }
     requires terms { terms_at N.terms seat ≡ N.terms }
     requires holds { passes_at seat ≡ pass ∷ [] }
+    requires lent { is_some out ≡ is_some seat }
     requires may_end { may_end pass.verdict ending ≡ true }
-    ensures pass { result.held.pass ≡ pass }
+    ensures pass { result.taken.held.pass ≡ pass }
     ensures ending { result.ending ≡ ending }
 {
-    match seat {
-        Some(seat) => Posting {
-            held: Held::new(seat, pass),
+    match (seat, out) {
+        (Some(seat), Some(out)) => Posting {
+            taken: Taken::new(seat, pass, out),
             ending,
         },
-        None => unreachable!(),
+        _ => unreachable!(),
     }
 }

@@ -9,6 +9,7 @@ use std::io::{Read, Write};
 use std::net::{Net, SocketAddr, TcpListener, TcpStream};
 use std::os::fd::AsRawFd;
 use std::process::Abort;
+use std::sync::Wait;
 use std::thread;
 use std::time::{Clock, Duration, Instant};
 use verdict::{Ending, Verdict};
@@ -89,6 +90,29 @@ fn connects<R: Abort + Net<Listener = TcpListener, Stream = TcpStream>, G: Gate>
     assert_eq!(rt; byte, *b"x");
 }
 
+// What a gate looks at.
+#[derive(Drop)]
+struct Parts {
+    config: Config,
+    windows: WindowPrinter,
+    addresses: Addresses,
+}
+
+fn asks<'a, R: Abort + Net<Listener = TcpListener, Stream = TcpStream> + Clock + Print + Wait>(
+    rt: &'a R,
+    front: &'a Front<'a>,
+    far: TcpListener,
+) {
+    let mut gate = SocketGate::new(front.alloc, rt, front).expect(rt, "a gate");
+    let mut accepted = gate.next().expect(rt, "a client");
+    assert!(rt; gate.next().is_none());
+    assert!(rt; !gate.gone(&mut accepted));
+    connects(rt, front.alloc, &mut gate, &far);
+    assert_eq!(rt; checked(rt, &mut gate), Some(true));
+    drop(far);
+    assert_eq!(rt; checked(rt, &mut gate), Some(false));
+}
+
 #[test]
 fn a_gate_takes_clients_and_checks_servers(rt: HostRuntime) {
     let alloc = rt.alloc();
@@ -99,25 +123,26 @@ fn a_gate_takes_clients_and_checks_servers(rt: HostRuntime) {
     let names = Names::new(Vec::new(alloc));
     let windows = WindowPrinter::new(alloc, names, 1).expect(&rt, "memory");
     let addresses = Addresses::new(alloc, &config).expect(&rt, "memory");
+    let parts = Parts {
+        config,
+        windows,
+        addresses,
+    };
     let front = Front {
         alloc,
-        config: &config,
+        config: &parts.config,
         listener: near,
         clients: Clients::new(1),
         start: Instant::now(&rt).expect(&rt, "the time"),
-        addresses: &addresses,
-        windows: &windows,
+        addresses: &parts.addresses,
+        windows: &parts.windows,
         controls: None,
+        log: None,
+        admin: None,
         keeping: None,
+        window: None,
         forwarded_for: false,
     };
-    let mut gate = SocketGate::new(alloc, &rt, &front).expect(&rt, "a gate");
-    let mut accepted = gate.next().expect(&rt, "a client");
-    assert!(rt; gate.next().is_none());
-    assert!(rt; !gate.gone(&mut accepted));
-    connects(&rt, alloc, &mut gate, &far);
-    assert_eq!(rt; checked(&rt, &mut gate), Some(true));
-    drop(far);
-    assert_eq!(rt; checked(&rt, &mut gate), Some(false));
+    asks(&rt, &front, far);
     drop(client);
 }

@@ -1,6 +1,7 @@
 use crate::hanging::Hanging;
 use proxy_config::read;
-use proxy_service::{Doors, RunOptions, serve_at};
+use proxy_run::{Doors, RunOptions, serve_at};
+use request_log::Logs;
 use run_sizes::Sizes;
 use std::alloc::Global;
 use std::io::{Read, Write};
@@ -120,8 +121,15 @@ pub(crate) fn serve_text<
         listener,
         options: RunOptions {
             keeping: None,
+            window: None,
             forwarded_for: false,
             controls: None,
+            logs: Logs {
+                access: None,
+                events: None,
+                numbers: None,
+            },
+            admin: None,
         },
     };
     match Sizes::new(Some(clients), Some(2), None, places, clients) {

@@ -1,8 +1,7 @@
 //! What is printed of faults.
 
 use proxy_config::{ConfigFault, FaultCause};
-use proxy_run::RunFault;
-use proxy_service::ServeFault;
+use proxy_run::{RunFault, ServeFault};
 use relay_workers::Stopped;
 use std::alloc::Global;
 use std::fmt::Display;
@@ -24,7 +23,7 @@ static OF_SERVING: [(ServeFault, &str); 4] = [
     (ServeFault::NoMemory, "no memory"),
     (ServeFault::Read, "read fault"),
     (ServeFault::Write, "write fault"),
-    (ServeFault::Turns, "turns spent"),
+    (ServeFault::SeatsLost, "a seat was lost"),
 ];
 
 static OF_RUNS: [(RunFault, &str); 3] = [

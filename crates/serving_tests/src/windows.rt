@@ -1,5 +1,6 @@
 //! Windows that are printed while standard output is slow.
 
+use due_key::Moment;
 use late_cert::Reports;
 use reporting_core::{ServerLine, Window};
 use script::Names;
@@ -84,7 +85,7 @@ fn hand_over_unread<R: Eprint + Wait + Threads + AllocGlobal + Abort + Sync>(
         let printing = scope.spawn(move || printer.print_all(slow)).ok();
         let held = slow.text.lock(rt);
         for _ in 0..windows {
-            printer.hand_over(rt, window(rt, rt.alloc()));
+            printer.hand_over(rt, window(rt, rt.alloc()), Moment::zero());
         }
         drop(held);
         printer.end(rt);
@@ -105,7 +106,7 @@ fn windows_are_handed_over_while_nobody_reads(rt: HostRuntime) {
     let names = Names::new(Vec::new(alloc));
     let printer = WindowPrinter::new(alloc, names, 1).expect(&rt, "memory");
     hand_over_unread(&rt, &slow, &printer, 20);
-    let (_names, told) = printer.into_told();
+    let (_names, told, _sink) = printer.into_told();
     assert_eq!(rt; told.windows, 20);
     let line = told.sums.lines().first().expect(&rt, "a line");
     assert_eq!(rt; line.direct, 20);

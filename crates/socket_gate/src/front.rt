@@ -1,7 +1,9 @@
 use crate::clients::Clients;
 use crate::waits::duration;
+use admin_http::Admin;
 use control_socket::Controls;
 use proxy_config::Config;
+use request_log::RequestLog;
 use server_names::Addresses;
 use std::alloc::Global;
 use std::net::{TcpListener, TcpStream};
@@ -27,10 +29,16 @@ pub struct Front<'a> {
     pub keeping: Option<u64>,
     /// Whether servers are told whose requests they get.
     pub forwarded_for: bool,
+    /// After so many milliseconds a window ends. None: once the log is full.
+    pub window: Option<u64>,
     /// Where windows go that ended.
     pub windows: &'a WindowPrinter,
     /// What it is steered by while it serves, where it is.
     pub controls: Option<&'a Controls>,
+    /// What exchanges are told to that ended, where that is wanted.
+    pub log: Option<&'a RequestLog>,
+    /// Where it is asked how it goes, where it is.
+    pub admin: Option<&'a Admin>,
 }
 
 impl<'a> Front<'a> {

@@ -196,7 +196,8 @@ impl<'a, R: Net<Listener = TcpListener, Stream = TcpStream> + Clock + Wait> Gate
     }
 
     fn window(&mut self, window: Window) {
-        self.front.windows.hand_over(self.rt, window);
+        let ended = self.now();
+        self.front.windows.hand_over(self.rt, window, ended);
     }
 
     fn wake(&mut self, places: &PlaceSet) {

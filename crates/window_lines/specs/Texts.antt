@@ -6,9 +6,9 @@ use Rattle.reporting_core.specs.declared.lines.ServerLine.{ServerLine}
 use Rattle.script.specs.Reports.{reports_text}
 use Rattle.script.specs.Traces.{health_word, name_of}
 
--- the line of the window of a number, and those of its reports, under these names of the servers
-abbrev pub window_text : List (List ℕ) → ℕ → List Report → List ℕ
-window_text names number reports = codes "window " ++ decimal number ++ codes "\n" ++ reports_text names reports
+-- the line of the window of a number, behind which it may be told when it was, and those of its reports, under these names of the servers
+abbrev pub window_text : List (List ℕ) → ℕ → List ℕ → List Report → List ℕ
+window_text names number span reports = codes "window " ++ decimal number ++ span ++ codes "\n" ++ reports_text names reports
 
 -- the line of a server of this name
 abbrev pub server_text : List ℕ → ServerLine → List ℕ

@@ -8,16 +8,18 @@ use reporting_core::ServerLine;
 use script::{Names, push_reports};
 use std::alloc::{AllocError, Global};
 
-/// Writes the line of a window and those of its reports at the end. After an `Err` a part of them may stand there.
+/// Writes the line of a window and those of its reports at the end. Behind the number stands `span`: nothing, or when the window was. After an `Err` a part of them
+/// may stand there.
 pub fn push_window(
     text: &mut String,
     names: &Names,
     number: u64,
+    span: &str,
     reports: &[Report],
 ) -> Result<(), AllocError>
-    ensures { OnOk result (string_bytes text.new ≡ string_bytes text.old ++ window_text names.now number reports.now) }
+    ensures { OnOk result (string_bytes text.new ≡ string_bytes text.old ++ window_text names.now number span.now reports.now) }
 {
-    writeln!(text, "window {number}")?;
+    writeln!(text, "window {number}{span}")?;
     push_reports(text, names, reports)
 }
 

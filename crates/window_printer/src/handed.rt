@@ -5,6 +5,7 @@ ghost use Rattle.std.specs.Option.{option_to_list};
 ghost use Rattle.std.specs.VecDeque.{deque_len, deque_capacity};
 ghost use Rattle.window_lines.specs.Sums.{plus, nothing_for, with_window};
 
+use due_key::Moment;
 use late_cert::Reports;
 use reporting_core::Window;
 use std::alloc::{AllocError, Global};
@@ -20,6 +21,9 @@ const MOST: usize = 16;
 pub struct Numbered {
     /// Windows count from 1 in the order in which they were handed over.
     pub number: u64,
+    /// When the one before ended, and when this one did.
+    pub began: Moment,
+    pub ended: Moment,
     pub reports: Reports,
 }
 
@@ -30,6 +34,8 @@ pub struct Handed {
     waiting: VecDeque<Numbered>,
     /// So many were left out, of which nobody was told.
     left_out: u64,
+    /// When the last one ended.
+    ended: Moment,
     is_over: bool,
     ghost roomy: { deque_capacity waiting ≡ 16 },
 }
@@ -39,6 +45,7 @@ impl Handed {
     pub fn new(alloc: Global, servers: usize) -> Result<Handed, AllocError>
         ensures counted { IfOk result (λ it. (it.told.windows ≡ 0) × (it.told.sums ≡ nothing_for servers)) }
         ensures waiting { IfOk result (λ it. (it.waiting.items ≡ []) × (it.left_out ≡ 0) × (it.is_over ≡ false)) }
+        ensures ended { IfOk result (λ it. it.ended ≡ 0) }
     {
         let sums = Sums::new(alloc, servers)?;
         let waiting = VecDeque::with_capacity(alloc, MOST)?;
@@ -46,34 +53,42 @@ impl Handed {
             told: Told::new(sums),
             waiting,
             left_out: 0,
+            ended: Moment::zero(),
             is_over: false,
         })
     }
 
-    /// One more: it counts, and it waits to be printed, behind the others. Where 16 wait already, it is left out.
-    pub fn hand_over(&mut self, window: Window)
+    /// One more, which ended at this moment: it counts, and it waits to be printed, behind the others. Where 16 wait already, it is left out.
+    pub fn hand_over(&mut self, window: Window, ended: Moment)
         ensures windows { self.new.told.windows ≡ plus self.old.told.windows 1 }
         ensures sums { self.new.told.sums ≡ with_window window.servers.items self.old.told.sums }
         ensures room { length self.old.waiting.items < 16
-            → (self.new.waiting.items ≡ self.old.waiting.items ++ record { number = self.new.told.windows; reports = window.reports } ∷ []) × (self.new.left_out ≡ self.old.left_out) }
+            → (self.new.waiting.items ≡ self.old.waiting.items ++ record { number = self.new.told.windows; began = self.old.ended; ended = ended; reports = window.reports } ∷ []) × (self.new.left_out ≡ self.old.left_out) }
         ensures full { 16 ≤ length self.old.waiting.items → (self.new.waiting ≡ self.old.waiting) × (self.new.left_out ≡ plus self.old.left_out 1) }
+        ensures ended { self.new.ended ≡ ended }
         ensures same { (self.new.told.fault ≡ self.old.told.fault) × (self.new.is_over ≡ self.old.is_over) }
     {
         let Window { reports, servers } = window;
         self.told.count(servers.as_slice());
         if self.waiting.len() < MOST {
             let number = self.told.windows;
-            self.waiting
-                .push_back_reserved(Numbered { number, reports });
+            let began = self.ended;
+            self.waiting.push_back_reserved(Numbered {
+                number,
+                began,
+                ended,
+                reports,
+            });
         } else {
             self.left_out = self.left_out.saturating_add(1);
         }
+        self.ended = ended;
     }
 
     /// The first of those that wait, which waits no more.
     pub fn next(&mut self) -> Option<Numbered>
         ensures first { self.old.waiting.items ≡ option_to_list result ++ self.new.waiting.items }
-        ensures same { (self.new.told ≡ self.old.told) × (self.new.left_out ≡ self.old.left_out) × (self.new.is_over ≡ self.old.is_over) }
+        ensures same { (self.new.told ≡ self.old.told) × (self.new.left_out ≡ self.old.left_out) × (self.new.ended ≡ self.old.ended) × (self.new.is_over ≡ self.old.is_over) }
     {
         self.waiting.pop_front()
     }
@@ -90,6 +105,13 @@ impl Handed {
         ensures { (result ≡ self.old.left_out) × (self.new ≡ record self.old { left_out = 0 }) }
     {
         mem::replace(&mut self.left_out, 0)
+    }
+
+    /// One that waited found no room where it was to be printed.
+    pub fn leave_out(&mut self)
+        ensures { self.new ≡ record self.old { left_out = plus self.old.left_out 1 } }
+    {
+        self.left_out = self.left_out.saturating_add(1);
     }
 
     /// One that waited couldn't be printed.
@@ -114,6 +136,7 @@ impl Handed {
             told,
             waiting: _,
             left_out: _,
+            ended: _,
             is_over: _,
         } = self;
         told

@@ -7,4 +7,4 @@ mod printer;
 mod tests;
 
 pub use handed::{Handed, Numbered};
-pub use printer::WindowPrinter;
+pub use printer::{WindowPrinter, lines_of};

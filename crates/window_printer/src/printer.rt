@@ -2,10 +2,13 @@ ghost use Rattle.std.specs.Prelude.{◌≡◌, IfOk, string_bytes};
 ghost use Rattle.window_lines.specs.Texts.{window_text};
 
 use crate::handed::{Handed, Numbered};
+use due_key::Moment;
+use line_sink::Sink;
 use reporting_core::Window;
+use request_lines::Dates;
 use script::Names;
 use std::alloc::{AllocError, Global};
-use std::sync::{Condvar, Mutex, Wait};
+use std::sync::{Arc, Condvar, Mutex, Wait};
 use window_lines::{TellFault, Told, push_window};
 
 /// Between who hands windows over and the thread that prints them. That thread has the lock while it takes a window, and never while it prints one.
@@ -15,6 +18,10 @@ pub struct WindowPrinter {
     names: Names,
     handed: Mutex<Handed>,
     bell: Condvar,
+    /// So many milliseconds after the Unix epoch is moment 0, where lines tell when windows were.
+    base: Option<i64>,
+    /// Where their lines go in place of standard output.
+    sink: Option<Arc<Sink>>,
 }
 
 impl WindowPrinter {
@@ -25,7 +32,23 @@ impl WindowPrinter {
             names,
             handed: Mutex::new(Handed::new(alloc, servers)?),
             bell: Condvar::new(),
+            base: None,
+            sink: None,
         })
+    }
+
+    /// Each line tells when its window began and ended, where moment 0 is so many milliseconds after the Unix epoch.
+    pub fn dated(self, base: Option<i64>) -> WindowPrinter {
+        let mut printer = self;
+        printer.base = base;
+        printer
+    }
+
+    /// Their lines go here, so that one writer has all.
+    pub fn onto(self, sink: Option<Arc<Sink>>) -> WindowPrinter {
+        let mut printer = self;
+        printer.sink = sink;
+        printer
     }
 
     /// The servers' names.
@@ -35,21 +58,24 @@ impl WindowPrinter {
         &self.names
     }
 
-    /// Takes a window that ended. It counts now, and is printed by and by; where too many wait to be printed, it is left out.
-    pub fn hand_over<R: Wait>(&self, rt: &R, window: Window) {
-        self.handed.lock(rt).hand_over(window);
+    /// Takes a window that ended at this moment. It counts now, and is printed by and by; where too many wait to be printed, it is left out.
+    pub fn hand_over<R: Wait>(&self, rt: &R, window: Window, ended: Moment) {
+        self.handed.lock(rt).hand_over(window, ended);
         self.bell.notify_all();
     }
 
     /// Prints each window that is handed over, whole and in order, until no more come and all are printed. How many were left out is said on standard error, once
     /// there is room again.
     pub fn print_all<R: Print + Eprint + Wait>(&self, rt: &R) {
+        let mut dates = self.base.map(|base| Dates::new(self.alloc, base));
         for _ in rt.forever() {
             let Some(window) = self.next(rt) else {
                 return;
             };
-            if let Err(fault) = self.print(rt, &window) {
-                self.handed.lock(rt).fail(fault);
+            match self.print(rt, &window, &mut dates) {
+                Ok(true) => {}
+                Ok(false) => self.handed.lock(rt).leave_out(),
+                Err(fault) => self.handed.lock(rt).fail(fault),
             }
             self.say_left_out(rt);
         }
@@ -63,15 +89,17 @@ impl WindowPrinter {
         self.say_left_out(rt);
     }
 
-    /// The servers' names, and all windows in numbers.
-    pub fn into_told(self) -> (Names, Told) {
+    /// The servers' names, all windows in numbers, and where their lines went in place of standard output.
+    pub fn into_told(self) -> (Names, Told, Option<Arc<Sink>>) {
         let WindowPrinter {
             alloc: _,
             names,
             handed,
             bell: _,
+            base: _,
+            sink,
         } = self;
-        (names, handed.into_inner().into_told())
+        (names, handed.into_inner().into_told(), sink)
     }
 
     // Once one waits. None: no more come.
@@ -82,12 +110,24 @@ impl WindowPrinter {
         handed.next()
     }
 
-    fn print<R: Print>(&self, rt: &R, window: &Numbered) -> Result<(), TellFault> {
-        let Ok(text) = text_of(self.alloc, &self.names, window) else {
+    // False: it found no room.
+    fn print<R: Print + Wait>(
+        &self,
+        rt: &R,
+        window: &Numbered,
+        dates: &mut Option<Dates>,
+    ) -> Result<bool, TellFault> {
+        let Ok(span) = span_of(self.alloc, window, dates) else {
             return Err(TellFault::NoMemory);
         };
+        let Ok(text) = text_of(self.alloc, &self.names, window, &span) else {
+            return Err(TellFault::NoMemory);
+        };
+        if let Some(sink) = &self.sink {
+            return Ok(sink.add(rt, text.as_str(), lines_of(text.as_str())));
+        }
         match rt.print(text.as_str()) {
-            Ok(()) => Ok(()),
+            Ok(()) => Ok(true),
             Err(_) => Err(TellFault::Write),
         }
     }
@@ -100,10 +140,40 @@ impl WindowPrinter {
     }
 }
 
-fn text_of(alloc: Global, names: &Names, window: &Numbered) -> Result<String, AllocError>
-    ensures { IfOk result (λ text. string_bytes text ≡ window_text names.now window.now.number window.now.reports) }
+/// How many lines a text has.
+pub fn lines_of(text: &str) -> u64 {
+    text.as_bytes()
+        .iter()
+        .filter(|byte| **byte == b'\n')
+        .count() as u64
+}
+
+// When a window was, as it stands behind its number.
+fn span_of(
+    alloc: Global,
+    window: &Numbered,
+    dates: &mut Option<Dates>,
+) -> Result<String, AllocError> {
+    let mut span = String::new(alloc);
+    if let Some(dates) = dates {
+        span.push_str(" from ")?;
+        dates.push_now(&mut span, window.began.get() as i64)?;
+        span.push_str(" to ")?;
+        dates.push_now(&mut span, window.ended.get() as i64)?;
+    }
+    Ok(span)
+}
+
+fn text_of(
+    alloc: Global,
+    names: &Names,
+    window: &Numbered,
+    span: &str,
+) -> Result<String, AllocError>
+    ensures { IfOk result (λ text. string_bytes text ≡ window_text names.now window.now.number span.now window.now.reports) }
 {
     let mut text = String::new(alloc);
-    push_window(&mut text, names, window.number, window.reports.as_slice())?;
+    let reports = window.reports.as_slice();
+    push_window(&mut text, names, window.number, span, reports)?;
     Ok(text)
 }

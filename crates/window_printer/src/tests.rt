@@ -1,4 +1,5 @@
 use crate::{Handed, WindowPrinter};
+use due_key::Moment;
 use late_cert::Reports;
 use reporting_core::{ServerLine, Window};
 use script::Names;
@@ -24,14 +25,17 @@ fn window(rt: &impl Abort, alloc: Global, direct: usize) -> Window {
 #[test]
 fn a_full_queue_counts_what_it_leaves_out(rt: HostRuntime) {
     let mut handed = Handed::new(rt.alloc(), 1).expect(&rt, "memory");
-    for _ in 0..18 {
-        handed.hand_over(window(&rt, rt.alloc(), 2));
+    for number in 1..19 {
+        let ended = Moment::new(10 * number).expect(&rt, "a moment");
+        handed.hand_over(window(&rt, rt.alloc(), 2), ended);
     }
     assert_eq!(rt; handed.take_left_out(), 2);
     assert_eq!(rt; handed.take_left_out(), 0);
     let first = handed.next().expect(&rt, "a window");
     assert_eq!(rt; first.number, 1);
-    handed.hand_over(window(&rt, rt.alloc(), 2));
+    assert_eq!(rt; first.began.get(), 0);
+    assert_eq!(rt; first.ended.get(), 10);
+    handed.hand_over(window(&rt, rt.alloc(), 2), Moment::zero());
     let mut last = 0;
     for _ in 0..16 {
         last = handed.next().expect(&rt, "a window").number;
@@ -55,7 +59,7 @@ fn print_three<R: Print + Eprint + Wait + Threads + Abort + Sync>(
     thread::scope(thread::scope_env(), rt, |scope| {
         let printing = scope.spawn(move || printer.print_all(rt)).ok();
         for _ in 0..3 {
-            printer.hand_over(rt, window(rt, alloc, 1));
+            printer.hand_over(rt, window(rt, alloc, 1), Moment::zero());
         }
         printer.end(rt);
         if let Some(handle) = printing {
@@ -70,7 +74,7 @@ fn a_thread_prints_all_before_it_ends(rt: HostRuntime) {
     let names = Names::new(Vec::new(alloc));
     let printer = WindowPrinter::new(alloc, names, 1).expect(&rt, "memory");
     print_three(&rt, alloc, &printer);
-    let (_names, told) = printer.into_told();
+    let (_names, told, _sink) = printer.into_told();
     assert_eq!(rt; told.windows, 3);
     assert!(rt; told.fault.is_none());
 }

@@ -1,0 +1,47 @@
+-- The text of an answer.
+use Rattle.std.specs.Prelude.{◌≡◌, ℕ, List, [], ◌++◌, Bool, codes, length, if◌then◌else◌}
+use Rattle.std.specs.Fmt.{decimal}
+use Rattle.admin_http.specs.declared.page.Status.{Status}
+use Rattle.admin_http.specs.declared.page.Status.TheVariants.{Good, BadRequest, NotFound, NotAllowed, TooSlow, TooLong, Unavailable}
+
+abbrev pub number_of : Status → ℕ
+number_of Good = 200
+number_of BadRequest = 400
+number_of NotFound = 404
+number_of NotAllowed = 405
+number_of TooSlow = 408
+number_of TooLong = 431
+number_of Unavailable = 503
+
+abbrev pub reason_of : Status → List ℕ
+reason_of Good = codes "OK"
+reason_of BadRequest = codes "Bad Request"
+reason_of NotFound = codes "Not Found"
+reason_of NotAllowed = codes "Method Not Allowed"
+reason_of TooSlow = codes "Request Timeout"
+reason_of TooLong = codes "Request Header Fields Too Large"
+reason_of Unavailable = codes "Service Unavailable"
+
+-- the first line, the type of what follows and how long that is
+unfoldable pub head_text : Status → List ℕ → ℕ → List ℕ
+head_text status kind size =
+    codes "HTTP/1.1 " ++ decimal (number_of status) ++ codes " " ++ reason_of status ++ codes "\r\nContent-Type: " ++ kind
+    ++ codes "\r\nContent-Length: " ++ decimal size ++ codes "\r\n"
+
+-- which methods there are, where another one was wanted
+unfoldable pub allow_text : Status → List ℕ
+allow_text NotAllowed = codes "Allow: GET, HEAD\r\n"
+allow_text status = []
+
+-- what every answer says besides, and the end of its head
+unfoldable pub fields_text : List ℕ
+fields_text = codes "Connection: close\r\nCache-Control: no-store\r\nX-Content-Type-Options: nosniff\r\nContent-Security-Policy: default-src 'none'; style-src 'unsafe-inline'; script-src 'unsafe-inline'; connect-src 'self'; frame-ancestors 'none'\r\n\r\n"
+
+-- the body, where it is to be there
+unfoldable pub body_text : List ℕ → Bool → List ℕ
+body_text body whole = if whole then body else []
+
+-- all of an answer: its body stands behind an empty line, where it is to have one
+abbrev pub answer_text : Status → List ℕ → List ℕ → Bool → List ℕ
+answer_text status kind body whole =
+    head_text status kind (length body) ++ allow_text status ++ fields_text ++ body_text body whole

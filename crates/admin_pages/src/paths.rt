@@ -1,0 +1,32 @@
+ghost use Rattle.std.specs.Prelude.{◌≡◌};
+ghost use Rattle.admin_pages.specs.Paths.{wanted_at};
+
+/// What a path names.
+#[derive(Clone, Copy, Debug, PartialEq, Eq)]
+pub enum Wanted {
+    /// The numbers, for Prometheus.
+    Metrics,
+    /// The numbers as JSON.
+    State,
+    /// Whether requests are served.
+    Health,
+    /// The page that shows the numbers.
+    Page,
+}
+
+/// What a path names. None: nothing.
+pub fn wanted_at(path: &[u8]) -> Option<Wanted>
+    ensures { result ≡ wanted_at path.now }
+{
+    if path == b"/metrics".as_slice() {
+        Some(Wanted::Metrics)
+    } else if path == b"/state.json".as_slice() {
+        Some(Wanted::State)
+    } else if path == b"/health".as_slice() {
+        Some(Wanted::Health)
+    } else if path == b"/".as_slice() {
+        Some(Wanted::Page)
+    } else {
+        None
+    }
+}

@@ -1,0 +1,86 @@
+//! Which logs a proxy writes, as its words say.
+
+use crate::reasons::say_unopened;
+use command_words::LogWords;
+use line_sink::{Sink, Way};
+use request_lines::Format;
+use request_log::{Access, Logs};
+use std::alloc::AllocError;
+use std::sync::{Arc, Wait};
+use std::thread;
+use std::thread::Threads;
+
+/// The logs, with the threads that write their files. Where a file can't be opened it is said, and the status is answered.
+pub(crate) fn logs_of<R: Threads + Wait + Copy + Send + 'static>(
+    host: HostRuntime,
+    rt: &R,
+    words: LogWords,
+) -> Result<Logs, u8> {
+    let LogWords {
+        access,
+        is_json,
+        events,
+    } = words;
+    let access = match access {
+        None => None,
+        Some(name) => {
+            let has_windows = name.as_str() == "-";
+            let format = if is_json { Format::Json } else { Format::Text };
+            Some(Access {
+                sink: sink_of(host, rt, way_of(name, Way::Output))?,
+                format,
+                has_windows,
+            })
+        }
+    };
+    let events = match events {
+        None => None,
+        Some(name) => Some(sink_of(host, rt, way_of(name, Way::Errors))?),
+    };
+    Ok(Logs {
+        access,
+        events,
+        numbers: None,
+    })
+}
+
+fn way_of(name: String, standard: Way) -> Way {
+    if name.as_str() == "-" {
+        standard
+    } else {
+        Way::File(name)
+    }
+}
+
+fn sink_of<R: Threads + Wait + Copy + Send + 'static>(
+    host: HostRuntime,
+    rt: &R,
+    way: Way,
+) -> Result<Arc<Sink>, u8> {
+    if let Err(error) = way.look(&host) {
+        return Err(say_unopened(&host, way.name(), error));
+    }
+    match start(host, *rt, way) {
+        Ok(sink) => Ok(sink),
+        Err(_) => {
+            let _ = host.eprintln("no memory");
+            Err(1)
+        }
+    }
+}
+
+// The thread owns all that it works with: it may still wait for a reader when everything else is over.
+fn start<R: Threads + Wait + Copy + Send + 'static>(
+    host: HostRuntime,
+    rt: R,
+    way: Way,
+) -> Result<Arc<Sink>, AllocError> {
+    let alloc = host.alloc();
+    let sink = Arc::new(alloc, Sink::new(alloc, &way)?)?;
+    let room = Sink::room(alloc)?;
+    let own = Arc::try_clone(&sink)?;
+    match thread::spawn(&rt, move || own.write_to(&host, &rt, way, room)) {
+        Ok(_running) => Ok(sink),
+        Err(_) => Err(AllocError),
+    }
+}

@@ -1,0 +1,243 @@
+//! What a loop accounts of its exchanges, where lines of them are wanted.
+
+use crate::guest::{Guest, Resident, Visit};
+use crate::looping::Looper;
+use dispatch_trace::Ticketed;
+use exchange_driver::{Line, Live};
+use grant_board::BoardName;
+use loop_shared::Presence;
+use mixed_exchange::Clock as Limit;
+use prio_rules::Wish;
+use relay_workers::Gate;
+use req_view::{Version, View};
+use request_lines::{Account, Asked, By, During};
+use seated_exchange::{Notice, Stage};
+use std::alloc::{AllocError, Global};
+use std::net::{Net, SocketAddr, TcpListener, TcpStream};
+use std::sync::Wait;
+use std::sync::ledger::Ledger;
+use std::time::Clock;
+use verdict::Cause;
+
+impl<
+    'a,
+    N: BoardName + Ledger,
+    R: Net<Listener = TcpListener, Stream = TcpStream> + Clock + Print + Wait,
+> Looper<'a, N, R> {
+    /// An exchange begins at this client, on this line. Nothing is accounted of it where no lines are wanted, or there is no memory for that.
+    pub(crate) fn begin_account(
+        &mut self,
+        presence: &mut Presence,
+        line: &Line<Live>,
+        client: Option<SocketAddr>,
+    ) {
+        if self.teller.is_none() {
+            return;
+        }
+        if let Some(live) = line.socket() {
+            live.count_anew();
+        }
+        let now = self.gate.moment();
+        presence.account = Box::new(self.settings.alloc, Account::new(client, now)).ok();
+    }
+
+    /// Its head is there.
+    pub(crate) fn note_asked(&mut self, visit: &mut Visit, view: &View, wish: Option<&Wish>) {
+        if let Some(account) = &mut visit.presence.account {
+            account.moments.asked = Some(self.gate.moment());
+            account.wish = wish.map(|wish| (wish.class, wish.offset));
+            account.asked = asked_of(self.settings.alloc, view).ok();
+        }
+    }
+
+    /// Its server has to go on with it.
+    pub(crate) fn note_granted(&mut self, visit: &mut Visit, server: usize) {
+        if let Some(account) = &mut visit.presence.account {
+            account.grant(server, self.gate.moment());
+        }
+    }
+
+    /// Bytes moved: they may be the first ones of the request, or of its answer.
+    pub(crate) fn note_bytes(&mut self, visit: &mut Visit, client: bool, server: bool) {
+        let Visit {
+            presence,
+            server: line,
+            ..
+        } = visit;
+        let Some(account) = &mut presence.account else {
+            return;
+        };
+        if client && account.is_silent {
+            account.is_silent = false;
+            account.moments.began = self.gate.moment();
+        }
+        if server && account.moments.answered.is_none() {
+            let came = line.socket().and_then(|live| live.meter());
+            if came.map_or(0, |meter| meter.received) != 0 {
+                account.moments.answered = Some(self.gate.moment());
+            }
+        }
+    }
+
+    /// It is told something that may end it.
+    pub(crate) fn note_notice(&mut self, visit: &mut Visit, stage: Stage, notice: &Notice) {
+        let Visit {
+            presence,
+            client,
+            ..
+        } = visit;
+        let Some(account) = &mut presence.account else {
+            return;
+        };
+        learn(account, client);
+        let during = match stage {
+            Stage::Telling => During::Last,
+            _ => account.under_way(),
+        };
+        match notice {
+            Notice::Connected(_) => account.moments.connected = Some(self.gate.moment()),
+            Notice::Unserved => account.end_by(By::Shortage, During::Queue),
+            Notice::Unreachable => account.end_by(By::Server, During::Connect),
+            Notice::ClientEnd | Notice::ClientFailed => account.end_by(By::Client, during),
+            Notice::TimeOver(Limit::Client) => account.end_by(By::ClientTime, during),
+            Notice::TimeOver(Limit::Queue) => account.end_by(By::ServerTime, During::Queue),
+            Notice::TimeOver(Limit::Connect) => account.end_by(By::ServerTime, During::Connect),
+            Notice::TimeOver(Limit::Server) => account.end_by(By::ServerTime, during),
+        }
+    }
+
+    /// It is over: where nothing else was told, by this one. Who asked for nothing has no line.
+    pub(crate) fn tell_end(
+        &mut self,
+        presence: &mut Presence,
+        client: &Line<Live>,
+        by: By,
+        during: Option<During>,
+    ) {
+        let Some(mut account) = presence.account.take() else {
+            return;
+        };
+        learn(&mut account, client);
+        let during = match during {
+            Some(during) => during,
+            None => account.under_way(),
+        };
+        account.end_by(by, during);
+        account.blame_request();
+        self.tell_of(account);
+    }
+
+    /// All is over, also for who is in a slot of this loop.
+    pub(crate) fn tell_of_rest(&mut self) {
+        if self.teller.is_none() {
+            return;
+        }
+        for index in 0..self.room {
+            self.tell_of_rest_at(index);
+        }
+    }
+
+    fn tell_of_rest_at(&mut self, index: usize) {
+        let Some(token) = self.guests.token_of(index) else {
+            return;
+        };
+        let Some((resident, hole)) = self.guests.lend(token) else {
+            return;
+        };
+        let mut resident = Box::into_inner(resident);
+        if let Resident::Guest(guest) = &mut resident {
+            let Guest { visit, .. } = guest;
+            self.tell_end(&mut visit.presence, &visit.client, By::Proxy, None);
+        }
+        self.lay(resident, hole);
+    }
+
+    /// Hands out what is known of an exchange that is over.
+    pub(crate) fn tell_of(&mut self, account: Box<Account>) {
+        let mut account = account;
+        if account.asked.is_none() && account.received == 0 && account.sent == 0 {
+            return;
+        }
+        if account.asked.is_none() && account.status == Some(400) {
+            account.end_by(By::Proxy, During::Request);
+        }
+        account.moments.ended = self.gate.moment();
+        account.clients = self.shared.clients();
+        if let Some(teller) = &mut self.teller {
+            teller.tell(account);
+        }
+    }
+}
+
+/// Some of it came already.
+pub(crate) fn note_come(presence: &mut Presence) {
+    if let Some(account) = &mut presence.account {
+        account.is_silent = false;
+    }
+}
+
+// What was read of its client and written to it so far.
+fn learn(account: &mut Account, client: &Line<Live>) {
+    if let Some(meter) = client.socket().and_then(|live| live.meter()) {
+        account.received = meter.received;
+        account.sent = meter.sent;
+        account.status = meter.status();
+    }
+}
+
+/// It waits, with this ticket.
+pub(crate) fn note_ticket(presence: &mut Presence, at: Ticketed) {
+    if let Some(account) = &mut presence.account {
+        account.ticket = Some(at.ticket);
+    }
+}
+
+/// It is told that it isn't served, for this cause; its client is gone, or isn't, and the proxy stops, or doesn't.
+pub(crate) fn note_cause(presence: &mut Presence, cause: Cause, gone: bool, stops: bool) {
+    if let Some(account) = &mut presence.account {
+        match cause {
+            Cause::Aborted if gone => account.end_by(By::Client, During::Queue),
+            Cause::Aborted | Cause::Timeout if stops => account.end_by(By::Proxy, During::Queue),
+            Cause::Aborted | Cause::Timeout => account.end_by(By::ServerTime, During::Queue),
+            Cause::Retries | Cause::NoServer => account.end_by(By::Server, During::Connect),
+        }
+    }
+}
+
+/// It is told that it gets no place, since it waited too long, or since the proxy stops.
+pub(crate) fn note_refused(presence: &mut Presence, stops: bool) {
+    if let Some(account) = &mut presence.account {
+        let by = if stops { By::Proxy } else { By::ServerTime };
+        account.end_by(by, During::Queue);
+    }
+}
+
+/// Its server didn't answer, or not to the end.
+pub(crate) fn note_unanswered(visit: &mut Visit) {
+    let Visit {
+        presence,
+        client,
+        ..
+    } = visit;
+    if let Some(account) = &mut presence.account {
+        learn(account, client);
+        let during = account.under_way();
+        account.end_by(By::Server, during);
+    }
+}
+
+/// Where its client is.
+pub(crate) fn client_of(presence: &Presence) -> Option<SocketAddr> {
+    presence.account.as_ref().and_then(|account| account.client)
+}
+
+fn asked_of(alloc: Global, view: &View) -> Result<Asked, AllocError> {
+    Ok(Asked {
+        method: Vec::from_slice(alloc, view.method())?,
+        target: Vec::from_slice(alloc, view.target())?,
+        minor: match view.version() {
+            Version::Http10 => 0,
+            Version::Http11 => 1,
+        },
+    })
+}

@@ -1,0 +1,73 @@
+ghost use Rattle.std.specs.Prelude.{◌≡◌, ◌+◌, ◌≤◌, MatchOption};
+
+use std::sync::ledger::{Blank, Book, Ledger, Share};
+
+/// How many of so many things are out.
+#[derive(Drop)]
+pub struct Counted<L: Ledger> {
+    book: Book<L>,
+    rest: Share<L>,
+    left: usize,
+    out: usize,
+    most: usize,
+    ghost counted: { out ≡ book.total },
+    ghost room: { left ≤ rest.parts },
+    ghost bare: { rest.amount ≡ 0 },
+    ghost whole: { left + out ≡ most },
+}
+
+/// That one thing is out. It has no `Drop` and takes no bytes: it can only be taken back.
+pub struct Out<L: Ledger> {
+    share: Share<L>,
+    ghost one: { share.amount ≡ 1 },
+    ghost part: { share.parts ≡ 1 },
+}
+
+impl<L: Ledger> Counted<L> {
+    /// So many things, none of which is out.
+    pub fn open(blank: Blank, most: usize) -> Counted<L>
+        requires name { blank.name ≡ L.name }
+        requires parts { blank.parts ≡ L.parts }
+        requires room { most ≤ blank.parts }
+        ensures left { result.left ≡ most }
+        ensures out { result.out ≡ 0 }
+        ensures most { result.most ≡ most }
+    {
+        let (book, rest) = blank.open::<L>();
+        Counted {
+            book,
+            rest,
+            left: most,
+            out: 0,
+            most,
+        }
+    }
+
+    /// One more is out. None only where all are.
+    pub fn hand_out(&mut self) -> Option<Out<L>>
+        ensures out { MatchOption result ((self.old.left ≡ 0) × (self.new.out ≡ self.old.out)) (λ _. self.new.out ≡ self.old.out + 1) }
+        ensures most { self.new.most ≡ self.old.most }
+    {
+        if self.left == 0 {
+            return None;
+        }
+        let mut share = self.rest.split_off(1, 0);
+        self.book.add(&mut share, 1);
+        self.left -= 1;
+        self.out += 1;
+        Some(Out { share })
+    }
+
+    /// One that was out is back.
+    pub fn take_back(&mut self, out: Out<L>)
+        ensures out { self.new.out + 1 ≡ self.old.out }
+        ensures most { self.new.most ≡ self.old.most }
+    {
+        let Out { share } = out;
+        let mut share = share;
+        self.book.sub(&mut share, 1);
+        self.rest.merge(share);
+        self.left += 1;
+        self.out -= 1;
+    }
+}

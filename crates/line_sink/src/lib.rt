@@ -1,0 +1,12 @@
+//! Lines on their way to a file. A thread of its own writes them, so that whoever adds one waits for no disk and for no reader.
+#![tactic(auto)]
+
+mod pending;
+mod sink;
+mod target;
+#[cfg(test)]
+mod tests;
+
+pub use pending::Pending;
+pub use sink::Sink;
+pub use target::Way;

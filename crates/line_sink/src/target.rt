@@ -1,0 +1,238 @@
+//! Where lines go.
+
+ghost use Rattle.std.specs.Prelude.{◌≤◌, length};
+
+use std::fs::{OpenFile, OpenOptions};
+use std::io::{ErrorKind, Write};
+use std::os::unix::fs::FileTypeExt;
+use std::rt::Files;
+use std::{fs, io};
+
+/// So many writes are made for what is written at once, at most.
+const MOST_WRITES: u32 = 1 << 20;
+
+/// So many bytes a pipe takes as a whole or not at all.
+const PIECE: usize = 4096;
+
+/// Where lines go: a file of this name, to which they are added, or a standard stream.
+#[derive(Debug, Drop)]
+pub enum Way {
+    File(String),
+    Output,
+    Errors,
+}
+
+/// What lines are written to.
+#[derive(Drop)]
+pub(crate) enum Target<R: Files> {
+    File(Appended<R>),
+    Output,
+    Errors,
+}
+
+/// A file that lines are added to.
+#[derive(Drop)]
+pub(crate) struct Appended<R: Files> {
+    path: String,
+    /// None: it couldn't be opened.
+    file: Option<R::File>,
+    /// It ends amid a line.
+    torn: bool,
+}
+
+impl Way {
+    /// What the file is called; nothing, where it is none.
+    pub fn name(&self) -> &str {
+        match self {
+            Way::File(path) => path.as_str(),
+            Way::Output | Way::Errors => "",
+        }
+    }
+
+    /// Whether a file can be opened, which is made where there is none.
+    pub fn look<R: Files>(&self, rt: &R) -> io::Result<()> {
+        if let Way::File(path) = self {
+            let _file = open(rt, path.as_str())?;
+        }
+        Ok(())
+    }
+}
+
+impl<R: Files> Target<R> {
+    pub(crate) fn open(rt: &R, way: Way) -> Target<R> {
+        match way {
+            Way::Output => Target::Output,
+            Way::Errors => Target::Errors,
+            Way::File(path) => {
+                let file = open(rt, path.as_str()).ok();
+                Target::File(Appended {
+                    path,
+                    file,
+                    torn: false,
+                })
+            }
+        }
+    }
+
+    /// Opens a file anew by its name. Where that fails the old one goes on.
+    pub(crate) fn reopen(&mut self, rt: &R) -> io::Result<()> {
+        if let Target::File(appended) = self {
+            let file = open(rt, appended.path.as_str())?;
+            appended.file = Some(file);
+            appended.torn = false;
+        }
+        Ok(())
+    }
+
+    /// What a file is called; nothing, where it is none.
+    pub(crate) fn name(&self) -> &str {
+        match self {
+            Target::File(appended) => appended.path.as_str(),
+            Target::Output | Target::Errors => "",
+        }
+    }
+}
+
+impl<R: Files + Print + Eprint> Target<R> {
+    /// Writes whole lines, and answers how many bytes of them stand there now, those of whole lines.
+    pub(crate) fn write(&mut self, rt: &R, lines: &str) -> usize {
+        match self {
+            Target::File(appended) => appended.write(lines.as_bytes()),
+            Target::Output => print_lines(rt, lines),
+            Target::Errors => eprint_lines(rt, lines),
+        }
+    }
+}
+
+impl<R: Files> Appended<R> {
+    // A line of which a part was written is cut back, or else ended before the next one.
+    fn write(&mut self, lines: &[u8]) -> usize {
+        if self.torn {
+            if self.put(b"\n") == 0 {
+                return 0;
+            }
+            self.torn = false;
+        }
+        let written = self.put(lines);
+        if written == lines.len() {
+            return written;
+        }
+        let whole = whole_lines(&lines[..written]);
+        if whole < written {
+            self.torn = !self.cut_back(written - whole);
+        }
+        whole
+    }
+
+    // Writes as much as the file takes, and answers how much that was.
+    fn put(&mut self, bytes: &[u8]) -> usize
+        ensures { result ≤ length bytes.now }
+    {
+        let Some(file) = &mut self.file else {
+            return 0;
+        };
+        let mut written = 0;
+        for _ in 0..MOST_WRITES {
+            if bytes.len() <= written {
+                break;
+            }
+            match file.write(&bytes[written..]) {
+                Ok(0) => break,
+                Ok(count) => written = (written + count).min(bytes.len()),
+                Err(error) if error.kind() == ErrorKind::Interrupted => {}
+                Err(_) => break,
+            }
+        }
+        written.min(bytes.len())
+    }
+
+    // Takes so many bytes off the end of a file; false where it is none that has an end.
+    fn cut_back(&mut self, count: usize) -> bool {
+        let Some(file) = &self.file else {
+            return false;
+        };
+        let Ok(metadata) = file.metadata() else {
+            return false;
+        };
+        if !metadata.is_file() {
+            return false;
+        }
+        let rest = metadata.len().saturating_sub(count as u64);
+        file.set_len(rest).is_ok()
+    }
+}
+
+// A reader of a pipe is looked for only once something is written: who opens it for reading, too, waits for none.
+fn open<R: Files>(rt: &R, path: &str) -> io::Result<R::File> {
+    let is_pipe = match fs::metadata(rt, path) {
+        Ok(metadata) => metadata.file_type().is_fifo(),
+        Err(_) => false,
+    };
+    let mut options = OpenOptions::new();
+    let _ = options.append(true).create(!is_pipe).read(is_pipe);
+    options.open(rt, path)
+}
+
+// Prints lines piece by piece, and answers how many bytes of them were printed.
+fn print_lines<R: Print>(rt: &R, lines: &str) -> usize {
+    let mut printed = 0;
+    for _ in 0..MOST_WRITES {
+        let piece = piece_from(lines, printed);
+        if piece.is_empty() || rt.print(piece).is_err() {
+            break;
+        }
+        printed = printed.saturating_add(piece.len());
+    }
+    printed
+}
+
+// The same on standard error.
+fn eprint_lines<R: Eprint>(rt: &R, lines: &str) -> usize {
+    let mut printed = 0;
+    for _ in 0..MOST_WRITES {
+        let piece = piece_from(lines, printed);
+        if piece.is_empty() || rt.eprint(piece).is_err() {
+            break;
+        }
+        printed = printed.saturating_add(piece.len());
+    }
+    printed
+}
+
+// As many whole lines from there on as a pipe takes at once, so that none is torn where its reader hangs; or one line that is longer.
+fn piece_from(lines: &str, from: usize) -> &str {
+    let Some(rest) = lines.get(from..) else {
+        return "";
+    };
+    if rest.len() <= PIECE {
+        return rest;
+    }
+    let bytes = rest.as_bytes();
+    let whole = match bytes.get(..PIECE) {
+        Some(first) => whole_lines(first),
+        None => 0,
+    };
+    let length = match whole {
+        0 => first_line(bytes),
+        whole => whole,
+    };
+    rest.get(..length).unwrap_or(rest)
+}
+
+// How many bytes the first line has.
+fn first_line(bytes: &[u8]) -> usize {
+    match bytes.iter().position(|byte| *byte == b'\n') {
+        Some(last) => last.saturating_add(1),
+        None => bytes.len(),
+    }
+}
+
+// How many of these bytes are those of whole lines.
+fn whole_lines(bytes: &[u8]) -> usize
+    ensures { result ≤ length bytes.now }
+{
+    match bytes.iter().rposition(|byte| *byte == b'\n') {
+        Some(last) => last + 1,
+        None => 0,
+    }
+}

@@ -1,0 +1,38 @@
+//! The thread that ends windows by time.
+
+use crate::ringing::Ringing;
+use crate::shared::Shared;
+use grant_board::BoardName;
+use socket_gate::SocketGate;
+use std::net::{Net, TcpListener, TcpStream};
+use std::sync::Wait;
+use std::sync::ledger::Ledger;
+use std::time::{Clock, Duration};
+
+impl<N: BoardName + Ledger> Shared<'_, N> {
+    // Waits for so many milliseconds, or until all is over. Whether it is.
+    fn is_over_after<R: Wait + Clock>(&self, rt: &R, millis: u64) -> bool {
+        let limit = Duration::from_millis(millis);
+        let over = self.ended_all.lock(rt);
+        let (over, _) = self.bell.wait_timeout_while(rt, over, limit, |over| !*over);
+        *over
+    }
+}
+
+/// Ends a window whenever so many milliseconds have passed, until all is over.
+pub fn run_windows<
+    'a,
+    R: Net<Listener = TcpListener, Stream = TcpStream> + Clock + Print + Wait,
+    N: BoardName + Ledger,
+>(rt: &'a R, shared: &'a Shared<'a, N>, millis: u64) {
+    let Ok(gate) = SocketGate::new(shared.proxy.alloc, rt, shared.front) else {
+        return shared.give_up(rt);
+    };
+    let mut gate = Ringing { rt, shared, gate };
+    for _ in rt.forever() {
+        if shared.is_over_after(rt, millis) {
+            return;
+        }
+        shared.proxy.end_window(rt, &mut gate);
+    }
+}

@@ -1,0 +1,15 @@
+-- What is left of the seats when loops have ended.
+use Rattle.std.specs.Prelude.{◌≡◌, ◌+◌, ⊤, Result, Ok, Err}
+use Rattle.grant_board.specs.RelayCalls.{Relay}
+use Rattle.relay_loops.specs.declared.serving.LoopsFault.{LoopsFault}
+use Rattle.relay_loops.specs.declared.serving.LoopsFault.TheVariants.{NoMemory, SeatsLost}
+
+-- as many seats were joined to the first as were split off it
+abbrev pub AreJoined : Relay → Relay → Type 0
+AreJoined before now = now.view.split + before.view.joined ≡ now.view.joined + before.view.split
+
+-- each came back, unless one is said to be lost
+abbrev pub ReturnsSeats : Result (Unit {0}) LoopsFault → Relay → Relay → Type 0
+ReturnsSeats (Ok done) before now = AreJoined before now
+ReturnsSeats (Err NoMemory) before now = AreJoined before now
+ReturnsSeats (Err SeatsLost) before now = ⊤

@@ -1,0 +1,31 @@
+-- The letters of HAProxy's termination state.
+use Rattle.std.specs.Prelude.{ℕ}
+use Rattle.request_lines.specs.declared.letters.By.{By}
+use Rattle.request_lines.specs.declared.letters.By.TheVariants.{Nobody, Client, ClientTime, Server, ServerTime, Proxy, Shortage}
+use Rattle.request_lines.specs.declared.letters.During.{During}
+use Rattle.request_lines.specs.declared.letters.During.TheVariants.{Nothing, Request, Queue, Connect, Head, Data, Last}
+use Rattle.request_lines.specs.declared.letters.Ended.{Ended}
+
+-- an exchange that came to its end
+abbrev pub well : Ended
+well = record { by = Nobody; during = Nothing }
+
+-- '-', 'C', 'c', 'S', 's', 'P' or 'R', as numbers of characters
+abbrev pub by_letter : By → ℕ
+by_letter Nobody = 45
+by_letter Client = 67
+by_letter ClientTime = 99
+by_letter Server = 83
+by_letter ServerTime = 115
+by_letter Proxy = 80
+by_letter Shortage = 82
+
+-- '-', 'R', 'Q', 'C', 'H', 'D' or 'L'
+abbrev pub during_letter : During → ℕ
+during_letter Nothing = 45
+during_letter Request = 82
+during_letter Queue = 81
+during_letter Connect = 67
+during_letter Head = 72
+during_letter Data = 68
+during_letter Last = 76

@@ -1,0 +1,97 @@
+//! Moments as wall clock.
+
+use jiff::Timestamp;
+use std::alloc::{AllocError, Global};
+
+/// The text of the last second that was asked for.
+#[derive(Drop)]
+struct Second {
+    format: &'static str,
+    number: i64,
+    text: String,
+}
+
+/// The wall clock of a proxy: what it shows when its moments begin, and texts of it.
+#[derive(Drop)]
+pub struct Dates {
+    alloc: Global,
+    /// Milliseconds since the Unix epoch at moment 0.
+    base: i64,
+    now: Second,
+    due: Second,
+    began: Second,
+}
+
+/// As ISO 8601 has it, and as HAProxy has it, without the milliseconds.
+const ISO: &str = "%Y-%m-%dT%H:%M:%S";
+
+const PLAIN: &str = "%d/%b/%Y:%H:%M:%S";
+
+impl Dates {
+    /// Where moment 0 is so many milliseconds after the Unix epoch.
+    pub fn new(alloc: Global, base: i64) -> Dates {
+        Dates {
+            alloc,
+            base,
+            now: Second::of(alloc, ISO),
+            due: Second::of(alloc, ISO),
+            began: Second::of(alloc, PLAIN),
+        }
+    }
+
+    /// Writes when something happened: so many milliseconds after moment 0, as `2026-11-27T11:10:00.123Z`.
+    pub fn push_now(&mut self, text: &mut String, millis: i64) -> Result<(), AllocError> {
+        let millis = self.base.saturating_add(millis);
+        self.now.push(self.alloc, text, millis)?;
+        text.push('Z')
+    }
+
+    /// The same of a due date.
+    pub fn push_due(&mut self, text: &mut String, millis: i64) -> Result<(), AllocError> {
+        let millis = self.base.saturating_add(millis);
+        self.due.push(self.alloc, text, millis)?;
+        text.push('Z')
+    }
+
+    /// Writes when an exchange began, as `27/Nov/2026:11:10:00.123`.
+    pub fn push_began(&mut self, text: &mut String, millis: i64) -> Result<(), AllocError> {
+        let millis = self.base.saturating_add(millis);
+        self.began.push(self.alloc, text, millis)
+    }
+}
+
+impl Second {
+    fn of(alloc: Global, format: &'static str) -> Second {
+        Second {
+            format,
+            number: i64::MIN,
+            text: String::new(alloc),
+        }
+    }
+
+    fn push(&mut self, alloc: Global, text: &mut String, millis: i64) -> Result<(), AllocError> {
+        let number = millis.div_euclid(1000);
+        if number != self.number {
+            self.text = text_of(alloc, number, self.format)?;
+            self.number = number;
+        }
+        let rest = millis.rem_euclid(1000);
+        write!(text, "{}.{rest:03}", self.text)
+    }
+}
+
+// A moment that no calendar has stands as nothing.
+fn text_of(alloc: Global, second: i64, format: &str) -> Result<String, AllocError> {
+    let Ok(stamp) = Timestamp::from_second(second) else {
+        return Ok(String::new(alloc));
+    };
+    match stamp.strftime(alloc, format) {
+        Ok(text) => Ok(text),
+        Err(_) => Err(AllocError),
+    }
+}
+
+/// Milliseconds that no clock of this world reaches stand as the last that one could.
+pub(crate) fn signed(millis: u64) -> i64 {
+    i64::try_from(millis).unwrap_or(i64::MAX)
+}

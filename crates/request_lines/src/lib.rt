@@ -1,0 +1,20 @@
+//! The lines of an access log: from what a loop accounts of an exchange, and what the dispatcher's log tells of its request, to text or JSON.
+#![tactic(auto)]
+
+mod account;
+mod dates;
+mod events;
+mod fields;
+mod json;
+mod letters;
+#[cfg(test)]
+mod tests;
+mod text;
+
+pub use account::{Account, Asked, Moments};
+pub use dates::Dates;
+pub use events::{Event, push_event};
+pub use fields::{Line, Load};
+pub use json::push_json;
+pub use letters::{By, During, Ended};
+pub use text::{Format, push_line, push_lost, push_text};

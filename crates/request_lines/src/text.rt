@@ -1,0 +1,188 @@
+//! A line as HAProxy's `option httplog` has it, and behind the quoted request what only this dispatcher knows.
+
+use crate::dates::{Dates, signed};
+use crate::fields::{Line, push_escaped};
+use crate::json::{push_json, push_lost_json};
+use dispatch_log::Queue;
+use script::Names;
+use std::alloc::{AllocError, Global};
+use ticket_numbers::{Numbers, Slot};
+
+/// In which form lines are written.
+#[derive(Clone, Copy, Debug, PartialEq, Eq)]
+pub enum Format {
+    Text,
+    Json,
+}
+
+/// Writes a line, with its line feed. After an `Err` a part of it may stand there.
+pub fn push_line(
+    alloc: Global,
+    text: &mut String,
+    dates: &mut Dates,
+    format: Format,
+    line: &Line,
+) -> Result<(), AllocError> {
+    match format {
+        Format::Text => push_text(text, dates, line),
+        Format::Json => push_json(alloc, text, dates, line),
+    }
+}
+
+/// Writes that so many lines were left out, as a line.
+pub fn push_lost(
+    text: &mut String,
+    dates: &mut Dates,
+    format: Format,
+    now: u64,
+    count: u64,
+) -> Result<(), AllocError> {
+    match format {
+        Format::Json => push_lost_json(text, count),
+        Format::Text => {
+            dates.push_now(text, signed(now))?;
+            writeln!(text, " - dueproxy - lost {count}")
+        }
+    }
+}
+
+/// Writes a line of text.
+pub fn push_text(text: &mut String, dates: &mut Dates, line: &Line) -> Result<(), AllocError> {
+    push_head(text, dates, line)?;
+    push_times(text, line)?;
+    push_outcome(text, line)?;
+    push_load(text, line)?;
+    push_request(text, line)?;
+    push_wish(text, dates, line)?;
+    push_wait(text, line)?;
+    text.push('\n')
+}
+
+// Five words as a line of syslog has them, the client, when it came, and its server.
+fn push_head(text: &mut String, dates: &mut Dates, line: &Line) -> Result<(), AllocError> {
+    let account = line.account;
+    dates.push_now(text, account.moments.ended.get() as i64)?;
+    text.push_str(" - dueproxy - request ")?;
+    match account.client {
+        Some(client) => write!(text, "{client}")?,
+        None => text.push('-')?,
+    }
+    text.push_str(" [")?;
+    dates.push_began(text, account.moments.began.get() as i64)?;
+    write!(text, "] in out/{} ", line.server())
+}
+
+fn push_times(text: &mut String, line: &Line) -> Result<(), AllocError> {
+    let spans = line.spans();
+    for span in [spans.request, spans.wait, spans.connect, spans.answer] {
+        match span {
+            Some(span) => write!(text, "{span}/")?,
+            None => text.push_str("-1/")?,
+        }
+    }
+    write!(text, "{} ", spans.all)
+}
+
+fn push_outcome(text: &mut String, line: &Line) -> Result<(), AllocError> {
+    let account = line.account;
+    let (by, during) = account.ended.letters();
+    match account.status {
+        Some(status) => write!(text, "{status} ")?,
+        None => text.push_str("-1 ")?,
+    }
+    write!(text, "{} - - {by}{during}-- ", account.sent)
+}
+
+fn push_load(text: &mut String, line: &Line) -> Result<(), AllocError> {
+    let clients = line.account.clients;
+    let load = line.load;
+    let retries = line.retries();
+    let sign = if line.is_redispatched() { "+" } else { "" };
+    let (own, backend) = ahead(line.numbers);
+    write!(
+        text,
+        "{clients}/{clients}/{}/{}/{sign}{retries} {own}/{backend} ",
+        load.all, load.own
+    )
+}
+
+// How many requests went before it from its server's queue, and from the backend's.
+fn ahead(numbers: Option<&Numbers>) -> (usize, usize) {
+    let Some(slot) = slot_of(numbers) else {
+        return (0, 0);
+    };
+    match slot.stay {
+        None => (0, 0),
+        Some(stay) => match stay.queue {
+            Queue::Server(_) => (slot.ahead, 0),
+            Queue::Backend => (0, slot.ahead),
+        },
+    }
+}
+
+pub(crate) fn slot_of(numbers: Option<&Numbers>) -> Option<Slot> {
+    numbers?.slot
+}
+
+fn push_request(text: &mut String, line: &Line) -> Result<(), AllocError> {
+    let Some(asked) = &line.account.asked else {
+        return text.push_str("\"<BADREQ>\"");
+    };
+    text.push('"')?;
+    push_escaped(text, asked.method.as_slice())?;
+    text.push(' ')?;
+    push_escaped(text, asked.target.as_slice())?;
+    write!(text, " HTTP/1.{}\"", asked.minor)
+}
+
+// What the rules decided, and when it was due.
+fn push_wish(text: &mut String, dates: &mut Dates, line: &Line) -> Result<(), AllocError> {
+    if let Some((class, offset)) = line.account.wish {
+        write!(text, " class={} offset={}", class.get(), offset.get())?;
+    }
+    if let Some(ticket) = line.account.ticket {
+        write!(text, " ticket={ticket}")?;
+    }
+    if let Some(numbers) = line.numbers {
+        text.push_str(" due=")?;
+        dates.push_due(text, numbers.came.arrival.due.get())?;
+    }
+    write!(text, " read={}", line.account.received)
+}
+
+// Where it waited and how long, and who went before it.
+fn push_wait(text: &mut String, line: &Line) -> Result<(), AllocError> {
+    let Some(numbers) = line.numbers else {
+        return Ok(());
+    };
+    if let Some(cause) = numbers.cause {
+        write!(text, " left={cause}")?;
+    }
+    let Some(slot) = numbers.slot else {
+        return Ok(());
+    };
+    text.push_str(" queue=")?;
+    match queue_name(line.names, &slot) {
+        Some(name) => text.push_str(name)?,
+        None => text.push_str("direct")?,
+    }
+    let waited = numbers.waited().unwrap_or(0);
+    let late = numbers.lateness().unwrap_or(0);
+    write!(
+        text,
+        " waited={waited} late={late} overtakers={} window={}",
+        slot.overtakers, slot.window
+    )?;
+    match slot.stay {
+        Some(stay) if slot.is_over_an_end() => write!(text, " since_window={}", stay.window),
+        _ => Ok(()),
+    }
+}
+
+/// The queue in which a stay was: `*` is the backend's. None: there was none.
+pub(crate) fn queue_name<'a>(names: &'a Names, slot: &Slot) -> Option<&'a str> {
+    match slot.stay?.queue {
+        Queue::Backend => Some("*"),
+        Queue::Server(server) => Some(names.of(server)),
+    }
+}

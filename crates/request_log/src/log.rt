@@ -1,0 +1,205 @@
+use crate::scribe::Scribe;
+use line_sink::Sink;
+use proxy_numbers::{Lost, ProxyNumbers};
+use request_lines::{Account, Format};
+use rtrb::{Consumer, Producer, RingBuffer};
+use std::alloc::{AllocError, Global};
+use std::sync::atomic::{AtomicBool, AtomicU64, Ordering};
+use std::sync::{Arc, Mutex, MutexGuard, Wait};
+use std::time::{Clock, Instant};
+
+/// So many exchanges that ended wait for the thread that writes of them, at most, in each ring.
+const RING: usize = 8192;
+
+/// Where lines of exchanges go.
+#[derive(Drop)]
+pub struct Access {
+    pub sink: Arc<Sink>,
+    pub format: Format,
+    /// The lines of windows go there, too.
+    pub has_windows: bool,
+}
+
+/// What is wanted of logs.
+#[derive(Drop)]
+pub struct Logs {
+    pub access: Option<Access>,
+    pub events: Option<Arc<Sink>>,
+    /// What is counted, where that is wanted: of a proxy to which nothing happened.
+    pub numbers: Option<ProxyNumbers>,
+}
+
+/// Of how many servers and loops, and when: moments begin here, at so many milliseconds after the Unix epoch.
+#[derive(Clone, Copy)]
+pub struct Extent {
+    pub servers: usize,
+    pub loops: usize,
+    pub start: Instant,
+    pub base: i64,
+}
+
+/// What the threads of a proxy share of its logs.
+#[derive(Drop)]
+pub struct RequestLog {
+    pub(crate) access: Option<Access>,
+    pub(crate) events: Option<Arc<Sink>>,
+    numbers: Option<Mutex<ProxyNumbers>>,
+    rings: Mutex<Vec<Producer<Box<Account>>>>,
+    scribe: Mutex<Option<Scribe>>,
+    /// Accounts that found no room.
+    lost: AtomicU64,
+    /// Lines of exchanges and of events that were lost, and not told of to the end.
+    untold: AtomicU64,
+    unsaid: AtomicU64,
+    stopping: AtomicBool,
+    over: AtomicBool,
+}
+
+/// The other ends of the rings.
+pub(crate) type Ends = Vec<Consumer<Box<Account>>>;
+
+/// What a loop tells of its exchanges with.
+#[derive(Drop)]
+pub struct Teller<'a> {
+    ring: Producer<Box<Account>>,
+    log: &'a RequestLog,
+}
+
+impl RequestLog {
+    /// The logs of a proxy. A ring for each loop is there where exchanges are to be told of or counted. None: nothing is wanted.
+    pub fn new(
+        alloc: Global,
+        logs: Logs,
+        extent: Extent,
+    ) -> Result<Option<RequestLog>, AllocError> {
+        let Logs {
+            access,
+            events,
+            numbers,
+        } = logs;
+        if access.is_none() && events.is_none() && numbers.is_none() {
+            return Ok(None);
+        }
+        let has_rings = access.is_some() || numbers.is_some();
+        let count = if has_rings { extent.loops } else { 0 };
+        let (rings, ends) = rings_of(alloc, count)?;
+        let scribe = Scribe::new(alloc, ends, extent)?;
+        Ok(Some(RequestLog {
+            access,
+            events,
+            numbers: numbers.map(Mutex::new),
+            rings: Mutex::new(rings),
+            scribe: Mutex::new(Some(scribe)),
+            lost: AtomicU64::new(0),
+            untold: AtomicU64::new(0),
+            unsaid: AtomicU64::new(0),
+            stopping: AtomicBool::new(false),
+            over: AtomicBool::new(false),
+        }))
+    }
+
+    /// What its writing thread works with; once.
+    pub fn take_scribe<R: Wait>(&self, rt: &R) -> Option<Scribe> {
+        self.scribe.lock(rt).take()
+    }
+
+    /// What a loop tells with. None: lines aren't wanted, or each ring is taken.
+    pub fn teller<R: Wait>(&self, rt: &R) -> Option<Teller<'_>> {
+        let popped = self.rings.lock(rt).pop();
+        let ring = popped?;
+        Some(Teller { ring, log: self })
+    }
+
+    /// What is counted, where that is wanted. The thread that counts waits while it is looked at.
+    pub fn numbers<R: Wait>(&self, rt: &R) -> Option<MutexGuard<'_, ProxyNumbers>> {
+        let numbers = self.numbers.as_ref()?;
+        Some(numbers.lock(rt))
+    }
+
+    /// Counts what was left out.
+    pub(crate) fn lose<R: Wait>(&self, rt: &R, lost: Lost) {
+        if let Some(mut numbers) = self.numbers(rt) {
+            numbers.lose(lost);
+        }
+    }
+
+    /// Has their files opened anew. False: no log goes to a file.
+    pub fn reopen<R: Wait>(&self, rt: &R) -> bool {
+        let access = match &self.access {
+            Some(access) => access.sink.reopen(rt),
+            None => false,
+        };
+        let events = match &self.events {
+            Some(events) => events.reopen(rt),
+            None => false,
+        };
+        access || events
+    }
+
+    /// No more clients are taken.
+    pub fn note_stop(&self) {
+        self.stopping.store(true, Ordering::SeqCst);
+    }
+
+    pub(crate) fn is_stopping(&self) -> bool {
+        self.stopping.load(Ordering::SeqCst)
+    }
+
+    /// All loops have ended.
+    pub fn end(&self) {
+        self.over.store(true, Ordering::SeqCst);
+    }
+
+    /// So many lines of exchanges and of events were lost, and their logs say nothing of it.
+    pub(crate) fn note_untold(&self, exchanges: u64, events: u64) {
+        self.untold.store(exchanges, Ordering::SeqCst);
+        self.unsaid.store(events, Ordering::SeqCst);
+    }
+
+    pub(crate) fn is_over(&self) -> bool {
+        self.over.load(Ordering::SeqCst)
+    }
+
+    /// How many exchanges couldn't be told of since it was last asked.
+    pub(crate) fn take_lost(&self) -> u64 {
+        self.lost.swap(0, Ordering::SeqCst)
+    }
+
+    /// Waits until all lines are written, for a while. Answers how many lines of exchanges and how many of events weren't written then, and weren't told of.
+    pub fn close<R: Wait + Clock>(&self, rt: &R) -> (u64, u64) {
+        let access = match &self.access {
+            Some(access) => access.sink.end(rt),
+            None => 0,
+        };
+        let events = match &self.events {
+            Some(events) => events.end(rt),
+            None => 0,
+        };
+        let untold = self.untold.load(Ordering::SeqCst);
+        let unsaid = self.unsaid.load(Ordering::SeqCst);
+        (access.saturating_add(untold), events.saturating_add(unsaid))
+    }
+}
+
+impl Teller<'_> {
+    /// Tells of an exchange that ended. Where its ring is full it is counted, and nobody waits.
+    pub fn tell(&mut self, account: Box<Account>) {
+        if self.ring.push(account).is_err() {
+            self.log.lost.fetch_add(1, Ordering::SeqCst);
+        }
+    }
+}
+
+fn rings_of(
+    alloc: Global,
+    count: usize,
+) -> Result<(Vec<Producer<Box<Account>>>, Ends), AllocError> {
+    let mut rings = Vec::new(alloc);
+    let mut ends = Vec::new(alloc);
+    for _ in 0..count {
+        let (ring, end) = RingBuffer::new(alloc, RING)?;
+        rings.push(ring)?;
+        ends.push(end)?;
+    }
+    Ok((rings, ends))
+}

@@ -1,0 +1,438 @@
+use crate::log::{Access, Ends, Extent, RequestLog};
+use crate::tallies::Tallies;
+use dispatch_log::Entry;
+use grant_board::BoardName;
+use grant_desk::Desk;
+use log_tail::Batch;
+use proxy_numbers::Lost;
+use request_lines::{Account, Dates, Event, Line, Load, push_event, push_line, push_lost};
+use script::Names;
+use std::alloc::{AllocError, Global};
+use std::collections::VecDeque;
+use std::net::SocketAddr;
+use std::sync::Wait;
+use std::thread;
+use std::time::{Clock, Duration, Instant, SystemTime, UNIX_EPOCH};
+use ticket_numbers::{Follower, Numbers};
+
+/// The dispatcher's log is read whenever so many milliseconds have passed.
+const PAUSE: u64 = 10;
+
+/// Lines of so many bytes go on their way at once.
+const BLOCK: usize = 1 << 15;
+
+/// So many entries wait to be read, at most.
+const TAIL: usize = 1 << 17;
+
+/// So many exchanges are told of at once, at most.
+const MOST: usize = 16_384;
+
+/// Of so many requests something is known, at most: where more accounts are lost than that, their numbers are forgotten.
+const MOST_KNOWN: usize = 1 << 17;
+
+/// The thread that writes the logs: what it reads, and what it knows.
+#[derive(Drop)]
+pub struct Scribe {
+    alloc: Global,
+    ends: Ends,
+    accounts: VecDeque<Box<Account>>,
+    batch: Batch,
+    follower: Follower,
+    tallies: Tallies,
+    dates: Dates,
+    start: Instant,
+    text: String,
+    /// Lines of exchanges that were left out and not told of yet.
+    lost: u64,
+    /// The same of lines of events.
+    unsaid: u64,
+    stopping: bool,
+}
+
+/// The wall clock at moment 0, in milliseconds since the Unix epoch; 0 where no clock can be read.
+pub fn base_of<R: Clock>(rt: &R, start: Instant) -> i64 {
+    let passed = start.elapsed(rt).unwrap_or(Duration::from_millis(0));
+    let Ok(now) = SystemTime::now(rt) else {
+        return 0;
+    };
+    let Ok(since) = now.duration_since(UNIX_EPOCH) else {
+        return 0;
+    };
+    i64::try_from(since.saturating_sub(passed).as_millis()).unwrap_or(i64::MAX)
+}
+
+/// Of which proxy is written.
+#[derive(Clone, Copy)]
+pub struct Site<'a> {
+    /// The names of its servers.
+    pub names: &'a Names,
+    /// Where clients come.
+    pub address: Option<SocketAddr>,
+}
+
+impl Scribe {
+    /// With the ends of rings, for servers at which nothing happened.
+    pub(crate) fn new(alloc: Global, ends: Ends, extent: Extent) -> Result<Scribe, AllocError> {
+        Ok(Scribe {
+            alloc,
+            ends,
+            accounts: VecDeque::with_capacity(alloc, MOST)?,
+            batch: Batch::with_room(alloc, TAIL)?,
+            follower: Follower::new(alloc),
+            tallies: Tallies::new(alloc, extent.servers)?,
+            dates: Dates::new(alloc, extent.base),
+            start: extent.start,
+            text: String::new(alloc),
+            lost: 0,
+            unsaid: 0,
+            stopping: false,
+        })
+    }
+
+    /// Writes of all that happens at a desk, until all loops have ended and all is told.
+    pub fn write_all<N: BoardName, R: Clock + Wait>(
+        self,
+        rt: &R,
+        log: &RequestLog,
+        desk: &Desk<N>,
+        site: Site<'_>,
+    ) {
+        let Site { names, address } = site;
+        let mut scribe = self;
+        if desk.follow(rt, scribe.alloc, TAIL).is_err() {
+            return;
+        }
+        scribe.say(rt, log, names, Event::Started);
+        if let Some(address) = address {
+            scribe.say(rt, log, names, Event::Listening(address));
+        }
+        for _ in rt.forever() {
+            let is_last = log.is_over();
+            for _ in rt.forever() {
+                if !scribe.go_on(rt, log, desk, names) {
+                    break;
+                }
+            }
+            if is_last {
+                break;
+            }
+            thread::sleep(rt, Duration::from_millis(PAUSE));
+        }
+        scribe.say(rt, log, names, Event::Stopped);
+        log.note_untold(scribe.lost, scribe.unsaid);
+    }
+
+    // Tells of what ended and what happened since. True: more may be there already.
+    fn go_on<N: BoardName, R: Clock + Wait>(
+        &mut self,
+        rt: &R,
+        log: &RequestLog,
+        desk: &Desk<N>,
+        names: &Names,
+    ) -> bool {
+        let has_more = self.gather();
+        // What is told of an exchange is in the log by now.
+        desk.read_new(rt, &mut self.batch);
+        self.take_in(rt, log, desk, names);
+        self.count_ends(rt, log);
+        self.write_lines(rt, log, names);
+        self.tell_changes(rt, log, names);
+        has_more
+    }
+
+    // Takes the accounts of what ended. True: there are more.
+    fn gather(&mut self) -> bool {
+        let mut has_more = false;
+        for end in self.ends.as_mut_slice() {
+            for _ in 0..MOST {
+                if MOST <= self.accounts.len() {
+                    has_more = true;
+                    break;
+                }
+                match end.pop() {
+                    Ok(account) => {
+                        let _ = self.accounts.push_back(account);
+                    }
+                    Err(_) => break,
+                }
+            }
+        }
+        has_more
+    }
+
+    // What was read of the dispatcher's log becomes known.
+    fn take_in<N: BoardName, R: Clock + Wait>(
+        &mut self,
+        rt: &R,
+        log: &RequestLog,
+        desk: &Desk<N>,
+        names: &Names,
+    ) {
+        let end = self.batch.end;
+        for number in 0..self.batch.entries.len() {
+            if end == Some(number) {
+                self.turn(rt, log, names);
+            }
+            if let Some(entry) = self.batch.entries.get(number).copied() {
+                self.take_entry(rt, log, names, &entry);
+            }
+        }
+        if end == Some(self.batch.entries.len()) {
+            self.turn(rt, log, names);
+        }
+        if let Some(ends) = self.batch.lost {
+            self.forget(rt, log, ends);
+            for _ in 0..ends {
+                self.follower.roll();
+            }
+            self.tallies.set_anew(rt, desk);
+            self.say(rt, log, names, Event::Gap);
+        }
+    }
+
+    // Nothing is known any more of requests that came before; so many windows ended unread.
+    fn forget<R: Wait>(&mut self, rt: &R, log: &RequestLog, ends: u64) {
+        self.follower.forget();
+        if let Some(mut numbers) = log.numbers(rt) {
+            numbers.skip(ends);
+        }
+    }
+
+    fn turn<R: Clock + Wait>(&mut self, rt: &R, log: &RequestLog, names: &Names) {
+        let number = self.follower.window();
+        self.follower.roll();
+        if let Some(mut numbers) = log.numbers(rt) {
+            numbers.roll();
+        }
+        self.say(rt, log, names, Event::Window(number));
+    }
+
+    fn take_entry<R: Clock + Wait>(
+        &mut self,
+        rt: &R,
+        log: &RequestLog,
+        names: &Names,
+        entry: &Entry,
+    ) {
+        self.tallies.note(&self.follower, entry);
+        if let Some(mut numbers) = log.numbers(rt) {
+            numbers.note(&self.follower, entry);
+        }
+        if self.follower.follow(*entry).is_err() {
+            self.forget(rt, log, 0);
+        }
+        if MOST_KNOWN < self.follower.len() {
+            self.follower.forget_first();
+        }
+        match *entry {
+            Entry::Health(server, up) => {
+                let checks = self.tallies.checks(server);
+                self.say(rt, log, names, Event::Health { server, up, checks });
+            }
+            Entry::Limit(_, server, intake) => {
+                self.say(rt, log, names, Event::Limit { server, intake });
+            }
+            _ => {}
+        }
+    }
+
+    // Queues that fill or are empty again, and the end that comes.
+    fn tell_changes<R: Clock + Wait>(&mut self, rt: &R, log: &RequestLog, names: &Names) {
+        if log.events.is_none() {
+            return;
+        }
+        let now = self.now(rt);
+        if let Some((queue, waits)) = self.tallies.take_change(now) {
+            let event = if waits {
+                Event::Fills(queue)
+            } else {
+                Event::Empties(queue)
+            };
+            self.say(rt, log, names, event);
+        }
+        if !self.stopping && log.is_stopping() {
+            self.stopping = true;
+            self.say(rt, log, names, Event::Stopping);
+        }
+    }
+
+    // Counts the exchanges that ended.
+    fn count_ends<R: Wait>(&mut self, rt: &R, log: &RequestLog) {
+        let Some(mut numbers) = log.numbers(rt) else {
+            return;
+        };
+        if log.is_stopping() {
+            numbers.stop();
+        }
+        for account in self.accounts.iter() {
+            numbers.end(account);
+        }
+    }
+
+    fn write_lines<R: Clock + Wait>(&mut self, rt: &R, log: &RequestLog, names: &Names) {
+        let before = self.lost;
+        let untold = log.take_lost();
+        match &log.access {
+            None => self.pass_over(rt),
+            Some(access) => {
+                let unwritten = access.sink.take_lost(rt);
+                self.lost = self.lost.saturating_add(unwritten).saturating_add(untold);
+                self.write_to(rt, access, names);
+            }
+        }
+        log.lose(
+            rt,
+            Lost {
+                lines: self.lost.saturating_sub(before),
+                exchanges: untold,
+                ..Lost::nothing()
+            },
+        );
+        if let Some(access) = &log.access {
+            self.write_lost(rt, access);
+        }
+    }
+
+    // No line is wanted of what ended.
+    fn pass_over<R: Wait>(&mut self, rt: &R) {
+        for _ in rt.forever() {
+            let Some(account) = self.accounts.pop_front() else {
+                break;
+            };
+            if let Some(ticket) = account.ticket {
+                let _ = self.follower.take(ticket);
+            }
+        }
+    }
+
+    fn write_to<R: Clock + Wait>(&mut self, rt: &R, access: &Access, names: &Names) {
+        let mut lines = 0;
+        self.text.clear();
+        for _ in rt.forever() {
+            let Some(account) = self.accounts.pop_front() else {
+                break;
+            };
+            lines = self.add_line(rt, access, names, &account, lines);
+        }
+        self.hand_over(rt, access, lines);
+    }
+
+    // What was written so far of so many lines goes on its way.
+    fn hand_over<R: Wait>(&mut self, rt: &R, access: &Access, lines: u64) {
+        if lines != 0 && !access.sink.add(rt, self.text.as_str(), lines) {
+            self.lost = self.lost.saturating_add(lines);
+        }
+        self.text.clear();
+    }
+
+    // Writes one behind so many lines, and answers how many there are then.
+    fn add_line<R: Wait>(
+        &mut self,
+        rt: &R,
+        access: &Access,
+        names: &Names,
+        account: &Account,
+        lines: u64,
+    ) -> u64 {
+        let numbers = match account.ticket {
+            None => None,
+            Some(ticket) => self.follower.take(ticket),
+        };
+        let load = Load {
+            all: self.tallies.served_by_all(),
+            own: self.tallies.served(account.server),
+        };
+        let told = numbers.as_ref();
+        let line = line_of(account, told, names, load);
+        let made = push_line(
+            self.alloc,
+            &mut self.text,
+            &mut self.dates,
+            access.format,
+            &line,
+        );
+        if made.is_err() {
+            // A part of it may stand there.
+            self.text.clear();
+            self.lost = self.lost.saturating_add(lines).saturating_add(1);
+            return 0;
+        }
+        if self.text.len() < BLOCK {
+            return lines.saturating_add(1);
+        }
+        self.hand_over(rt, access, lines.saturating_add(1));
+        0
+    }
+
+    // Tells how many lines were left out, once others could be written again.
+    fn write_lost<R: Clock + Wait>(&mut self, rt: &R, access: &Access) {
+        if self.lost == 0 || access.sink.is_failing(rt) {
+            return;
+        }
+        let now = self.now(rt);
+        self.text.clear();
+        let made = push_lost(
+            &mut self.text,
+            &mut self.dates,
+            access.format,
+            now,
+            self.lost,
+        );
+        if made.is_ok() && access.sink.add_tally(rt, self.text.as_str(), self.lost) {
+            self.lost = 0;
+        }
+    }
+
+    fn say<R: Clock + Wait>(&mut self, rt: &R, log: &RequestLog, names: &Names, event: Event) {
+        let Some(sink) = &log.events else {
+            return;
+        };
+        let mut missed = sink.take_lost(rt);
+        self.unsaid = self.unsaid.saturating_add(missed);
+        if self.unsaid != 0
+            && !sink.is_failing(rt)
+            && self.makes(rt, names, Event::Lost(self.unsaid))
+        {
+            if sink.add_tally(rt, self.text.as_str(), self.unsaid) {
+                self.unsaid = 0;
+            }
+        }
+        if !self.makes(rt, names, event) || !sink.add(rt, self.text.as_str(), 1) {
+            self.unsaid = self.unsaid.saturating_add(1);
+            missed = missed.saturating_add(1);
+        }
+        log.lose(
+            rt,
+            Lost {
+                events: missed,
+                ..Lost::nothing()
+            },
+        );
+    }
+
+    // Makes the line of an event; false where there is no memory for it.
+    fn makes<R: Clock>(&mut self, rt: &R, names: &Names, event: Event) -> bool {
+        let now = self.now(rt);
+        self.text.clear();
+        push_event(&mut self.text, &mut self.dates, names, now, event).is_ok()
+    }
+
+    fn now<R: Clock>(&self, rt: &R) -> u64 {
+        let passed = self.start.elapsed(rt).unwrap_or(Duration::from_millis(0));
+        u64::try_from(passed.as_millis()).unwrap_or(u64::MAX)
+    }
+}
+
+fn line_of<'x>(
+    account: &'x Account,
+    numbers: Option<&'x Numbers>,
+    names: &'x Names,
+    load: Load,
+) -> Line<'x> {
+    Line {
+        account,
+        numbers,
+        names,
+        load,
+    }
+}

@@ -9,8 +9,6 @@ mod client;
 mod page;
 mod question;
 mod reception;
-#[cfg(test)]
-mod tests;
 
 pub use admin::Admin;
 pub use page::{Answers, Page, Status, push_answer};

@@ -4,8 +4,6 @@
 mod answering;
 mod page;
 mod paths;
-#[cfg(test)]
-mod tests;
 
 pub use answering::{Health, Pages, Told};
 pub use paths::{Wanted, wanted_at};

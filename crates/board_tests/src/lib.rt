@@ -6,4 +6,6 @@ mod assertions;
 #[cfg(test)]
 mod boards;
 #[cfg(test)]
+mod lending;
+#[cfg(test)]
 mod seats;

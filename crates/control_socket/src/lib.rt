@@ -12,8 +12,6 @@ mod inbox;
 mod reception;
 mod scanning;
 mod steering;
-#[cfg(test)]
-mod tests;
 
 pub use asking::ask;
 pub use binding::{BindFault, bound_at};

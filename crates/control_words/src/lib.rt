@@ -6,8 +6,6 @@ mod haproxy;
 mod json;
 mod pieces;
 mod state;
-#[cfg(test)]
-mod tests;
 mod wishes;
 mod word;
 

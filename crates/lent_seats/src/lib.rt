@@ -4,8 +4,6 @@
 mod counted;
 mod lent;
 mod seats;
-#[cfg(test)]
-mod tests;
 
 pub use counted::{Counted, Out};
 pub use lent::{Lent, Taken};

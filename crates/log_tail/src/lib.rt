@@ -2,7 +2,5 @@
 #![tactic(auto)]
 
 mod tail;
-#[cfg(test)]
-mod tests;
 
 pub use tail::{Batch, Tail};

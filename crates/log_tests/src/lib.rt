@@ -17,4 +17,6 @@ mod logs;
 #[cfg(test)]
 mod readable;
 #[cfg(test)]
+mod tails;
+#[cfg(test)]
 mod texts;

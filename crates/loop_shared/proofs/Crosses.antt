@@ -1,4 +1,4 @@
--- What threads share may be lent to them.
+-- What threads share may be lent to them; what is known of its parts is handed on.
 use denote.RattleType.{RattleType}
 use denote.Ref.{NamedLft}
 use denote.Param.Send.{IsSync, sendable}
@@ -12,14 +12,14 @@ use Rattle.loop_shared.proofs.parked.Parked.TheSendSync as parked
 use Rattle.loop_shared.proofs.mail.Mailbox.TheSendSync as mailbox
 use Rattle.loop_shared.proofs.outside.Outside.TheSendSync as outside
 use Rattle.loop_shared.specs.contracts.shared.Shared as shared
-use Rattle.relay_workers.proofs.Crosses.{proxy_sync}
-use Rattle.socket_gate.proofs.front.Front.TheSendSync as front
+pub use Rattle.relay_workers.proofs.Crosses.{proxy_sync}
+pub use Rattle.socket_gate.proofs.front.Front.TheSendSync.{the_sync as front_sync}
 
 pub shared_sync : (a : NamedLft) (N : RattleType) (g : board_name.Ghosts N.Denot) (l : ledger_name.Ghosts N.Denot) → IsSync (shared.the_row a N g l)
 shared_sync a N g l = declared_sync (shared.the_type a N g l) (
   search (proxy_sync N g, crosses, sendable) depth 60 fits 20000,
   (
-    search (front.the_sync, mutex.the_sync, crosses, sendable) depth 60 fits 20000,
+    search (front_sync, mutex.the_sync, crosses, sendable) depth 60 fits 20000,
     (
       search (parked.the_send, mutex.the_sync, crosses, sendable) depth 60 fits 20000,
       (

@@ -40,3 +40,7 @@ pub use spots::empty_spots;
 pub use steering::run_controls;
 pub use watching::{watch, watch_anew};
 pub use windows::run_windows;
+
+// What loops need of the layers below comes with this crate.
+pub use relay_workers::{Gate, Proxy, arrive_as, join_all, split_off};
+pub use socket_gate::{Clients, Front, SocketGate};

@@ -5,5 +5,5 @@ mod fault;
 mod running;
 
 pub use fault::{RunFault, status_of};
-pub use proxy_service::{Doors, RunOptions, ServeFault, serve_at};
+pub use proxy_service::{Doors, Logs, RunOptions, ServeFault, serve_at};
 pub use running::run;

@@ -1,6 +1,5 @@
 use grant_board::BoardName;
-use relay_loops::Site;
-use relay_workers::Proxy;
+use relay_loops::{Proxy, Site};
 
 /// What lends a proxy to threads, with what its gates share. Of a type parameter it is known by a bound alone that it may be shared, so that it is shown of `Site`
 /// once.

@@ -20,3 +20,6 @@ pub use opening::{Doors, RunOptions};
 pub use record::Record;
 pub use recording::serve_recorded;
 pub use serving::{listen_and_serve, serve_at};
+
+// A run's options hold these.
+pub use request_log::Logs;

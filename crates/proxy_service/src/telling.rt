@@ -3,7 +3,7 @@
 use crate::fault::ServeFault;
 use grant_board::BoardName;
 use line_sink::Sink;
-use relay_workers::Proxy;
+use relay_loops::Proxy;
 use std::sync::ledger::Ledger;
 use std::sync::{Arc, Wait};
 use window_lines::end_text;

@@ -2,8 +2,8 @@
 
 use crate::lending::Lends;
 use grant_board::BoardName;
+use relay_loops::Front;
 use request_log::{RequestLog, Site};
-use socket_gate::Front;
 use std::sync::Wait;
 use std::sync::ledger::Ledger;
 use std::thread::{JoinHandle, Scope, Threads};

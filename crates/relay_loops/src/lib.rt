@@ -5,3 +5,6 @@ mod parts;
 mod serving;
 
 pub use serving::{LoopsFault, SeatSource, Site, Sizes, serve};
+
+// Who makes a `Site` makes these.
+pub use event_loops::{Clients, Front, Proxy};

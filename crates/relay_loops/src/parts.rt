@@ -3,11 +3,10 @@
 ghost use Rattle.std.specs.Prelude.{◌≡◌, vec_len, IfOk};
 
 use crate::serving::Sizes;
-use event_loops::{Unbegun, loops_of};
+use event_loops::{
+    Front, Outside, Proxy, SharedParts, Unbegun, empty_spots, loops_of, most_connections, polls_of,
+};
 use grant_board::BoardName;
-use loop_shared::{Outside, SharedParts, empty_spots, most_connections, polls_of};
-use relay_workers::Proxy;
-use socket_gate::Front;
 use std::alloc::AllocError;
 use std::net::{Net, TcpListener, TcpStream};
 use std::sync::ledger::Ledger;

@@ -4,11 +4,8 @@ ghost use Rattle.std.specs.Prelude.{◌≡◌, ◌≤◌, ◌+◌, ◌^◌, true
 ghost use Rattle.relay_loops.specs.Returns.{ReturnsSeats};
 
 use crate::parts::parts_of;
-use event_loops::run_all;
+use event_loops::{Front, Proxy, Shared, join_all, run_all, split_off};
 use grant_board::{BoardName, RelaySeat};
-use loop_shared::Shared;
-use relay_workers::{Proxy, join_all, split_off};
-use socket_gate::Front;
 use std::alloc::AllocError;
 use std::net::{Net, TcpListener, TcpStream};
 use std::sync::Wait;

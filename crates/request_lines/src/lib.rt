@@ -7,8 +7,6 @@ mod events;
 mod fields;
 mod json;
 mod letters;
-#[cfg(test)]
-mod tests;
 mod text;
 
 pub use account::{Account, Asked, Moments};

@@ -1,10 +1,8 @@
-//! Tests of workers, of gates on sockets and of what `run` does: a crate of their own, so that what they test isn't proved once more with them.
+//! Tests of what `run` does: a crate of their own, so that what they test isn't proved once more with them.
 #![tactic(auto)]
 
 #[cfg(test)]
 mod echoes;
-#[cfg(test)]
-mod gates;
 #[cfg(test)]
 mod hanging;
 #[cfg(test)]
@@ -16,7 +14,3 @@ mod sizes;
 mod stories;
 #[cfg(test)]
 mod texts;
-#[cfg(test)]
-mod windows;
-#[cfg(test)]
-mod workers;

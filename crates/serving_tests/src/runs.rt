@@ -1,7 +1,6 @@
 use crate::hanging::Hanging;
 use proxy_config::read;
-use proxy_run::{Doors, RunOptions, serve_at};
-use request_log::Logs;
+use proxy_run::{Doors, Logs, RunOptions, serve_at};
 use run_sizes::Sizes;
 use std::alloc::Global;
 use std::io::{Read, Write};

@@ -1,23 +1,11 @@
-//! What is printed of faults.
+//! What is printed of faults of `run`.
 
 use proxy_config::{ConfigFault, FaultCause};
 use proxy_run::{RunFault, ServeFault};
-use relay_workers::Stopped;
 use std::alloc::Global;
 use std::fmt::Display;
 use std::net::{Ipv4Addr, SocketAddrV4};
 use std::process::Abort;
-use window_lines::TellFault;
-
-static OF_WORKERS: [(Stopped, &str); 2] = [
-    (Stopped::NoMemory, "no memory"),
-    (Stopped::PausesSpent, "turns spent"),
-];
-
-static OF_WINDOWS: [(TellFault, &str); 2] = [
-    (TellFault::NoMemory, "no memory"),
-    (TellFault::Write, "write fault"),
-];
 
 static OF_SERVING: [(ServeFault, &str); 4] = [
     (ServeFault::NoMemory, "no memory"),
@@ -54,8 +42,6 @@ fn say<T: Display>(rt: &impl Abort, alloc: Global, rows: &[(T, &str)]) {
 
 #[test]
 fn each_fault_says_what_it_is(rt: HostRuntime) {
-    say(&rt, rt.alloc(), &OF_WORKERS);
-    say(&rt, rt.alloc(), &OF_WINDOWS);
     say(&rt, rt.alloc(), &OF_SERVING);
     say(&rt, rt.alloc(), &OF_RUNS);
     let unheard = ServeFault::Listen {

@@ -3,8 +3,6 @@
 
 mod follower;
 mod numbers;
-#[cfg(test)]
-mod tests;
 
 pub use follower::Follower;
 pub use numbers::{Given, Numbers, Slot, Stay};

@@ -3,8 +3,6 @@
 
 mod handed;
 mod printer;
-#[cfg(test)]
-mod tests;
 
 pub use handed::{Handed, Numbered};
 pub use printer::{WindowPrinter, lines_of};

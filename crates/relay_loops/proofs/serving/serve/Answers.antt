@@ -1,6 +1,6 @@
 use denote.Param.{param}
 use mir.Syntax.{named}
-use Rattle.loop_shared.proofs.Crosses.{shared_sync}
+use Rattle.event_loops.proofs.Crosses.{shared_sync}
 use Rattle.relay_loops.proofs.serving.serve.Goals as goal
 
 pub run_all-requires-sync-S : goal.run_all-requires-sync-S

@@ -1,4 +1,4 @@
-use crate::{
+use control_words::{
     Command, Form, Misfit, ProxyState, ServerState, Wishes, command_of, json_of,
     push_servers_state, push_stat, push_state,
 };

@@ -1,5 +1,5 @@
-use crate::{Batch, Tail};
 use dispatch_log::Entry;
+use log_tail::{Batch, Tail};
 use std::process::Abort;
 
 fn read<R: Abort>(rt: &R, tail: &mut Tail, batch: &mut Batch) {

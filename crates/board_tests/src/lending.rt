@@ -1,7 +1,7 @@
 ghost use Rattle.std.specs.Prelude.{◌≡◌, ◌<◌, ◌≤◌, []};
 
-use crate::Seats;
 use grant_board::{Board, BoardName, RelaySeat};
+use lent_seats::Seats;
 use pass_seat::Idle;
 use std::alloc::{AllocError, Global};
 use std::marker::Brand;

@@ -1,4 +1,4 @@
-use crate::{Answers, Asked, Method, Page, Question, Status, asked_of, push_answer};
+use admin_http::{Answers, Asked, Method, Page, Question, Status, asked_of, push_answer};
 use std::alloc::{AllocError, Global};
 
 #[test]

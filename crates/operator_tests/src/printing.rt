@@ -1,4 +1,3 @@
-use crate::{Handed, WindowPrinter};
 use due_key::Moment;
 use late_cert::Reports;
 use reporting_core::{ServerLine, Window};
@@ -8,6 +7,7 @@ use std::process::Abort;
 use std::sync::Wait;
 use std::thread;
 use std::thread::Threads;
+use window_printer::{Handed, WindowPrinter};
 
 // A window in which the only server was given so many requests when they came.
 fn window(rt: &impl Abort, alloc: Global, direct: usize) -> Window {

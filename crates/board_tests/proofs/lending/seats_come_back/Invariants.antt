@@ -1,4 +1,4 @@
-use Rattle.lent_seats.proofs.tests.seats_come_back.Given as goal
+use Rattle.board_tests.proofs.lending.seats_come_back.Given as goal
 
 -- the board that this test opened, and its ledger
 abbrev pub ghosts-lend_two-N-BoardName : goal.ghosts-lend_two-N-BoardName

@@ -1,5 +1,5 @@
-use crate::{Health, Pages, Told};
 use admin_http::{Answers, Method, Question, Status};
+use admin_pages::{Health, Pages, Told};
 use std::alloc::{AllocError, Global};
 use std::cell::Cell;
 

@@ -1,5 +1,5 @@
-use crate::{Account, Asked, Dates, Format, Line, Load, push_line};
 use due_key::{Class, Moment, Offset};
+use request_lines::{Account, Asked, Dates, Format, Line, Load, push_line};
 use script::Names;
 use std::process::Abort;
 

@@ -1,7 +1,7 @@
-use crate::{Follower, Numbers};
 use dispatch_log::{Arrival, Entry, Queue};
 use due_key::{Class, Due, Moment, Offset};
 use std::process::Abort;
+use ticket_numbers::{Follower, Numbers};
 use verdict::Cause;
 
 fn moment(rt: &impl Abort, number: u64) -> Moment {

@@ -1,4 +1,6 @@
-use crate::{Answer, Awaited, Controls, Inbox, Scan, Scanned, Steers, Tended, attend, bound_at};
+use control_socket::{
+    Answer, Awaited, Controls, Inbox, Scan, Scanned, Steers, Tended, attend, bound_at,
+};
 use std::alloc::{AllocError, Global};
 use std::fs;
 use std::io::{Read, Write};

@@ -1,0 +1,31 @@
+//! What is printed of faults of workers and of those who print windows.
+
+use relay_workers::Stopped;
+use std::alloc::Global;
+use std::fmt::Display;
+use std::process::Abort;
+use window_lines::TellFault;
+
+static OF_WORKERS: [(Stopped, &str); 2] = [
+    (Stopped::NoMemory, "no memory"),
+    (Stopped::PausesSpent, "turns spent"),
+];
+
+static OF_WINDOWS: [(TellFault, &str); 2] = [
+    (TellFault::NoMemory, "no memory"),
+    (TellFault::Write, "write fault"),
+];
+
+// Each has its text.
+fn say<T: Display>(rt: &impl Abort, alloc: Global, rows: &[(T, &str)]) {
+    for (it, text) in rows {
+        let said = it.to_string(alloc).expect(rt, "memory");
+        assert_eq!(rt; said.as_str(), *text);
+    }
+}
+
+#[test]
+fn each_fault_says_what_it_is(rt: HostRuntime) {
+    say(&rt, rt.alloc(), &OF_WORKERS);
+    say(&rt, rt.alloc(), &OF_WINDOWS);
+}

@@ -567,7 +567,7 @@ def events_of_a_server_and_a_queue():
     with open(EVENTS) as file:
         words = [line.split(" ", 2)[2].strip() for line in file]
     equal(words[:2], ["started", f"listening 127.0.0.1:{PROXY}"])
-    assert "server d down: 2 checks failed in a row" in words, words
+    assert "server d down: 2 checks failed in a row, the last: connection refused" in words, words
     assert "queue a fills" in words, words
     equal(words[-1], "stopped")
 

@@ -6,6 +6,19 @@ use script::Names;
 use std::alloc::AllocError;
 use std::net::SocketAddr;
 
+/// How a check failed. A check is a connect.
+#[derive(Clone, Copy, Debug, PartialEq, Eq)]
+pub enum CheckFailure {
+    /// The last look-up of the server's name found no address.
+    NoAddress,
+    /// Nobody listens there.
+    Refused,
+    /// There was no connection within the time of a check.
+    Late,
+    /// The system says otherwise why there is none.
+    Failed,
+}
+
 /// What happened.
 #[derive(Clone, Copy, Debug, PartialEq, Eq)]
 pub enum Event {
@@ -13,11 +26,12 @@ pub enum Event {
     Started,
     /// Clients may come at this address.
     Listening(SocketAddr),
-    /// A check decided that a server is up or down from now on: so many in a row answered, or didn't.
+    /// A check decided that a server is up or down from now on: so many in a row answered, or didn't, and how the last of these failed, where that is known.
     Health {
         server: usize,
         up: bool,
         checks: u32,
+        failure: Option<CheckFailure>,
     },
     /// Requests wait in a queue in which none did.
     Fills(Queue),
@@ -58,7 +72,21 @@ fn push_words(text: &mut String, names: &Names, event: Event) -> Result<(), Allo
     match event {
         Event::Started => text.push_str("started"),
         Event::Listening(address) => write!(text, "listening {address}"),
-        Event::Health { server, up, checks } => push_health(text, names.of(server), up, checks),
+        Event::Health {
+            server,
+            up: true,
+            checks,
+            ..
+        } => {
+            let name = names.of(server);
+            write!(text, "server {name} up: {checks} checks answered in a row")
+        }
+        Event::Health {
+            server,
+            up: false,
+            checks,
+            failure,
+        } => push_down(text, names.of(server), checks, failure),
         Event::Fills(queue) => write!(text, "queue {} fills", name_of(names, queue)),
         Event::Empties(queue) => write!(text, "queue {} is empty", name_of(names, queue)),
         Event::Limit { server, intake } => match intake {
@@ -73,11 +101,25 @@ fn push_words(text: &mut String, names: &Names, event: Event) -> Result<(), Allo
     }
 }
 
-fn push_health(text: &mut String, name: &str, up: bool, checks: u32) -> Result<(), AllocError> {
-    if up {
-        write!(text, "server {name} up: {checks} checks answered in a row")
-    } else {
-        write!(text, "server {name} down: {checks} checks failed in a row")
+fn push_down(
+    text: &mut String,
+    name: &str,
+    checks: u32,
+    failure: Option<CheckFailure>,
+) -> Result<(), AllocError> {
+    write!(text, "server {name} down: {checks} checks failed in a row")?;
+    match failure {
+        None => Ok(()),
+        Some(failure) => write!(text, ", the last: {}", words_of(failure)),
+    }
+}
+
+fn words_of(failure: CheckFailure) -> &'static str {
+    match failure {
+        CheckFailure::NoAddress => "its name has no address",
+        CheckFailure::Refused => "connection refused",
+        CheckFailure::Late => "no connection in time",
+        CheckFailure::Failed => "no connection",
     }
 }
 

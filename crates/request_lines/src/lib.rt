@@ -11,7 +11,7 @@ mod text;
 
 pub use account::{Account, Asked, Moments};
 pub use dates::Dates;
-pub use events::{Event, push_event};
+pub use events::{CheckFailure, Event, push_event};
 pub use fields::{Line, Load};
 pub use json::push_json;
 pub use letters::{By, During, Ended};

@@ -9,4 +9,5 @@ mod tallies;
 mod tests;
 
 pub use log::{Access, Extent, Logs, RequestLog, Teller};
+pub use request_lines::CheckFailure;
 pub use scribe::{Scribe, Site, base_of};

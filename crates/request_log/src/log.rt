@@ -1,7 +1,7 @@
 use crate::scribe::Scribe;
 use line_sink::Sink;
 use proxy_numbers::{Lost, ProxyNumbers};
-use request_lines::{Account, Format};
+use request_lines::{Account, CheckFailure, Format};
 use rtrb::{Consumer, Producer, RingBuffer};
 use std::alloc::{AllocError, Global};
 use std::sync::atomic::{AtomicBool, AtomicU64, Ordering};
@@ -51,6 +51,8 @@ pub struct RequestLog {
     /// Lines of exchanges and of events that were lost, and not told of to the end.
     untold: AtomicU64,
     unsaid: AtomicU64,
+    /// How each server's last check failed, where one did.
+    failures: Mutex<Vec<Option<CheckFailure>>>,
     stopping: AtomicBool,
     over: AtomicBool,
 }
@@ -84,6 +86,10 @@ impl RequestLog {
         let count = if has_rings { extent.loops } else { 0 };
         let (rings, ends) = rings_of(alloc, count)?;
         let scribe = Scribe::new(alloc, ends, extent)?;
+        let mut failures = Vec::with_capacity(alloc, extent.servers)?;
+        for _ in 0..extent.servers {
+            failures.push(None)?;
+        }
         Ok(Some(RequestLog {
             access,
             events,
@@ -93,6 +99,7 @@ impl RequestLog {
             lost: AtomicU64::new(0),
             untold: AtomicU64::new(0),
             unsaid: AtomicU64::new(0),
+            failures: Mutex::new(failures),
             stopping: AtomicBool::new(false),
             over: AtomicBool::new(false),
         }))
@@ -134,6 +141,20 @@ impl RequestLog {
             None => false,
         };
         access || events
+    }
+
+    /// A check of a server failed.
+    pub fn note_failure<R: Wait>(&self, rt: &R, server: usize, failure: CheckFailure) {
+        let mut failures = self.failures.lock(rt);
+        if let Some(last) = failures.get_mut(server) {
+            *last = Some(failure);
+        }
+    }
+
+    /// How the last check of a server failed that did.
+    pub(crate) fn failure_of<R: Wait>(&self, rt: &R, server: usize) -> Option<CheckFailure> {
+        let failures = self.failures.lock(rt);
+        failures.get(server).copied().flatten()
     }
 
     /// No more clients are taken.

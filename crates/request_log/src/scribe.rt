@@ -227,7 +227,14 @@ impl Scribe {
         match *entry {
             Entry::Health(server, up) => {
                 let checks = self.tallies.checks(server);
-                self.say(rt, log, names, Event::Health { server, up, checks });
+                let failure = log.failure_of(rt, server);
+                let event = Event::Health {
+                    server,
+                    up,
+                    checks,
+                    failure,
+                };
+                self.say(rt, log, names, event);
             }
             Entry::Limit(_, server, intake) => {
                 self.say(rt, log, names, Event::Limit { server, intake });

@@ -1,4 +1,4 @@
-ghost use Rattle.std.specs.Prelude.{◌≡◌, ◌≤◌, ℕ, IfOk, length};
+ghost use Rattle.std.specs.Prelude.{◌≡◌, ◌≤◌, ℕ, IfOk, false, length};
 ghost use Rattle.place_set.specs.Sets.{Has};
 ghost use Rattle.relay_http.specs.States.{Serves};
 ghost use Rattle.relay_workers.specs.Windows.{HasEnded};
@@ -13,6 +13,7 @@ use grant_board::Pass;
 use place_set::PlaceSet;
 use relay_workers::Gate;
 use reporting_core::Window;
+use request_log::CheckFailure;
 use std::alloc::{AllocError, Global};
 use std::net::{Net, SocketAddr, TcpListener, TcpStream};
 use std::os::fd::AsRawFd;
@@ -114,22 +115,32 @@ impl<'a, R: Net<Listener = TcpListener, Stream = TcpStream> + Clock> SocketGate<
 }
 
 impl<'a, R: Net<Listener = TcpListener, Stream = TcpStream> + Clock + Wait> SocketGate<'a, R> {
-    // The check of a server that runs, or else one that begins. None: there is no connection to be had, or its name's last look-up failed.
-    fn take_probe(&mut self, server: usize, now: Moment) -> Option<Probe> {
+    // The check of a server that runs, or else one that begins.
+    fn take_probe(&mut self, server: usize, now: Moment) -> Result<Probe, CheckFailure> {
         if let Some(place) = self.probes.get_mut(server) {
             if let Some(probe) = place.take() {
-                return Some(probe);
+                return Ok(probe);
             }
         }
         let config = self.front.config;
-        let it = config.servers.as_slice().get(server)?;
-        let address = self.address_of(server);
-        Probe::begin(
-            self.rt,
-            address?,
-            now,
-            patience(config.connect_timeout, it.check),
-        )
+        let Some(it) = config.servers.as_slice().get(server) else {
+            return Err(CheckFailure::NoAddress);
+        };
+        let patience = patience(config.connect_timeout, it.check);
+        match self.address_of(server) {
+            Some(address) => Probe::begin(self.rt, address, now, patience),
+            None => Err(CheckFailure::NoAddress),
+        }
+    }
+
+    // Who writes of events is told how it failed. False.
+    fn fails(&self, server: usize, failure: CheckFailure) -> bool
+        ensures { result ≡ false }
+    {
+        if let Some(log) = self.front.log {
+            log.note_failure(self.rt, server, failure);
+        }
+        false
     }
 
     // A server's address by the last look-up of its name, which is looked up once more for the next check.
@@ -175,16 +186,20 @@ impl<'a, R: Net<Listener = TcpListener, Stream = TcpStream> + Clock + Wait> Gate
 
     fn probe(&mut self, server: usize) -> Option<bool> {
         let now = self.now();
-        let Some(probe) = self.take_probe(server, now) else {
-            return Some(false);
+        let probe = match self.take_probe(server, now) {
+            Ok(probe) => probe,
+            Err(failure) => return Some(self.fails(server, failure)),
         };
-        let ended = probe.ended(now);
-        if ended.is_none() {
-            if let Some(place) = self.probes.get_mut(server) {
-                *place = Some(probe);
+        match probe.ended(now) {
+            Some(Ok(())) => Some(true),
+            Some(Err(failure)) => Some(self.fails(server, failure)),
+            None => {
+                if let Some(place) = self.probes.get_mut(server) {
+                    *place = Some(probe);
+                }
+                None
             }
         }
-        ended
     }
 
     fn gone(&mut self, client: &mut TcpStream) -> bool {

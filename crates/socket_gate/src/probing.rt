@@ -1,6 +1,6 @@
 //! Checks of servers, each a connection that is begun and looked at later.
 
-ghost use Rattle.std.specs.Prelude.{◌≡◌, ◌≢◌, IfSome, IfNone};
+ghost use Rattle.std.specs.Prelude.{◌≡◌, ◌≢◌, IfOk, IfSome, IfNone};
 ghost use Rattle.socket_gate.specs.Waits.{left};
 
 use crate::leaving::{has_failed, told_of};
@@ -8,6 +8,8 @@ use crate::waits::is_over;
 use due_key::Moment;
 use libc::net::POLLOUT;
 use mio::net::TcpStream;
+use request_log::CheckFailure;
+use std::io::{self, ErrorKind};
 use std::net::{Net, SocketAddr};
 use std::os::fd::AsRawFd;
 
@@ -21,34 +23,55 @@ pub(crate) struct Probe {
 }
 
 impl Probe {
-    /// Begins one, without waiting. None: there is no connection to be had.
+    /// Begins one, without waiting. It may fail at once.
     pub(crate) fn begin<R: Net>(
         rt: &R,
         address: SocketAddr,
         since: Moment,
         patience: Option<u64>,
-    ) -> Option<Probe>
-        ensures { IfSome result (λ probe. (probe.since ≡ since) × (probe.patience ≡ patience)) }
+    ) -> Result<Probe, CheckFailure>
+        ensures { IfOk result (λ probe. (probe.since ≡ since) × (probe.patience ≡ patience)) }
     {
-        let stream = TcpStream::connect(rt, address).ok()?;
-        Some(Probe {
-            stream,
-            since,
-            patience,
-        })
+        match TcpStream::connect(rt, address) {
+            Err(error) => Err(failure_of(&error)),
+            Ok(stream) => Ok(Probe {
+                stream,
+                since,
+                patience,
+            }),
+        }
     }
 
     /// How it ended. None: it isn't over.
-    pub(crate) fn ended(&self, now: Moment) -> Option<bool>
+    pub(crate) fn ended(&self, now: Moment) -> Option<Result<(), CheckFailure>>
         ensures { IfNone result (IfSome self.now.patience (λ millis. left self.now.since millis now ≢ 0)) }
     {
         let told = told_of(self.stream.as_raw_fd(), POLLOUT);
+        if has_failed(told) {
+            return Some(Err(self.failure()));
+        }
         if told != 0 {
-            return Some(!has_failed(told));
+            return Some(Ok(()));
         }
         match self.patience {
-            Some(millis) if is_over(self.since, millis, now) => Some(false),
+            Some(millis) if is_over(self.since, millis, now) => Some(Err(CheckFailure::Late)),
             _ => None,
         }
+    }
+
+    // What the system says of a connection that failed.
+    fn failure(&self) -> CheckFailure {
+        match self.stream.take_error() {
+            Ok(Some(error)) => failure_of(&error),
+            _ => CheckFailure::Failed,
+        }
+    }
+}
+
+fn failure_of(error: &io::Error) -> CheckFailure {
+    match error.kind() {
+        ErrorKind::ConnectionRefused => CheckFailure::Refused,
+        ErrorKind::TimedOut => CheckFailure::Late,
+        _ => CheckFailure::Failed,
     }
 }

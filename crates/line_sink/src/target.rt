@@ -3,7 +3,7 @@
 ghost use Rattle.std.specs.Prelude.{◌≤◌, length};
 
 use std::fs::{OpenFile, OpenOptions};
-use std::io::{ErrorKind, Write};
+use std::io::{ErrorKind, Read, Seek, SeekFrom, Write};
 use std::os::unix::fs::FileTypeExt;
 use std::rt::Files;
 use std::{fs, io};
@@ -65,11 +65,8 @@ impl<R: Files> Target<R> {
             Way::Errors => Target::Errors,
             Way::File(path) => {
                 let file = open(rt, path.as_str()).ok();
-                Target::File(Appended {
-                    path,
-                    file,
-                    torn: false,
-                })
+                let torn = ends_amid_a_line(rt, path.as_str());
+                Target::File(Appended { path, file, torn })
             }
         }
     }
@@ -79,7 +76,7 @@ impl<R: Files> Target<R> {
         if let Target::File(appended) = self {
             let file = open(rt, appended.path.as_str())?;
             appended.file = Some(file);
-            appended.torn = false;
+            appended.torn = ends_amid_a_line(rt, appended.path.as_str());
         }
         Ok(())
     }
@@ -171,6 +168,30 @@ fn open<R: Files>(rt: &R, path: &str) -> io::Result<R::File> {
     let mut options = OpenOptions::new();
     let _ = options.append(true).create(!is_pipe).read(is_pipe);
     options.open(rt, path)
+}
+
+// Whether the last byte of a file ends no line: whoever wrote it before may have been cut off.
+fn ends_amid_a_line<R: Files>(rt: &R, path: &str) -> bool {
+    match last_byte(rt, path) {
+        Ok(Some(last)) => last != b'\n',
+        Ok(None) | Err(_) => false,
+    }
+}
+
+// The last byte of a file. None: it is empty, or no file that has an end.
+fn last_byte<R: Files>(rt: &R, path: &str) -> io::Result<Option<u8>> {
+    let metadata = fs::metadata(rt, path)?;
+    if !metadata.is_file() || metadata.len() == 0 {
+        return Ok(None);
+    }
+    let mut options = OpenOptions::new();
+    let mut file = options.read(true).open(rt, path)?;
+    let _ = file.seek(SeekFrom::End(-1))?;
+    let mut last = [0];
+    match file.read(&mut last)? {
+        0 => Ok(None),
+        _ => Ok(Some(last[0])),
+    }
 }
 
 // Prints lines piece by piece, and answers how many bytes of them were printed.

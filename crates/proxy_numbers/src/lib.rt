@@ -15,8 +15,6 @@ mod queued;
 mod server;
 mod sizes;
 mod tally;
-#[cfg(test)]
-mod tests;
 
 pub use families::push_metrics;
 pub use json::state_of;

@@ -14,8 +14,8 @@ use std::os::unix::net::UnixStream;
 use std::sync::Wait;
 use std::time::{Clock, Duration, Instant};
 
-/// So many clients there are at once; others wait until one leaves.
-const MOST_CLIENTS: usize = 16;
+/// So many clients there are at once, those that wait for an answer among them; others wait until one leaves.
+const MOST_CLIENTS: usize = 32;
 
 pub(crate) const LISTENER: usize = MOST_CLIENTS;
 

@@ -4,8 +4,9 @@ ghost use Rattle.std.specs.Prelude.{◌≡◌, ◌-◌, ◌/◌, max};
 
 use libc::types::rlimit;
 
-/// What a process has beside its clients and servers, at most: its streams, the listener, and a check of each server.
-const OWN: u64 = 96;
+/// What a process has beside its clients and servers, at most: its streams, the listener, a check of each server, its logs, and operators' connections: 32 for
+/// steering and 16 for numbers.
+const OWN: u64 = 128;
 
 /// What a loop has: its poll, that poll's copy, and its mailbox.
 const EACH_LOOP: u64 = 3;

@@ -161,15 +161,17 @@ class Old:
                     port += 1
             elif words[0] == "server" and kind in ("backend", "listen"):
                 if not any(label.startswith("server ") and not label.startswith("server ..") for label in labels):
-                    made.append(f"    server {words[1]} 127.0.0.1:{self.servers[name, words[1]]} {' '.join(self.settings(words[3:], [] if self.is_spare(name) else labels))}")
+                    made.append(f"    server {words[1]} 127.0.0.1:{self.servers[name, words[1]]} {' '.join(self.settings(words[3:], labels, self.is_spare(name)))}")
             elif words[0] == "balance" and labels:
                 made.append("    balance leastconn")
             elif words[0] == "use_backend" or not labels:
                 made.append(line)
         return "\n".join(made) + "\n", asked
 
-    def settings(self, words, labels):
-        """Settings of a server; one of reserve takes what is bound to it alone, where that was told."""
+    def settings(self, words, labels, spare):
+        """Settings of a server; one of reserve takes what is bound to it alone, or its part where there are no others, where that was told."""
+        if spare:
+            return [word for word in words if word != "backup"]
         if "server .. backup" not in labels:
             return words
         at = words.index("weight") if "weight" in words else len(words)
@@ -297,13 +299,7 @@ class Comparison:
         kept = [at for at, (row, _) in enumerate(olds) if row["backend"] == back.lower()]
         self.count("requests", 2 * len(kept))
         found = self.differing("HAProxy", asked, olds, news, kept)
-        found += self.differing("dueproxy", asked, olds, owns, [at for at in kept if asked[at][3]])
-        if old.is_spare(back):
-            # HAProxy takes the first of them alone, and `convert` doesn't say that the others take their part here.
-            kinds = [row for row in found if ": servers" not in row]
-            self.count("not told: servers that are backup alone", len(found) > len(kinds))
-            return kinds
-        return found
+        return found + self.differing("dueproxy", asked, olds, owns, [at for at in kept if asked[at][3]])
 
     def owns(self, words, port, asked, log):
         """What PROGRAM answers, and decided by its log."""

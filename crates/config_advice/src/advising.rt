@@ -120,8 +120,14 @@ const KEYWORDS: [(&str, &str); 34] = [
         "http-check",
         "Leave it out: a check is a connection that is taken.",
     ),
-    ("capture", "Leave it out: no log of requests is written."),
-    ("log-format", "Leave it out: no log of requests is written."),
+    (
+        "capture",
+        "Leave it out: run --access-log has a format of its own.",
+    ),
+    (
+        "log-format",
+        "Leave it out: run --access-log has a format of its own.",
+    ),
     (
         "compression",
         "Leave it out: bodies are handed on as they came.",
@@ -146,26 +152,32 @@ const OPTIONS: [(&str, &str); 11] = [
     ),
     (
         "httpclose",
-        "Leave it out: each connection carries one request.",
+        "Leave it out: it is so, unless run has --keep-alive.",
     ),
     (
         "http-server-close",
-        "Leave it out: each connection carries one request.",
+        "Leave it out: run --keep-alive keeps connections of clients.",
     ),
     (
         "forceclose",
-        "Leave it out: each connection carries one request.",
+        "Leave it out: it is so, unless run has --keep-alive.",
     ),
     (
         "http-keep-alive",
-        "Leave it out: each connection carries one request.",
+        "Leave it out: run --keep-alive keeps connections of clients.",
     ),
     (
         "httpchk",
         "Leave it out: a check is a connection that is taken.",
     ),
-    ("tcplog", "Leave it out: no log of requests is written."),
-    ("log-health-checks", "Leave it out: no log is written."),
+    (
+        "tcplog",
+        "Leave it out: run --access-log has a format of its own.",
+    ),
+    (
+        "log-health-checks",
+        "Leave it out: run --event-log tells which server is down.",
+    ),
     (
         "persist",
         "Leave it out: a server that is down takes no request.",

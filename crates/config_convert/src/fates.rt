@@ -24,7 +24,7 @@ struct SettingRow {
 }
 
 /// Lines by their first word.
-static KEYWORDS: [Row; 23] = [
+static KEYWORDS: [Row; 24] = [
     Row {
         words: &[
             "errorfile",
@@ -191,7 +191,6 @@ static KEYWORDS: [Row; 23] = [
             "id",
             "description",
             "enabled",
-            "disabled",
             "grace",
             "backlog",
             "bind-process",
@@ -218,6 +217,13 @@ static KEYWORDS: [Row; 23] = [
         },
     },
     Row {
+        words: &["disabled"],
+        fate: Fate {
+            weight: Some(Weight::Grave),
+            reason: "The section would have been switched off: here its servers serve.",
+        },
+    },
+    Row {
         words: &["default_backend"],
         fate: Fate {
             weight: None,
@@ -227,7 +233,7 @@ static KEYWORDS: [Row; 23] = [
 ];
 
 /// Lines of `option` by their second word.
-static OPTIONS: [Row; 12] = [
+static OPTIONS: [Row; 13] = [
     Row {
         words: &["forwardfor"],
         fate: Fate {
@@ -264,7 +270,7 @@ static OPTIONS: [Row; 12] = [
         words: &["httpclose", "forceclose"],
         fate: Fate {
             weight: None,
-            reason: "Each connection carries one request in any case.",
+            reason: "Each connection carries one request, unless run has --keep-alive.",
         },
     },
     Row {
@@ -276,7 +282,7 @@ static OPTIONS: [Row; 12] = [
         ],
         fate: Fate {
             weight: Some(Weight::Slight),
-            reason: "Clients or servers would have kept their connections: here each carries one request.",
+            reason: "Clients or servers would have kept their connections: here run --keep-alive keeps those of clients.",
         },
     },
     Row {
@@ -355,11 +361,17 @@ static OPTIONS: [Row; 12] = [
             "h1-case-adjust-bogus-client",
             "h1-case-adjust-bogus-server",
             "http-use-proxy-header",
-            "http-restrict-req-hdr-names",
         ],
         fate: Fate {
             weight: None,
             reason: "It tunes sockets or memory, and changes no answer.",
+        },
+    },
+    Row {
+        words: &["http-restrict-req-hdr-names"],
+        fate: Fate {
+            weight: Some(Weight::Marked),
+            reason: "Fields with other names than of letters, digits and - would have been dropped, or their requests refused, unless it says preserve: here they are handed on.",
         },
     },
 ];
@@ -445,6 +457,7 @@ static ACTIONS: [Row; 5] = [
             "send-spoe-group",
             "disable-l7-retry",
             "strict-mode",
+            "allow",
             "set-timeout",
             "lua",
             "set-bandwidth-limit",
@@ -469,7 +482,7 @@ static TIMES: [Row; 5] = [
         words: &["http-keep-alive"],
         fate: Fate {
             weight: None,
-            reason: "Each connection carries one request.",
+            reason: "run --keep-alive-timeout says how long a client may stay between two requests.",
         },
     },
     Row {
@@ -643,8 +656,13 @@ static SETTINGS: [SettingRow; 13] = [
             "no-tlsv11",
             "no-tlsv12",
             "no-tlsv13",
+            "allow-0rtt",
+            "force-sslv3",
+            "force-tlsv10",
+            "force-tlsv11",
             "force-tlsv12",
             "force-tlsv13",
+            "tls-tickets",
             "no-tls-tickets",
             "ssl-reuse",
             "no-ssl-reuse",
@@ -652,6 +670,8 @@ static SETTINGS: [SettingRow; 13] = [
             "no-check-ssl",
             "no-send-proxy",
             "no-send-proxy-v2",
+            "no-send-proxy-v2-ssl",
+            "no-send-proxy-v2-ssl-cn",
             "no-tfo",
             "no-agent-check",
             "no-ssl",

@@ -131,19 +131,25 @@ fn servers_of(
     back: usize,
     bind: &Option<(usize, Place)>,
 ) -> Result<Servers, AllocError> {
+    let Some(section) = sections.get(back) else {
+        return Ok(Servers {
+            all: Vec::new(alloc),
+        });
+    };
+    let defaults = defaults_of(sections, back).and_then(|at| sections.get(at));
+    let wished = match (section.wants(b"allbackups"), defaults) {
+        (None, Some(defaults)) => defaults.wants(b"allbackups"),
+        (own, _) => own,
+    };
     let around = Around {
         port: match bind {
             Some((_, place)) => Some(place.port),
             None => None,
         },
-        defaults: defaults_of(sections, back).and_then(|at| sections.get(at)),
+        defaults,
+        all_spare: wished == Some(true),
     };
-    match sections.get(back) {
-        Some(section) => Servers::new(alloc, section, around),
-        None => Ok(Servers {
-            all: Vec::new(alloc),
-        }),
-    }
+    Servers::new(alloc, section, around)
 }
 
 // The global sections as they stand.

@@ -40,6 +40,16 @@ impl Line {
         }))
     }
 
+    /// The same once more.
+    pub(crate) fn copied(&self, alloc: Global) -> Result<Line, AllocError> {
+        Ok(Line {
+            number: self.number,
+            raw: Vec::from_slice(alloc, self.raw.as_slice())?,
+            words: copied(alloc, self.words.as_slice())?,
+            is_odd: self.is_odd,
+        })
+    }
+
     /// The word at this place; nothing where there is none.
     pub(crate) fn word(&self, place: usize) -> &[u8] {
         word_of(self.words.as_slice(), place)

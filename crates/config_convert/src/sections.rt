@@ -51,6 +51,14 @@ impl Section {
     pub(crate) fn last(&self, keyword: &[u8]) -> Option<&Line> {
         self.lines.iter().rev().find(|line| line.word(0) == keyword)
     }
+
+    /// Whether it wants an option, or wants it off. None: it says neither.
+    pub(crate) fn wants(&self, option: &[u8]) -> Option<bool> {
+        self.lines
+            .iter()
+            .rev()
+            .find_map(|line| is_wish(line, option))
+    }
 }
 
 /// The sections of a file, in order. Lines before the first belong to none.
@@ -70,15 +78,49 @@ pub(crate) fn sections_of(alloc: Global, bytes: &[u8]) -> Result<Vec<Section>, U
 
 fn add_line(alloc: Global, all: &mut Vec<Section>, line: Line) -> Result<(), AllocError> {
     if let Some(kind) = kind_of(line.word(0)) {
-        all.push(Section {
+        let mut section = Section {
             kind,
             head: line,
             lines: Vec::new(alloc),
-        })?;
+        };
+        if kind == Kind::Defaults {
+            section.lines = base_lines(alloc, all, &section)?;
+        }
+        all.push(section)?;
     } else if let Some(section) = all.last_mut() {
         section.lines.push(line)?;
     }
     Ok(())
+}
+
+// The lines that a `defaults` takes over of the one that it names.
+fn base_lines(alloc: Global, all: &[Section], section: &Section) -> Result<Vec<Line>, AllocError> {
+    let mut lines = Vec::new(alloc);
+    let Some(name) = section.base() else {
+        return Ok(lines);
+    };
+    let base = all.iter().rev().find(|other| other.kind == Kind::Defaults && other.name() == name);
+    if let Some(base) = base {
+        for line in base.lines.iter() {
+            lines.push(line.copied(alloc)?)?;
+        }
+    }
+    Ok(lines)
+}
+
+// Whether a line sets this option, or takes it back.
+fn is_wish(line: &Line, option: &[u8]) -> Option<bool> {
+    let keyword = b"option".as_slice();
+    if line.word(0) == keyword && line.word(1) == option {
+        Some(true)
+    } else if line.word(0) == b"no".as_slice()
+        && line.word(1) == keyword
+        && line.word(2) == option
+    {
+        Some(false)
+    } else {
+        None
+    }
 }
 
 fn kind_of(word: &[u8]) -> Option<Kind> {

@@ -53,6 +53,11 @@ const STRANGE: Fate = Fate {
     reason: "dueproxy convert doesn't know one of its words, so it has no place.",
 };
 
+const RESERVE: Fate = Fate {
+    weight: Some(Weight::Grave),
+    reason: "It would have served where those before it are down: here all of them serve.",
+};
+
 const BACKUP: Fate = Fate {
     weight: Some(Weight::Grave),
     reason: "It would have served where all others are down: here, with weight 0, it serves requests of use-server alone.",
@@ -65,6 +70,8 @@ pub(crate) struct Around<'a> {
     pub(crate) port: Option<u32>,
     /// The section's `defaults`.
     pub(crate) defaults: Option<&'a Section>,
+    /// Where there are backup servers alone, all of them serve: `option allbackups`.
+    pub(crate) all_spare: bool,
 }
 
 impl Servers {
@@ -75,18 +82,15 @@ impl Servers {
         around: Around,
     ) -> Result<Servers, AllocError> {
         let mut names = Names::new(alloc);
-        let mut settings = default_words(alloc, around.defaults)?;
-        let has_active = section.lines.iter().any(is_active);
+        let mut read = read_all(alloc, section, around.defaults)?;
+        take_turns(read.as_mut_slice(), around.all_spare);
+        let lines = section
+            .lines
+            .iter()
+            .filter(|line| line.word(0) == b"server".as_slice());
         let mut all = Vec::new(alloc);
-        for line in section.lines.iter() {
-            if line.word(0) == b"default-server".as_slice() {
-                add_words(alloc, &mut settings, line.behind(1))?;
-            } else if line.word(0) == b"server".as_slice() {
-                let mut words = copied(alloc, &settings)?;
-                add_words(alloc, &mut words, line.behind(3))?;
-                let read = Settings::new(alloc, &words, has_active)?;
-                all.push(server_of(alloc, &mut names, line, around.port, read)?)?;
-            }
+        for (line, settings) in lines.zip(read) {
+            all.push(server_of(alloc, &mut names, line, around.port, settings)?)?;
         }
         Ok(Servers { all })
     }
@@ -124,13 +128,42 @@ fn is_checked(server: &Server) -> bool {
     }
 }
 
-// A server that takes requests where no other is down.
-fn is_active(line: &Line) -> bool {
-    line.word(0) == b"server".as_slice()
-        && !line
-            .words
-            .iter()
-            .any(|word| word.as_slice() == b"backup".as_slice())
+// What each server's line says, with what `default-server` lines before it give it.
+fn read_all(
+    alloc: Global,
+    section: &Section,
+    defaults: Option<&Section>,
+) -> Result<Vec<Settings>, AllocError> {
+    let mut given = default_words(alloc, defaults)?;
+    let mut read = Vec::new(alloc);
+    for line in section.lines.iter() {
+        if line.word(0) == b"default-server".as_slice() {
+            add_words(alloc, &mut given, line.behind(1))?;
+        } else if line.word(0) == b"server".as_slice() {
+            let mut words = copied(alloc, &given)?;
+            add_words(alloc, &mut words, line.behind(3))?;
+            read.push(Settings::new(alloc, &words)?)?;
+        }
+    }
+    Ok(read)
+}
+
+// Where there are backup servers alone, the first of them takes requests as long as it is up.
+fn take_turns(read: &mut [Settings], all_spare: bool) {
+    if read
+        .iter()
+        .any(|settings| !settings.spare && !settings.disabled)
+    {
+        return;
+    }
+    let mut is_first = true;
+    for settings in read.iter_mut() {
+        if settings.spare && !settings.disabled {
+            settings.spare = false;
+            settings.reserve = !is_first && !all_spare;
+            is_first = false;
+        }
+    }
 }
 
 fn default_words(alloc: Global, defaults: Option<&Section>) -> Result<Vec<Vec<u8>>, AllocError> {
@@ -165,6 +198,8 @@ struct Settings {
     checked: bool,
     /// It takes requests only where no other can.
     spare: bool,
+    /// It takes them only where the backup servers before it can't.
+    reserve: bool,
     /// It is in maintenance from the start.
     disabled: bool,
     /// Why it has no place.
@@ -173,12 +208,13 @@ struct Settings {
 }
 
 impl Settings {
-    fn new(alloc: Global, words: &[Vec<u8>], has_active: bool) -> Result<Settings, AllocError> {
+    fn new(alloc: Global, words: &[Vec<u8>]) -> Result<Settings, AllocError> {
         let mut settings = Settings {
             values: [None; 6],
             words: copied(alloc, words)?,
             checked: false,
             spare: false,
+            reserve: false,
             disabled: false,
             lost: None,
             changes: Vec::new(alloc),
@@ -191,7 +227,6 @@ impl Settings {
                 passed = settings.take(alloc, word.as_slice(), at)?;
             }
         }
-        settings.spare = settings.spare && has_active;
         if settings.disabled {
             settings.lost = Some(NOTHING);
         }
@@ -275,11 +310,15 @@ fn server_of(
     }
     let Settings {
         spare,
+        reserve,
         mut changes,
         ..
     } = settings;
     if spare {
         changes.push((Vec::from_slice(alloc, b"backup")?, BACKUP))?;
+    }
+    if reserve {
+        changes.push((Vec::from_slice(alloc, b"backup")?, RESERVE))?;
     }
     Ok(Server {
         line: line.number,

@@ -119,7 +119,7 @@ line 3:   option forwardfor
 line 4:   option httpclose
                  ^^^^^^^^^
   keyword: This word isn't one that can stand here.
-  instead: Leave it out: each connection carries one request.
+  instead: Leave it out: it is so, unless run has --keep-alive.
 
 line 5:   default-server inter 3s
           ^^^^^^^^^^^^^^
@@ -289,7 +289,7 @@ line 4:   timeout qeue 1s
 line 5:   option tcplog
                  ^^^^^^
   keyword: This word isn't one that can stand here.
-  instead: Leave it out: no log of requests is written.
+  instead: Leave it out: run --access-log has a format of its own.
 
 line 6:   server a h:80 maxcon 4
                         ^^^^^^

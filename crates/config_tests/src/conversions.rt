@@ -30,7 +30,7 @@ backend b
   server a h:1
 ";
 
-static ROWS: [Row; 5] = [
+static ROWS: [Row; 7] = [
     Row {
         file: "listen w\n mode http\n balance leastconn\n bind :80\n server a h:1 maxconn 3\n",
         frontend: None,
@@ -42,6 +42,39 @@ listen w
     balance leastconn
     bind *:80
     server a h:1 maxconn 3
+",
+        notes: "",
+    },
+    Row {
+        file: "listen w\n mode http\n balance leastconn\n bind :80\n default-server backup\n server a h:1\n server b h:2\n server c h:3 disabled\n",
+        frontend: None,
+        backend: None,
+        status: 6,
+        text: "\
+listen w
+    mode http
+    balance leastconn
+    bind *:80
+    server a h:1
+    server b h:2
+    # server c h:3 disabled
+    #   It would have been in maintenance from the start.
+",
+        notes: "line 7: server .. backup: It would have served where those before it are down: here all of them serve.\n",
+    },
+    Row {
+        file: "defaults one\n mode http\n timeout queue 3s\ndefaults two from one\n timeout connect 2s\nlisten w from two\n balance leastconn\n bind :80\n server a h:1\n",
+        frontend: None,
+        backend: None,
+        status: 0,
+        text: "\
+listen w
+    mode http
+    balance leastconn
+    timeout queue 3s
+    timeout connect 2s
+    bind *:80
+    server a h:1
 ",
         notes: "",
     },

@@ -440,6 +440,29 @@ def a_file_that_is_copied_and_cut_back():
 
 
 @case
+def a_file_that_ends_amid_a_line():
+    """As one ends whose writer was cut off: its last line is ended first, also where the file is opened anew."""
+    path = os.path.join(FOLDER, "amid.log")
+    for said in (b"", b"whole\n", b"cut o"):
+        with open(path, "wb") as file:
+            file.write(said)
+        with Proxy("--control", CONTROL, log=path, events=None) as proxy:
+            ask("/one")
+            until(lambda: len(lines(path)) == 1)
+            os.rename(path, path + ".1")
+            with open(path, "wb") as file:
+                file.write(said)
+            equal(ctl("reopen"), (0, "ok reopening\n"))
+            ask("/two")
+            equal(proxy.stop()[0], 0)
+        for name, target in ((path + ".1", "/one"), (path, "/two")):
+            with open(name, "rb") as file:
+                rows = file.read().split(b"\n")
+            equal(rows[:-2], [said.strip()] if said else [], said)
+            equal((lines(name)[0].request.split()[1], rows[-1]), (target, b""), said)
+
+
+@case
 def a_full_disk():
     with Proxy(log="/dev/full") as proxy:
         equal([ask("/f")[1][:12] for _ in range(5)], [b"HTTP/1.1 200"] * 5)

@@ -1,13 +1,11 @@
 //! The threads of the demo.
 
-use crate::colour::Looks;
 use crate::conducting::{Seen, conduct};
 use crate::ending::{Telling, tell_end};
 use crate::fault::DemoFault;
 use crate::keeping::keep_on;
-use crate::plan::VISITS;
-use crate::server::Server;
 use crate::stage::Stage;
+use demo_words::{Looks, Server, VISITS};
 use late_cert::Reports;
 use proxy_config::read;
 use proxy_service::{Record, ServeFault, serve_recorded};

@@ -1,9 +1,8 @@
 //! The twelve clients, one after the other, and what is told meanwhile.
 
-use crate::colour::Looks;
 use crate::fault::DemoFault;
-use crate::plan::{GAP, PLAN, VISITS, request_of};
 use crate::watcher::Watcher;
+use demo_words::{GAP, Looks, PLAN, VISITS, request_of};
 use dispatch_log::Entry;
 use proxy_service::Record;
 use std::alloc::Global;

@@ -1,11 +1,9 @@
 //! What is printed and judged when all twelve are through.
 
 use crate::acting::Played;
-use crate::colour::{Looks, Tone};
 use crate::fault::DemoFault;
 use crate::picture::write_picture;
-use crate::plan::{VISITS, names_of};
-use crate::words::{push_reports, push_table};
+use demo_words::{Looks, Tone, VISITS, names_of, push_reports, push_table};
 use log_stretches::Course;
 use log_waits::{are_in_order, services_in, stays_in};
 use std::alloc::Global;

@@ -1,9 +1,9 @@
 //! Proxy and servers for whoever comes when the demo is over.
 
 use crate::acting::{Front, serve};
-use crate::colour::Looks;
 use crate::fault::DemoFault;
 use crate::watcher::Watcher;
+use demo_words::Looks;
 use proxy_service::Record;
 use std::alloc::Global;
 use std::net::{Net, SocketAddr, TcpListener, TcpStream};

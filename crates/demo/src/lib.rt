@@ -5,21 +5,14 @@
 #![tactic(auto)]
 
 mod acting;
-mod colour;
 mod conducting;
 mod ending;
 mod fault;
 mod keeping;
 mod picture;
-mod plan;
-mod seconds;
-mod server;
 mod stage;
-mod teller;
 mod watcher;
-mod words;
 
-pub use colour::Looks;
+pub use demo_words::{Looks, Teller};
 pub use fault::DemoFault;
 pub use stage::demo;
-pub use teller::Teller;

@@ -1,7 +1,7 @@
 //! The picture of the demo.
 
 use crate::fault::DemoFault;
-use crate::plan::names_of;
+use demo_words::names_of;
 use dispatch_log::Entry;
 use late_cert::Report;
 use log_drawing::{Subject, push_drawing};

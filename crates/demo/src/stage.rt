@@ -1,10 +1,9 @@
 //! What is there before the first request: sockets, and what the proxy is told of them.
 
 use crate::acting::act;
-use crate::colour::Looks;
 use crate::ending::Telling;
 use crate::fault::DemoFault;
-use crate::server::Server;
+use demo_words::{Looks, Server};
 use std::alloc::{AllocError, Global};
 use std::io;
 use std::net::{Ipv4Addr, Net, SocketAddr, TcpListener, TcpStream};

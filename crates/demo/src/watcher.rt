@@ -1,7 +1,5 @@
-use crate::colour::Looks;
 use crate::fault::DemoFault;
-use crate::plan::names_of;
-use crate::teller::Teller;
+use demo_words::{Looks, Teller, names_of};
 use dispatch_log::Entry;
 use proxy_service::Record;
 use std::alloc::Global;

@@ -1,5 +1,5 @@
 use Rattle.outstanding.specs.Books.{terms_of}
-use Rattle.serving_tests.proofs.workers.checks.check_with.Given as goal
+use Rattle.worker_tests.proofs.workers.checks.check_with.Given as goal
 
 -- the board that this test opened
 abbrev pub ghosts-down_and_up : goal.ghosts-down_and_up

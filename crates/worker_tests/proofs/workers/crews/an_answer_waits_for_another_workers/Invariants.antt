@@ -1,5 +1,5 @@
 use Rattle.outstanding.specs.Books.{terms_of}
-use Rattle.serving_tests.proofs.workers.crews.an_answer_waits_for_another_workers.Given as goal
+use Rattle.worker_tests.proofs.workers.crews.an_answer_waits_for_another_workers.Given as goal
 
 -- the board that this test opened
 abbrev pub ghosts-serve_two : goal.ghosts-serve_two

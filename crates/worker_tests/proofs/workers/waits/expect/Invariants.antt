@@ -1,5 +1,5 @@
 use Rattle.outstanding.specs.Books.{terms_of}
-use Rattle.serving_tests.proofs.workers.waits.expect.Given as goal
+use Rattle.worker_tests.proofs.workers.waits.expect.Given as goal
 
 -- the board that this test opened
 abbrev pub ghosts-work_behind : goal.ghosts-work_behind

@@ -9,7 +9,7 @@ use script::Names;
 use std::alloc::AllocError;
 
 /// Writes the table at the end: a line for each slot, in the order in which they were given.
-pub(crate) fn push_table(
+pub fn push_table(
     text: &mut String,
     names: &Names,
     services: &[Served],
@@ -44,7 +44,7 @@ fn push_service(text: &mut String, names: &Names, service: &Served) -> Result<()
 }
 
 /// Writes at the end what the reports say.
-pub(crate) fn push_reports(
+pub fn push_reports(
     text: &mut String,
     names: &Names,
     reports: &[Report],

@@ -4,20 +4,20 @@ use script::Names;
 use std::alloc::{AllocError, Global};
 
 /// A request: its class, and how many milliseconds after it came it is due.
-pub(crate) struct Visit {
+pub struct Visit {
     class: i32,
     due: i32,
 }
 
 /// So many there are.
-pub(crate) const VISITS: usize = 12;
+pub const VISITS: usize = 12;
 
 /// The next one comes so many milliseconds later.
-pub(crate) const GAP: u64 = 40;
+pub const GAP: u64 = 40;
 
 /// More than three servers can take at once: some that are due soon come behind others that aren't, two wait in a class that goes last, and one in a class that goes
 /// first.
-pub(crate) static PLAN: [Visit; VISITS] = [
+pub static PLAN: [Visit; VISITS] = [
     Visit { class: 0, due: 600 },
     Visit { class: 0, due: 600 },
     Visit {
@@ -39,11 +39,7 @@ pub(crate) static PLAN: [Visit; VISITS] = [
 ];
 
 /// The bytes of a request; its path is its number.
-pub(crate) fn request_of(
-    alloc: Global,
-    number: usize,
-    visit: &Visit,
-) -> Result<String, AllocError> {
+pub fn request_of(alloc: Global, number: usize, visit: &Visit) -> Result<String, AllocError> {
     let class = visit.class;
     let due = visit.due;
     format!(in alloc;
@@ -52,7 +48,7 @@ pub(crate) fn request_of(
 }
 
 /// The names of the servers.
-pub(crate) fn names_of(alloc: Global) -> Result<Names, AllocError> {
+pub fn names_of(alloc: Global) -> Result<Names, AllocError> {
     let mut names = Vec::new(alloc);
     for name in ["a", "b", "c"] {
         names.push(String::from_str(alloc, name)?)?;

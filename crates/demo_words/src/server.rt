@@ -21,17 +21,17 @@ const PIECE: usize = 1024;
 
 /// A server that takes one request at a time.
 #[derive(Drop)]
-pub(crate) struct Server {
-    pub(crate) name: &'static str,
+pub struct Server {
+    pub name: &'static str,
     /// So many milliseconds it needs for each request.
-    pub(crate) millis: u64,
+    pub millis: u64,
     /// It doesn't block.
-    pub(crate) listener: TcpListener,
+    pub listener: TcpListener,
 }
 
 impl Server {
     /// Answers one request after the other, until all is over.
-    pub(crate) fn run<R: Clock + Wait>(self, rt: &R, alloc: Global, over: &AtomicBool) {
+    pub fn run<R: Clock + Wait>(self, rt: &R, alloc: Global, over: &AtomicBool) {
         for _ in rt.forever() {
             if over.load(Ordering::SeqCst) {
                 return;

@@ -7,7 +7,7 @@ pub enum Looks {
 
 /// What a line tells of, which its colour shows.
 #[derive(Clone, Copy, Debug, PartialEq, Eq)]
-pub(crate) enum Tone {
+pub enum Tone {
     /// A request is served at once.
     Served,
     /// A request waits.
@@ -22,7 +22,7 @@ pub(crate) enum Tone {
 
 impl Looks {
     /// What stands before a text of this tone.
-    pub(crate) fn before(self, tone: Tone) -> &'static str {
+    pub fn before(self, tone: Tone) -> &'static str {
         match (self, tone) {
             (Looks::Plain, _) => "",
             (Looks::Coloured, Tone::Served) => "\x1b[32m",
@@ -34,7 +34,7 @@ impl Looks {
     }
 
     /// What stands behind it.
-    pub(crate) fn after(self) -> &'static str {
+    pub fn after(self) -> &'static str {
         match self {
             Looks::Plain => "",
             Looks::Coloured => "\x1b[0m",

@@ -27,9 +27,10 @@ fn a_line_has_the_fields_of_httplog(rt: HostRuntime) {
     account.moments.ended = moment(&rt, 40);
     account.status = Some(200);
     account.sent = 99;
+    let numbers = None;
     let line = Line {
         account: &account,
-        numbers: None,
+        numbers,
         names: &names,
         load: Load { all: 2, own: 1 },
     };

@@ -2,9 +2,21 @@ use due_key::{Class, Moment, Offset};
 use request_lines::{Account, Asked, Dates, Format, Line, Load, push_line};
 use script::Names;
 use std::process::Abort;
+use ticket_numbers::Numbers;
 
 fn moment(rt: &impl Abort, number: u64) -> Moment {
     Moment::new(number).expect(rt, "a moment")
+}
+
+// Each reference at one lifetime.
+fn line_of<'x>(account: &'x Account, numbers: Option<&'x Numbers>, names: &'x Names) -> Line<'x> {
+    let load = Load { all: 2, own: 1 };
+    Line {
+        account,
+        numbers,
+        names,
+        load,
+    }
 }
 
 #[test]
@@ -27,13 +39,7 @@ fn a_line_has_the_fields_of_httplog(rt: HostRuntime) {
     account.moments.ended = moment(&rt, 40);
     account.status = Some(200);
     account.sent = 99;
-    let numbers = None;
-    let line = Line {
-        account: &account,
-        numbers,
-        names: &names,
-        load: Load { all: 2, own: 1 },
-    };
+    let line = line_of(&account, None, &names);
     let mut dates = Dates::new(alloc, 1_000_000_000_000);
     let mut text = String::new(alloc);
     push_line(alloc, &mut text, &mut dates, Format::Text, &line).expect(&rt, "memory");

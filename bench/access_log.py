@@ -685,7 +685,7 @@ def join(told, out):
                 if key[0] == number:
                     slots = [line.slot for line in found[key]]
                     # The clock is read right behind the end: a slot that another thread gives in between is of the next window, and earlier.
-                    assert begun - 200 <= min(slots) and max(slots) <= ended, f"{key}: {begun} to {ended}, {min(slots)} to {max(slots)}"
+                    assert begun - 50 <= min(slots) and max(slots) <= ended, f"{key}: {begun} to {ended}, {min(slots)} to {max(slots)}"
     join_overtakers(waited, found)
     with open(EVENTS) as file:
         events = [line.split() for line in file]

@@ -12,7 +12,7 @@ prove_program() {
     log=$work/log
     copy_own
     total=$(wc -l <"$work/copy/crates.txt" | tr -d ' ')
-    say "proving the program and its libraries, $total crates: about an hour on 4 processors. What is proved before an interrupt counts the next time, where the kit can keep it"
+    say "proving the program and its libraries, $total crates: two hours or more on 4 processors. What is proved before an interrupt counts the next time, where the kit can keep it"
     run_gate || {
         tail -n 40 "$log" >&2
         say "the program was not proved, as the lines above say"

@@ -321,6 +321,17 @@ def lines_of_json():
 
 
 @case
+def lines_in_the_order_in_which_requests_ended():
+    """Requests one after the other on connections of their own, which several loops accept: more than the scribe reads at once."""
+    count = 3000
+    with Proxy("--loops", "4") as proxy:
+        for number in range(count):
+            ask(f"/{number}")
+        equal(proxy.stop()[0], 0)
+    equal([line.request.split()[1] for line in lines()], [f"/{number}" for number in range(count)])
+
+
+@case
 def standard_output_has_whole_lines():
     with Proxy(log="-") as proxy:
         for _ in range(50):

@@ -8,6 +8,7 @@ import collections
 import json
 import os
 import re
+import resource
 import shutil
 import socket
 import subprocess
@@ -201,6 +202,26 @@ def each_path_and_method():
         with socket.create_connection(("127.0.0.1", ADMIN), timeout=5) as client:
             client.sendall(b"GET / HTTP/1.1\r\nX: " + b"x" * 9000)
             equal(take_all(client)[:12], b"HTTP/1.1 431")
+
+
+@case
+def open_descriptors():
+    with Proxy(log=False) as proxy:
+        def listed():
+            time.sleep(0.3)
+            return len(os.listdir(f"/proc/{proxy.process.pid}/fd"))
+        counts = []
+        for clients in (0, 300):
+            held = [socket.create_connection(("127.0.0.1", PROXY)) for _ in range(clients)]
+            opened = listed()
+            samples = metrics()
+            # The connection that asks is open while the text is made.
+            equal(of(samples, "process_open_fds"), opened + 1, f"with {clients} clients")
+            equal(of(samples, "process_max_fds"), resource.getrlimit(resource.RLIMIT_NOFILE)[0])
+            counts.append(opened)
+            for client in held:
+                client.close()
+        assert 300 <= counts[1] - counts[0] <= 302, counts
 
 
 @case

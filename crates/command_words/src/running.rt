@@ -29,7 +29,7 @@ const STAY: &str = "10000";
 
 /// What is said of a number that is none, or out of its range.
 pub const RANGES: &str =
-    "a number is out of its range: 1 to 256 workers, 1 to 64 loops, 1 to 65536 waiting, 1 to 4096 places, 0 to 999999999 requests, 1 to 999999999 ms";
+    "a number is out of its range: 1 to 256 workers, 1 to 64 loops, 1 to 65536 waiting, 1 to 4096 places, 0 to 999999999 requests, 1 to 999999999 ms, and 100 ms at least of --window";
 
 const HELP: &str = "\
 Listens where the configuration says, and hands each request to a server, or lets it

@@ -643,7 +643,7 @@ static SETTINGS: [SettingRow; 13] = [
         arguments: 1,
         fate: Fate {
             weight: Some(Weight::Slight),
-            reason: "Its name would have been looked up anew: here that is done once as the program starts, and by each check.",
+            reason: "Its name would have been looked up anew: here that is done as the program starts, by each check and after a failed connect.",
         },
     },
     SettingRow {

@@ -27,6 +27,6 @@ pub use threads::{Lends, Unbegun, loops_of, run_all};
 
 // What who starts loops needs of the layers below comes with this crate.
 pub use loop_shared::{
-    Clients, Front, Outside, Proxy, Shared, SharedParts, empty_spots, join_all, most_connections,
+    Front, Outside, Proxy, Shared, SharedParts, Site, empty_spots, join_all, most_connections,
     polls_of, split_off,
 };

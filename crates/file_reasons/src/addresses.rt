@@ -22,7 +22,7 @@ pub fn address_remedy(kind: ErrorKind) -> Option<&'static str> {
             "A port below 1024 is for root, or for a program with CAP_NET_BIND_SERVICE: setcap, or a unit's AmbientCapabilities, gives that. Or bind a port from 1024 on.",
         ),
         ErrorKind::AddrNotAvailable => Some(
-            "No interface of this machine has this address: ip address shows those that there are, and *:PORT is all of them.",
+            "No interface of this machine has this address: ip address shows those that there are, and bind *:PORT takes all of them.",
         ),
         _ => None,
     }

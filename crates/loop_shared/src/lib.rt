@@ -43,4 +43,4 @@ pub use windows::run_windows;
 
 // What loops need of the layers below comes with this crate.
 pub use relay_workers::{Gate, Proxy, arrive_as, join_all, split_off};
-pub use socket_gate::{Clients, Front, SocketGate};
+pub use socket_gate::{Front, Site, SocketGate};

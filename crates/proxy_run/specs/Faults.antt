@@ -4,7 +4,7 @@ use Rattle.proxy_config.specs.declared.faults.ConfigFault.{ConfigFault}
 use Rattle.proxy_config.specs.declared.parts.Config.{Config}
 use Rattle.proxy_run.specs.declared.fault.RunFault.{RunFault}
 use Rattle.proxy_run.specs.declared.fault.RunFault.TheVariants as faults
-use Rattle.proxy_service.specs.declared.fault.ServeFault.TheVariants.{NoMemory}
+use Rattle.service_parts.specs.declared.fault.ServeFault.TheVariants.{NoMemory}
 
 -- a fault of the configuration is answered only where the file has it, and where it has one, that is answered, or want of memory
 pub record IsEndOf (said : Result Config ConfigFault) (ended : Result (Unit {0}) RunFault) : Type 0 where

@@ -1,3 +1,1 @@
-pub mod Setups
 pub mod Faults
-pub mod Parts

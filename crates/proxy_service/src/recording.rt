@@ -4,22 +4,18 @@ ghost use Rattle.std.specs.Prelude.{◌≡◌, ◌≤◌, ◌+◌, ◌^◌, true
 ghost use Rattle.dispatch_log.specs.declared.setup.Setup.{Setup};
 ghost use Rattle.outstanding.specs.Books.{terms_of};
 ghost use Rattle.proxy_config.specs.Sound.{IsSoundConfig};
-ghost use Rattle.proxy_service.specs.Parts.{AreNew};
+ghost use Rattle.service_parts.specs.Parts.{AreNew};
 
-use crate::crew::{Crew, crew_of};
-use crate::fault::ServeFault;
-use crate::lending::Lends;
-use crate::opening::RunOptions;
-use crate::parts::{Parts, parts_of};
-use crate::record::Record;
 use crate::serving::{proxy_of, serve_clients};
-use crate::sharing::{beside_of, front_of};
 use grant_board::BoardName;
 use late_cert::Reports;
 use proxy_config::Config;
-use relay_loops::{Front, Proxy, SeatSource, Site};
-use request_log::Logs;
-use run_sizes::Sizes;
+use relay_loops::{Proxy, SeatSource};
+use run_sizes::{LoopSizes, Sizes};
+use service_parts::{
+    Crew, Front, Lends, Logs, Parts, Record, RunOptions, ServeFault, Site, beside_of, crew_of,
+    front_of, parts_of,
+};
 use std::marker::Brand;
 use std::net::{Net, TcpListener, TcpStream};
 use std::sync::Wait;
@@ -212,7 +208,7 @@ fn serve_lent<
     shared: &S,
     front: &Front<'_>,
     source: SeatSource,
-    threads: relay_loops::Sizes,
+    threads: LoopSizes,
 ) -> Result<(), ServeFault>
     requires named { (source.first.board ≡ N.board) × (source.first.view.terms ≡ N.terms) }
     requires first { source.first.view.first ≡ true }

@@ -2,22 +2,19 @@ ghost use Rattle.std.specs.Prelude.{◌≡◌, ◌≤◌, ◌+◌, ◌^◌, [], 
 ghost use Rattle.dispatch_log.specs.declared.setup.Setup.{Setup};
 ghost use Rattle.outstanding.specs.Books.{terms_of};
 ghost use Rattle.proxy_config.specs.Sound.{IsSoundConfig};
-ghost use Rattle.proxy_service.specs.Parts.{AreNew};
+ghost use Rattle.service_parts.specs.Parts.{AreNew};
 
-use crate::crew::{Crew, crew_of};
-use crate::fault::ServeFault;
-use crate::lending::Lends;
-use crate::opening::{Doors, RunOptions, announce, open};
-use crate::parts::{Parts, parts_of};
-use crate::sharing::{Beside, beside_of, front_of};
-use crate::telling::tell_all;
-use crate::watching::{announce_admin, end_watching, start_watching};
-use crate::writing::{close_logs, end_writing, start_writing};
+use crate::ending::fault_of;
 use grant_board::{BoardName, RelaySeat};
 use grant_desk::Desk;
 use proxy_config::Config;
-use relay_loops::{Front, LoopsFault, Proxy, SeatSource, Site, serve};
-use run_sizes::Sizes;
+use relay_loops::{LoopsFault, Proxy, SeatSource, serve};
+use run_sizes::{LoopSizes, Sizes};
+use service_parts::{
+    Beside, Crew, Doors, Front, Lends, Parts, RunOptions, ServeFault, Site, announce,
+    announce_admin, beside_of, close_logs, crew_of, end_watching, end_writing, front_of, open,
+    parts_of, start_watching, start_writing, tell_all,
+};
 use std::alloc::Global;
 use std::marker::Brand;
 use std::net::{Net, TcpListener, TcpStream};
@@ -160,7 +157,7 @@ pub(crate) fn serve_clients<
     shared: &S,
     front: &Front<'_>,
     source: SeatSource,
-    threads: relay_loops::Sizes,
+    threads: LoopSizes,
 ) -> Result<(), ServeFault>
     requires named { (source.first.board ≡ N.board) × (source.first.view.terms ≡ N.terms) }
     requires first { source.first.view.first ≡ true }
@@ -191,7 +188,7 @@ fn serve_printing<
     shared: &S,
     front: &Front<'_>,
     source: SeatSource,
-    threads: relay_loops::Sizes,
+    threads: LoopSizes,
 ) -> Result<(), ServeFault>
     requires named { (source.first.board ≡ N.board) × (source.first.view.terms ≡ N.terms) }
     requires first { source.first.view.first ≡ true }
@@ -228,7 +225,7 @@ fn serve_printing<
             printing.join(rt);
             match served {
                 Ok(()) => Ok(()),
-                Err(fault) => Err(ServeFault::from(fault)),
+                Err(fault) => Err(fault_of(fault)),
             }
         },
     )
@@ -244,12 +241,7 @@ fn serve_lent<
     R: Net<Listener = TcpListener, Stream = TcpStream> + Clock + Print + Threads + Wait + Sync,
     N: BoardName + Ledger + Send + Sync,
     S: Lends<N> + Sync,
->(
-    rt: &R,
-    shared: &S,
-    source: SeatSource,
-    threads: relay_loops::Sizes,
-) -> (RelaySeat, Result<(), LoopsFault>)
+>(rt: &R, shared: &S, source: SeatSource, threads: LoopSizes) -> (RelaySeat, Result<(), LoopsFault>)
     requires named { (source.first.board ≡ N.board) × (source.first.view.terms ≡ N.terms) }
     requires first { source.first.view.first ≡ true }
     requires idle { source.first.view.passes ≡ [] }

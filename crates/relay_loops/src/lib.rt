@@ -4,7 +4,7 @@
 mod parts;
 mod serving;
 
-pub use serving::{LoopsFault, SeatSource, Site, Sizes, serve};
+pub use serving::{LoopsFault, SeatSource, serve};
 
-// Who makes a `Site` makes these.
-pub use event_loops::{Clients, Front, Proxy};
+// Who makes a `Site` makes one of these.
+pub use event_loops::Proxy;

@@ -2,11 +2,11 @@
 
 ghost use Rattle.std.specs.Prelude.{◌≡◌, vec_len, IfOk};
 
-use crate::serving::Sizes;
 use event_loops::{
     Front, Outside, Proxy, SharedParts, Unbegun, empty_spots, loops_of, most_connections, polls_of,
 };
 use grant_board::BoardName;
+use run_sizes::LoopSizes;
 use std::alloc::AllocError;
 use std::net::{Net, TcpListener, TcpStream};
 use std::sync::ledger::Ledger;
@@ -16,7 +16,7 @@ pub(crate) fn parts_of<R: Net<Listener = TcpListener, Stream = TcpStream>, N: Bo
     rt: &R,
     proxy: &Proxy<N>,
     front: &Front<'_>,
-    sizes: Sizes,
+    sizes: LoopSizes,
 ) -> Result<(SharedParts, Vec<Unbegun>), AllocError>
     ensures { IfOk result (λ made. vec_len made.0.spots ≡ sizes.places) }
 {

@@ -4,39 +4,15 @@ ghost use Rattle.std.specs.Prelude.{◌≡◌, ◌≤◌, ◌+◌, ◌^◌, true
 ghost use Rattle.relay_loops.specs.Returns.{ReturnsSeats};
 
 use crate::parts::parts_of;
-use event_loops::{Front, Proxy, Shared, join_all, run_all, split_off};
+use event_loops::{Shared, Site, join_all, run_all, split_off};
 use grant_board::{BoardName, RelaySeat};
+use run_sizes::LoopSizes;
 use std::alloc::AllocError;
 use std::net::{Net, TcpListener, TcpStream};
 use std::sync::Wait;
 use std::sync::ledger::{Blank, Ledger};
 use std::thread::Threads;
 use std::time::Clock;
-
-/// How many loops there are, and for how many places.
-#[derive(Clone, Copy, Debug, PartialEq, Eq)]
-pub struct Sizes {
-    pub loops: usize,
-    pub places: usize,
-    /// So many requests are at servers at a time, at most.
-    pub slots: usize,
-    /// While so many requests wait for a place, no client is accepted.
-    pub waiting: u64,
-}
-
-impl Sizes {
-    // Each place and each thread has one.
-    fn seats(self) -> usize {
-        self.places.saturating_add(self.loops)
-    }
-}
-
-/// A proxy, and what its gates share.
-#[derive(Drop)]
-pub struct Site<'a, N: BoardName> {
-    pub proxy: &'a Proxy<N>,
-    pub front: &'a Front<'a>,
-}
 
 /// What the seats of places and threads come from.
 #[derive(Drop)]
@@ -65,7 +41,7 @@ pub fn serve<
     rt: &R,
     site: &'a Site<'a, N>,
     source: SeatSource,
-    sizes: Sizes,
+    sizes: LoopSizes,
 ) -> (RelaySeat, Result<(), LoopsFault>)
     requires named { (source.first.board ≡ N.board) × (source.first.view.terms ≡ N.terms) }
     requires first { source.first.view.first ≡ true }
@@ -82,7 +58,7 @@ pub fn serve<
     let SeatSource { first, ledger } = source;
     let mut first = first;
     let mut seats = Vec::new(proxy.alloc);
-    if !split_off(proxy, &mut first, &mut seats, sizes.seats()) {
+    if !split_off(proxy, &mut first, &mut seats, seats_of(sizes)) {
         join_all(proxy, &mut first, seats);
         return (first, Err(LoopsFault::NoMemory));
     }
@@ -104,4 +80,9 @@ pub fn serve<
         Ok(()) => (first, Ok(())),
         Err(_) => (first, Err(LoopsFault::NoMemory)),
     }
+}
+
+// Each place and each thread has one.
+fn seats_of(sizes: LoopSizes) -> usize {
+    sizes.places.saturating_add(sizes.loops)
 }

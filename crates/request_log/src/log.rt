@@ -44,7 +44,9 @@ pub struct RequestLog {
     pub(crate) access: Option<Access>,
     pub(crate) events: Option<Arc<Sink>>,
     numbers: Option<Mutex<ProxyNumbers>>,
-    rings: Mutex<Vec<Producer<Box<Account>>>>,
+    rings: Mutex<Vec<Producer<Told>>>,
+    /// So many exchanges were told of, those that found no room among them.
+    told: AtomicU64,
     scribe: Mutex<Option<Scribe>>,
     /// Accounts that found no room.
     lost: AtomicU64,
@@ -57,13 +59,20 @@ pub struct RequestLog {
     over: AtomicBool,
 }
 
+/// An exchange that ended, and how many were told of before it, by any loop.
+#[derive(Drop)]
+pub(crate) struct Told {
+    pub(crate) number: u64,
+    pub(crate) account: Box<Account>,
+}
+
 /// The other ends of the rings.
-pub(crate) type Ends = Vec<Consumer<Box<Account>>>;
+pub(crate) type Ends = Vec<Consumer<Told>>;
 
 /// What a loop tells of its exchanges with.
 #[derive(Drop)]
 pub struct Teller<'a> {
-    ring: Producer<Box<Account>>,
+    ring: Producer<Told>,
     log: &'a RequestLog,
 }
 
@@ -95,6 +104,7 @@ impl RequestLog {
             events,
             numbers: numbers.map(Mutex::new),
             rings: Mutex::new(rings),
+            told: AtomicU64::new(0),
             scribe: Mutex::new(Some(scribe)),
             lost: AtomicU64::new(0),
             untold: AtomicU64::new(0),
@@ -181,6 +191,11 @@ impl RequestLog {
         self.over.load(Ordering::SeqCst)
     }
 
+    /// How many exchanges were told of.
+    pub(crate) fn told(&self) -> u64 {
+        self.told.load(Ordering::SeqCst)
+    }
+
     /// How many exchanges couldn't be told of since it was last asked.
     pub(crate) fn take_lost(&self) -> u64 {
         self.lost.swap(0, Ordering::SeqCst)
@@ -205,7 +220,8 @@ impl RequestLog {
 impl Teller<'_> {
     /// Tells of an exchange that ended. Where its ring is full it is counted, and nobody waits.
     pub fn tell(&mut self, account: Box<Account>) {
-        if self.ring.push(account).is_err() {
+        let number = self.log.told.fetch_add(1, Ordering::SeqCst);
+        if self.ring.push(Told { number, account }).is_err() {
             self.log.lost.fetch_add(1, Ordering::SeqCst);
         }
     }
@@ -214,7 +230,7 @@ impl Teller<'_> {
 fn rings_of(
     alloc: Global,
     count: usize,
-) -> Result<(Vec<Producer<Box<Account>>>, Ends), AllocError> {
+) -> Result<(Vec<Producer<Told>>, Ends), AllocError> {
     let mut rings = Vec::new(alloc);
     let mut ends = Vec::new(alloc);
     for _ in 0..count {

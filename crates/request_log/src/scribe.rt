@@ -130,7 +130,8 @@ impl Scribe {
         desk: &Desk<N>,
         names: &Names,
     ) -> bool {
-        let has_more = self.gather();
+        // The loops go on telling: what they tell from here on is taken the next time, so that no line stands before an earlier one's.
+        let has_more = self.gather(log.told());
         // What is told of an exchange is in the log by now.
         desk.read_new(rt, &mut self.batch);
         self.take_in(rt, log, desk, names);
@@ -140,24 +141,35 @@ impl Scribe {
         has_more
     }
 
-    // Takes the accounts of what ended. True: there are more.
-    fn gather(&mut self) -> bool {
-        let mut has_more = false;
-        for end in self.ends.as_mut_slice() {
-            for _ in 0..MOST {
-                if MOST <= self.accounts.len() {
-                    has_more = true;
-                    break;
-                }
-                match end.pop() {
-                    Ok(account) => {
-                        let _ = self.accounts.push_back(account);
-                    }
-                    Err(_) => break,
+    // Takes the accounts of what ended, in the order in which loops told of it, before so many were told of. True: there are more.
+    fn gather(&mut self, until: u64) -> bool {
+        for _ in self.accounts.len()..MOST {
+            let Some(ring) = self.next_ring(until) else {
+                return false;
+            };
+            let Some(end) = self.ends.get_mut(ring) else {
+                return false;
+            };
+            if let Ok(told) = end.pop() {
+                let _ = self.accounts.push_back(told.account);
+            }
+        }
+        true
+    }
+
+    // The ring whose first account was told of before those of all others, and before so many.
+    fn next_ring(&mut self, until: u64) -> Option<usize> {
+        let mut least = until;
+        let mut found = None;
+        for (ring, end) in self.ends.iter_mut().enumerate() {
+            if let Ok(told) = end.peek() {
+                if told.number < least {
+                    least = told.number;
+                    found = Some(ring);
                 }
             }
         }
-        has_more
+        found
     }
 
     // What was read of the dispatcher's log becomes known.

@@ -3,4 +3,4 @@
 
 mod sizes;
 
-pub use sizes::{MOST_LOOPS, MOST_WAITING, MOST_WORKERS, Sizes};
+pub use sizes::{LoopSizes, MOST_LOOPS, MOST_WAITING, MOST_WORKERS, Sizes};

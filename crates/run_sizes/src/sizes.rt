@@ -22,6 +22,17 @@ pub struct Sizes {
     ghost most: { places ≤ 4096 },
 }
 
+/// How many loops there are, and for how many places.
+#[derive(Clone, Copy, Debug, PartialEq, Eq)]
+pub struct LoopSizes {
+    pub loops: usize,
+    pub places: usize,
+    /// So many requests are at servers at a time, at most.
+    pub slots: usize,
+    /// While so many requests wait for a place, no client is accepted.
+    pub waiting: u64,
+}
+
 impl Sizes {
     /// So many runners, 1 to 256, loops, 1 to 64, and requests that wait beyond the places, 1 to 65,536, where they are given; so many requests live, 1 to 4,096; after so many clients it ends, at most
     /// 999,999,999, 0: never. None where one of them is out of its range.

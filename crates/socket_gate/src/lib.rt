@@ -11,6 +11,7 @@ mod gate;
 mod leaving;
 mod pauses;
 mod probing;
+mod site;
 mod waits;
 
 pub use clients::Clients;
@@ -18,3 +19,4 @@ pub use front::{Front, within};
 pub use gate::SocketGate;
 pub use leaving::has_left;
 pub use pauses::Pauses;
+pub use site::Site;

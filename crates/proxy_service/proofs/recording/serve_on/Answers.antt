@@ -1,6 +1,6 @@
 use denote.Param.Send.{sendable}
 use Rattle.std.proofs.Crossing.{crosses}
-use Rattle.relay_loops.proofs.Crosses.{site_sync}
+use Rattle.service_parts.proofs.Crosses.{site_sync}
 use Rattle.proxy_service.proofs.recording.serve_on.Goals as goal
 
 pub serve_watched-requires-sync-S : goal.serve_watched-requires-sync-S

@@ -1,6 +1,0 @@
-use Rattle.std.proofs.Common.{◌≡◌, map, take}
-use Rattle.proxy_service.proofs.preparing.limits_of.Given as goal
-
--- those of the servers so far
-abbrev pub invariant-loop-server : goal.invariant-loop-server
-invariant-loop-server l = l.limits.items ≡ map (λ server. server.limit) (take l.server-index l.servers)

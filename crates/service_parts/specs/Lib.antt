@@ -1,0 +1,4 @@
+pub mod Setups
+pub mod Gauges
+pub mod Faults
+pub mod Parts

@@ -1,0 +1,16 @@
+-- What a desk is made of.
+use Rattle.std.specs.Prelude.{◌≡◌, [], length, true}
+use Rattle.dispatch_log.specs.declared.setup.Setup.{Setup}
+use Rattle.dispatch_log.specs.Histories.{first_window}
+use Rattle.grant_board.specs.KeeperCalls.{new_keeper}
+use Rattle.grant_board.specs.RelayCalls.{new_relay}
+use Rattle.outstanding.specs.Books.{terms_of}
+use Rattle.service_parts.specs.declared.parts.Parts.{Parts}
+use Rattle.reporting_core.specs.Reporting.{IsNew}
+
+-- the parts of a dispatcher of this setup that has done nothing, and seats of one board that have done nothing
+pub record AreNew (setup : Setup) (parts : Parts) : Type 0 where
+  pub core : parts.core ≡ first_window setup []
+  pub running : IsNew parts.running (length setup.servers)
+  pub keeper : parts.keeper ≡ record { board = parts.board; view = new_keeper (terms_of setup) }
+  pub relay : parts.relay ≡ record { board = parts.board; view = new_relay (terms_of setup) true }

@@ -1,0 +1,61 @@
+//! By how many threads a proxy is served: as the command line says, or as the configuration and the machine let it.
+
+ghost use Rattle.std.specs.Prelude.{◌≡◌, ◌≤◌};
+
+use proxy_config::Config;
+use run_sizes::{LoopSizes, MOST_LOOPS, MOST_WAITING, MOST_WORKERS, Sizes};
+use std::thread;
+use std::thread::Threads;
+
+/// What a proxy is served by, and for how many clients.
+#[derive(Clone, Copy)]
+pub struct Crew {
+    pub threads: LoopSizes,
+    /// What was asked for of workers, which nothing depends on.
+    pub workers: usize,
+    pub requests: u64,
+}
+
+/// Where nothing else is said: as many loops as the machine has processors for it, and as many workers as requests may be at servers at a time.
+pub fn crew_of(rt: &impl Threads, config: &Config, sizes: Sizes) -> Crew
+    ensures places { result.threads.places ≡ sizes.places }
+    ensures requests { result.requests ≡ sizes.requests }
+{
+    let slots = slots_of(config, sizes.places);
+    let loops = match sizes.loops {
+        Some(loops) => loops as usize,
+        None => match thread::available_parallelism(rt) {
+            Ok(processors) => processors.get().min(MOST_LOOPS as usize),
+            Err(_) => 1,
+        },
+    };
+    let workers = match sizes.workers {
+        Some(workers) => workers as usize,
+        None => slots.min(MOST_WORKERS as usize).max(1),
+    };
+    Crew {
+        threads: LoopSizes {
+            loops,
+            places: sizes.places,
+            slots,
+            waiting: u64::from(sizes.waiting.unwrap_or(MOST_WAITING)),
+        },
+        workers,
+        requests: sizes.requests,
+    }
+}
+
+// So many requests may be at servers at a time: the sum of their limits, or as many as live where one has none.
+fn slots_of(config: &Config, places: usize) -> usize
+    ensures { result ≤ places }
+{
+    let mut slots = 0;
+    let servers = config.servers.as_slice();
+    for server in servers {
+        if server.maxconn == 0 {
+            return places;
+        }
+        slots = places.min((server.maxconn as usize).saturating_add(slots));
+    }
+    slots
+}

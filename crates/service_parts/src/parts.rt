@@ -1,0 +1,46 @@
+ghost use Rattle.std.specs.Prelude.{◌<◌, ◌≤◌, ◌+◌, ◌^◌, IfOk};
+ghost use Rattle.proxy_config.specs.Sound.{IsSoundConfig};
+ghost use Rattle.service_parts.specs.Parts.{AreNew};
+ghost use Rattle.service_parts.specs.Setups.{setup_of};
+
+use crate::preparing::{limits_of, setup_of};
+use dispatch_core::Core;
+use grant_board::{Board, KeeperSeat, RelaySeat};
+use grant_desk::Queues;
+use late_cert::Running;
+use proxy_config::Config;
+use std::alloc::{AllocError, Global};
+use std::sync::ledger::Blank;
+
+/// What a desk is made of, and the seat of its relays.
+pub struct Parts {
+    pub core: Core<Queues>,
+    pub running: Running,
+    pub board: Board,
+    pub keeper: KeeperSeat,
+    pub relay: RelaySeat,
+    /// What is accounted of its seats on.
+    pub ledger: Blank,
+}
+
+/// Those of a configuration, for so many live requests.
+pub fn parts_of(alloc: Global, config: &Config, places: usize) -> Result<Parts, AllocError>
+    requires config { IsSoundConfig config.now }
+    requires places { (0 < places) × (places ≤ 4096) }
+    ensures parts { IfOk result (AreNew (setup_of config.now places)) }
+    ensures ledger { IfOk result (λ parts. 2 ^ 64 ≤ parts.ledger.parts + 1) }
+{
+    let setup = setup_of(alloc, config, places)?;
+    let limits = limits_of(alloc, &setup)?;
+    let running = Running::new(alloc, limits.len())?;
+    let core = Core::new(alloc, setup)?;
+    let (board, keeper, relay) = Board::open(alloc, places, &limits)?;
+    Ok(Parts {
+        core,
+        running,
+        board,
+        keeper,
+        relay,
+        ledger: Blank::new(u64::MAX),
+    })
+}

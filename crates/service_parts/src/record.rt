@@ -1,0 +1,64 @@
+ghost use Rattle.std.specs.Prelude.{◌≡◌, ◌⊎◌, length};
+
+use dispatch_log::Entry;
+use std::alloc::Global;
+use std::mem;
+use std::sync::atomic::{AtomicBool, Ordering};
+use std::sync::{Mutex, Wait};
+
+/// The entries of a proxy's log that were copied and not taken yet: the proxy adds them while it serves, and who looks on takes them.
+#[derive(Drop)]
+pub struct Record {
+    alloc: Global,
+    entries: Mutex<Vec<Entry>>,
+    closed: AtomicBool,
+    over: AtomicBool,
+}
+
+impl Record {
+    /// Of a proxy that decided nothing so far.
+    pub fn new(alloc: Global) -> Record {
+        Record {
+            alloc,
+            entries: Mutex::new(Vec::new(alloc)),
+            closed: AtomicBool::new(false),
+            over: AtomicBool::new(false),
+        }
+    }
+
+    /// The entries that were added since it was last asked, in order.
+    pub fn take<R: Wait>(&self, rt: &R) -> Vec<Entry> {
+        let mut entries = self.entries.lock(rt);
+        mem::replace(&mut *entries, Vec::new(self.alloc))
+    }
+
+    /// Whether no more come than are there now.
+    pub fn is_over(&self) -> bool {
+        self.over.load(Ordering::SeqCst)
+    }
+
+    /// Notes that the proxy decides no more.
+    pub fn close(&self) {
+        self.closed.store(true, Ordering::SeqCst);
+    }
+
+    pub fn is_closed(&self) -> bool {
+        self.closed.load(Ordering::SeqCst)
+    }
+
+    /// Notes that no more come.
+    pub fn end(&self) {
+        self.over.store(true, Ordering::SeqCst);
+    }
+
+    /// Adds all of these, or none where memory is refused; answers how many it added.
+    pub fn add<R: Wait>(&self, rt: &R, later: &[Entry]) -> usize
+        ensures { (result ≡ length later.now) ⊎ (result ≡ 0) }
+    {
+        let mut entries = self.entries.lock(rt);
+        match entries.extend_from_slice(later) {
+            Ok(()) => later.len(),
+            Err(_) => 0,
+        }
+    }
+}

@@ -1,0 +1,132 @@
+//! What the threads of a proxy share beside its dispatcher.
+
+ghost use Rattle.std.specs.Prelude.{◌≡◌};
+
+use crate::fault::ServeFault;
+use crate::opening::RunOptions;
+use crate::preparing::{LOG, names_of};
+use admin_http::Admin;
+use control_socket::Controls;
+use line_sink::Sink;
+use proxy_config::Config;
+use proxy_numbers::{Proportions, ProxyNumbers};
+use request_log::{Extent, Logs, RequestLog, base_of};
+use run_sizes::LoopSizes;
+use server_names::Addresses;
+use socket_gate::{Clients, Front};
+use std::alloc::{AllocError, Global};
+use std::net::TcpListener;
+use std::sync::Arc;
+use std::time::{Clock, Instant};
+use window_printer::WindowPrinter;
+
+/// What goes on beside serving, which waits for none of it.
+#[derive(Drop)]
+pub struct Beside {
+    pub windows: WindowPrinter,
+    pub addresses: Addresses,
+    pub controls: Option<Controls>,
+    pub keeping: Option<u64>,
+    pub window: Option<u64>,
+    pub forwarded_for: bool,
+    pub log: Option<RequestLog>,
+    pub admin: Option<Admin>,
+    /// Moments are milliseconds since then.
+    pub start: Instant,
+}
+
+/// That of a configuration, for so many loops and places, before any of it goes on.
+pub fn beside_of<R: Clock + AllocGlobal>(
+    rt: &R,
+    config: &Config,
+    options: RunOptions,
+    threads: LoopSizes,
+) -> Result<Beside, ServeFault> {
+    let alloc = rt.alloc();
+    let Ok(start) = Instant::now(rt) else {
+        return Err(ServeFault::Read);
+    };
+    let RunOptions {
+        keeping,
+        window,
+        forwarded_for,
+        controls,
+        mut logs,
+        admin,
+    } = options;
+    if admin.is_some() {
+        logs.numbers = Some(numbers_of(alloc, config, threads.places)?);
+    }
+    let servers = config.servers.len();
+    let names = names_of(alloc, config)?;
+    let loops = threads.loops;
+    let base = base_of(rt, start);
+    let windows = WindowPrinter::new(alloc, names, servers)?
+        .dated(window.map(|_| base))
+        .onto(sink_of(&logs)?);
+    let extent = Extent {
+        servers,
+        loops,
+        start,
+        base,
+    };
+    Ok(Beside {
+        windows,
+        addresses: Addresses::new(alloc, config)?,
+        controls,
+        keeping,
+        window,
+        forwarded_for,
+        log: RequestLog::new(alloc, logs, extent)?,
+        admin,
+        start,
+    })
+}
+
+// What is counted of a proxy to which nothing happened.
+fn numbers_of(alloc: Global, config: &Config, places: usize) -> Result<ProxyNumbers, AllocError> {
+    let mut limits = Vec::with_capacity(alloc, config.servers.len())?;
+    for server in config.servers.as_slice() {
+        limits.push(server.maxconn)?;
+    }
+    let proportions = Proportions {
+        places,
+        entries: LOG,
+    };
+    ProxyNumbers::new(alloc, limits.as_slice(), proportions)
+}
+
+// Where the lines of windows go together with those of the access log.
+fn sink_of(logs: &Logs) -> Result<Option<Arc<Sink>>, AllocError> {
+    match &logs.access {
+        Some(access) if access.has_windows => Ok(Some(Arc::try_clone(&access.sink)?)),
+        _ => Ok(None),
+    }
+}
+
+/// What the gates share, from now on.
+pub fn front_of<'a>(
+    alloc: Global,
+    config: &'a Config,
+    listener: TcpListener,
+    requests: u64,
+    beside: &'a Beside,
+) -> Front<'a>
+    ensures { result.config.now ≡ config.now }
+{
+    Front {
+        alloc,
+        config,
+        listener,
+        clients: Clients::new(requests),
+        start: beside.start,
+        addresses: &beside.addresses,
+        windows: &beside.windows,
+        controls: beside.controls.as_ref(),
+        log: beside.log.as_ref(),
+        admin: beside.admin.as_ref(),
+        keeping: beside.keeping,
+        window: beside.window,
+        forwarded_for: beside.forwarded_for,
+    }
+}

@@ -1,0 +1,103 @@
+//! The thread that answers how a proxy goes.
+
+use crate::descriptors::{count_descriptors, push_descriptors};
+use crate::writing::Writing;
+use admin_http::{Admin, attend};
+use admin_pages::{Health, Pages, Told};
+use due_key::Moment;
+use proxy_numbers::{push_metrics, state_of};
+use request_log::RequestLog;
+use socket_gate::Front;
+use std::alloc::AllocError;
+use std::sync::Wait;
+use std::thread::{Scope, Threads};
+use std::time::{Clock, Duration};
+
+/// The numbers of a proxy, as its front has them.
+#[derive(Drop)]
+struct Looking<'a, R> {
+    rt: &'a R,
+    front: &'a Front<'a>,
+    log: &'a RequestLog,
+}
+
+impl<'a, R: Clock + Wait> Told for Looking<'a, R> {
+    fn now(&self) -> u64 {
+        let passed = self.front.start.elapsed(self.rt);
+        let passed = passed.unwrap_or(Duration::from_millis(0));
+        u64::try_from(passed.as_millis()).unwrap_or(u64::MAX)
+    }
+
+    fn health(&self) -> Health {
+        match self.log.numbers(self.rt) {
+            Some(numbers) if numbers.is_stopping() => Health::Stops,
+            Some(numbers) if numbers.is_served() => Health::Serves,
+            _ => Health::Unserved,
+        }
+    }
+
+    fn metrics(&self) -> Result<String, AllocError> {
+        let mut text = String::new(self.front.alloc);
+        if let Some(numbers) = self.log.numbers(self.rt) {
+            push_metrics(&mut text, self.front.windows.names(), &numbers)?;
+        }
+        if let Some(told) = count_descriptors() {
+            push_descriptors(&mut text, told)?;
+        }
+        Ok(text)
+    }
+
+    fn state(&self) -> Result<String, AllocError> {
+        let moment = Moment::new(self.now()).unwrap_or(Moment::zero());
+        match self.log.numbers(self.rt) {
+            None => Ok(String::new(self.front.alloc)),
+            Some(numbers) => state_of(
+                self.front.alloc,
+                self.front.windows.names(),
+                &numbers,
+                moment,
+            ),
+        }
+    }
+}
+
+/// Says on standard error where it is asked how it goes, where it is.
+pub fn announce_admin<R: Eprint>(rt: &R, front: &Front<'_>) {
+    if let Some(address) = front.admin.and_then(|admin| admin.address()) {
+        let _ = eprintln!(rt; "admin at http://{address}/");
+    }
+}
+
+/// Has a thread of the scope answer, where that is wanted.
+pub fn start_watching<'s, E, R: Clock + Threads + Wait + Sync>(
+    scope: &Scope<'s, E>,
+    rt: &'s R,
+    front: &'s Front<'_>,
+) -> Writing {
+    let (Some(admin), Some(log)) = (front.admin, front.log) else {
+        return Writing::Nothing;
+    };
+    let started = scope.spawn(move || answer_all(rt, front, admin, log)).ok();
+    match started {
+        Some(handle) => Writing::Runs(handle),
+        None => Writing::Failed,
+    }
+}
+
+// Where there is no memory for it, nobody is answered, and the proxy serves on.
+fn answer_all<R: Clock + Wait>(rt: &R, front: &Front<'_>, admin: &Admin, log: &RequestLog) {
+    let looking = Looking { rt, front, log };
+    let mut pages = Pages::new(front.alloc, looking);
+    let _ = attend(rt, admin, &mut pages);
+}
+
+/// Nobody is answered any more.
+pub fn end_watching<R: Threads + Wait>(rt: &R, front: &Front<'_>, watching: Writing) {
+    if let Some(admin) = front.admin {
+        admin.end();
+    }
+    match watching {
+        Writing::Runs(handle) => handle.join(rt),
+        Writing::Nothing | Writing::Failed => {}
+    }
+}

@@ -1,0 +1,78 @@
+//! The thread that writes the logs.
+
+use crate::lending::Lends;
+use grant_board::BoardName;
+use request_log::RequestLog;
+use socket_gate::Front;
+use std::sync::Wait;
+use std::sync::ledger::Ledger;
+use std::thread::{JoinHandle, Scope, Threads};
+use std::time::Clock;
+
+/// What became of the start of a thread beside serving.
+pub enum Writing {
+    /// It isn't wanted.
+    Nothing,
+    Runs(JoinHandle<()>),
+    /// No thread is to be had.
+    Failed,
+}
+
+impl Writing {
+    /// Whether it was wanted and isn't there.
+    pub fn has_failed(&self) -> bool {
+        matches!(self, Writing::Failed)
+    }
+}
+
+/// Has a thread of the scope write the logs, where they are wanted.
+pub fn start_writing<
+    's,
+    E,
+    R: Clock + Threads + Wait + Sync,
+    N: BoardName + Ledger + Send + Sync + 's,
+    S: Lends<N> + Sync + 's,
+>(scope: &Scope<'s, E>, rt: &'s R, shared: &'s S, front: &'s Front<'_>) -> Writing {
+    let Some(log) = front.log else {
+        return Writing::Nothing;
+    };
+    let Some(scribe) = log.take_scribe(rt) else {
+        return Writing::Nothing;
+    };
+    let site = request_log::Site {
+        names: front.windows.names(),
+        address: front.listener.local_addr().ok(),
+    };
+    let started = scope
+        .spawn(move || scribe.write_all(rt, log, &shared.proxy().desk, site))
+        .ok();
+    match started {
+        Some(handle) => Writing::Runs(handle),
+        None => Writing::Failed,
+    }
+}
+
+/// No more happens: the thread writes what is left, and ends.
+pub fn end_writing<R: Threads + Wait>(rt: &R, front: &Front<'_>, writing: Writing) {
+    if let Some(log) = front.log {
+        log.end();
+    }
+    match writing {
+        Writing::Runs(handle) => handle.join(rt),
+        Writing::Nothing | Writing::Failed => {}
+    }
+}
+
+/// Waits for the files for a while. What isn't written then is said on standard error.
+pub fn close_logs<R: Eprint + Wait + Clock>(rt: &R, log: Option<&RequestLog>) {
+    let Some(log) = log else {
+        return;
+    };
+    let (access, events) = log.close(rt);
+    if access != 0 {
+        let _ = eprintln!(rt; "access log: {access} lines not written");
+    }
+    if events != 0 {
+        let _ = eprintln!(rt; "event log: {events} lines not written");
+    }
+}

@@ -227,10 +227,7 @@ impl Teller<'_> {
     }
 }
 
-fn rings_of(
-    alloc: Global,
-    count: usize,
-) -> Result<(Vec<Producer<Told>>, Ends), AllocError> {
+fn rings_of(alloc: Global, count: usize) -> Result<(Vec<Producer<Told>>, Ends), AllocError> {
     let mut rings = Vec::new(alloc);
     let mut ends = Vec::new(alloc);
     for _ in 0..count {

@@ -8,7 +8,8 @@ PROGRAM = sys.argv[1]
 
 
 def told(*words):
-    return subprocess.run([PROGRAM, *words], check=True, capture_output=True, text=True).stdout.rstrip("\n")
+    """What it says under the name that it is installed under."""
+    return subprocess.run(["dueproxy", *words], executable=PROGRAM, check=True, capture_output=True, text=True).stdout.rstrip("\n")
 
 
 def escaped(text):

@@ -221,7 +221,7 @@ status, out, err = Proxy(configured(" keyword\n"), 1).end()
 tried("a faulty configuration", (status, out) == (3, "config line 3: keyword\n"), f"status {status} {out} {err}")
 proxy = Proxy(f"{FOLDER}/none.cfg", 1)
 status, out, err = proxy.end()
-tried("a file that isn't there", (status, proxy.first + err) == (1, "read fault\n"), f"status {status} {proxy.first + err}")
+tried("a file that isn't there", (status, proxy.first) == (1, "read fault\n"), f"status {status} {proxy.first + err}")
 with socket.create_server(("127.0.0.1", PROXY)):
     proxy = Proxy(configured(), 1)
     status, out, err = proxy.end()

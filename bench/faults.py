@@ -225,7 +225,7 @@ tried("a file that isn't there", (status, proxy.first) == (1, "read fault\n"), f
 with socket.create_server(("127.0.0.1", PROXY)):
     proxy = Proxy(configured(), 1)
     status, out, err = proxy.end()
-tried("an address that is taken", (status, proxy.first + err) == (1, "read fault\n"), f"status {status} {proxy.first + err}")
+tried("an address that is taken", (status, proxy.first) == (1, "read fault\n"), f"status {status} {proxy.first + err}")
 
 # Of 40 files the proxy has most for itself: the silent clients are accepted a few at a time, and each is closed before the next can be.
 with Listening(answer):

@@ -1,7 +1,7 @@
 #!/bin/bash
 # logs.sh [RUNS]: what logs cost. Prints requests a second of 64 clients without a queue, by `dueproxy run` without logs, with the access log and the event log, and
-# with numbers beside them, taking turns in one run: medians, and each as a part of the first. After each part with logs, each request that was answered must have its
-# line. It needs nginx and wrk.
+# with numbers beside them, taking turns in one run: medians, and each as a part of the first. At the end there must be as many lines as answers. It needs nginx and
+# wrk.
 . "$(dirname "$0")/common.sh"
 program=$(proved_program)
 seconds=${SECONDS_EACH:-2}

@@ -1,14 +1,13 @@
-//! What `bench/coder.sh` times: bodies from memory to memory, by the coder and by the pipe.
+//! What `bench/coder.sh` times: bodies that the coder takes from memory, and what it gives for them.
 //!
-//! Its words are `coder` or `pipe`, a size, and how often. A size of 0 is a body of 1 MiB by length, and others are such a body in chunks of that size.
+//! Its words are a size, and how often. A size of 0 is a body of 1 MiB by length, and others are such a body in chunks of that size.
 #![tactic(auto)]
 
 ghost use Rattle.std.specs.Prelude.{◌<◌};
 
 use anyhow::{Result, bail};
 use body_coder::{Coding, Outbox, State};
-use counted_io::Counted;
-use relay_body::{Framing, Pipe};
+use relay_body::Framing;
 use std::alloc::{AllocError, Global};
 use std::env;
 
@@ -19,14 +18,14 @@ const PIECE_BYTES: usize = 65_536;
 fn main(rt: HostRuntime) -> Result<()> {
     let words = env::args(&rt)?.collect::<Vec<String>>(rt.alloc())?;
     match words.as_slice() {
-        [_, what, size, times] => {
+        [_, size, times] => {
             let body = body_of(rt.alloc(), size.as_str().parse::<usize>()?)?;
             let times = times.as_str().parse::<u32>()?;
-            let given = run(rt.alloc(), what.as_str(), &body, times)?;
+            let given = run(rt.alloc(), &body, times)?;
             println!(rt; "{given}")?;
             Ok(())
         }
-        _ => bail!("coder or pipe, a size, and how often"),
+        _ => bail!("a size, and how often"),
     }
 }
 
@@ -60,15 +59,7 @@ fn body_of(alloc: Global, size: usize) -> Result<Body, AllocError> {
 }
 
 // How many bytes were given in all.
-fn run(alloc: Global, what: &str, body: &Body, times: u32) -> Result<u64> {
-    match what {
-        "coder" => Ok(by_coder(alloc, body, times)?),
-        "pipe" => by_pipe(alloc, body, times),
-        _ => bail!("coder or pipe"),
-    }
-}
-
-fn by_coder(alloc: Global, body: &Body, times: u32) -> Result<u64, AllocError> {
+fn run(alloc: Global, body: &Body, times: u32) -> Result<u64, AllocError> {
     let mut out = Outbox::new(alloc)?;
     let mut given = 0u64;
     for _ in 0..times {
@@ -95,25 +86,4 @@ fn pass(coding: &mut Coding, input: &[u8], out: &mut Outbox) -> u64 {
         }
     }
     given
-}
-
-fn by_pipe(alloc: Global, body: &Body, times: u32) -> Result<u64> {
-    let mut pipe = Pipe::new(alloc, 0)?;
-    let mut out = Vec::with_capacity(alloc, 2 * BODY_BYTES)?;
-    let mut given = 0u64;
-    for _ in 0..times {
-        pipe.renew(1 << 40);
-        out.clear();
-        let mut reader = body.bytes.as_slice();
-        let mut source = Counted::new(&mut reader);
-        let mut sink = Counted::new(&mut out);
-        if pipe
-            .pass_body(&mut source, &mut sink, body.framing, true)
-            .is_err()
-        {
-            bail!("a fault");
-        }
-        given = given.wrapping_add(out.len() as u64);
-    }
-    Ok(given)
 }

@@ -1,4 +1,4 @@
-ghost use Rattle.std.specs.Prelude.{◌≡◌, ◌+◌, ◌-◌, ◌≤◌, ◌++◌, List, [], length, take, drop, slice_range, IfOk, vec_len};
+ghost use Rattle.std.specs.Prelude.{◌≡◌, ◌+◌, ◌≤◌, ◌++◌, [], length, take, drop, IfOk};
 
 use std::alloc::{AllocError, Global};
 use std::marker::Model;
@@ -9,18 +9,17 @@ pub const OUTBOX_BYTES: usize = 20_480;
 /// The bytes that wait to be sent.
 #[derive(Drop)]
 pub struct Outbox {
-    buf: Vec<u8>,
-    len: usize,
+    bytes: Vec<u8>,
 }
 
 impl Model for Outbox {
-    ghost use Rattle.std.specs.Prelude.{◌≡◌, ◌≤◌, ℕ, List, take, vec_len};
+    ghost use Rattle.std.specs.Prelude.{◌≤◌, ℕ, List, length, vec_capacity};
 
     ghost Value = { List ℕ };
 
-    ghost view = { λ o. take o.len o.buf.items };
+    ghost view = { λ o. o.bytes.items };
 
-    ghost invariant = { λ o. (o.len ≤ 20480) × (vec_len o.buf ≡ 20480) };
+    ghost invariant = { λ o. (length o.bytes.items ≤ 20480) × (20480 ≤ vec_capacity o.bytes) };
 }
 
 impl Outbox {
@@ -28,23 +27,22 @@ impl Outbox {
     pub fn new(alloc: Global) -> Result<Outbox, AllocError>
         ensures { IfOk result (λ outbox. outbox ≡ []) }
     {
-        let mut buf = Vec::with_capacity(alloc, OUTBOX_BYTES)?;
-        buf.resize(OUTBOX_BYTES, 0)?;
-        Ok(Outbox { buf, len: 0 })
+        let bytes = Vec::with_capacity(alloc, OUTBOX_BYTES)?;
+        Ok(Outbox { bytes })
     }
 
     /// What waits.
     pub fn as_slice(&self) -> &[u8]
         ensures { result.now ≡ self.now }
     {
-        &self.buf[..self.len]
+        self.bytes.as_slice()
     }
 
     /// How many bytes more it takes.
     pub fn room(&self) -> usize
         ensures { length self.now + result ≡ OUTBOX_BYTES }
     {
-        OUTBOX_BYTES - self.len
+        OUTBOX_BYTES - self.bytes.len()
     }
 
     /// Puts the bytes at the end.
@@ -52,8 +50,10 @@ impl Outbox {
         requires { length self.old + length bytes.now ≤ OUTBOX_BYTES }
         ensures { self.new ≡ self.old ++ bytes.now }
     {
-        put_at(&mut self.buf, self.len, bytes);
-        self.len += bytes.len();
+        match self.bytes.extend_from_slice(bytes) {
+            Ok(()) => {}
+            Err(_) => unreachable!(),
+        }
     }
 
     /// Forgets the first bytes, which were sent. `O(n)`.
@@ -61,35 +61,15 @@ impl Outbox {
         requires { count ≤ length self.old }
         ensures { self.new ≡ drop count self.old }
     {
-        move_to_front(&mut self.buf, count, self.len);
-        self.len -= count;
+        let len = self.bytes.len();
+        self.bytes.copy_within(count..len, 0);
+        self.bytes.truncate(len - count);
     }
 
     /// Takes back what stands behind so many bytes.
     pub fn keep_front(&mut self, count: usize)
         ensures { self.new ≡ take count self.old }
     {
-        if count < self.len {
-            self.len = count;
-        }
+        self.bytes.truncate(count);
     }
-}
-
-fn put_at(buf: &mut Vec<u8>, at: usize, bytes: &[u8])
-    requires { at + length bytes.now ≤ vec_len buf.old }
-    ensures front { take (at + length bytes.now) buf.new.items ≡ take at buf.old.items ++ bytes.now }
-    ensures len { vec_len buf.new ≡ vec_len buf.old }
-{
-    let all = buf.as_mut_slice();
-    let end = at + bytes.len();
-    all[at..end].copy_from_slice(bytes);
-}
-
-fn move_to_front(buf: &mut Vec<u8>, start: usize, end: usize)
-    requires ordered { start ≤ end }
-    requires within { end ≤ vec_len buf.old }
-    ensures front { take (end - start) buf.new.items ≡ slice_range buf.old.items start end }
-    ensures len { vec_len buf.new ≡ vec_len buf.old }
-{
-    buf.copy_within(start..end, 0);
 }

@@ -1,8 +1,9 @@
 use crate::assertions::{holds, same};
 use crate::fakes::{Feed, Log};
 use crate::repeats::{Repeated, bytes_of};
+use body_pipe::{INBOX_BYTES, Pipe};
 use counted_io::Counted;
-use relay_body::{Fault, Framing, INBOX_BYTES, Pipe, SIZE_LINE_BYTES, TRAILER_BYTES};
+use relay_body::{Fault, Framing, SIZE_LINE_BYTES, TRAILER_BYTES};
 use std::alloc::Global;
 use std::process::Abort;
 

@@ -3,6 +3,7 @@ use Rattle.std.proofs.Common.{◌≡◌, ◌∙◌, ℕ, ◌<◌, Bool, List, []
 use Rattle.std.specs.List.{flat_map, AllByRecursion}
 use Rattle.httparse.specs.Ascii.{crlf_bytes}
 use Rattle.httparse.specs.Grammar.{ChunkLine, print_chunk_line, chunk_size}
+use Rattle.httparse.proofs.ChunkLemmas.{chunk_line_unique}
 use Rattle.list_facts.specs.Fronts.{IsFront, AreComparable}
 use Rattle.list_facts.proofs.Fronts.{front_more, front_under, front_nil, front_same, front_as}
 use Rattle.list_facts.proofs.Fronts.{under, comparable_as, two_fronts, short_front, same_front, same_behind}
@@ -15,7 +16,10 @@ use Rattle.relay_body.specs.Framings.{PartOfBody}
 use Rattle.relay_body.specs.Trailers.{print_trailers}
 use Rattle.relay_body.specs.declared.framing.Framing.{Framing}
 use Rattle.relay_body.specs.declared.framing.Framing.TheVariants.{Empty, Length, Chunked, ToEnd}
-use Rattle.relay_body.proofs.Chunking.{only_line}
+
+-- the size line at the front of an input is the only one
+only_line : (l k : ChunkLine) (x y : List ℕ) → IsSizeLine l → IsSizeLine k → print_chunk_line l ++ x ≡ print_chunk_line k ++ y → (l ≡ k) × (x ≡ y)
+only_line l k x y is other e = chunk_line_unique (print_chunk_line l ++ x) l k x y (is.line, refl) (other.line, e)
 
 -- of the data behind a size line, each part is a front of the whole
 data_front : {framed : Bool} (size : ℕ) {used text : List ℕ} (body x y : List ℕ) → PartOfData framed size used text → length body ≡ size

@@ -78,6 +78,3 @@ stops_more more x = record {
 
 pub stops_as : {a b : Stream} {t u : ℕ} {text same : List ℕ} {fault : Fault} → text ≡ same → Stops a b t u text fault → Stops a b t u same fault
 stops_as {a} {b} {t} {u} {fault = fault} e x = subst (λ (l : List ℕ). Stops a b t u l fault) e x
-
-pub emits_as : {a b : Stream} {t u : ℕ} {p q text same : List ℕ} → text ≡ same → Emits a b t u p q text → Emits a b t u p q same
-emits_as {a} {b} {t} {u} {p} {q} e x = subst (λ (l : List ℕ). Emits a b t u p q l) e x

@@ -1,11 +1,5 @@
 pub mod ChunkRows
-pub mod Chunking
 pub mod Comparing
 pub mod Emitting
-pub mod Exits
-pub mod Fronts
-pub mod Lines
 pub mod WorkedRows
-pub mod Stepping
-pub mod Wholes
 pub mod Writing

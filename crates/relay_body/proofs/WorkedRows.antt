@@ -1,15 +1,11 @@
 -- The definitions at worked examples: what must hold, and what must not.
 use base.Fml.{GName}
-use Rattle.std.proofs.Common.{◌≡◌, ℕ, List, [], length, Some, true, codes, refl, ap, arith, inl, inr}
+use Rattle.std.proofs.Common.{◌≡◌, ℕ, List, [], Some, true, codes, refl, arith}
 use Rattle.counted_io.specs.Streams.{Stream}
 use Rattle.httparse.specs.Grammar.LineEnd.{lf}
 use Rattle.relay_body.specs.Framings.{IsBody, LacksBody}
-use Rattle.relay_body.specs.Lengths.{LacksLength}
-use Rattle.relay_body.specs.Steps.{ends, Blames}
 use Rattle.relay_body.specs.Texts.{Wrote}
-use Rattle.relay_body.specs.declared.fault.Fault.TheVariants.{Read}
 use Rattle.relay_body.specs.declared.framing.Framing.TheVariants.{Length, ToEnd}
-use Rattle.relay_body.specs.declared.pipe.Pipe.{Pipe}
 use Rattle.relay_body.specs.Trailers.{print_trailers, IsTrailer}
 
 -- an empty line that ends in a line feed alone ends the trailers
@@ -48,10 +44,3 @@ one_write end = record { bytes = refl; more = omega arith; some = omega arith; n
 not_two_writes : (end : GName) → ¬ (Wrote (stream end [] 0) (stream end (codes "a") 2) (codes "a"))
 unfolding stream
 not_two_writes end wrote = omega (arith, wrote.some)
-
--- it's no read fault where no read failed and the input goes on
-not_at_its_end : (end : GName) (pipe : Pipe) (w : Stream) (input : List ℕ)
-    → ¬ (Blames (ends pipe (stream end (codes "ab") 0) w) (ends pipe (stream end (codes "b") 1) w) (LacksLength 3) input Read)
-unfolding stream
-not_at_its_end end pipe w input (same, inl failed) = omega (arith, failed)
-not_at_its_end end pipe w input (same, inr (none, at_end, lacks)) = omega (arith, ap (length {A = ℕ}) at_end)

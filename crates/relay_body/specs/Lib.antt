@@ -2,6 +2,5 @@ pub mod Bodies
 pub mod Chunks
 pub mod Framings
 pub mod Lengths
-pub mod Steps
 pub mod Texts
 pub mod Trailers

@@ -1,27 +1,15 @@
-//! Bodies of HTTP/1.x messages handed on: from a source, through two buffers, to a sink.
+//! What the bodies of HTTP/1.x messages are, and what they become where they are handed on.
 //!
-//! A `Pipe` holds what was read and isn't used yet, what waits to be written, and how many reads and writes it may
-//! still make. Each of its calls says which bytes it used and which text it gave for them, and for each fault whose it was.
+//! Which input is a body, or a part of one, and which will never become one, is in `specs`, by the framing. What hands
+//! bodies on says by these words what it did, and by a `Fault` why it did no more.
 #![tactic(auto)]
 
-mod bodies;
-mod chunks;
+mod bounds;
 mod fault;
 mod framing;
-mod inbox;
 mod laws;
-mod lengths;
-mod outbox;
-mod pipe;
-mod slots;
-mod text;
-mod trailers;
 
-pub use chunks::SIZE_LINE_BYTES;
+pub use bounds::{SIZE_LINE_BYTES, TRAILER_BYTES};
 pub use fault::Fault;
 pub use framing::Framing;
-pub use inbox::INBOX_BYTES;
 pub use laws::texts_of_parts_are_comparable;
-pub use outbox::OUTBOX_BYTES;
-pub use pipe::Pipe;
-pub use trailers::TRAILER_BYTES;

@@ -4,10 +4,10 @@ use Rattle.std.specs.Io.KnownBytes.{Appends, IsAtEnd}
 use Rattle.counted_io.specs.Streams.{Stream}
 use Rattle.relay_body.specs.declared.fault.Fault as Body
 use Rattle.relay_body.specs.declared.fault.Fault.TheVariants as OfBody
-use Rattle.relay_body.specs.declared.pipe.Pipe.{Pipe}
-use Rattle.relay_body.specs.Steps.{Ends, ends, Reads, Moves, Breaks, LacksNothing}
-use Rattle.relay_body.specs.Steps as Body_steps
-use Rattle.relay_body.proofs.Stepping.{joined, Reads-trans, moves_emit, breaks_emit}
+use Rattle.body_pipe.specs.declared.pipe.Pipe.{Pipe}
+use Rattle.body_pipe.specs.Steps.{Ends, ends, Reads, Moves, Breaks, LacksNothing}
+use Rattle.body_pipe.specs.Steps as Body_steps
+use Rattle.body_pipe.proofs.Stepping.{joined, Reads-trans, moves_emit, breaks_emit}
 use Rattle.relay_body.proofs.Writing.{Wrote-trans}
 use Rattle.relay_http.specs.Emissions.{Puts, Halts}
 use Rattle.relay_http.specs.Failures.{Blames, Fails, Explains, Passes, Misses}

@@ -8,7 +8,7 @@ use Rattle.std.proofs.lemmas.Bool.Decides.{nat_tests}
 use Rattle.counted_io.specs.Streams.{Stream}
 use Rattle.list_facts.proofs.Fronts.{some_behind}
 use Rattle.relay_body.specs.Texts.{Wrote}
-use Rattle.relay_body.specs.declared.pipe.Pipe.{Pipe}
+use Rattle.body_pipe.specs.declared.pipe.Pipe.{Pipe}
 use Rattle.relay_http.specs.Messages.{IsAnswered, interims_text}
 use Rattle.relay_http.specs.States.{Marks, emptied}
 use Rattle.relay_http.specs.Texts.{answer_text}

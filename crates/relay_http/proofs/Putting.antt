@@ -4,7 +4,7 @@ use Rattle.std.specs.Prelude.{◌&&◌, not}
 use Rattle.std.proofs.lemmas.Bool.Decides.{nat_tests}
 use Rattle.counted_io.specs.Streams.{Stream}
 use Rattle.relay_body.specs.declared.fault.Fault.{Fault}
-use Rattle.relay_body.specs.declared.pipe.Pipe.{Pipe}
+use Rattle.body_pipe.specs.declared.pipe.Pipe.{Pipe}
 use Rattle.relay_body.proofs.Emitting.{emits_none, emits_trans, emits_stops, stops_more, stops_as}
 use Rattle.relay_http.specs.Emissions.{Puts, Halts}
 

@@ -2,10 +2,10 @@
 use Rattle.std.proofs.Common.{◌≡◌, ◌∙◌, ℕ, List, [], ◌++◌, length, drop, sym, append-nil, subst}
 use Rattle.httparse.specs.Grammar.{RequestHead, ResponseHead, print_request, print_response}
 use Rattle.counted_io.specs.Streams.{Stream}
-use Rattle.relay_body.specs.declared.pipe.Pipe.{Pipe}
-use Rattle.relay_body.specs.Steps.{Ends, ends, Moves}
+use Rattle.body_pipe.specs.declared.pipe.Pipe.{Pipe}
+use Rattle.body_pipe.specs.Steps.{Ends, ends, Moves}
 use Rattle.list_facts.proofs.Fronts.{behind}
-use Rattle.relay_body.proofs.Stepping.{moves_trans, moves_use}
+use Rattle.body_pipe.proofs.Stepping.{moves_trans, moves_use}
 use Rattle.relay_http.specs.Failures.{Fails}
 use Rattle.relay_http.specs.Faults.{of_refusal}
 use Rattle.relay_http.specs.Heads.{IsRequest, IsAnswer, NoRequest, NoAnswer, LacksRequest}

@@ -4,8 +4,8 @@ use Rattle.std.specs.Prelude.{IfErr, IfOk, OnOk, IsSome}
 use Rattle.std.specs.Io.KnownBytes.{Appends, Consumes, Keeps, IsAtEnd}
 use Rattle.counted_io.specs.Streams.{Stream}
 use Rattle.httparse.specs.Grammar.{RequestHead, print_request}
-use Rattle.relay_body.specs.declared.pipe.Pipe.{Pipe}
-use Rattle.relay_body.specs.Steps.{Ends, ends, Moves}
+use Rattle.body_pipe.specs.declared.pipe.Pipe.{Pipe}
+use Rattle.body_pipe.specs.Steps.{Ends, ends, Moves}
 use Rattle.relay_body.specs.Texts.{Wrote, WritesFront}
 use Rattle.relay_body.specs.declared.framing.Framing.TheVariants.{ToEnd}
 use Rattle.relay_http.specs.Failures.{Fails, Passes, Misses, WrotePrefix}

@@ -8,7 +8,7 @@ use Rattle.relay_body.specs.declared.framing.Framing.TheVariants.{Empty, Length,
 use Rattle.relay_http.specs.Framings.{request_framing, answer_plan, bare}
 use Rattle.counted_io.specs.Streams.{Stream}
 use Rattle.relay_body.specs.Framings.{IsBody, PartOfBody, LacksBody}
-use Rattle.relay_body.specs.Steps.{Ends}
+use Rattle.body_pipe.specs.Steps.{Ends}
 use Rattle.relay_body.specs.declared.framing.Framing.{Framing}
 use Rattle.relay_http.specs.Failures.{Blames, NoCause}
 use Rattle.relay_http.specs.Messages.{IsForwarded, PartOfForwarded, LacksForwarded}

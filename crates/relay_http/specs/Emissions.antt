@@ -3,7 +3,7 @@ use Rattle.std.specs.Prelude.{◌≡◌, ℕ, List, ◌++◌}
 use Rattle.counted_io.specs.Streams.{Stream}
 use Rattle.relay_body.specs.Texts.{Emits, Stops}
 use Rattle.relay_body.specs.declared.fault.Fault.{Fault}
-use Rattle.relay_body.specs.declared.pipe.Pipe.{Pipe}
+use Rattle.body_pipe.specs.declared.pipe.Pipe.{Pipe}
 
 -- the text was put behind what waited, and nothing was read
 pub record Puts (p0 p : Pipe) (w0 w : Stream) (text : List ℕ) : Type 0 where

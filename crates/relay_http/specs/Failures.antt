@@ -1,7 +1,7 @@
 -- Steps of a pipe that end in a fault, and whose it is.
 use Rattle.std.specs.Prelude.{◌≡◌, ℕ, ◌+◌, ◌⊎◌, List, ◌++◌, Option}
 use Rattle.std.specs.Io.KnownBytes.{Appends, Consumes, IsAtEnd}
-use Rattle.relay_body.specs.Steps.{Ends, Reads}
+use Rattle.body_pipe.specs.Steps.{Ends, Reads}
 use Rattle.relay_body.specs.Texts.{WritesFront}
 use Rattle.relay_http.specs.declared.fault.Fault.{Fault}
 use Rattle.relay_http.specs.declared.fault.Fault.TheVariants.{NoMemory, Head, Framing, Read, Write, Turns, Closed}

@@ -3,7 +3,7 @@ use Rattle.std.specs.Prelude.{◌≡◌, ℕ, ◌<◌, Bool, false, List, [], le
 use Rattle.std.specs.Io.KnownBytes.{Appends, Keeps}
 use Rattle.counted_io.specs.Streams.{Stream}
 use Rattle.grant_board.specs.Views.{Grant}
-use Rattle.relay_body.specs.declared.pipe.Pipe.{Pipe}
+use Rattle.body_pipe.specs.declared.pipe.Pipe.{Pipe}
 use Rattle.relay_http.specs.declared.exchange.Exchange.{Exchange}
 use Rattle.relay_http.specs.declared.exchange.Stage.{Stage}
 use Rattle.relay_http.specs.declared.exchange.Stage.TheVariants.{New, Forwarded, Failed}

@@ -1,6 +1,6 @@
 ghost use Rattle.std.specs.Prelude.{◌≡◌, ◌≤◌, length, [], false, IfOk, IsTrue, ◌↔◌};
 
-use relay_body::{INBOX_BYTES, Pipe};
+use body_pipe::{INBOX_BYTES, Pipe};
 use std::alloc::{AllocError, Global};
 use verdict::Verdict;
 
@@ -35,7 +35,7 @@ pub struct Exchange {
 impl Exchange {
     ghost use Rattle.relay_http.specs.States.{IsFresh};
 
-    /// An exchange that makes at most so many reads and writes. It takes 80 KiB, once for its life.
+    /// An exchange that makes at most so many reads and writes. It takes 84 KiB, once for its life.
     pub fn new(alloc: Global, turns: u64) -> Result<Exchange, AllocError>
         ensures { IfOk result (IsFresh turns) }
     {

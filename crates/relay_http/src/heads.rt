@@ -6,8 +6,9 @@ use crate::fields::Way;
 use crate::lines::{put, put_end, put_fields, put_host, put_three, send};
 use crate::persistence::Persistence;
 use crate::plans::Plan;
+use body_pipe::Pipe;
 use counted_io::Sink;
-use relay_body::{Fault, Framing, Pipe};
+use relay_body::{Fault, Framing};
 use req_view::{AnswerHead, View};
 
 /// Puts the head of a request that is handed on to a server.

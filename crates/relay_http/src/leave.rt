@@ -1,6 +1,6 @@
 ghost use Rattle.std.specs.Prelude.{◌≡◌, ◌+◌, ◌^◌, ◌<◌, [], OnOk, IfErr};
 ghost use Rattle.counted_io.specs.Streams.{Stream};
-ghost use Rattle.relay_body.specs.Steps.{ends, Moves};
+ghost use Rattle.body_pipe.specs.Steps.{ends, Moves};
 ghost use Rattle.relay_http.specs.Failures.{Fails, NoCause};
 ghost use Rattle.relay_http.specs.Replies as replies;
 
@@ -8,8 +8,9 @@ use crate::fault::Fault;
 use crate::framings::request_framing;
 use crate::lines::send_text;
 use crate::messages::is_framed;
+use body_pipe::Pipe;
 use counted_io::Sink;
-use relay_body::{Framing, Pipe};
+use relay_body::Framing;
 use req_view::{Values, View};
 
 /// Tells a client that waits for it that it may send the body.

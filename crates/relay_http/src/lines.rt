@@ -7,9 +7,10 @@ ghost use Rattle.relay_http.specs.Texts as texts;
 
 use crate::fields::{Way, is_kept, keeps_host};
 use crate::persistence::{Persistence, connection_text};
+use body_pipe::Pipe;
 use counted_io::Sink;
 use itoa::Buffer;
-use relay_body::{Fault, Framing, Pipe};
+use relay_body::{Fault, Framing};
 use req_view::Section;
 
 /// Puts the text behind what waits.

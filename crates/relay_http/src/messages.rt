@@ -2,7 +2,7 @@ ghost use Rattle.std.specs.Prelude.{◌≡◌, ◌<◌, ◌+◌, ◌^◌, ◌++�
 ghost use Rattle.std.specs.Io.KnownBytes.{IsAtEnd};
 ghost use Rattle.httparse.specs.Grammar.{ResponseHead, print_response};
 ghost use Rattle.relay_body.specs.Framings.{IsBody, PartOfBody};
-ghost use Rattle.relay_body.specs.Steps.{ends, Countable, Moves};
+ghost use Rattle.body_pipe.specs.Steps.{ends, Countable, Moves};
 ghost use Rattle.relay_http.specs.Emissions.{Puts, Halts};
 ghost use Rattle.relay_http.specs.Failures.{Fails};
 ghost use Rattle.relay_http.specs.Messages as messages;
@@ -16,8 +16,9 @@ use crate::lines::send;
 use crate::persistence::Persistence;
 use crate::plans::{Plan, answer_plan, is_interim};
 use crate::reading::read_answer_head;
+use body_pipe::Pipe;
 use counted_io::{Sink, Source};
-use relay_body::{Fault as BodyFault, Framing, Pipe};
+use relay_body::{Fault as BodyFault, Framing};
 use req_view::{AnswerHead, Version, View};
 use std::alloc::Global;
 

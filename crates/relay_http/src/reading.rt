@@ -1,7 +1,7 @@
 ghost use Rattle.std.specs.Prelude.{◌≡◌, ◌+◌, ◌^◌, ◌<◌, [], IfOk, IfErr, IsSome};
 ghost use Rattle.counted_io.specs.Streams.{Stream};
 ghost use Rattle.httparse.specs.Grammar.{RequestHead, ResponseHead, print_request, print_response};
-ghost use Rattle.relay_body.specs.Steps.{ends, Moves};
+ghost use Rattle.body_pipe.specs.Steps.{ends, Moves};
 ghost use Rattle.relay_http.specs.Failures.{Fails};
 ghost use Rattle.relay_http.specs.Faults.{of_refusal};
 ghost use Rattle.relay_http.specs.Heads.{IsRequest, IsAnswer, NoRequest, NoAnswer, LacksRequest};
@@ -11,8 +11,8 @@ ghost use Rattle.req_view.specs.Request.{request_of};
 
 use crate::fault::Fault;
 use crate::framings::request_framing;
+use body_pipe::Pipe;
 use counted_io::Source;
-use relay_body::Pipe;
 use req_view::{AnswerHead, HeadRefusal, View, Viewed, answer_head, view};
 use std::alloc::Global;
 

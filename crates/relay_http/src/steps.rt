@@ -2,7 +2,7 @@ ghost use Rattle.std.specs.Prelude.{◌≡◌, ◌≢◌, ◌+◌, ◌^◌, ◌<
 ghost use Rattle.std.specs.Io.KnownBytes.{IsAtEnd};
 ghost use Rattle.counted_io.specs.Streams.{Stream};
 ghost use Rattle.httparse.specs.Grammar.{RequestHead, print_request};
-ghost use Rattle.relay_body.specs.Steps.{ends, Countable, Moves};
+ghost use Rattle.body_pipe.specs.Steps.{ends, Countable, Moves};
 ghost use Rattle.relay_http.specs.Failures.{Fails, NoCause};
 ghost use Rattle.relay_http.specs.Framings as framings;
 ghost use Rattle.relay_http.specs.Heads.{IsRequest, LacksRequest};

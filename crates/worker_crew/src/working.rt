@@ -11,7 +11,7 @@ use relay_workers::{
 };
 use std::sync::Wait;
 
-/// Serves one client after the other, until no more come. It takes 80 KiB for an exchange, once, beside what each request's head takes.
+/// Serves one client after the other, until no more come. It takes 84 KiB for an exchange, once, beside what each request's head takes.
 pub fn worker<R: Wait, N: BoardName, G: Gate + Drop, P: Pause + Drop>(
     rt: &R,
     proxy: &Proxy<N>,

@@ -3,8 +3,8 @@ ghost use Rattle.relay_http.specs.States.{Serves};
 
 use crate::fakes::{Feed, Log};
 use crate::passes::Held;
+use body_pipe::INBOX_BYTES;
 use grant_board::Pass;
-use relay_body::INBOX_BYTES;
 use relay_http::{Exchange, Fault};
 use req_view::View;
 use std::alloc::Global;

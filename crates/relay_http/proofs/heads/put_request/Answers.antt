@@ -1,5 +1,5 @@
 use Rattle.std.proofs.Common.{List, ◌++◌, ap}
-use Rattle.relay_body.proofs.Exits.{at_exit}
+use Rattle.body_pipe.proofs.Exits.{at_exit}
 use Rattle.relay_http.specs.Fields.{kept, of_request}
 use Rattle.relay_http.specs.Texts.{fields_text, host_text, end_text}
 use Rattle.relay_http.proofs.Putting.{puts_trans, puts_halts, halts_front, puts_as, halts_as}

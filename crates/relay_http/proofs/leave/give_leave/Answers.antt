@@ -1,7 +1,7 @@
 -- The leave is given where the client waits for it.
 use Rattle.std.proofs.Common.{◌≡◌, ◌∙◌, List, ℕ, Bool, false, true, [], cond, codes, sym, refl}
-use Rattle.relay_body.proofs.Exits.{at_exit}
-use Rattle.relay_body.proofs.Stepping.{moves_none, moves_as}
+use Rattle.body_pipe.proofs.Exits.{at_exit}
+use Rattle.body_pipe.proofs.Stepping.{moves_none, moves_as}
 use Rattle.relay_http.specs.Failures.{NoCause}
 use Rattle.relay_http.specs.Replies.{waits_for_leave}
 use Rattle.relay_http.proofs.Failing.{fails_put, fails_as}

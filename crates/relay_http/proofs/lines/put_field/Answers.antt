@@ -1,5 +1,5 @@
 use Rattle.std.proofs.Common.{◌++◌, codes}
-use Rattle.relay_body.proofs.Exits.{at_exit}
+use Rattle.body_pipe.proofs.Exits.{at_exit}
 use Rattle.httparse.specs.Ascii.{crlf_bytes}
 use Rattle.relay_http.proofs.Putting.{puts_trans, puts_halts, halts_front}
 use Rattle.relay_http.proofs.lines.put_field.Goals as goal

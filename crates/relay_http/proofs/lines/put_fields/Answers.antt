@@ -2,7 +2,7 @@
 use Rattle.std.proofs.Common.{◌≡◌, ◌∙◌, ◌+◌, ◌<◌, [], ◌++◌, length, get_or, take, drop, sym, ap, arith, append_assoc}
 use Rattle.std.specs.Prelude.{filter}
 use Rattle.std.proofs.lemmas.Option.{slice_get-get_or}
-use Rattle.relay_body.proofs.Exits.{at_exit}
+use Rattle.body_pipe.proofs.Exits.{at_exit}
 use Rattle.relay_http.specs.Fields.{is_kept, dropped}
 use Rattle.relay_http.specs.Lines.{kept_line}
 use Rattle.relay_http.specs.Texts.{field_text, fields_text}

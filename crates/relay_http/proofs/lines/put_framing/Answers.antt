@@ -1,4 +1,4 @@
-use Rattle.relay_body.proofs.Exits.{at_exit}
+use Rattle.body_pipe.proofs.Exits.{at_exit}
 use Rattle.relay_http.proofs.lines.put_framing.Goals as goal
 
 pub returns-in_err-put-in-Chunked-clause-err : goal.returns-in_err-put-in-Chunked-clause-err

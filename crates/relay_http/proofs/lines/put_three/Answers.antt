@@ -1,4 +1,4 @@
-use Rattle.relay_body.proofs.Exits.{at_exit}
+use Rattle.body_pipe.proofs.Exits.{at_exit}
 use Rattle.relay_http.proofs.Putting.{puts_trans, puts_halts, halts_front}
 use Rattle.std.proofs.Common.{◌++◌}
 use Rattle.relay_http.proofs.lines.put_three.Goals as goal

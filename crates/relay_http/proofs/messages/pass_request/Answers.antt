@@ -1,8 +1,8 @@
 -- The head, the body and what waits, one after the other.
 use Rattle.std.proofs.Common.{◌∙◌, [], ◌++◌, refl, sym, append-nil}
 use Rattle.relay_body.specs.Framings.{LacksBody}
-use Rattle.relay_body.proofs.Exits.{at_exit}
-use Rattle.relay_body.proofs.Stepping.{moves_none, moves_trans, moves_as}
+use Rattle.body_pipe.proofs.Exits.{at_exit}
+use Rattle.body_pipe.proofs.Stepping.{moves_none, moves_trans, moves_as}
 use Rattle.relay_http.specs.Messages.{NoBody, LacksForwarded}
 use Rattle.relay_http.specs.Messages.PartOfForwarded.{nothing, head_and_body}
 use Rattle.relay_http.specs.Messages.LacksForwarded.{no_framing, no_body}

@@ -1,8 +1,8 @@
 -- Bytes are read until a head stands there, or can't.
 use Rattle.std.proofs.Common.{◌∙◌, sym, arith, refl, subst}
 use Rattle.httparse.specs.Grammar.{print_response}
-use Rattle.relay_body.proofs.Exits.{at_exit}
-use Rattle.relay_body.proofs.Stepping.{moves_none, moves_trans}
+use Rattle.body_pipe.proofs.Exits.{at_exit}
+use Rattle.body_pipe.proofs.Stepping.{moves_none, moves_trans}
 use Rattle.relay_http.specs.Heads.{NoAnswer}
 use Rattle.relay_http.proofs.Failing.{moves_fails, fails_plainly, fails_end}
 use Rattle.relay_http.proofs.Standing.{answer_alone, answer_refused, moves_front}

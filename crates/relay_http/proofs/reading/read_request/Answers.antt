@@ -1,8 +1,8 @@
 -- The head was read, and its framing is good or bad.
 use Rattle.std.proofs.Common.{◌∙◌, [], refl, sym, ap}
 use Rattle.httparse.specs.Grammar.{print_request}
-use Rattle.relay_body.proofs.Exits.{at_exit}
-use Rattle.relay_body.proofs.Stepping.{moves_none}
+use Rattle.body_pipe.proofs.Exits.{at_exit}
+use Rattle.body_pipe.proofs.Stepping.{moves_none}
 use Rattle.relay_http.specs.Framings.{request_framing}
 use Rattle.relay_http.specs.Heads.{NoRequest, LacksRequest}
 use Rattle.relay_http.proofs.Failing.{moves_fails, fails_less, fails_framing}

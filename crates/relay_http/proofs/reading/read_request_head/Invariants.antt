@@ -1,6 +1,6 @@
 use Rattle.std.proofs.Common.{◌≡◌, []}
 use Rattle.counted_io.specs.Streams.{Stream}
-use Rattle.relay_body.specs.Steps.{ends, Moves}
+use Rattle.body_pipe.specs.Steps.{ends, Moves}
 use Rattle.relay_http.proofs.reading.read_request_head.Given as goal
 
 abbrev pub invariant-reading : goal.invariant-reading

@@ -1,0 +1,4 @@
+pub mod Exits
+pub mod Feeding
+pub mod Stepping
+pub mod WorkedRows

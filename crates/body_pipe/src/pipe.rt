@@ -1,0 +1,174 @@
+ghost use Rattle.std.specs.Prelude.{◌≡◌, ◌⊎◌, ◌+◌, ◌^◌, ◌<◌, ◌≤◌, ◌++◌, ℕ, List, [], length, drop, true, false, IfOk, OnOk, IfErr};
+ghost use Rattle.std.specs.Io.KnownBytes.{IsAtEnd};
+ghost use Rattle.body_coder.specs.Readings.{Feeds};
+ghost use Rattle.body_coder.specs.Stops.{is_done, is_bad};
+ghost use Rattle.counted_io.specs.Streams.{Stream};
+ghost use Rattle.body_pipe.specs.Steps.{ends, Countable, Moves, Breaks, LacksNothing};
+ghost use Rattle.relay_body.specs.Texts.{Emits, Stops};
+
+use crate::inbox::{INBOX_BYTES, Inbox};
+use crate::text;
+use body_coder::{Coding, Outbox, State};
+use counted_io::{Sink, Source};
+use relay_body::Fault;
+use std::alloc::{AllocError, Global};
+
+/// What was read and isn't used, what waits to be written, and the reads and writes that may still be made.
+#[derive(Drop)]
+pub struct Pipe {
+    inbox: Inbox,
+    outbox: Outbox,
+    turns: u64,
+}
+
+impl Pipe {
+    /// A pipe that holds nothing. It takes 84 KiB, once for its life.
+    pub fn new(alloc: Global, turns: u64) -> Result<Pipe, AllocError>
+        ensures inbox { IfOk result (λ pipe. pipe.inbox ≡ []) }
+        ensures outbox { IfOk result (λ pipe. pipe.outbox ≡ []) }
+        ensures turns { IfOk result (λ pipe. pipe.turns ≡ turns) }
+    {
+        Ok(Pipe {
+            inbox: Inbox::new(alloc)?,
+            outbox: Outbox::new(alloc)?,
+            turns,
+        })
+    }
+
+    /// Makes it as `new` does, without memory.
+    pub fn renew(&mut self, turns: u64)
+        ensures inbox { self.new.inbox ≡ [] }
+        ensures outbox { self.new.outbox ≡ [] }
+        ensures turns { self.new.turns ≡ turns }
+    {
+        self.inbox.clear();
+        self.outbox.keep_front(0);
+        self.turns = turns;
+    }
+
+    /// How many reads and writes it may still make.
+    pub fn turns(&self) -> u64
+        ensures { result ≡ self.now.turns }
+    {
+        self.turns
+    }
+
+    /// The bytes that were read and aren't used yet.
+    pub fn held(&self) -> &[u8]
+        ensures value { result.now ≡ self.now.inbox }
+        ensures small { length self.now.inbox ≤ INBOX_BYTES }
+    {
+        self.inbox.as_slice()
+    }
+
+    /// Holds these bytes in place of those that it held. `O(n)`.
+    pub fn hold(&mut self, bytes: &[u8])
+        requires { length bytes.now ≤ INBOX_BYTES }
+        ensures inbox { self.new.inbox ≡ bytes.now }
+        ensures outbox { self.new.outbox ≡ self.old.outbox }
+        ensures turns { self.new.turns ≡ self.old.turns }
+    {
+        self.inbox.hold(bytes);
+    }
+
+    /// Forgets the first bytes of those that it holds.
+    pub fn consume(&mut self, count: usize)
+        requires { count ≤ length self.old.inbox }
+        ensures inbox { self.new.inbox ≡ drop count self.old.inbox }
+        ensures outbox { self.new.outbox ≡ self.old.outbox }
+        ensures turns { self.new.turns ≡ self.old.turns }
+    {
+        self.inbox.consume(count);
+    }
+
+    /// Forgets what waits to be written.
+    pub fn forget_waiting(&mut self)
+        ensures inbox { self.new.inbox ≡ self.old.inbox }
+        ensures outbox { self.new.outbox ≡ [] }
+        ensures turns { self.new.turns ≡ self.old.turns }
+    {
+        self.outbox.keep_front(0);
+    }
+
+    /// Puts the text behind what waits, and writes where there is no room for it.
+    pub fn emit<K: Sink>(&mut self, sink: &mut K, bytes: &[u8]) -> Result<(), Fault>
+        requires { (K.stream sink.old).calls + self.old.turns < 2 ^ 64 }
+        ensures ok { OnOk result (Emits (K.stream sink.old) (K.stream sink.new) self.old.turns self.new.turns self.old.outbox self.new.outbox bytes.now) }
+        ensures err { IfErr result (Stops (K.stream sink.old) (K.stream sink.new) self.old.turns self.new.turns (self.old.outbox ++ bytes.now)) }
+        ensures inbox { self.new.inbox ≡ self.old.inbox }
+    {
+        text::emit(&mut self.outbox, &mut self.turns, sink, bytes)
+    }
+
+    /// Writes all that waits.
+    pub fn flush<K: Sink>(&mut self, sink: &mut K) -> Result<(), Fault>
+        requires { (K.stream sink.old).calls + self.old.turns < 2 ^ 64 }
+        ensures ok { OnOk result (Emits (K.stream sink.old) (K.stream sink.new) self.old.turns self.new.turns self.old.outbox self.new.outbox []) }
+        ensures empty { OnOk result (self.new.outbox ≡ []) }
+        ensures err { IfErr result (Stops (K.stream sink.old) (K.stream sink.new) self.old.turns self.new.turns self.old.outbox) }
+        ensures inbox { self.new.inbox ≡ self.old.inbox }
+    {
+        text::flush(&mut self.outbox, &mut self.turns, sink)
+    }
+
+    // Feeds the coding what is held, and puts what it gives behind what waits: true where the body is whole, and false where
+    // nothing is held any more or there is no room.
+    pub(crate) fn feed(&mut self, coding: &mut Coding) -> Result<bool, Fault>
+        ensures moves { (s w : Stream) → (used : List ℕ) × (text : List ℕ) × Feeds coding.old coding.new used text
+            × Moves (ends self.old s w) (ends self.new s w) used text }
+        ensures whole { IfOk result (λ whole. whole ≡ true → is_done coding.new ≡ true) }
+        ensures part { IfOk result (λ whole. whole ≡ false → (is_done coding.new ≡ false) × ((self.new.inbox ≡ []) ⊎ (0 < length self.new.outbox))) }
+        ensures never { IfErr result (λ fault. (fault ≡ Fault.Framing) × (is_bad coding.new ≡ true)) }
+    {
+        let fed = coding.feed(self.inbox.as_slice(), &mut self.outbox);
+        self.inbox.consume(fed.used);
+        match fed.state {
+            State::Done => Ok(true),
+            State::Bad => Err(Fault::Framing),
+            State::Full => Ok(false),
+            State::Hungry => Ok(false),
+        }
+    }
+
+    /// Reads once; 0 at the end of the input. What waits goes on waiting.
+    pub fn fill<S: Source>(&mut self, source: &mut S) -> Result<usize, Fault>
+        requires room { length self.old.inbox < INBOX_BYTES }
+        requires countable { (S.stream source.old).calls + self.old.turns < 2 ^ 64 }
+        ensures ok { (w : Stream) → OnOk result (Moves (ends self.old (S.stream source.old) w) (ends self.new (S.stream source.new) w) [] []) }
+        ensures more { IfOk result (λ count. length self.new.inbox ≡ length self.old.inbox + count) }
+        ensures end { IfOk result (λ count. count ≡ 0 → IsAtEnd (S.stream source.new).bytes) }
+        ensures none { IfOk result (λ count. count ≡ 0 → self.new.inbox ≡ self.old.inbox) }
+        ensures spent { OnOk result (self.new.turns < self.old.turns) }
+        ensures waiting { self.new.outbox ≡ self.old.outbox }
+        ensures err { (w : Stream) → IfErr result (Breaks (ends self.old (S.stream source.old) w) (ends self.new (S.stream source.new) w) [] [] LacksNothing) }
+    {
+        if self.turns == 0 {
+            return Err(Fault::Turns);
+        }
+        self.turns -= 1;
+        match self.inbox.fill(source) {
+            Ok(count) => Ok(count),
+            Err(_) => Err(Fault::Read),
+        }
+    }
+
+    /// Writes all that waits, and then reads once; 0 at the end of the input.
+    pub fn supply<S: Source, K: Sink>(
+        &mut self,
+        source: &mut S,
+        sink: &mut K,
+    ) -> Result<usize, Fault>
+        requires room { length self.old.inbox < INBOX_BYTES }
+        requires countable { Countable (ends self.old (S.stream source.old) (K.stream sink.old)) }
+        ensures ok { OnOk result (Moves (ends self.old (S.stream source.old) (K.stream sink.old)) (ends self.new (S.stream source.new) (K.stream sink.new)) [] []) }
+        ensures more { IfOk result (λ count. length self.new.inbox ≡ length self.old.inbox + count) }
+        ensures end { IfOk result (λ count. count ≡ 0 → IsAtEnd (S.stream source.new).bytes) }
+        ensures none { IfOk result (λ count. count ≡ 0 → self.new.inbox ≡ self.old.inbox) }
+        ensures spent { OnOk result (self.new.turns < self.old.turns) }
+        ensures err { IfErr result (Breaks (ends self.old (S.stream source.old) (K.stream sink.old)) (ends self.new (S.stream source.new) (K.stream sink.new)) [] [] LacksNothing) }
+    {
+        self.flush(sink)?;
+        let count = self.fill(source)?;
+        Ok(count)
+    }
+}

@@ -418,13 +418,16 @@ class Model:
             pass
 
     def step(self):
-        """Does one thing that there is to do. Whether there was one."""
-        if self.gone and self.terms.aborts and self.has_asked():
-            self.over()
-            return True
+        """Does one thing that there is to do. Whether there was one. A client that has gone is left once what came and can go on has gone on."""
         if self.stage == "over":
             return False
-        return self.write_client() or self.write_server() or self.read_server() or self.read_client() or self.go_on()
+        return self.write_client() or self.write_server() or self.read_server() or self.read_client() or self.leave() or self.go_on()
+
+    def leave(self):
+        leaves = self.gone and self.terms.aborts and self.has_asked()
+        if leaves:
+            self.over()
+        return leaves
 
     def has_asked(self):
         return self.stage in ("waiting", "dialing") and not (self.is_moved() and not self.request.body.whole) or (

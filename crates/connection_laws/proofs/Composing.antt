@@ -2,7 +2,6 @@
 use Rattle.std.proofs.Common.{◌≡◌, ◌∙◌, ℕ, inl, inr, List, [], ◌∷◌, ◌++◌, refl, sym, ap, append_assoc, append-nil}
 use Rattle.std.specs.Prelude.{zero, suc}
 use Rattle.std.specs.List.{flat_map, AllByRecursion}
-use Rattle.std.proofs.lemmas.Grind.{flat_map-append}
 use Rattle.grant_board.specs.Views.{Grant}
 use Rattle.list_facts.proofs.Members.{all_append}
 use Rattle.relay_http.specs.declared.additions.Additions.{Additions}
@@ -19,6 +18,7 @@ use Rattle.mixed_exchange.proofs.StepLemmas.{at_sound}
 use Rattle.connection_laws.specs.Connections.{Connection, bytes_in, bytes_out}
 use Rattle.connection_laws.specs.Connections.Connection.{begins, goes_on, asks_again}
 use Rattle.connection_laws.specs.Orders.{AnsweredInOrder, IsOpenToClient}
+use Rattle.connection_laws.proofs.Counting.{one_more}
 
 -- what is given away is neither a byte of the client's nor one for it
 ended_in : (outcome : Outcome) (h : History) → (ended outcome h).client_in ≡ h.client_in
@@ -92,12 +92,6 @@ record Sides (before : List Whole) (x : Exchange) (h : History) (input output : 
   came : input ≡ flat_map asked before ++ h.client_in
   went : output ≡ flat_map told before ++ h.to_client
   at : IsAt x h
-
--- one item more, at the end of what it is made of
-one_more : {A : Type 0} (f : A → List ℕ) (before : List A) (w : A) (rest : List ℕ) → flat_map f (before ++ w ∷ []) ++ rest ≡ flat_map f before ++ (f w ++ rest)
-one_more f before w rest =
-    ap (λ l. l ++ rest) (flat_map-append f before (w ∷ []) ∙ ap (λ l. flat_map f before ++ l) (append-nil (f w)))
-    ∙ append_assoc (flat_map f before) (f w) rest
 
 begun_in : (x : Exchange) (bytes : List ℕ) → (is : IsBegun x bytes) → is.now.client_in ≡ bytes
 begun_in x bytes is = elim is.is [ inl e ↦ ap (λ (h : History). h.client_in) e | inr e ↦ ap (λ (h : History). h.client_in) e ]

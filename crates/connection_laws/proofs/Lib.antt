@@ -1,2 +1,4 @@
 mod Composing
+mod Counting
 mod Reading
+mod Serving

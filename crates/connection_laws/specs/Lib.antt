@@ -1,3 +1,4 @@
 pub mod Connections
 pub mod Orders
 pub mod Readings
+pub mod ServerConnections

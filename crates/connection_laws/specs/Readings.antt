@@ -1,7 +1,12 @@
--- What goes over a client's connection, as whoever reads by the grammar finds it.
-use Rattle.std.specs.Prelude.{◌≡◌, ℕ, List, map}
+-- What goes over a client's connection, and over a server's, as whoever reads by the grammar finds it.
+use Rattle.std.specs.Prelude.{◌≡◌, ℕ, true, List, [], ◌∷◌, map, Some}
 use Rattle.std.specs.List.{flat_map, AllByRecursion}
-use Rattle.exchange_machine.specs.Wholes.{Whole, asked, told}
+use Rattle.relay_body.specs.Framings.{IsBody}
+use Rattle.relay_body.specs.declared.framing.Framing.{Framing}
+use Rattle.relay_http.specs.Framings.{request_framing}
+use Rattle.req_view.specs.Request.{request_of}
+use Rattle.exchange_machine.specs.Wholes.{Whole, asked, told, forwarded_of, answer_of_server}
+use Rattle.message_readings.specs.Alike.{AsksAlike, IsNamed}
 use Rattle.message_readings.specs.Messages.{Message, IsMessage, print_message}
 use Rattle.message_readings.specs.Replies.{Reply, AreReplies, print_reply}
 
@@ -18,3 +23,35 @@ pub record AreReadSo (ws : List Whole) : Type 0 where
   pub replies : List Reply
   pub are : AreReplies (map method_of ws) replies
   pub told_is : flat_map told ws ≡ flat_map print_reply replies
+
+-- it tells its server of nobody, or of a client with an address, which each has that the proxy knows (`message_readings::what_an_address_keeps`)
+abbrev pub IsNamedIn : Whole → Type 0
+IsNamedIn w = IsNamed w.adds.client
+
+-- The message is the request of this exchange: it asks for the same, and its body is what the client's is as that frames it, in chunks without what is said
+-- beside them.
+pub record IsOf (w : Whole) (m : Message) : Type 0 where
+  pub asks : AsksAlike w.adds.client (request_of w.head) m.head
+  pub framing : Framing
+  pub framed : request_framing (request_of w.head) ≡ Some framing
+  pub body : IsBody framing true w.body m.body
+
+-- one message for each exchange, in order
+abbrev pub AreOf : List Whole → List Message → Type 0
+AreOf [] [] = Unit {0}
+AreOf (w ∷ ws) (m ∷ ms) = IsOf w m × AreOf ws ms
+AreOf [] (m ∷ ms) = ⊥
+AreOf (w ∷ ws) [] = ⊥
+
+-- what a server was sent for these exchanges is one message for each and no byte more
+pub record AreSentSo (ws : List Whole) : Type 0 where
+  pub messages : List Message
+  pub each : AllByRecursion IsMessage messages
+  pub are : AreOf ws messages
+  pub sent_is : flat_map forwarded_of ws ≡ flat_map print_message messages
+
+-- and what came of it for them is one answer to each, by its request's method, and no byte more
+pub record AreAnsweredSo (ws : List Whole) : Type 0 where
+  pub replies : List Reply
+  pub are : AreReplies (map method_of ws) replies
+  pub came_is : flat_map answer_of_server ws ≡ flat_map print_reply replies

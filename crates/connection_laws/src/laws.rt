@@ -1,16 +1,19 @@
-ghost use Rattle.std.specs.Prelude.{◌++◌, ◌∷◌, ℕ, List, []};
+ghost use Rattle.std.specs.Prelude.{◌≢◌, ◌++◌, ◌∷◌, ℕ, List, []};
 ghost use Rattle.exchange_machine.specs.Histories.{History, nothing_yet};
-ghost use Rattle.exchange_machine.specs.Wholes.{Whole};
+ghost use Rattle.exchange_machine.specs.Stages.{IsUnsent};
+ghost use Rattle.exchange_machine.specs.Wholes.{Whole, EndsClean};
 ghost use Rattle.mixed_exchange.specs.Chains.{IsNext};
 ghost use Rattle.mixed_exchange.specs.Steps.{IsAt, after};
 ghost use Rattle.mixed_exchange.specs.declared.event.Event as events;
 ghost use Rattle.mixed_exchange.specs.declared.exchange.Exchange as exchanges;
 ghost use Rattle.mixed_exchange.specs.declared.exchange.Outcome as outcomes;
+ghost use Rattle.exchange_machine.specs.declared.dialing.Dialing as dialing;
 ghost use Rattle.connection_laws.specs.Connections.{Connection, bytes_in, bytes_out};
 ghost use Rattle.std.specs.List.{AllByRecursion};
 ghost use Rattle.exchange_machine.specs.Wholes.{IsWhole};
-ghost use Rattle.connection_laws.specs.Orders.{AnsweredInOrder, IsOpenToClient};
-ghost use Rattle.connection_laws.specs.Readings.{AreReadSo};
+ghost use Rattle.connection_laws.specs.Orders.{AnsweredInOrder, IsOpenToClient, IsOpenToServer, SentInOrder};
+ghost use Rattle.connection_laws.specs.Readings.{AreAnsweredSo, AreReadSo, AreSentSo, IsNamedIn};
+ghost use Rattle.connection_laws.specs.ServerConnections.{ServerConnection, bytes_sent, bytes_come};
 
 /// A client's connection goes on by the calls of `mixed_exchange`: it begins with a new exchange, goes on by steps of it, and by the next exchange where its
 /// client asks again.
@@ -33,4 +36,37 @@ pub fn what_a_client_got()
 /// Whoever reads by the grammar finds these requests and these answers: by `message_readings::one_reading` and `one_answering` in no other way, whatever follows.
 pub fn what_is_read()
     ensures { (ws : List Whole) → AllByRecursion IsWhole ws → AllByRecursion IsOpenToClient ws → AreReadSo ws }
+{}
+
+/// A server's connection goes on by the same calls: an exchange that sent nothing yet has a new one, it goes on by each step that doesn't give it up, and
+/// where that exchange ends clean, another one that sent nothing yet may have it. One that waits for a connection has sent nothing yet, and so has one behind
+/// a step that gave a connection up.
+pub fn what_goes_on_to_a_server()
+    ensures opens { (x : exchanges.Exchange) (h : History) → IsAt x h → IsUnsent h → ServerConnection [] x h [] [] }
+    ensures steps { (before : List Whole) (x y : exchanges.Exchange) (h : History) (sent came : List ℕ) (event : events.Event) (used : ℕ)
+        (outcome : outcomes.Outcome) → ServerConnection before x h sent came → outcome ≢ outcomes.Outcome.Retries → IsAt y (after x event used outcome h)
+        → ServerConnection before y (after x event used outcome h) (sent ++ bytes_sent x event) (came ++ bytes_come event used) }
+    ensures handed_on { (before : List Whole) (x y : exchanges.Exchange) (h next : History) (sent came out : List ℕ)
+        → ServerConnection before x h sent came → (clean : EndsClean h out) → IsAt y next → IsUnsent next
+        → ServerConnection (before ++ clean.whole ∷ []) y next sent came }
+    ensures dials { (d : dialing.Dialing) (h : History) → IsAt (exchanges.Exchange.Dialing d) h → IsUnsent h }
+    ensures given_up { (x : exchanges.Exchange) (event : events.Event) (used : ℕ) (h : History) → IsUnsent (after x event used outcomes.Outcome.Retries h) }
+{}
+
+/// The headline: what a server's connection was sent is the forwarded texts of the requests that had it one after another, each whole before the next begins,
+/// none left out and none twice, and a front of one more; and what came of it is their answers, each whole, and what came for that one.
+pub fn what_a_server_got()
+    ensures { (before : List Whole) (x : exchanges.Exchange) (h : History) (sent came : List ℕ) → ServerConnection before x h sent came
+        → SentInOrder before h sent came }
+{}
+
+/// Whoever reads by the grammar finds these requests in what a server was sent, and no byte more: by `message_readings::one_reading` in no other way, whatever
+/// follows. So none is taken for a part of another's.
+pub fn what_a_server_reads()
+    ensures { (ws : List Whole) → AllByRecursion IsWhole ws → AllByRecursion IsNamedIn ws → AreSentSo ws }
+{}
+
+/// And so with their answers in what came of it, by the requests' methods: by `one_answering` in no other way. So none is another request's.
+pub fn what_a_server_answers()
+    ensures { (ws : List Whole) → AllByRecursion IsWhole ws → AllByRecursion IsOpenToServer ws → AreAnsweredSo ws }
 {}

@@ -1,6 +1,9 @@
-//! The law of a client's connection: requests one after another, and what it is told of them.
+//! The laws of a client's connection and of a server's: requests one after another, and what each is sent of them.
 #![tactic(auto)]
 
 mod laws;
 
-pub use laws::{what_a_client_got, what_goes_on, what_is_read};
+pub use laws::{
+    what_a_client_got, what_a_server_answers, what_a_server_got, what_a_server_reads, what_goes_on,
+    what_goes_on_to_a_server, what_is_read,
+};

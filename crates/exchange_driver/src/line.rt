@@ -46,12 +46,13 @@ impl<S: Socket> Line<S> {
         }
     }
 
-    /// Of a socket of which nothing was read.
+    /// Of a socket of which nothing waits to be taken.
     pub fn new(alloc: Global, socket: S) -> Line<S>
         ensures there { result.there ≡ true }
         ensures left { result.left ≡ S.left socket }
         ensures taken { result.taken ≡ S.taken socket }
         ensures waits { result.waits ≡ [] }
+        ensures told { (result.dry ≡ S.dry socket) × (result.full ≡ S.full socket) }
     {
         Line {
             socket: Some(socket),

@@ -36,10 +36,10 @@ use Rattle.exchange_machine.specs.declared.passing.Passing.{Passing}
 use Rattle.exchange_machine.specs.declared.leaving.Leaving.{Leaving}
 use Rattle.exchange_machine.specs.declared.settling.Settling.{Settling}
 use Rattle.exchange_machine.specs.declared.telling.Telling.{Telling}
-use Rattle.exchange_machine.specs.Wholes.{told}
+use Rattle.exchange_machine.specs.Wholes.{Whole, Ends, EndsClean, told}
 use Rattle.exchange_machine.proofs.SideLemmas.{passing_ends, down_as}
 use Rattle.exchange_machine.proofs.HeadEnds.{has_feed, no_head_yet, no_head_at_all}
-use Rattle.exchange_machine.proofs.SettlingLemmas.{got_client, got_server, got_tried}
+use Rattle.exchange_machine.proofs.SettlingLemmas.{clean_took, got_client, got_server, got_tried}
 
 -- one sign more
 pub shows_more : (signs : List Sign) (s t : Sign) → Shows signs s → Shows (signs ++ t ∷ []) s
@@ -152,19 +152,34 @@ passing_signed p h s is = record {
   leave = is.leave;
 }
 
+-- nor does what is left of an exchange whose messages were whole
+ends_signed : (h : History) (s : Sign) (w : Whole) (behind out unsent extra : List ℕ) → Ends h w behind out unsent extra
+    → Ends (signed h s) w behind out unsent extra
+ends_signed h s w behind out unsent extra is = record {
+  is = is.is;
+  came = is.came;
+  tells = is.tells;
+  sends = is.sends;
+  posted = record { earlier = is.posted.earlier; post = is.posted.post; posts_are = is.posted.posts_are; same = is.posted.same };
+  answers = is.answers;
+}
+
+clean_signed : (h : History) (s : Sign) (out : List ℕ) → EndsClean h out → EndsClean (signed h s) out
+clean_signed h s out is = record {
+  whole = is.whole;
+  behind = is.behind;
+  ends = ends_signed h s is.whole is.behind out [] [] is.ends;
+  asks = is.asks;
+  keeps = is.keeps;
+  bare = is.bare;
+}
+
 pub settling_signed : (t : Settling) (h : History) (s : Sign) → IsSettling t h → IsSettling t (signed h s)
 settling_signed t h s is = record {
   whole = is.whole;
   unsent = is.unsent;
   extra = is.extra;
-  ends = record {
-    is = is.ends.is;
-    came = is.ends.came;
-    tells = is.ends.tells;
-    sends = is.ends.sends;
-    posted = record { earlier = is.ends.posted.earlier; post = is.ends.posted.post; posts_are = is.ends.posted.posts_are; same = is.ends.posted.same };
-    answers = is.ends.answers;
-  };
+  ends = ends_signed h s is.whole t.behind.items t.out.out is.unsent is.extra is.ends;
   stays = is.stays;
   clean = is.clean;
   server = signed_server h s is.server;
@@ -181,6 +196,7 @@ leaving_signed l h s is = record {
   client = signed_client h s is.text is.client;
   told = is.told;
   whole = λ on. tells_more h.signs h.client_in h.server_in is.text s (is.whole on);
+  clean = λ on. clean_signed h s l.out.out (is.clean on);
   grants = is.grants;
   fair = is.fair;
   tried = signed_tried h s is.tried;
@@ -243,14 +259,15 @@ took to rest next text count is left =
     is ∙ ap (λ l. to ++ l) (sym (take-append-drop count rest)) ∙ sym (append_assoc to (take count rest) (drop count rest))
     ∙ ap (λ l. (to ++ take count rest) ++ l) (sym left)
 
-pub leaving_took : (l m : Leaving) (h : History) (count : ℕ) → IsLeaving l h → m.out.out ≡ drop count l.out.out → m.whole ≡ l.whole
+pub leaving_took : (l m : Leaving) (h : History) (count : ℕ) → IsLeaving l h → m.out.out ≡ drop count l.out.out → m.whole ≡ l.whole → m.clean ≡ l.clean
     → IsLeaving m (client_got h (take count l.out.out))
-leaving_took l m h count is left same = record {
+leaving_took l m h count is left same also = record {
   server = got_server h (take count l.out.out) is.server;
   text = is.text;
   client = got_client h (take count l.out.out) is.text is.client;
   told = took h.to_client l.out.out m.out.out is.text count is.told left;
   whole = λ on. is.whole (sym same ∙ on);
+  clean = λ on. clean_took h l.out.out m.out.out count (is.clean (sym also ∙ on)) left;
   grants = is.grants;
   fair = is.fair;
   tried = got_tried h (take count l.out.out) is.tried;
@@ -356,7 +373,8 @@ over_sound h is = record { server = is.server; client = is.client; once = all_po
 -- the client has gone
 pub passing_left : (p : Passing) (h : History) → IsPassing p h → IsOver (posted h p.pass Done)
 passing_left p h is =
-    leaving_over (record { out = p.down; whole = false }) (posted h p.pass Done) (passing_ends p h Done false is (λ e. absurd cc) (λ on. absurd cc))
+    leaving_over (record { out = p.down; whole = false; clean = false }) (posted h p.pass Done)
+    (passing_ends p h Done false false is (λ e. absurd cc) (λ on. absurd cc) (λ on. absurd cc))
 
 pub dialing_left : (d : Dialing) (h : History) → IsDialing d h → IsOver (posted h d.pass Done)
 dialing_left d h is = record {

@@ -43,6 +43,7 @@ use Rattle.relay_http.specs.Texts.{framed_for}
 use Rattle.exchange_machine.specs.Repeats.{IsTry}
 use Rattle.exchange_machine.specs.Headline.AreTries.{none as untried, of_request as some_tries}
 use Rattle.exchange_machine.specs.Answerings.{TellsAnswer}
+use Rattle.exchange_machine.specs.Wholes.{EndsClean}
 use Rattle.exchange_machine.specs.Reasons.{Reason, BreaksAnswer}
 use Rattle.exchange_machine.specs.Headline.{AreTries, IsOfPart, IsFair, ClientText, ToServer, Sound}
 use Rattle.exchange_machine.specs.Headline.ToServer.{nothing, of_request}
@@ -466,15 +467,17 @@ pub posted_tried : (h : History) (pass : Grant) (ending : Ending) → AreTries h
 posted_tried h pass ending (untried is) = untried is
 posted_tried h pass ending (some_tries r behind asked tries) = some_tries r behind asked tries
 
-pub passing_ends : (p : Passing) (h : History) (ending : Ending) (whole : Bool) → (is : IsPassing p h) → (ending ≡ Failed → p.reached ≡ false)
+pub passing_ends : (p : Passing) (h : History) (ending : Ending) (whole clean : Bool) → (is : IsPassing p h) → (ending ≡ Failed → p.reached ≡ false)
     → (whole ≡ true → TellsAnswer h.signs h.client_in h.server_in (leave_text p.view ++ is.answer))
-    → IsLeaving (record { out = p.down; whole = whole }) (posted h p.pass ending)
-passing_ends p h ending whole is fair tells = record {
+    → (clean ≡ true → EndsClean (posted h p.pass ending) p.down.out)
+    → IsLeaving (record { out = p.down; whole = whole; clean = clean }) (posted h p.pass ending)
+passing_ends p h ending whole clean is fair tells ends = record {
   server = posted_server h p.pass ending (passing_server p h is);
   text = leave_text p.view ++ is.answer;
   client = posted_client h p.pass ending (leave_text p.view ++ is.answer) (passing_client p h is);
   told = is.told;
   whole = tells;
+  clean = ends;
   grants = is.grants ∙ sym (map-append (λ (q : Post). q.pass) h.posts (record { pass = p.pass; ending = ending; reached = reached_by h } ∷ []));
   fair = all_append IsFair h.posts (record { pass = p.pass; ending = ending; reached = reached_by h } ∷ []) is.fair
       ((λ failed. is.unreached (fair failed)), tt);
@@ -884,7 +887,7 @@ nothing_answered p h is =
 pub passing_refused : (p : Passing) (l : Leaving) (way : Way) (h : History) (code : Code) (pass : Grant) (ending : Ending) (fits : Bool) → (is : IsPassing p h)
     → IsLeaving l (posted h pass ending) → l.out ≡ p.down → p.begun ≡ false → Reason h.signs p.view is.behind h.server_in code
     → (fits ≡ true → way.out ≡ take p.leave_left l.out.out ++ refusal_text code) → (fits ≡ false → way.out ≡ take p.leave_left l.out.out)
-    → IsLeaving (record { out = way; whole = false }) (posted h pass ending)
+    → IsLeaving (record { out = way; whole = false; clean = false }) (posted h pass ending)
 passing_refused p l way h code pass ending true is over same none why out full =
     let front = leave_left (is.leave none) ∙ ap (λ (w : Way). h.to_client ++ take p.leave_left w.out) (sym same) in
     record {
@@ -894,6 +897,7 @@ passing_refused p l way h code pass ending true is over same none why out full =
       told = ap (λ t. t ++ refusal_text code) front ∙ append_assoc h.to_client (take p.leave_left l.out.out) (refusal_text code)
           ∙ ap (λ t. h.to_client ++ t) (sym (out refl));
       whole = λ on. absurd (true≢false (sym on));
+      clean = λ on. absurd (true≢false (sym on));
       grants = over.grants;
       fair = over.fair;
       tried = over.tried;
@@ -904,6 +908,7 @@ passing_refused p l way h code pass ending false is over same none why out full 
   client = posted_client h pass ending (leave_text p.view) (nothing_answered p h is);
   told = leave_left (is.leave none) ∙ ap (λ (w : Way). h.to_client ++ take p.leave_left w.out) (sym same) ∙ ap (λ t. h.to_client ++ t) (sym (full refl));
   whole = λ on. absurd (true≢false (sym on));
+  clean = λ on. absurd (true≢false (sym on));
   grants = over.grants;
   fair = over.fair;
   tried = over.tried;

@@ -1,7 +1,8 @@
 -- When the machine sends a request once more.
-use Rattle.std.specs.Prelude.{◌≡◌, ◌⊎◌, true, false, []}
+use Rattle.std.specs.Prelude.{◌≡◌, ◌⊎◌, Bool, true, false, ◌&&◌, []}
 use Rattle.exchange_machine.specs.Repeats.{is_bare, is_idempotent}
 use Rattle.exchange_machine.specs.declared.sides.Down.TheVariants.{Heads}
+use Rattle.exchange_machine.specs.declared.dialing.Dialing.{Dialing}
 use Rattle.exchange_machine.specs.declared.passing.Passing.{Passing}
 
 -- it has no body, and may be served twice, or nothing of it reached a server; and nothing of an answer came
@@ -16,3 +17,7 @@ pub record IsUntouched (p : Passing) : Type 0 where
   pub heads : p.phase ≡ Heads 0
   pub none : p.down_held.items ≡ []
   pub unreached : p.reached ≡ false
+
+-- it may go out on a connection that was used before, which its server may just be closing: it has no body, and may be served twice
+abbrev pub takes_used : Dialing → Bool
+takes_used d = is_idempotent d.waiting.asked.view.method && is_bare d.waiting.asked.framing

@@ -1,14 +1,22 @@
 -- What is left of an exchange whose pass was posted.
-use Rattle.std.specs.Prelude.{◌≡◌, ◌≢◌, ℕ, Bool, true, List, []}
+use Rattle.std.specs.Prelude.{◌≡◌, ◌≢◌, ℕ, Bool, true, false, ◌&&◌, List, []}
 use Rattle.std.specs.List.{AllByRecursion}
-use Rattle.relay_http.specs.declared.persistence.Persistence.TheVariants.{Close, Persist}
+use Rattle.body_coder.specs.Stops.{is_done}
+use Rattle.body_coder.specs.declared.coding.Coding.{Coding}
+use Rattle.relay_http.specs.declared.persistence.Persistence.{Persistence}
+use Rattle.relay_http.specs.declared.persistence.Persistence.TheVariants.{Close, Persist, KeepAlive}
 use Rattle.exchange_machine.specs.Headline.{AreTries, IsFair, ClientText, ToServer}
 use Rattle.exchange_machine.specs.Histories.{History, passes_of}
+use Rattle.exchange_machine.specs.Repeats.{is_bare}
 use Rattle.exchange_machine.specs.Stages.{IsLeaving}
-use Rattle.exchange_machine.specs.Wholes.{Whole, Ends, told}
+use Rattle.exchange_machine.specs.Wants.{is_none}
+use Rattle.exchange_machine.specs.Wholes.{Whole, Ends, IsBare, told}
 use Rattle.exchange_machine.specs.declared.ending.Rest.{Rest}
 use Rattle.exchange_machine.specs.declared.ending.Rest.TheVariants as Rests
+use Rattle.exchange_machine.specs.declared.passing.Passing.{Passing}
 use Rattle.exchange_machine.specs.declared.settling.Settling.{Settling}
+use Rattle.exchange_machine.specs.declared.sides.Down.{Down}
+use Rattle.exchange_machine.specs.declared.sides.Down.TheVariants.{Heads, Body}
 
 -- both messages were whole; where it is clean nothing is left on the server's side
 pub record IsSettling (s : Settling) (h : History) : Type 0 where
@@ -17,7 +25,7 @@ pub record IsSettling (s : Settling) (h : History) : Type 0 where
   pub extra : List ℕ
   pub ends : Ends h whole s.behind.items s.out.out unsent extra
   pub stays : whole.says ≢ Close
-  pub clean : s.clean ≡ true → (unsent ≡ []) × (extra ≡ []) × (whole.adds.asks ≡ Persist) × (whole.kept ≡ true)
+  pub clean : s.clean ≡ true → (unsent ≡ []) × (extra ≡ []) × (whole.adds.asks ≡ Persist) × (whole.kept ≡ true) × IsBare whole
   pub server : ToServer h
   pub client : ClientText h (told whole)
   pub grants : h.grants ≡ passes_of h.posts
@@ -32,3 +40,26 @@ IsRest (Rests.Leaving l) h = IsLeaving l h
 abbrev pub IsMarked : Bool → Rest → Type 0
 IsMarked whole (Rests.Settling s) = Unit {0}
 IsMarked whole (Rests.Leaving l) = l.whole ≡ whole
+
+-- an answer was read to the end that it says: one that goes to the end of the input says none
+abbrev pub is_done_at : Down → Coding → Bool
+is_done_at (Heads count) coding = false
+is_done_at Body coding = is_done coding
+
+-- a server was asked to keep its connection
+abbrev pub asks_to_stay : Persistence → Bool
+asks_to_stay Close = false
+asks_to_stay Persist = true
+asks_to_stay KeepAlive = false
+
+-- Nothing is left on its server's side, whatever its client is told of its own: both messages were read to the ends that they say, the request has no body and
+-- all of it was sent, nothing of what came of the server is held, and it was asked to keep its connection, and keeps it.
+abbrev pub is_clean : Passing → Bool
+is_clean p =
+    asks_to_stay p.adds.asks && p.kept && is_none p.up.out && is_none p.down_held.items && is_done p.up.coding && is_done_at p.phase p.down.coding
+    && is_bare p.framing
+
+-- what is left knows whether its server's connection can be used again
+abbrev pub IsCleanAs : Bool → Rest → Type 0
+IsCleanAs clean (Rests.Settling s) = s.clean ≡ clean
+IsCleanAs clean (Rests.Leaving l) = l.clean ≡ clean

@@ -15,6 +15,7 @@ use Rattle.exchange_machine.specs.Reasons.{HasEnded, Shows}
 use Rattle.exchange_machine.specs.Repeats.{IsTry}
 use Rattle.exchange_machine.specs.Requests.{IsAskedBy, IsNoRequest}
 use Rattle.exchange_machine.specs.Sides.{IsUp, IsDown}
+use Rattle.exchange_machine.specs.Wholes.{EndsClean}
 use Rattle.exchange_machine.specs.declared.waiting.Asked.{Asked}
 use Rattle.exchange_machine.specs.declared.asking.Asking.{Asking}
 use Rattle.exchange_machine.specs.declared.waiting.Waiting.{Waiting}
@@ -104,6 +105,7 @@ pub record IsLeaving (l : Leaving) (h : History) : Type 0 where
   pub client : ClientText h text
   pub told : text ≡ h.to_client ++ l.out.out
   pub whole : l.whole ≡ true → TellsAnswer h.signs h.client_in h.server_in text
+  pub clean : l.clean ≡ true → EndsClean h l.out.out
   pub grants : h.grants ≡ passes_of h.posts
   pub fair : AllByRecursion IsFair h.posts
   pub tried : AreTries h

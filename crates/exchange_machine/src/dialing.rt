@@ -1,10 +1,12 @@
 ghost use Rattle.std.specs.Prelude.{◌≡◌, [], false, IfOk, IfErr};
 ghost use Rattle.exchange_machine.specs.Histories.{History, connected_on, posted};
+ghost use Rattle.exchange_machine.specs.Repeatables as repeats;
 ghost use Rattle.exchange_machine.specs.Stages as stages;
 ghost use Rattle.relay_http.specs.Replies.{leave_text};
 ghost use Rattle.relay_http.specs.Texts.{request_text};
 
 use crate::passing::Passing;
+use crate::repeating::{is_bare, is_idempotent};
 use crate::sides::Down;
 use crate::texts::{put_leave, put_request};
 use crate::waiting::{Asked, Waiting};
@@ -60,6 +62,14 @@ impl Dialing {
         ensures { result ≡ self.now.reached }
     {
         self.reached
+    }
+
+    /// May the request go out on a connection that was used before, which its server may just be closing? It has no body, and may be served twice (RFC 9110,
+    /// section 9.2.2), so that it can be sent once more.
+    pub fn takes_used(&self) -> bool
+        ensures { result ≡ repeats.takes_used self.now }
+    {
+        is_idempotent(self.waiting.asked.view.method()) && is_bare(self.waiting.asked.framing)
     }
 
     /// The server can't be reached, and nothing reached one before: the pass goes back as failed, and another may be waited for.

@@ -55,13 +55,17 @@ impl Passing {
     {
         let leave_left = self.leave_left;
         let Ended { pass, ending, rest } = self.end();
-        let Leaving { mut out, whole: _ } = rest;
+        let Leaving { mut out, .. } = rest;
         out.keep_front(leave_left);
         let _ = put_text(&mut out, refusal(code));
         Ended {
             pass,
             ending,
-            rest: Leaving { out, whole: false },
+            rest: Leaving {
+                out,
+                whole: false,
+                clean: false,
+            },
         }
     }
 
@@ -198,16 +202,28 @@ impl Passing {
         }
     }
 
-    /// Was all of the request sent, and did nothing come behind the answer?
+    /// Is nothing left on the server's side? Both messages were read to the ends that they say, the request has no body and all of it was sent, nothing came
+    /// behind the answer, and the server was asked to keep its connection, and keeps it. A server that doesn't read a body would take it for the next request.
     pub fn is_clean(&self) -> bool
-        ensures clean { IsTrue result
-            → (self.now.up.out ≡ []) × (self.now.down_held.items ≡ []) × (self.now.adds.asks ≡ Persistence.Persist) × (self.now.kept ≡ true) }
-        ensures each { self.now.up.out ≡ [] → self.now.down_held.items ≡ [] → self.now.adds.asks ≡ Persistence.Persist → self.now.kept ≡ true → IsTrue result }
+        ensures { result ≡ settling.is_clean self.now }
     {
-        self.adds.asks == Persistence::Persist
+        asks_to_stay(self.adds.asks)
             && self.kept
             && self.up.waiting().is_empty()
             && self.down_held.is_empty()
+            && self.up.is_whole()
+            && self.is_done_at()
+            && is_bare(self.framing)
+    }
+
+    // Was the answer read to the end that it says?
+    fn is_done_at(&self) -> bool
+        ensures { result ≡ settling.is_done_at self.now.phase self.now.down.coding }
+    {
+        match self.phase {
+            Down::Heads(_) => false,
+            Down::Body => self.down.is_whole(),
+        }
     }
 
     /// It is over: its pass is to be posted. Where both messages were whole the client may ask again.
@@ -215,12 +231,14 @@ impl Passing {
         ensures ends { (h : History) → stages.IsPassing self h → settling.IsRest result.rest (posted h result.pass result.ending) }
         ensures done { result.ending ≡ Ending.Done }
         ensures whole { settling.IsMarked (has_answered self) result.rest }
+        ensures clean { settling.IsCleanAs (settling.is_clean self) result.rest }
     {
         if self.is_whole() {
             return self.settle_whole();
         }
         let whole = self.has_answered();
-        let Ended { pass, ending, rest } = self.end_as(whole);
+        let clean = self.is_clean();
+        let Ended { pass, ending, rest } = self.end_as(whole, clean);
         Settled {
             pass,
             ending,
@@ -233,6 +251,7 @@ impl Passing {
         ensures ends { (h : History) → stages.IsPassing self h → settling.IsRest result.rest (posted h result.pass result.ending) }
         ensures done { result.ending ≡ Ending.Done }
         ensures whole { settling.IsMarked (has_answered self) result.rest }
+        ensures clean { settling.IsCleanAs (settling.is_clean self) result.rest }
     {
         let clean = self.is_clean();
         let Passing {
@@ -274,18 +293,19 @@ impl Passing {
         ensures ends { (h : History) → stages.IsPassing self h → stages.IsLeaving result.rest (posted h result.pass result.ending) }
         ensures pass { result.pass ≡ self.pass }
         ensures done { result.ending ≡ Ending.Done }
-        ensures rest { (result.rest.out ≡ self.down) × (result.rest.whole ≡ false) }
+        ensures rest { (result.rest.out ≡ self.down) × (result.rest.whole ≡ false) × (result.rest.clean ≡ false) }
     {
-        self.end_as(false)
+        self.end_as(false, false)
     }
 
-    // And whether its answer was read whole.
-    fn end_as(self, whole: bool) -> Ended
-        requires { whole ≡ true → has_answered self ≡ true }
+    // And whether its answer was read whole, and its server's connection can be used again.
+    fn end_as(self, whole: bool, clean: bool) -> Ended
+        requires whole { whole ≡ true → has_answered self ≡ true }
+        requires clean { clean ≡ true → settling.is_clean self ≡ true }
         ensures ends { (h : History) → stages.IsPassing self h → stages.IsLeaving result.rest (posted h result.pass result.ending) }
         ensures pass { result.pass ≡ self.pass }
         ensures done { result.ending ≡ Ending.Done }
-        ensures rest { (result.rest.out ≡ self.down) × (result.rest.whole ≡ whole) }
+        ensures rest { (result.rest.out ≡ self.down) × (result.rest.whole ≡ whole) × (result.rest.clean ≡ clean) }
     {
         let Passing {
             view: _,
@@ -313,7 +333,21 @@ impl Passing {
         Ended {
             pass,
             ending: Ending::Done,
-            rest: Leaving { out: down, whole },
+            rest: Leaving {
+                out: down,
+                whole,
+                clean,
+            },
         }
+    }
+}
+
+// Was a server asked to keep its connection?
+fn asks_to_stay(asks: Persistence) -> bool
+    ensures { result ≡ settling.asks_to_stay asks }
+{
+    match asks {
+        Persistence::Persist => true,
+        Persistence::Close | Persistence::KeepAlive => false,
     }
 }

@@ -10,6 +10,8 @@ pub struct Leaving {
     pub(crate) out: Way,
     /// Whether it is the whole answer of its server.
     pub(crate) whole: bool,
+    /// Whether its server's connection can be used again.
+    pub(crate) clean: bool,
 }
 
 impl Leaving {
@@ -18,6 +20,13 @@ impl Leaving {
         ensures { result ≡ self.now.whole }
     {
         self.whole
+    }
+
+    /// Can its server's connection be used again? Both messages were whole, all of the request was sent, and nothing came behind the answer.
+    pub fn is_clean(&self) -> bool
+        ensures { result ≡ self.now.clean }
+    {
+        self.clean
     }
 
     /// What the client is still to be sent.
@@ -32,6 +41,7 @@ impl Leaving {
         requires { count ≤ length self.old.out.out }
         ensures took { (h : History) → stages.IsLeaving self.old h → stages.IsLeaving self.new (client_got h (take count self.old.out.out)) }
         ensures whole { self.new.whole ≡ self.old.whole }
+        ensures clean { self.new.clean ≡ self.old.clean }
     {
         self.out.went(count);
     }

@@ -9,7 +9,7 @@ const OLD: &[u8] = b"GET /a HTTP/1.0\r\nHost: h\r\n\r\n";
 const OLD_KEPT: &[u8] = b"GET /a HTTP/1.0\r\nHost: h\r\nConnection: Keep-Alive\r\n\r\n";
 
 // requests that came behind one another, and their answers
-static CHAINS: [Row; 6] = [
+static CHAINS: [Row; 7] = [
     Row {
         name: "two requests in one piece",
         moves: &[
@@ -44,8 +44,10 @@ static CHAINS: [Row; 6] = [
                 b"POST /a HTTP/1.1\r\nHost: h\r\nContent-Length: 2\r\n\r\nabPOST /b HTTP/1.1\r\nHost: h\r\nTransfer-Encoding: chunked\r\n\r\n2\r\ncd\r\n0\r\n\r\nGET /a HTTP/1.1\r\nHost: h\r\n\r\n",
             ),
             Move::Grant,
+            Move::Used(false),
             Move::Connected(true),
             Move::Server(HI),
+            Move::Clean(false),
             Move::Again,
             Move::Grant,
             Move::Connected(true),
@@ -53,7 +55,10 @@ static CHAINS: [Row; 6] = [
                 b"HTTP/1.1 200 OK\r\nTransfer-Encoding: chunked\r\n\r\n2\r\nhi\r\n0\r\n\r\n",
             ),
             Move::Again,
+            Move::Clean(false),
+            Move::Used(false),
             Move::Grant,
+            Move::Used(true),
             Move::Connected(true),
             Move::Server(HI),
         ],
@@ -62,6 +67,22 @@ static CHAINS: [Row; 6] = [
         told: b"HTTP/1.1 200 OK\r\nContent-Length: 2\r\n\r\nhiHTTP/1.1 200 OK\r\nTransfer-Encoding: chunked\r\n\r\n2\r\nhi\r\n0\r\n\r\nHTTP/1.1 200 OK\r\nContent-Length: 2\r\n\r\nhi",
         counts: (3, 0, 0),
         stage: Stage::Settling,
+    },
+    Row {
+        name: "a server that says close, to a client that stays",
+        moves: &[
+            Move::Client(GET),
+            Move::Grant,
+            Move::Connected(true),
+            Move::Server(b"HTTP/1.1 200 OK\r\nContent-Length: 2\r\nConnection: close\r\n\r\nhi"),
+            Move::Clean(false),
+            Move::Again,
+        ],
+        aborts: false,
+        sent: GET,
+        told: HI,
+        counts: (1, 0, 0),
+        stage: Stage::Asking,
     },
     Row {
         name: "an old client that asks to stay, twice",
@@ -145,7 +166,7 @@ static CHAINS: [Row; 6] = [
 ];
 
 // exchanges behind which the client may not ask again
-static LAST: [Row; 7] = [
+static LAST: [Row; 8] = [
     Row {
         name: "a client that says close",
         moves: &[
@@ -154,10 +175,29 @@ static LAST: [Row; 7] = [
             Move::Connected(true),
             Move::Server(HI),
             Move::Answered(true),
+            Move::Clean(true),
             Move::Barred,
         ],
         aborts: false,
         sent: GET,
+        told: b"HTTP/1.1 200 OK\r\nContent-Length: 2\r\nConnection: close\r\n\r\nhi",
+        counts: (1, 0, 0),
+        stage: Stage::Leaving,
+    },
+    Row {
+        name: "a client that says close, and a server that took nothing",
+        moves: &[
+            Move::Client(b"GET /a HTTP/1.1\r\nHost: h\r\nConnection: close\r\n\r\n"),
+            Move::Grant,
+            Move::Hold,
+            Move::Connected(true),
+            Move::Server(HI),
+            Move::Answered(true),
+            Move::Clean(false),
+            Move::Barred,
+        ],
+        aborts: false,
+        sent: b"",
         told: b"HTTP/1.1 200 OK\r\nContent-Length: 2\r\nConnection: close\r\n\r\nhi",
         counts: (1, 0, 0),
         stage: Stage::Leaving,
@@ -170,6 +210,7 @@ static LAST: [Row; 7] = [
             Move::Connected(true),
             Move::Server(HI),
             Move::Answered(true),
+            Move::Clean(false),
             Move::Barred,
         ],
         aborts: false,
@@ -187,6 +228,7 @@ static LAST: [Row; 7] = [
             Move::Server(b"HTTP/1.1 200 OK\r\n\r\nhi"),
             Move::ServerEnd,
             Move::Answered(true),
+            Move::Clean(false),
             Move::Barred,
         ],
         aborts: false,
@@ -221,6 +263,7 @@ static LAST: [Row; 7] = [
             Move::Server(b"HTTP/1.1 200 OK\r\nContent-Length: 3\r\n\r\nhi"),
             Move::ServerEnd,
             Move::Answered(false),
+            Move::Clean(false),
             Move::Barred,
         ],
         aborts: false,
@@ -239,6 +282,7 @@ static LAST: [Row; 7] = [
                 b"HTTP/1.1 200 OK\r\nTransfer-Encoding: chunked\r\n\r\n2\r\nhi\r\n0\r\n\r\n",
             ),
             Move::Answered(true),
+            Move::Clean(true),
             Move::Barred,
         ],
         aborts: false,

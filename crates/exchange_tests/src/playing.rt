@@ -39,6 +39,10 @@ pub(crate) enum Move {
     Answered(bool),
     /// Whether nothing came of it yet.
     Silent(bool),
+    /// Whether its server's connection can be used again.
+    Clean(bool),
+    /// Whether its request may go out on a connection that was used before.
+    Used(bool),
     /// The client takes no more bytes.
     Stall,
     /// It takes them again.
@@ -140,6 +144,17 @@ impl Queue {
     }
 }
 
+// Is the exchange as the move says?
+fn is_so(exchange: &Exchange, each: Move) -> bool {
+    match each {
+        Move::Answered(whole) => exchange.is_answered() == whole,
+        Move::Silent(silent) => exchange.is_silent() == silent,
+        Move::Clean(clean) => exchange.is_clean() == clean,
+        Move::Used(used) => exchange.takes_used() == used,
+        _ => false,
+    }
+}
+
 /// A client, its proxy and a server.
 #[derive(Drop)]
 pub(crate) struct Table {
@@ -198,12 +213,8 @@ impl Table {
         let event = match each {
             Move::Again => return self.ask_again(rt, exchange),
             Move::Barred => return self.is_barred(rt, exchange),
-            Move::Answered(whole) => {
-                assert_eq!(rt; exchange.is_answered(), whole);
-                return exchange;
-            }
-            Move::Silent(silent) => {
-                assert_eq!(rt; exchange.is_silent(), silent);
+            Move::Answered(_) | Move::Silent(_) | Move::Clean(_) | Move::Used(_) => {
+                assert!(rt; is_so(&exchange, each));
                 return exchange;
             }
             Move::Client(bytes) => {

@@ -4,11 +4,11 @@ use Rattle.exchange_machine.specs.Answerings.{TellsAnswer}
 use Rattle.exchange_machine.specs.Histories.{History, signed}
 use Rattle.exchange_machine.specs.Settlings.{IsSettling}
 use Rattle.exchange_machine.specs.Wants.{is_none}
-use Rattle.exchange_machine.specs.Wholes.{Ends, begun}
+use Rattle.exchange_machine.specs.Wholes.{Ends, EndsClean, begun}
 use Rattle.exchange_machine.specs.declared.settling.Settling.{Settling as Settled}
 use Rattle.exchange_machine.specs.declared.signs.Sign.TheVariants as Signs
 use Rattle.exchange_machine.proofs.Answering.{settling_tells}
-use Rattle.mixed_exchange.specs.Chains.{IsBegun, IsNext, is_answered, is_silent}
+use Rattle.mixed_exchange.specs.Chains.{IsBegun, IsNext, is_answered, is_clean, is_silent}
 use Rattle.mixed_exchange.specs.Steps.{IsAt, to_client}
 use Rattle.mixed_exchange.specs.declared.exchange.Exchange.{Exchange}
 use Rattle.mixed_exchange.specs.declared.exchange.Exchange.TheVariants.{Asking, Waiting, Dialing, Passing, Settling, Leaving, Telling, Over}
@@ -26,6 +26,30 @@ answered_whole (Settling s) h on is = text_as h _ (h.to_client ++ s.out.out) is.
 answered_whole (Leaving l) h on is = text_as h is.text (h.to_client ++ l.out.out) is.told (is.whole on)
 answered_whole (Telling t) h on is = absurd (true≢false (sym on))
 answered_whole Over h on is = absurd (true≢false (sym on))
+
+-- whose client may ask again
+settled_clean : (s : Settled) (h : History) → s.clean ≡ true → IsSettling s h → EndsClean h s.out.out
+settled_clean s h on is =
+    let all = is.clean on in
+    record {
+      whole = is.whole;
+      behind = s.behind.items;
+      ends = subst (λ (l : List ℕ). Ends h is.whole s.behind.items s.out.out l []) all.0
+          (subst (λ (l : List ℕ). Ends h is.whole s.behind.items s.out.out is.unsent l) all.1 is.ends);
+      asks = all.2;
+      keeps = all.3;
+      bare = all.4;
+    }
+
+pub clean_ends : (x : Exchange) (h : History) → is_clean x ≡ true → IsAt x h → EndsClean h (to_client x)
+clean_ends (Asking a) h on is = absurd (true≢false (sym on))
+clean_ends (Waiting w) h on is = absurd (true≢false (sym on))
+clean_ends (Dialing d) h on is = absurd (true≢false (sym on))
+clean_ends (Passing p) h on is = absurd (true≢false (sym on))
+clean_ends (Settling s) h on is = settled_clean s h on is
+clean_ends (Leaving l) h on is = is.clean on
+clean_ends (Telling t) h on is = absurd (true≢false (sym on))
+clean_ends Over h on is = absurd (true≢false (sym on))
 
 none_is : (bytes : List ℕ) → is_none bytes ≡ true → bytes ≡ []
 none_is [] is = refl

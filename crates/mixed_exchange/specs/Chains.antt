@@ -2,6 +2,7 @@
 use Rattle.std.specs.Prelude.{◌≡◌, ◌≢◌, ◌⊎◌, ℕ, Bool, true, false, List, []}
 use Rattle.relay_http.specs.declared.persistence.Persistence.TheVariants.{Close}
 use Rattle.exchange_machine.specs.Histories.{History, signed}
+use Rattle.exchange_machine.specs.Repeatables.{takes_used as goes_used}
 use Rattle.exchange_machine.specs.Wants.{is_none}
 use Rattle.exchange_machine.specs.Wholes.{Whole, Ends, begun}
 use Rattle.exchange_machine.specs.declared.signs.Sign.TheVariants as Signs
@@ -58,3 +59,26 @@ is_silent (Settling s) = false
 is_silent (Leaving l) = false
 is_silent (Telling t) = false
 is_silent Over = false
+
+-- its server's connection can be used again: both messages were whole, all of the request was sent, nothing came behind the answer, and both sides agreed that
+-- the connection stays
+abbrev pub is_clean : Exchange → Bool
+is_clean (Asking a) = false
+is_clean (Waiting w) = false
+is_clean (Dialing d) = false
+is_clean (Passing p) = false
+is_clean (Settling s) = s.clean
+is_clean (Leaving l) = l.clean
+is_clean (Telling t) = false
+is_clean Over = false
+
+-- its request may go out on a connection that was used before
+abbrev pub takes_used : Exchange → Bool
+takes_used (Asking a) = false
+takes_used (Waiting w) = false
+takes_used (Dialing d) = goes_used d
+takes_used (Passing p) = false
+takes_used (Settling s) = false
+takes_used (Leaving l) = false
+takes_used (Telling t) = false
+takes_used Over = false

@@ -1,10 +1,10 @@
-//! Requests one after another on a client's connection: how an exchange ended, and the next one.
+//! Requests one after another on a client's connection and on a server's: how an exchange ended, and the next one.
 
 ghost use Rattle.std.specs.Prelude.{◌≡◌, ◌++◌, ℕ, List, [], true, false, IfOk, IfErr, IsTrue};
 ghost use Rattle.exchange_machine.specs.Answerings.{TellsAnswer};
 ghost use Rattle.exchange_machine.specs.Histories.{History};
 ghost use Rattle.exchange_machine.specs.Stages.{IsTurn, IsUnread};
-ghost use Rattle.exchange_machine.specs.Wholes.{begun};
+ghost use Rattle.exchange_machine.specs.Wholes.{EndsClean, begun};
 ghost use Rattle.mixed_exchange.specs.Chains as chains;
 ghost use Rattle.mixed_exchange.specs.Passes.{held_by};
 ghost use Rattle.mixed_exchange.specs.Steps as steps;
@@ -42,6 +42,40 @@ impl Exchange {
             Exchange::Asking(asking) => asking.is_silent(),
             Exchange::Waiting(_)
             | Exchange::Dialing(_)
+            | Exchange::Passing(_)
+            | Exchange::Settling(_)
+            | Exchange::Leaving(_)
+            | Exchange::Telling(_)
+            | Exchange::Over => false,
+        }
+    }
+
+    /// Can its server's connection be used again? Both messages were whole, all of the request was sent, nothing came behind the answer, and both sides agreed
+    /// that the connection stays.
+    pub fn is_clean(&self) -> bool
+        ensures clean { result ≡ chains.is_clean self.now }
+        ensures ends { IsTrue result → (h : History) → steps.IsAt self.now h → EndsClean h (steps.to_client self.now) }
+    {
+        match self {
+            Exchange::Settling(settling) => settling.is_clean(),
+            Exchange::Leaving(leaving) => leaving.is_clean(),
+            Exchange::Asking(_)
+            | Exchange::Waiting(_)
+            | Exchange::Dialing(_)
+            | Exchange::Passing(_)
+            | Exchange::Telling(_)
+            | Exchange::Over => false,
+        }
+    }
+
+    /// May its request go out on a server's connection that was used before? It waits for one, has no body, and may be served twice.
+    pub fn takes_used(&self) -> bool
+        ensures { result ≡ chains.takes_used self.now }
+    {
+        match self {
+            Exchange::Dialing(dialing) => dialing.takes_used(),
+            Exchange::Asking(_)
+            | Exchange::Waiting(_)
             | Exchange::Passing(_)
             | Exchange::Settling(_)
             | Exchange::Leaving(_)

@@ -18,7 +18,7 @@ pub record MayConnect (history : History) (passes : List Grant) (server : ℕ) :
   pub given : Contains (outstanding (state_of history).rows) pass
   pub serves : pass.verdict ≡ Serve server
 
--- so it is of each exchange whose passes are those of a seat, and of the server to which it is connected
+-- so it is of each exchange whose passes are those of a seat, and of the server of the pass that it holds: a loop dials no other
 abbrev pub ConnectionsAreTrue : Type 0
 ConnectionsAreTrue = (terms : Terms) (s : BoardState) (k : KeeperPart) (history : History) → Orderly terms s → HasKeeper s k → IsBook history k.view
     → (j i : ℕ) (r : RelayView) (x : Exchange) (server : ℕ) → HasRelay s j i r → r.passes ≡ held_by x → server_of (held_by x) ≡ Some server

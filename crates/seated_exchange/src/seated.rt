@@ -200,6 +200,20 @@ impl<N: BoardName + Ledger> Seated<N> {
         self.exchange.is_silent()
     }
 
+    /// Can its server's connection be used again, as `mixed_exchange` says?
+    pub fn is_clean(&self) -> bool
+        ensures { result ≡ chains.is_clean self.now.exchange }
+    {
+        self.exchange.is_clean()
+    }
+
+    /// May its request go out on a server's connection that was used before?
+    pub fn takes_used(&self) -> bool
+        ensures { result ≡ chains.takes_used self.now.exchange }
+    {
+        self.exchange.takes_used()
+    }
+
     /// May its client ask again, as `mixed_exchange` says?
     pub fn may_ask_again(&self) -> bool
         ensures { result ≡ chains.may_ask_again self.now.exchange }

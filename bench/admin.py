@@ -11,6 +11,7 @@ import re
 import resource
 import shutil
 import socket
+import struct
 import subprocess
 import sys
 import threading
@@ -34,7 +35,7 @@ def equal(got, wanted, what=""):
 
 
 def answer_one(client):
-    """Answers one request: /slow after a while, /none with 404."""
+    """Answers one request: /slow after a while, /slowest after a longer one, /none with 404."""
     with client:
         held = b""
         while b"\r\n\r\n" not in held:
@@ -44,7 +45,7 @@ def answer_one(client):
             held += more
         target = held.split(b" ")[1]
         if target.startswith(b"/slow"):
-            time.sleep(0.5)
+            time.sleep(1.5 if target.startswith(b"/slowest") else 0.5)
         status = b"404 Not Found" if target.startswith(b"/none") else b"200 OK"
         client.sendall(b"HTTP/1.1 " + status + b"\r\nContent-Length: 2\r\nConnection: close\r\n\r\nok")
 
@@ -286,6 +287,31 @@ def servers_that_fail_and_requests_that_are_refused():
         equal((told[0], told[2], told[3]), (1, 1, 0))
         equal(of(samples, "dueproxy_requests_total", status="503"), 2)
         equal(of(samples, "dueproxy_requests_total", status="400", server="<NOSRV>"), 1)
+
+
+@case
+def who_waits_outside_is_counted():
+    """One that waited outside for its place times out at it: a timeout, and no abort."""
+    with Proxy("--places", "2", lines=" timeout queue 800ms\n", servers=[f"server a 127.0.0.1:{SERVER} maxconn 1"]):
+        threads = in_threads(1, ask, "/slowest")
+        time.sleep(0.1)
+        waits = socket.create_connection(("127.0.0.1", PROXY))
+        waits.sendall(b"GET /waits HTTP/1.1\r\nHost: h\r\n\r\n")
+        time.sleep(0.1)
+        told = []
+        outside = threading.Thread(target=lambda: told.append(ask("/outside")[0]))
+        outside.start()
+        time.sleep(0.2)
+        samples = metrics()
+        equal((of(samples, "dueproxy_outside_waiting"), of(samples, "dueproxy_places_in_use")), (1, 2))
+        equal(json.loads(look("/state.json"))["outside"], 1)
+        waits.setsockopt(socket.SOL_SOCKET, socket.SO_LINGER, struct.pack("ii", 1, 0))
+        waits.close()
+        outside.join()
+        join(threads)
+        samples = settled(3)
+        equal((told, of(samples, "dueproxy_outside_waiting")), ([503], 0))
+        equal([of(samples, "dueproxy_refusals_total", cause=cause) for cause in ("timeout", "aborted", "unplaced")], [1, 1, 0])
 
 
 @case

@@ -105,7 +105,7 @@ const classOf = told => row("td", [
 ]);
 const show = state => {
   put("phase", make("span", state.phase === "serving" ? "good" : "late", state.phase));
-  put("sums", `${state.live} of ${state.places} places in use, window ${state.windows + 1} of the log ${Math.floor(100 * state.entries / state.most_entries)} % full`);
+  put("sums", `${state.live} of ${state.places} places in use, ${state.outside} outside, window ${state.windows + 1} of the log ${Math.floor(100 * state.entries / state.most_entries)} % full`);
   put("servers", ...state.servers.map(serverOf));
   const queues = state.queues.filter(queue => queue.waiting || queue.name === "*");
   put("queues", ...queues.map(queue => queueOf(queue, state.moment)));

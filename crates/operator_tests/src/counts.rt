@@ -3,11 +3,12 @@
 use dispatch_log::{Arrival, Entry, Queue};
 use due_key::{Class, Due, Moment, Offset};
 use proxy_numbers::{Proportions, ProxyNumbers, push_metrics};
-use request_lines::Account;
+use request_lines::{Account, By, During};
 use script::Names;
 use std::alloc::Global;
 use std::process::Abort;
 use ticket_numbers::Follower;
+use verdict::Cause;
 
 const BACKEND: Queue = Queue::Backend;
 
@@ -37,7 +38,7 @@ fn names(rt: &impl Abort, alloc: Global) -> Names {
     Names::new(list)
 }
 
-fn counted(rt: &impl Abort, alloc: Global, entries: &[Entry]) -> ProxyNumbers {
+fn counted(rt: &impl Abort, alloc: Global, entries: &[Entry]) -> (ProxyNumbers, Follower) {
     let proportions = Proportions {
         places: 16,
         entries: 100,
@@ -48,7 +49,7 @@ fn counted(rt: &impl Abort, alloc: Global, entries: &[Entry]) -> ProxyNumbers {
         numbers.note(&follower, entry);
         follower.follow(*entry).expect(rt, "memory");
     }
-    numbers
+    (numbers, follower)
 }
 
 fn metrics(rt: &impl Abort, alloc: Global, numbers: &ProxyNumbers) -> String {
@@ -59,7 +60,7 @@ fn metrics(rt: &impl Abort, alloc: Global, numbers: &ProxyNumbers) -> String {
 
 #[test]
 fn requests_are_counted_by_server_and_status(rt: HostRuntime) {
-    let mut numbers = counted(&rt, rt.alloc(), &[]);
+    let (mut numbers, follower) = counted(&rt, rt.alloc(), &[]);
     for (server, status) in [
         (Some(0), Some(200)),
         (Some(0), Some(200)),
@@ -69,7 +70,7 @@ fn requests_are_counted_by_server_and_status(rt: HostRuntime) {
         let mut account = Account::new(None, moment(&rt, 5));
         account.server = server;
         account.status = status;
-        numbers.end(&account);
+        numbers.end(&follower, &account);
     }
     let text = metrics(&rt, rt.alloc(), &numbers);
     for line in [
@@ -95,7 +96,7 @@ fn who_waits_and_how_late_slots_are_is_counted(rt: HostRuntime) {
         Entry::Ended(1),
         Entry::Granted(3, BACKEND, 0),
     ];
-    let numbers = counted(&rt, rt.alloc(), &entries);
+    let (numbers, _) = counted(&rt, rt.alloc(), &entries);
     let text = metrics(&rt, rt.alloc(), &numbers);
     for line in [
         "dueproxy_slots_total{server=\"a\\\"1\",way=\"direct\"} 1\n",
@@ -104,6 +105,36 @@ fn who_waits_and_how_late_slots_are_is_counted(rt: HostRuntime) {
         "dueproxy_queue_waiting{queue=\"*\",class=\"1\"} 0\n",
         "dueproxy_lateness_seconds_sum{class=\"1\"} 0.257\n",
         "dueproxy_lateness_seconds_count{class=\"1\"} 1\n",
+    ] {
+        assert!(rt; text.as_str().contains(line), "{}", line);
+    }
+}
+
+#[test]
+fn who_was_aborted_since_its_time_was_over_timed_out(rt: HostRuntime) {
+    let entries = [
+        arrive(&rt, 1, 0, (0, 0)),
+        Entry::Joined(1, BACKEND),
+        arrive(&rt, 2, 0, (0, 0)),
+        Entry::Joined(2, BACKEND),
+        Entry::Abort(moment(&rt, 9), 1),
+        Entry::Left(1, Cause::Aborted),
+        Entry::Abort(moment(&rt, 9), 2),
+        Entry::Left(2, Cause::Aborted),
+    ];
+    let (mut numbers, follower) = counted(&rt, rt.alloc(), &entries);
+    for (ticket, by) in [(1, By::Client), (2, By::ServerTime)] {
+        let mut account = Account::new(None, moment(&rt, 0));
+        account.ticket = Some(ticket);
+        account.end_by(by, During::Queue);
+        numbers.end(&follower, &account);
+    }
+    numbers.note_outside(3);
+    let text = metrics(&rt, rt.alloc(), &numbers);
+    for line in [
+        "dueproxy_refusals_total{cause=\"aborted\"} 1\n",
+        "dueproxy_refusals_total{cause=\"timeout\"} 1\n",
+        "dueproxy_outside_waiting 3\n",
     ] {
         assert!(rt; text.as_str().contains(line), "{}", line);
     }

@@ -8,7 +8,7 @@ use crate::numbers::{ClassNumbers, Lost, ProxyNumbers, Refused};
 use crate::queued::Queued;
 use dispatch_log::{Entry, Queue};
 use due_key::Key;
-use request_lines::Account;
+use request_lines::{Account, cause_told};
 use std::alloc::AllocError;
 use ticket_numbers::{Follower, Numbers, Slot};
 use verdict::Cause;
@@ -48,14 +48,17 @@ impl ProxyNumbers {
         }
     }
 
-    /// An exchange ended.
-    pub fn end(&mut self, account: &Account) {
+    /// An exchange ended, behind all entries of its request.
+    pub fn end(&mut self, follower: &Follower, account: &Account) {
         self.received = self.received.saturating_add(account.received);
         self.sent = self.sent.saturating_add(account.sent);
         if account.asked.is_none() {
             self.refused.no_head = self.refused.no_head.saturating_add(1);
         } else if account.ticket.is_none() {
             self.refused.unplaced = self.refused.unplaced.saturating_add(1);
+        }
+        if is_aborted(follower, account) {
+            self.refused = self.refused.with(cause_told(Cause::Aborted, account.ended));
         }
         let status = match account.status {
             None => -1,
@@ -178,9 +181,11 @@ impl ProxyNumbers {
         }
     }
 
-    // A request is told that it isn't served.
+    // A request is told that it isn't served. Why one is aborted is known once its exchange ends.
     fn refuse(&mut self, follower: &Follower, ticket: u64, cause: Cause) -> Result<(), AllocError> {
-        self.refused = self.refused.with(cause);
+        if cause != Cause::Aborted {
+            self.refused = self.refused.with(cause);
+        }
         match queue_of(follower, ticket) {
             None => Ok(()),
             Some(queue) => self.leave(follower, ticket, queue),
@@ -257,6 +262,14 @@ impl Lost {
             entries: 0,
             gaps: 0,
         }
+    }
+}
+
+// Whether the request of an exchange was aborted.
+fn is_aborted(follower: &Follower, account: &Account) -> bool {
+    match account.ticket.and_then(|ticket| follower.numbers(ticket)) {
+        None => false,
+        Some(numbers) => numbers.cause == Some(Cause::Aborted),
     }
 }
 

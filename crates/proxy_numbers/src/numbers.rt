@@ -67,8 +67,9 @@ pub struct ProxyNumbers {
     pub(crate) unserved: Tally,
     pub(crate) refused: Refused,
     pub(crate) lost: Lost,
-    /// So many requests have a place.
+    /// So many requests have a place, and so many wait outside for one.
     pub(crate) live: u64,
+    pub(crate) outside: u64,
     /// So many entries the present window has, and so many windows ended.
     pub(crate) entries: u64,
     pub(crate) windows: u64,
@@ -103,6 +104,7 @@ impl ProxyNumbers {
             refused: Refused::new(),
             lost: Lost::nothing(),
             live: 0,
+            outside: 0,
             entries: 0,
             windows: 0,
             received: 0,
@@ -123,6 +125,13 @@ impl ProxyNumbers {
         ensures { self.new.stopping ≡ true }
     {
         self.stopping = true;
+    }
+
+    /// So many requests wait outside for a place.
+    pub fn note_outside(&mut self, requests: u64)
+        ensures { self.new.outside ≡ requests }
+    {
+        self.outside = requests;
     }
 
     pub fn is_stopping(&self) -> bool

@@ -28,6 +28,12 @@ static PLACES_IN_USE: Family = Family {
     help: "Requests that are served or wait in queues.",
 };
 
+static OUTSIDE: Family = Family {
+    name: "dueproxy_outside_waiting",
+    kind: Kind::Gauge,
+    help: "Requests that wait outside for a place, and so in no queue.",
+};
+
 static ENTRIES: Family = Family {
     name: "dueproxy_log_entries",
     kind: Kind::Gauge,
@@ -64,6 +70,7 @@ pub(crate) fn push_sizes(text: &mut String, numbers: &ProxyNumbers) -> Result<()
     push_alone(text, &SENT, numbers.sent)?;
     push_alone(text, &PLACES, numbers.proportions.places as u64)?;
     push_alone(text, &PLACES_IN_USE, numbers.live)?;
+    push_alone(text, &OUTSIDE, numbers.outside)?;
     push_alone(text, &ENTRIES, numbers.entries)?;
     push_alone(text, &ENTRIES_MOST, numbers.proportions.entries as u64)?;
     push_alone(text, &WINDOWS, numbers.windows)?;

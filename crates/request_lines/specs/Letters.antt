@@ -1,5 +1,7 @@
 -- The letters of HAProxy's termination state.
 use Rattle.std.specs.Prelude.{ℕ}
+use Rattle.verdict.specs.declared.cause.Cause.{Cause}
+use Rattle.verdict.specs.declared.cause.Cause.TheVariants.{Aborted, Timeout, Retries, NoServer}
 use Rattle.request_lines.specs.declared.letters.By.{By}
 use Rattle.request_lines.specs.declared.letters.By.TheVariants.{Nobody, Client, ClientTime, Server, ServerTime, Proxy, Shortage}
 use Rattle.request_lines.specs.declared.letters.During.{During}
@@ -29,3 +31,20 @@ during_letter Connect = 67
 during_letter Head = 72
 during_letter Data = 68
 during_letter Last = 76
+
+-- one that was aborted since its time was over timed out
+abbrev pub if_aborted : By → Cause
+if_aborted ServerTime = Timeout
+if_aborted Nobody = Aborted
+if_aborted Client = Aborted
+if_aborted ClientTime = Aborted
+if_aborted Server = Aborted
+if_aborted Proxy = Aborted
+if_aborted Shortage = Aborted
+
+-- why a request wasn't served, by the cause in the dispatcher's log and by who or what ended its exchange
+abbrev pub cause_told : Cause → By → Cause
+cause_told Aborted by = if_aborted by
+cause_told Timeout by = Timeout
+cause_told Retries by = Retries
+cause_told NoServer by = NoServer

@@ -2,6 +2,7 @@
 
 use crate::dates::Dates;
 use crate::fields::{Line, push_escaped};
+use crate::letters::cause_told;
 use crate::text::{queue_name, slot_of};
 use serde::Serialize;
 use std::alloc::{AllocError, Global};
@@ -106,7 +107,10 @@ fn texts_of(alloc: Global, dates: &mut Dates, line: &Line) -> Result<Texts, Allo
     };
     let left = match line.numbers.and_then(|numbers| numbers.cause) {
         None => None,
-        Some(cause) => Some(format!(in alloc; "{cause}")?),
+        Some(cause) => {
+            let cause = cause_told(cause, account.ended);
+            Some(format!(in alloc; "{cause}")?)
+        }
     };
     let (by, during) = account.ended.letters();
     Ok(Texts {

@@ -3,6 +3,8 @@
 ghost use Rattle.std.specs.Prelude.{◌≡◌};
 ghost use Rattle.request_lines.specs.Letters as letters;
 
+use verdict::Cause;
+
 /// Who or what ended an exchange before its end.
 #[derive(Clone, Copy, Debug, PartialEq, Eq)]
 pub enum By {
@@ -64,6 +66,17 @@ impl Ended {
         ensures { result ≡ (letters.by_letter self.by, letters.during_letter self.during) }
     {
         (by_letter(self.by), during_letter(self.during))
+    }
+}
+
+/// Why a request wasn't served, where its exchange ended so. The loops have one aborted whose `timeout queue` is over and began before it had a place: it timed out.
+pub fn cause_told(cause: Cause, ended: Ended) -> Cause
+    ensures { result ≡ letters.cause_told cause ended.by }
+{
+    if cause == Cause::Aborted && ended.by == By::ServerTime {
+        Cause::Timeout
+    } else {
+        cause
     }
 }
 

@@ -14,5 +14,5 @@ pub use dates::Dates;
 pub use events::{CheckFailure, Event, push_event};
 pub use fields::{Line, Load};
 pub use json::push_json;
-pub use letters::{By, During, Ended};
+pub use letters::{By, During, Ended, cause_told};
 pub use text::{Format, push_line, push_lost, push_text};

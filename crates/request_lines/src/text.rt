@@ -3,6 +3,7 @@
 use crate::dates::{Dates, signed};
 use crate::fields::{Line, push_escaped};
 use crate::json::{push_json, push_lost_json};
+use crate::letters::cause_told;
 use dispatch_log::Queue;
 use script::Names;
 use std::alloc::{AllocError, Global};
@@ -156,6 +157,7 @@ fn push_wait(text: &mut String, line: &Line) -> Result<(), AllocError> {
         return Ok(());
     };
     if let Some(cause) = numbers.cause {
+        let cause = cause_told(cause, line.account.ended);
         write!(text, " left={cause}")?;
     }
     let Some(slot) = numbers.slot else {

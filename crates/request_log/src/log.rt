@@ -55,6 +55,8 @@ pub struct RequestLog {
     unsaid: AtomicU64,
     /// How each server's last check failed, where one did.
     failures: Mutex<Vec<Option<CheckFailure>>>,
+    /// So many requests wait outside for a place.
+    outside: AtomicU64,
     stopping: AtomicBool,
     over: AtomicBool,
 }
@@ -110,6 +112,7 @@ impl RequestLog {
             untold: AtomicU64::new(0),
             unsaid: AtomicU64::new(0),
             failures: Mutex::new(failures),
+            outside: AtomicU64::new(0),
             stopping: AtomicBool::new(false),
             over: AtomicBool::new(false),
         }))
@@ -165,6 +168,15 @@ impl RequestLog {
     pub(crate) fn failure_of<R: Wait>(&self, rt: &R, server: usize) -> Option<CheckFailure> {
         let failures = self.failures.lock(rt);
         failures.get(server).copied().flatten()
+    }
+
+    /// So many requests wait outside for a place.
+    pub fn note_outside(&self, requests: u64) {
+        self.outside.store(requests, Ordering::SeqCst);
+    }
+
+    pub(crate) fn outside(&self) -> u64 {
+        self.outside.load(Ordering::SeqCst)
     }
 
     /// No more clients are taken.

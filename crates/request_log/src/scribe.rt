@@ -283,8 +283,9 @@ impl Scribe {
         if log.is_stopping() {
             numbers.stop();
         }
+        numbers.note_outside(log.outside());
         for account in self.accounts.iter() {
-            numbers.end(account);
+            numbers.end(&self.follower, account);
         }
     }
 

@@ -18,6 +18,8 @@ pub struct Numbers {
     pub requests: u32,
     /// How long a client may stay between two requests, in milliseconds. None: it has one.
     pub keeping: Option<u32>,
+    /// How many unused connections of a server stay open at most. None: a server's connection is for one request.
+    pub reusing: Option<u32>,
     /// After so many milliseconds a window ends. None: once the log is full.
     pub window: Option<u32>,
     /// Whether servers are told whose requests they get.
@@ -27,9 +29,15 @@ pub struct Numbers {
 /// How long a client may stay that asks for nothing, in milliseconds, where no word says it.
 const STAY: &str = "10000";
 
+/// How many unused connections of a server stay open, where no word says it.
+const IDLE: &str = "32";
+
+// More of a server than requests there may be.
+const MOST_IDLE: u32 = 4096;
+
 /// What is said of a number that is none, or out of its range.
 pub const RANGES: &str =
-    "a number is out of its range: 1 to 256 workers, 1 to 64 loops, 1 to 65536 waiting, 1 to 4096 places, 0 to 999999999 requests, 1 to 999999999 ms, and 100 ms at least of --window";
+    "a number is out of its range: 1 to 256 workers, 1 to 64 loops, 1 to 65536 waiting, 1 to 4096 places or idle connections, 0 to 999999999 requests, 1 to 999999999 ms, and 100 ms at least of --window";
 
 const HELP: &str = "\
 Listens where the configuration says, and hands each request to a server, or lets it
@@ -66,6 +74,12 @@ const KEEP: &str = "Lets a client stay for further requests on its connection";
 
 const STAY_HELP: &str =
     "A client that stays and asks for nothing is closed after so many ms, from 1 on";
+
+const REUSE: &str =
+    "Uses connections of servers for further requests: idempotent ones without a body";
+
+const IDLE_HELP: &str =
+    "So many unused connections of a server stay open at most, 1 to 4096, with --reuse";
 
 const WINDOW: &str =
     "Ends a window of the log after so many ms, too, and prints its reports with the time, from 100 on";
@@ -106,7 +120,9 @@ fn with_bounds<'a>(alloc: Global, command: Command<'a>) -> Result<Command<'a>, A
 fn with_keeping<'a>(alloc: Global, command: Command<'a>) -> Result<Command<'a>, AllocError> {
     let keep = flag(alloc, "keep-alive", KEEP);
     let stay = bound(alloc, "keep-alive-timeout", STAY, STAY_HELP);
-    command.arg(keep)?.arg(stay)
+    let reuse = flag(alloc, "reuse", REUSE);
+    let idle = bound(alloc, "reuse-idle", IDLE, IDLE_HELP);
+    command.arg(keep)?.arg(stay)?.arg(reuse)?.arg(idle)
 }
 
 fn flag<'a>(alloc: Global, name: &'a str, help: &'a str) -> Arg<'a> {
@@ -135,25 +151,35 @@ pub(crate) fn numbers_of(words: &ArgMatches) -> Option<Numbers> {
     let places = given(words, "places").ok()??;
     let requests = given(words, "requests").ok()??;
     let stay = given(words, "keep-alive-timeout").ok()??;
+    let idle = given(words, "reuse-idle").ok()??;
     let window = given(words, "window").ok()?;
-    if stay == 0 || window.map_or(false, |window| window < SHORTEST_WINDOW) {
+    if stay == 0
+        || idle == 0
+        || MOST_IDLE < idle
+        || window.map_or(false, |window| window < SHORTEST_WINDOW)
+    {
         return None;
     }
-    let keeping = if words.get_flag("keep-alive") {
-        Some(stay)
-    } else {
-        None
-    };
     Some(Numbers {
         workers,
         loops,
         waiting,
         places,
         requests,
-        keeping,
+        keeping: asked_for(words, "keep-alive", stay),
+        reusing: asked_for(words, "reuse", idle),
         window,
         forwarded_for: words.get_flag("forwarded-for"),
     })
+}
+
+// The number that goes with a flag, where the flag is given.
+fn asked_for(words: &ArgMatches, flag: &str, number: u32) -> Option<u32> {
+    if words.get_flag(flag) {
+        Some(number)
+    } else {
+        None
+    }
 }
 
 /// A word stands where a number is wanted.

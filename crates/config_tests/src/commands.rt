@@ -38,6 +38,7 @@ const SIZES: Numbers = Numbers {
     places: 1024,
     requests: 0,
     keeping: None,
+    reusing: None,
     window: None,
     forwarded_for: false,
 };
@@ -49,20 +50,23 @@ const STAYING: Numbers = Numbers {
     places: 1024,
     requests: 0,
     keeping: Some(10_000),
+    reusing: Some(32),
     window: Some(60_000),
     forwarded_for: true,
 };
 
-static COMMANDS: [CommandRow; 33] = [
+static COMMANDS: [CommandRow; 35] = [
     // What runs has its sizes.
     (
         "dueproxy run file --workers 7",
         Expected::Run("file", SIZES),
     ),
     (
-        "dueproxy run file --keep-alive --window 60000 --forwarded-for",
+        "dueproxy run file --keep-alive --reuse --window 60000 --forwarded-for",
         Expected::Run("file", STAYING),
     ),
+    ("dueproxy run file --reuse-idle 0", Expected::Nothing(2)),
+    ("dueproxy run file --reuse-idle 4097", Expected::Nothing(2)),
     ("dueproxy run file --window 99", Expected::Nothing(2)),
     ("dueproxy run file --window 0", Expected::Nothing(2)),
     ("dueproxy run file --workers +5", Expected::Nothing(2)),

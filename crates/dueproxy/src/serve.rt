@@ -89,6 +89,7 @@ fn options_of<
     let logs = logs_of(host, rt, logs)?;
     Ok(RunOptions {
         keeping: numbers.keeping.map(u64::from),
+        reusing: numbers.reusing.map(u64::from),
         window: numbers.window.map(u64::from),
         forwarded_for: numbers.forwarded_for,
         controls: controls_of(rt, controls)?,

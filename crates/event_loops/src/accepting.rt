@@ -1,8 +1,7 @@
 //! Clients that come.
 
-use crate::guest::{Guest, Visit};
+use crate::guest::Visit;
 use crate::looping::Looper;
-use crate::serving::Then;
 use exchange_driver::{Line, Live};
 use grant_board::BoardName;
 use seated_exchange::Seated;
@@ -64,11 +63,9 @@ impl<
         let line = Line::new(alloc, Live::new(client));
         let mut presence = presence;
         self.begin_account(&mut presence, &line, Some(address));
-        let guest = Guest {
-            seated: Seated::new(alloc),
-            visit: Visit::new(alloc, presence, line),
-        };
-        self.go(Then::Goes(guest, hole));
+        let visit = Visit::new(alloc, presence, line);
+        let then = self.seat(Seated::new(alloc), visit, hole);
+        self.go(then);
         self.go_on();
     }
 }

@@ -143,9 +143,9 @@ impl<
         let Some((resident, hole)) = self.guests.lend(token) else {
             return;
         };
-        let mut resident = Box::into_inner(resident);
+        let mut resident = resident;
         if let Resident::Guest(guest) = &mut resident {
-            let Guest { visit, .. } = guest;
+            let Guest { visit, .. } = &mut **guest;
             self.tell_end(&mut visit.presence, &visit.client, By::Proxy, None);
         }
         self.lay(resident, hole);

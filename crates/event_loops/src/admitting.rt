@@ -1,9 +1,8 @@
 //! Requests that wait outside for a place: they come, get one, leave, or are told that they get none.
 
 use crate::accounting::{note_refused, note_ticket};
-use crate::guest::{Guest, Task, Visit};
+use crate::guest::{Task, Visit};
 use crate::looping::Looper;
-use crate::serving::Then;
 use dispatch_trace::Ticketed;
 use due_key::Moment;
 use grant_board::BoardName;
@@ -90,8 +89,8 @@ impl<
         };
         let mut visit = Visit::new(self.settings.alloc, presence, client);
         visit.task = Task::Refuse;
-        let seated = queued.unseated();
-        self.go(Then::Goes(Guest { seated, visit }, hole));
+        let then = self.seat(queued.unseated(), visit, hole);
+        self.go(then);
     }
 
     /// A request that found no place waits for one. It comes back where there is no memory for it, or no room.

@@ -4,15 +4,15 @@ ghost use Rattle.std.specs.Prelude.{◌≡◌, IfSome, Some};
 ghost use Rattle.mixed_exchange.specs.Passes.{held_by};
 ghost use Rattle.seated_exchange.specs.Seats.{server_of};
 
-use crate::guest::{Guest, Task, Watch};
+use crate::guest::{Dialed, Guest, Task, Watch};
 use crate::keeping::Soon;
 use crate::looping::Looper;
 use crate::serving::Then;
 use exchange_driver::{Line, Live};
 use grant_board::BoardName;
-use loop_table::Hole;
-use mio::net::TcpStream as Dialed;
-use seated_exchange::{Notice, Seated};
+use loop_table::{Hole, Token};
+use mio::net::TcpStream as Dialing;
+use seated_exchange::Notice;
 use std::net::{Net, TcpListener, TcpStream};
 use std::sync::Wait;
 use std::sync::ledger::Ledger;
@@ -21,11 +21,12 @@ use std::time::Clock;
 /// So often a connection is opened in place of one that broke before a byte reached the server.
 const MOST_REDIALS: u32 = 1;
 
-/// A connection that was begun, and to which server.
+/// A connection that was begun, or is there since it was used before, and to which server.
 #[derive(Drop)]
 struct Begun {
     server: usize,
-    stream: Dialed,
+    fresh: bool,
+    line: Line<Live>,
 }
 
 impl<
@@ -33,43 +34,82 @@ impl<
     N: BoardName + Ledger,
     R: Net<Listener = TcpListener, Stream = TcpStream> + Clock + Print + Wait,
 > Looper<'a, N, R> {
-    /// A connection to the server of a guest's pass is begun, without waiting. Where that server just failed it, some time passes first.
-    pub(crate) fn dial(&mut self, guest: Guest<N>, hole: Hole) -> Then<N> {
+    /// A connection to the server of a guest's pass is begun, without waiting, where none is there that was used before. Where that server just failed it, some
+    /// time passes first.
+    pub(crate) fn dial(&mut self, guest: Box<Guest<N>>, hole: Hole) -> Then<N> {
         if guest.visit.pauses || guest.visit.server.socket().is_some() {
             return self.keep(guest, hole, Soon::Rests);
         }
-        match self.begin(&guest.seated) {
+        match self.begin(&guest) {
             None => self.tell_of_no_connection(guest, hole),
             Some(begun) => {
-                let Begun { server: _, stream } = begun;
-                let _ = stream.set_nodelay(true);
-                let live = Live::new(TcpStream::from(stream));
+                let Begun {
+                    server,
+                    fresh,
+                    line,
+                } = begun;
                 if self.teller.is_some() {
-                    live.count_anew();
+                    count_anew(&line);
                 }
-                let Guest { seated, visit } = guest;
-                let mut visit = visit;
-                visit.server = Line::new(self.settings.alloc, live);
-                visit.server_watch = Watch::Nothing;
-                self.look_at_connection(Guest { seated, visit }, hole, false)
+                let mut guest = guest;
+                guest.visit.server_watch = self.watch_of(&line, fresh, hole.token());
+                guest.visit.server = line;
+                guest.visit.dialed = Some(Dialed { server, fresh });
+                if fresh {
+                    self.look_at_connection(guest, hole, false)
+                } else {
+                    self.tell_of_connection(guest, hole)
+                }
             }
         }
     }
 
     // Begins a connection to the server of an exchange's pass, where that is by the last look-up of its name. None: there is none to be had.
-    fn begin(&self, seated: &Seated<N>) -> Option<Begun>
-        ensures { IfSome result (λ begun. server_of (held_by seated.now.exchange) ≡ Some begun.server) }
+    fn begin(&mut self, guest: &Guest<N>) -> Option<Begun>
+        ensures { IfSome result (λ begun. server_of (held_by guest.now.seated.exchange) ≡ Some begun.server) }
     {
-        let server = seated.server()?;
+        let server = guest.seated.server()?;
+        if let Some(line) = self.used_connection(guest, server) {
+            return Some(Begun {
+                server,
+                fresh: false,
+                line,
+            });
+        }
+        let line = self.opened(server)?;
+        Some(Begun {
+            server,
+            fresh: true,
+            line,
+        })
+    }
+
+    // Where the system is short, one that nobody uses is closed for it.
+    fn opened(&mut self, server: usize) -> Option<Line<Live>> {
         let address = self.shared.address_of(self.rt, server)?;
-        let stream = Dialed::connect(self.rt, address).ok()?;
-        Some(Begun { server, stream })
+        let stream = match Dialing::connect(self.rt, address) {
+            Ok(stream) => stream,
+            Err(_) if self.close_any() => Dialing::connect(self.rt, address).ok()?,
+            Err(_) => return None,
+        };
+        let _ = stream.set_nodelay(true);
+        let live = Live::new(TcpStream::from(stream));
+        Some(Line::new(self.settings.alloc, live))
+    }
+
+    // What the poll tells of a connection that is begun.
+    fn watch_of(&self, line: &Line<Live>, fresh: bool, token: Token) -> Watch {
+        if !fresh && self.is_watched_anew(line, token) {
+            Watch::Reads
+        } else {
+            Watch::Nothing
+        }
     }
 
     /// Whether a connection that was begun came about.
     pub(crate) fn look_at_connection(
         &mut self,
-        guest: Guest<N>,
+        guest: Box<Guest<N>>,
         hole: Hole,
         broken: bool,
     ) -> Then<N> {
@@ -78,8 +118,7 @@ impl<
             Some(live) => live.stream().peer_addr().is_ok(),
         };
         if is_there {
-            let terms = self.shared.terms(&guest.visit.presence);
-            self.tell(guest, hole, Notice::Connected(terms))
+            self.tell_of_connection(guest, hole)
         } else if broken {
             self.tell_of_no_connection(guest, hole)
         } else {
@@ -87,24 +126,43 @@ impl<
         }
     }
 
+    fn tell_of_connection(&mut self, guest: Box<Guest<N>>, hole: Hole) -> Then<N> {
+        let fresh = guest.visit.is_fresh();
+        let terms = self.shared.terms(&guest.visit.presence, fresh);
+        self.tell(guest, hole, Notice::Connected(terms))
+    }
+
     /// There is no connection to a guest's server, whose name is looked up once more.
-    pub(crate) fn tell_of_no_connection(&mut self, guest: Guest<N>, hole: Hole) -> Then<N> {
+    pub(crate) fn tell_of_no_connection(&mut self, guest: Box<Guest<N>>, hole: Hole) -> Then<N> {
         if let Some(number) = guest.seated.server() {
             self.shared.front.addresses.look_again(self.rt, number);
         }
         self.tell(guest, hole, Notice::Unreachable)
     }
 
-    /// The server's connection broke before a byte reached it: another one takes its place, once.
-    pub(crate) fn redial(&mut self, guest: Guest<N>, hole: Hole) -> Then<N> {
-        let Guest { seated, visit } = guest;
-        let mut visit = visit.without_server(self.settings.alloc);
-        visit.redials = visit.redials.saturating_add(1);
+    /// The server's connection broke before a byte reached it, or was used before and broke before a byte of the answer came: another one takes its place, once
+    /// for each of the two.
+    pub(crate) fn redial(&mut self, guest: Box<Guest<N>>, hole: Hole) -> Then<N> {
+        let mut guest = guest;
+        let visit = &mut guest.visit;
+        let fresh = visit.is_fresh();
+        let _broken = visit.take_server(self.settings.alloc);
+        if fresh {
+            visit.redials = visit.redials.saturating_add(1);
+        }
+        visit.spoilt = visit.spoilt || !fresh;
         visit.task = if visit.redials <= MOST_REDIALS {
             Task::Dial
         } else {
             Task::GiveUp
         };
-        Then::Goes(Guest { seated, visit }, hole)
+        Then::Goes(guest, hole)
+    }
+}
+
+// What goes over it is counted for this exchange alone.
+fn count_anew(line: &Line<Live>) {
+    if let Some(live) = line.socket() {
+        live.count_anew();
     }
 }

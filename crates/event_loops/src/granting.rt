@@ -3,8 +3,8 @@
 ghost use Rattle.std.specs.Prelude.{◌≡◌, [], false};
 ghost use Rattle.loop_shared.specs.Looks.{OwesNoLook};
 
-use crate::accounting::{note_cause, note_unanswered};
-use crate::guest::{Guest, Task, Visit};
+use crate::accounting::note_cause;
+use crate::guest::{Guest, Task, Visit, Watch};
 use crate::keeping::Soon;
 use crate::looping::Looper;
 use crate::serving::Then;
@@ -101,7 +101,7 @@ impl<
     fn take_in(&mut self, granted: Granted<N>) {
         match self.guests.open() {
             Some(hole) => {
-                let then = self.welcome(granted, hole);
+                let then = self.welcome(granted, hole, Watch::Nothing);
                 self.go(then);
             }
             None => {
@@ -120,8 +120,8 @@ impl<
         }
     }
 
-    /// A request has its verdict: it goes on with its pass, or is told why it has none.
-    pub(crate) fn welcome(&mut self, granted: Granted<N>, hole: Hole) -> Then<N> {
+    /// A request has its verdict: it goes on with its pass, or is told why it has none. Its client is watched so by this slot's token.
+    pub(crate) fn welcome(&mut self, granted: Granted<N>, hole: Hole, watch: Watch) -> Then<N> {
         let Granted { taken, parked } = granted;
         let Parked {
             presence,
@@ -134,6 +134,7 @@ impl<
             late,
         } = parked;
         let mut visit = Visit::new(self.settings.alloc, presence, client);
+        visit.client_watch = watch;
         match taken.verdict() {
             Verdict::Serve(number) => {
                 self.note_granted(&mut visit, number);
@@ -142,33 +143,37 @@ impl<
                 visit.tried = Some(number);
                 visit.pauses = failed == Some(number);
                 visit.task = Task::Dial;
-                let seated = queued.grant(taken);
-                Then::Goes(Guest { seated, visit }, hole)
+                self.seat(queued.grant(taken), visit, hole)
             }
             Verdict::Told(cause) => {
                 let stops = self.shared.is_refusing();
                 note_cause(&mut visit.presence, cause, !late, stops);
                 self.give_back(taken);
                 let seated = queued.unseated();
-                let guest = Guest { seated, visit };
                 if cause == Cause::Aborted && !late {
-                    return self.close(guest, hole);
+                    return self.close_on(seated, visit, hole);
                 }
-                Then::Goes(guest.with_task(Task::Refuse), hole)
+                visit.task = Task::Refuse;
+                self.seat(seated, visit, hole)
             }
         }
     }
 
     /// A pass goes back, and what it frees is looked at before its client is told more.
-    pub(crate) fn part(&mut self, posting: Posting<N>, guest: Guest<N>, hole: Hole) -> Then<N> {
+    pub(crate) fn part(
+        &mut self,
+        posting: Posting<N>,
+        guest: Box<Guest<N>>,
+        hole: Hole,
+    ) -> Then<N> {
         match guest.seated.stage() {
             Stage::Waiting => {
-                let Guest { seated, visit } = guest;
+                let Guest { seated, visit } = Box::into_inner(guest);
                 match seated.into_queued() {
                     Ok(queued) => self.fail(posting, queued, visit, hole),
                     Err(seated) => {
                         self.post(posting);
-                        self.close(Guest { seated, visit }, hole)
+                        self.close_on(seated, visit, hole)
                     }
                 }
             }
@@ -177,17 +182,12 @@ impl<
                 self.close(guest, hole)
             }
             _ => {
-                let Guest { seated, visit } = guest;
-                let mut visit = visit;
-                if !seated.is_answered() {
-                    visit.break_off();
-                    note_unanswered(&mut visit);
-                }
-                let mut visit = visit.without_server(self.settings.alloc);
-                visit.at = None;
-                visit.task = Task::Serve;
+                let mut guest = guest;
+                self.release_server(&mut guest);
+                guest.visit.at = None;
+                guest.visit.task = Task::Serve;
                 self.post(posting);
-                self.keep(Guest { seated, visit }, hole, Soon::Next)
+                self.keep(guest, hole, Soon::Next)
             }
         }
     }

@@ -1,16 +1,17 @@
 //! Clients by how far they are.
 //!
 //! A `Guest` is one from its first byte to its last, but while its request waits: then it is `Parked` at its place, or an `Outsider`. One whose exchange is over
-//! lingers, until it closes its side.
+//! lingers, until it closes its side. Beside them a server's connection that nobody uses has a slot, for the poll to tell of it.
 
 use crate::resetting::reset;
 use dispatch_trace::Ticketed;
 use due_key::Moment;
 use exchange_driver::{Line, Live};
 use grant_board::BoardName;
-use loop_shared::Presence;
+use loop_shared::{Presence, Unused};
 use seated_exchange::Seated;
 use std::alloc::Global;
+use std::mem;
 use std::os::fd::AsRawFd;
 use std::sync::ledger::Ledger;
 
@@ -29,6 +30,8 @@ pub(crate) enum Keyword {
     Linger,
     /// How long a request waits before the server that just failed it is tried again.
     Turnaround,
+    /// How long a server's connection stays open that nobody uses.
+    Unused,
 }
 
 /// What a loop has of a client beside its exchange. It has no `Drop`, as its presence has none.
@@ -50,6 +53,10 @@ pub(crate) struct Visit {
     pub(crate) pauses: bool,
     /// So many connections were opened on its pass in place of one that broke.
     pub(crate) redials: u32,
+    /// The server whose connection it has, and whether that was used before.
+    pub(crate) dialed: Option<Dialed>,
+    /// One that was used before broke: it gets no other such.
+    pub(crate) spoilt: bool,
     /// What is to be done for it next.
     pub(crate) task: Task,
     /// What the poll tells of its client, and of its server.
@@ -57,6 +64,14 @@ pub(crate) struct Visit {
     pub(crate) server_watch: Watch,
     /// The timeout that runs for it.
     pub(crate) timer: Option<Keyword>,
+}
+
+/// Where a connection goes to.
+#[derive(Clone, Copy, Debug, PartialEq, Eq)]
+pub(crate) struct Dialed {
+    pub(crate) server: usize,
+    /// It was opened for this request.
+    pub(crate) fresh: bool,
 }
 
 /// What is to be done for a guest.
@@ -100,17 +115,19 @@ pub(crate) struct Lingering {
     pub(crate) since: Moment,
 }
 
-/// Who is in a slot of a loop.
+/// Who is in a slot of a loop. Each is boxed, so that it doesn't move from call to call.
 pub(crate) enum Resident<N: BoardName + Ledger> {
-    Guest(Guest<N>),
-    Lingering(Lingering),
+    Guest(Box<Guest<N>>),
+    Lingering(Box<Lingering>),
+    Unused(Box<Unused>),
 }
 
 impl<N: BoardName + Ledger> Resident<N> {
-    /// Whether it is a client that stays, and asks for nothing.
+    /// Whether it is a client that stays, and asks for nothing, or a server's connection that nobody uses.
     pub(crate) fn is_silent(&self) -> bool {
         match self {
             Resident::Lingering(_) => false,
+            Resident::Unused(_) => true,
             Resident::Guest(guest) => guest.is_silent(),
         }
     }
@@ -120,35 +137,27 @@ impl<N: BoardName + Ledger> Guest<N> {
     fn is_silent(&self) -> bool {
         self.visit.stayed && self.seated.is_silent()
     }
-
-    /// This is to be done for it next.
-    pub(crate) fn with_task(self, task: Task) -> Guest<N> {
-        let Guest { seated, visit } = self;
-        let mut visit = visit;
-        visit.task = task;
-        Guest { seated, visit }
-    }
 }
 
 impl Visit {
-    /// It goes on without its server's connection.
-    pub(crate) fn without_server(self, alloc: Global) -> Visit {
-        let mut visit = self;
-        visit.server = Line::without_socket(alloc);
-        visit.server_watch = Watch::Nothing;
-        visit
+    /// It goes on without its server's connection, which is handed out.
+    pub(crate) fn take_server(&mut self, alloc: Global) -> Line<Live> {
+        self.server_watch = Watch::Nothing;
+        self.dialed = None;
+        mem::replace(&mut self.server, Line::without_socket(alloc))
     }
 
     /// Its client asks for more.
-    pub(crate) fn renewed(self, alloc: Global) -> Visit {
-        let (client_watch, timer, ended) = (self.client_watch, self.timer, self.ended);
-        let (presence, client) = self.into_client();
-        let mut visit = Visit::new(alloc, presence, client);
-        visit.client_watch = client_watch;
-        visit.timer = timer;
-        visit.ended = ended;
-        visit.stayed = true;
-        visit
+    pub(crate) fn renew(&mut self, alloc: Global) {
+        let _server = self.take_server(alloc);
+        self.at = None;
+        self.tried = None;
+        self.came = None;
+        self.stayed = true;
+        self.pauses = false;
+        self.redials = 0;
+        self.spoilt = false;
+        self.task = Task::Serve;
     }
 
     /// What goes on when its request begins to wait: that its client is here, and its client.
@@ -164,12 +173,22 @@ impl Visit {
             stayed: _,
             pauses: _,
             redials: _,
+            dialed: _,
+            spoilt: _,
             task: _,
             client_watch: _,
             server_watch: _,
             timer: _,
         } = self;
         (presence, client)
+    }
+
+    /// Was its server's connection opened for this request?
+    pub(crate) fn is_fresh(&self) -> bool {
+        match self.dialed {
+            None => true,
+            Some(dialed) => dialed.fresh,
+        }
     }
 
     /// Its server's connection is given up amid a message.
@@ -191,6 +210,8 @@ impl Visit {
             stayed: false,
             pauses: false,
             redials: 0,
+            dialed: None,
+            spoilt: false,
             task: Task::Serve,
             client_watch: Watch::Nothing,
             server_watch: Watch::Nothing,

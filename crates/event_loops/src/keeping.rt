@@ -9,7 +9,7 @@ use loop_shared::{watch, watch_anew};
 use loop_table::{Hole, Subject, Token};
 use mio::Interest;
 use request_lines::{By, During};
-use seated_exchange::Stage;
+use seated_exchange::{Seated, Stage};
 use std::net::{Net, TcpListener, TcpStream};
 use std::os::fd::AsRawFd;
 use std::sync::Wait;
@@ -34,24 +34,35 @@ impl<
     N: BoardName + Ledger,
     R: Net<Listener = TcpListener, Stream = TcpStream> + Clock + Print + Wait,
 > Looper<'a, N, R> {
+    /// An exchange and its visit are a guest. Where there is no memory for it, it is over.
+    pub(crate) fn seat(&mut self, seated: Seated<N>, visit: Visit, hole: Hole) -> Then<N> {
+        match Box::new(self.settings.alloc, Guest { seated, visit }) {
+            Ok(guest) => Then::Goes(guest, hole),
+            Err(refused) => {
+                let Guest { seated, visit } = refused.value;
+                self.close_on(seated, visit, hole)
+            }
+        }
+    }
+
     /// A guest lies in its slot until there is more to do.
-    pub(crate) fn keep(&mut self, guest: Guest<N>, hole: Hole, soon: Soon) -> Then<N> {
-        let Guest { seated, visit } = guest;
-        let mut visit = visit;
+    pub(crate) fn keep(&mut self, guest: Box<Guest<N>>, hole: Hole, soon: Soon) -> Then<N> {
+        let mut guest = guest;
         let token = hole.token();
-        self.time(&seated, &mut visit, token.index());
+        let Guest { seated, visit } = &mut *guest;
+        self.time(seated, visit, token.index());
         match soon {
-            Soon::AtOnce => return Then::Goes(Guest { seated, visit }, hole),
+            Soon::AtOnce => return Then::Goes(guest, hole),
             Soon::Next => self.agenda.note(token.index()),
             Soon::Later => self.agenda.put_off(token.index()),
             Soon::Rests => {
-                let dials = seated.stage() == Stage::Dialing;
-                if !self.is_watched(&mut visit, token, dials) {
-                    return self.close(Guest { seated, visit }, hole);
+                let dials = guest.seated.stage() == Stage::Dialing;
+                if !self.is_watched(&mut guest.visit, token, dials) {
+                    return self.close(guest, hole);
                 }
             }
         }
-        self.lay(Resident::Guest(Guest { seated, visit }), hole);
+        self.lay(Resident::Guest(guest), hole);
         Then::Rests
     }
 
@@ -93,36 +104,39 @@ impl<
         }
     }
 
-    /// Puts who is in a slot back there. Where there is no memory for that, it is over.
+    /// Puts who is in a slot back there.
     pub(crate) fn lay(&mut self, resident: Resident<N>, hole: Hole) {
-        match Box::new(self.settings.alloc, resident) {
-            Ok(resident) => match self.guests.fill(hole, resident) {
-                Ok(()) => {}
-                Err(resident) => self.let_go(Box::into_inner(resident)),
-            },
-            Err(refused) => {
-                self.close_slot(hole, None);
-                self.let_go(refused.value);
-            }
+        match self.guests.fill(hole, resident) {
+            Ok(()) => {}
+            Err(resident) => self.let_go(resident),
         }
     }
 
     fn let_go(&mut self, resident: Resident<N>) {
         match resident {
             Resident::Lingering(_lingering) => self.lingering = self.lingering.saturating_sub(1),
-            Resident::Guest(guest) => self.dismiss(guest),
+            Resident::Unused(unused) => self.shared.note_used(unused.server()),
+            Resident::Guest(guest) => {
+                let Guest { seated, visit } = Box::into_inner(guest);
+                self.dismiss(seated, visit);
+            }
         }
     }
 
     /// A guest is over, however far it is: its pass is posted, and its client is through.
-    pub(crate) fn close(&mut self, guest: Guest<N>, hole: Hole) -> Then<N> {
-        self.close_slot(hole, guest.visit.timer);
-        self.dismiss(guest);
+    pub(crate) fn close(&mut self, guest: Box<Guest<N>>, hole: Hole) -> Then<N> {
+        let Guest { seated, visit } = Box::into_inner(guest);
+        self.close_on(seated, visit, hole)
+    }
+
+    /// The same of one that lies in no box.
+    pub(crate) fn close_on(&mut self, seated: Seated<N>, visit: Visit, hole: Hole) -> Then<N> {
+        self.close_slot(hole, visit.timer);
+        self.dismiss(seated, visit);
         Then::Rests
     }
 
-    fn dismiss(&mut self, guest: Guest<N>) {
-        let Guest { seated, visit } = guest;
+    fn dismiss(&mut self, seated: Seated<N>, visit: Visit) {
         visit.break_off();
         let during = match seated.stage() {
             Stage::Telling => Some(During::Last),

@@ -18,6 +18,7 @@ mod lingering;
 mod looping;
 mod parking;
 mod resetting;
+mod reusing;
 mod serving;
 mod staying;
 mod threads;
@@ -27,6 +28,6 @@ pub use threads::{Lends, Unbegun, loops_of, run_all};
 
 // What who starts loops needs of the layers below comes with this crate.
 pub use loop_shared::{
-    Front, Outside, Proxy, Shared, SharedParts, Site, empty_spots, join_all, most_connections,
-    polls_of, split_off,
+    Front, Outside, Proxy, ServerConnections, Shared, SharedParts, Site, UnusedCounts, empty_spots,
+    join_all, most_connections, polls_of, split_off,
 };

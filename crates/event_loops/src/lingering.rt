@@ -1,7 +1,7 @@
 //! Clients that were told everything. The sending side is closed first, and what comes is read and thrown away: a close with bytes unread resets the connection,
 //! and so may cut the answer (RFC 9112, section 9.6).
 
-use crate::guest::{Guest, Keyword, Lingering, Resident};
+use crate::guest::{Guest, Keyword, Lingering, Resident, Visit};
 use crate::looping::Looper;
 use crate::serving::Then;
 use exchange_driver::{Heard, Live, Socket};
@@ -10,6 +10,7 @@ use loop_shared::{Gate, watch};
 use loop_table::{Hole, Subject};
 use mio::Interest;
 use request_lines::By;
+use seated_exchange::Seated;
 use std::net::{Net, Shutdown, TcpListener, TcpStream};
 use std::os::fd::AsRawFd;
 use std::sync::Wait;
@@ -31,9 +32,14 @@ impl<
     R: Net<Listener = TcpListener, Stream = TcpStream> + Clock + Print + Wait,
 > Looper<'a, N, R> {
     /// A guest was told everything: it is through, and lingers.
-    pub(crate) fn finish(&mut self, guest: Guest<N>, hole: Hole) -> Then<N> {
+    pub(crate) fn finish(&mut self, guest: Box<Guest<N>>, hole: Hole) -> Then<N> {
+        let Guest { seated, visit } = Box::into_inner(guest);
+        self.finish_on(seated, visit, hole)
+    }
+
+    /// The same of one that lies in no box.
+    pub(crate) fn finish_on(&mut self, seated: Seated<N>, visit: Visit, hole: Hole) -> Then<N> {
         let key = hole.token().index();
-        let Guest { seated, visit } = guest;
         let mut visit = visit;
         self.tell_end(&mut visit.presence, &visit.client, By::Nobody, None);
         self.untime(visit.timer, key);
@@ -45,17 +51,20 @@ impl<
         self.shared.note_end(self.rt, presence);
         match client.into_socket() {
             Some(client) if client.stream().shutdown(Shutdown::Write).is_ok() => {
-                self.lingering = self.lingering.saturating_add(1);
-                self.begin_time(Some(Keyword::Linger), key);
                 let since = self.gate.moment();
-                self.listen(
-                    Lingering {
-                        client,
-                        left: MOST_THROWN,
-                        since,
-                    },
-                    hole,
-                );
+                let lingering = Lingering {
+                    client,
+                    left: MOST_THROWN,
+                    since,
+                };
+                match Box::new(self.settings.alloc, lingering) {
+                    Ok(lingering) => {
+                        self.lingering = self.lingering.saturating_add(1);
+                        self.begin_time(Some(Keyword::Linger), key);
+                        self.listen(lingering, hole);
+                    }
+                    Err(_) => self.guests.close(hole),
+                }
             }
             _ => self.guests.close(hole),
         }
@@ -63,7 +72,7 @@ impl<
     }
 
     /// What a client that lingers sends is thrown away.
-    pub(crate) fn listen(&mut self, lingering: Lingering, hole: Hole) {
+    pub(crate) fn listen(&mut self, lingering: Box<Lingering>, hole: Hole) {
         let mut lingering = lingering;
         for _ in 0..READS {
             match lingering.client.hear(self.buffer.as_mut_slice()) {
@@ -92,7 +101,7 @@ impl<
     }
 
     // The poll tells when more comes. Where too many linger, it is closed at once.
-    fn linger(&mut self, lingering: Lingering, hole: Hole) {
+    fn linger(&mut self, lingering: Box<Lingering>, hole: Hole) {
         let connection = lingering.client.stream().as_raw_fd();
         let subject = Subject::Client(hole.token());
         if self.lingering <= self.most_lingering

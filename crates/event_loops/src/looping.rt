@@ -2,6 +2,7 @@ ghost use Rattle.std.specs.Prelude.{◌≡◌, ◌<◌, [], false, vec_len};
 ghost use Rattle.loop_shared.specs.Looks.{OwesNoLook};
 
 use crate::guest::{Guest, Resident};
+use crate::reusing::Shelves;
 use crate::serving::Told;
 use crate::timing::Keywords;
 use due_key::Moment;
@@ -30,13 +31,15 @@ pub(crate) struct Looper<'a, N: BoardName + Ledger, R> {
     pub(crate) registry: Registry,
     pub(crate) gate: SocketGate<'a, R>,
     pub(crate) settings: Settings,
-    pub(crate) guests: Slots<Box<Resident<N>>>,
+    pub(crate) guests: Slots<Resident<N>>,
     /// So many slots there are.
     pub(crate) room: usize,
     pub(crate) limits: Limits,
     pub(crate) keywords: Keywords,
     /// What is read goes here first.
     pub(crate) buffer: Vec<u8>,
+    /// Connections of servers that nobody uses.
+    pub(crate) shelves: Shelves,
     /// Guests with more to do, by their slots: once what was woken was looked at, and once others were attended to.
     pub(crate) agenda: Agenda,
     /// More clients may wait at the listener.
@@ -77,6 +80,7 @@ impl<
             limits: _,
             keywords: _,
             buffer: _,
+            shelves: _,
             agenda: _,
             more: _,
             short: _,
@@ -90,7 +94,7 @@ impl<
         while let Some(resident) = residents.pop() {
             match resident {
                 None => {}
-                Some(resident) => part_with(rt, shared, Box::into_inner(resident)),
+                Some(resident) => part_with(rt, shared, resident),
             }
         }
         residents.destroy_empty();
@@ -178,6 +182,7 @@ impl<
             self.more = true;
             self.dismiss_silent();
         }
+        self.close_called_for();
         if self.home == 0 && self.shared.is_refusing() {
             self.refuse_waiting();
         }
@@ -192,8 +197,9 @@ fn part_with<R: Wait, N: BoardName + Ledger>(
 ) {
     match resident {
         Resident::Lingering(_lingering) => {}
+        Resident::Unused(_unused) => {}
         Resident::Guest(guest) => {
-            let Guest { seated, visit } = guest;
+            let Guest { seated, visit } = Box::into_inner(guest);
             let (presence, _client) = visit.into_client();
             match seated.abandon() {
                 None => {}

@@ -24,10 +24,10 @@ impl<
     R: Net<Listener = TcpListener, Stream = TcpStream> + Clock + Print + Wait,
 > Looper<'a, N, R> {
     /// A guest's request asks for a place. Who finds none, or others who wait for one, waits outside.
-    pub(crate) fn arrive(&mut self, guest: Guest<N>, hole: Hole) -> Then<N> {
-        let Guest { seated, visit } = guest;
+    pub(crate) fn arrive(&mut self, guest: Box<Guest<N>>, hole: Hole) -> Then<N> {
+        let Guest { seated, visit } = Box::into_inner(guest);
         match seated.into_queued() {
-            Err(seated) => self.keep(Guest { seated, visit }, hole, Soon::Rests),
+            Err(seated) => self.close_on(seated, visit, hole),
             Ok(queued) => self.enter(queued, visit, hole),
         }
     }
@@ -36,7 +36,7 @@ impl<
         let mut visit = visit;
         if self.shared.is_refusing() {
             self.note_asked(&mut visit, queued.view(), None);
-            return turn_away(queued, visit, hole);
+            return self.turn_away(queued, visit, hole);
         }
         let wish = decide(&self.shared.proxy.config, queued.view());
         self.note_asked(&mut visit, queued.view(), Some(&wish));
@@ -46,8 +46,15 @@ impl<
         match arrive_as(self.rt, self.shared.proxy, &mut self.gate, &wish) {
             Ok(at) => self.park(queued, visit, at, hole),
             Err(Refusal::PlacesFull) => self.go_outside(queued, visit, &wish, hole),
-            Err(_) => turn_away(queued, visit, hole),
+            Err(_) => self.turn_away(queued, visit, hole),
         }
+    }
+
+    // The dispatcher doesn't take it, for another cause than want of places.
+    fn turn_away(&mut self, queued: Queued, visit: Visit, hole: Hole) -> Then<N> {
+        let mut visit = visit;
+        visit.task = Task::Refuse;
+        self.seat(queued.unseated(), visit, hole)
     }
 
     // It waits for a place.
@@ -77,7 +84,7 @@ impl<
                     pin: _,
                 } = outsider;
                 let visit = Visit::new(self.settings.alloc, presence, client);
-                turn_away(queued, visit, hole)
+                self.turn_away(queued, visit, hole)
             }
         }
     }
@@ -85,6 +92,7 @@ impl<
     // It lies down in its place, which is looked at afterwards.
     fn park(&mut self, queued: Queued, visit: Visit, at: Ticketed, hole: Hole) -> Then<N> {
         self.untime(visit.timer, hole.token().index());
+        let watch = visit.client_watch;
         let (presence, client) = visit.into_client();
         let mut presence = presence;
         note_ticket(&mut presence, at);
@@ -104,7 +112,7 @@ impl<
             },
         );
         match self.granted_at(at.place) {
-            Some(granted) => self.welcome(granted, hole),
+            Some(granted) => self.welcome(granted, hole, watch),
             None => {
                 self.guests.close(hole);
                 self.shared.note_wait();
@@ -161,12 +169,4 @@ impl<
             self.go_on();
         }
     }
-}
-
-// The dispatcher doesn't take it, for another cause than want of places.
-fn turn_away<N: BoardName + Ledger>(queued: Queued, visit: Visit, hole: Hole) -> Then<N> {
-    let mut visit = visit;
-    visit.task = Task::Refuse;
-    let seated = queued.unseated();
-    Then::Goes(Guest { seated, visit }, hole)
 }

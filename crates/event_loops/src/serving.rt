@@ -16,7 +16,7 @@ use std::time::Clock;
 /// Whether there is more to do for a guest.
 pub(crate) enum Then<N: BoardName + Ledger> {
     /// There is, at once.
-    Goes(Guest<N>, Hole),
+    Goes(Box<Guest<N>>, Hole),
     /// It lies where it is found, or is over.
     Rests,
 }
@@ -55,8 +55,9 @@ impl<
         let Some((resident, hole)) = self.guests.lend(token) else {
             return;
         };
-        match Box::into_inner(resident) {
+        match resident {
             Resident::Lingering(lingering) => self.listen(lingering, hole),
+            Resident::Unused(unused) => self.lay(Resident::Unused(unused), hole),
             Resident::Guest(guest) => {
                 let mut guest = guest;
                 guest.visit.client.wake(told.reads, told.writes);
@@ -83,8 +84,9 @@ impl<
         let Some((resident, hole)) = self.guests.lend(token) else {
             return;
         };
-        match Box::into_inner(resident) {
+        match resident {
             Resident::Lingering(lingering) => self.listen(lingering, hole),
+            Resident::Unused(unused) => self.end_unused(unused, hole),
             Resident::Guest(guest) => {
                 let mut guest = guest;
                 guest.visit.server.wake(told.reads, told.writes);
@@ -102,8 +104,9 @@ impl<
         let Some((resident, hole)) = self.guests.lend(token) else {
             return;
         };
-        match Box::into_inner(resident) {
+        match resident {
             Resident::Lingering(lingering) => self.listen(lingering, hole),
+            Resident::Unused(unused) => self.lay(Resident::Unused(unused), hole),
             Resident::Guest(guest) => self.go(Then::Goes(guest, hole)),
         }
     }
@@ -120,7 +123,7 @@ impl<
         unreachable!()
     }
 
-    fn act(&mut self, guest: Guest<N>, hole: Hole) -> Then<N> {
+    fn act(&mut self, guest: Box<Guest<N>>, hole: Hole) -> Then<N> {
         match guest.visit.task {
             Task::Serve => self.serve(guest, hole),
             Task::Arrive => self.arrive(guest, hole),
@@ -132,8 +135,8 @@ impl<
     }
 
     // Reads and writes.
-    fn serve(&mut self, guest: Guest<N>, hole: Hole) -> Then<N> {
-        let Guest { seated, visit } = guest;
+    fn serve(&mut self, guest: Box<Guest<N>>, hole: Hole) -> Then<N> {
+        let Guest { seated, visit } = Box::into_inner(guest);
         let mut visit = visit;
         let served = seated.drive(
             self.settings,
@@ -149,8 +152,8 @@ impl<
     }
 
     /// Tells a guest's exchange something.
-    pub(crate) fn tell(&mut self, guest: Guest<N>, hole: Hole, notice: Notice) -> Then<N> {
-        let Guest { seated, visit } = guest;
+    pub(crate) fn tell(&mut self, guest: Box<Guest<N>>, hole: Hole, notice: Notice) -> Then<N> {
+        let Guest { seated, visit } = Box::into_inner(guest);
         let mut visit = visit;
         visit.task = Task::Serve;
         self.note_notice(&mut visit, seated.stage(), &notice);
@@ -171,7 +174,16 @@ impl<
         self.note_bytes(&mut visit, client.is_some(), server.is_some());
         self.note_moved(&visit, key, client, Keyword::Client);
         self.note_moved(&visit, key, server, Keyword::Server);
-        let guest = Guest { seated, visit };
+        match self.seat(seated, visit, hole) {
+            Then::Goes(guest, hole) => self.give(given, guest, hole, soon),
+            Then::Rests => {
+                self.give_up_with(given);
+                Then::Rests
+            }
+        }
+    }
+
+    fn give(&mut self, given: Given<N>, guest: Box<Guest<N>>, hole: Hole, soon: Soon) -> Then<N> {
         match given {
             Given::Nothing => self.place(guest, hole, soon),
             Given::Posts(posting) => self.part(posting, guest, hole),
@@ -179,17 +191,25 @@ impl<
         }
     }
 
+    // What an exchange gave away that is over since there was no memory for it.
+    fn give_up_with(&mut self, given: Given<N>) {
+        match given {
+            Given::Nothing | Given::Retries => {}
+            Given::Posts(posting) => self.post(posting),
+        }
+    }
+
     // Where it goes from here, by its stage.
-    fn place(&mut self, guest: Guest<N>, hole: Hole, soon: Soon) -> Then<N> {
+    fn place(&mut self, guest: Box<Guest<N>>, hole: Hole, soon: Soon) -> Then<N> {
         if self.has_left(&guest) {
             let mut guest = guest;
             guest.visit.ended = false;
-            return Then::Goes(guest.with_task(Task::Leave), hole);
+            return next(guest, hole, Task::Leave);
         }
         match guest.seated.stage() {
             Stage::Asking | Stage::Passing => self.keep(guest, hole, soon),
-            Stage::Waiting => Then::Goes(guest.with_task(Task::Arrive), hole),
-            Stage::Dialing => Then::Goes(guest.with_task(Task::Dial), hole),
+            Stage::Waiting => next(guest, hole, Task::Arrive),
+            Stage::Dialing => next(guest, hole, Task::Dial),
             Stage::Telling => {
                 if guest.seated.has_told() {
                     self.end_or_ask_again(guest, hole)
@@ -200,4 +220,11 @@ impl<
             Stage::Over => self.close(guest, hole),
         }
     }
+}
+
+// This is to be done for a guest next.
+fn next<N: BoardName + Ledger>(guest: Box<Guest<N>>, hole: Hole, task: Task) -> Then<N> {
+    let mut guest = guest;
+    guest.visit.task = task;
+    Then::Goes(guest, hole)
 }

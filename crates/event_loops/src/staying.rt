@@ -18,31 +18,29 @@ impl<
     R: Net<Listener = TcpListener, Stream = TcpStream> + Clock + Print + Wait,
 > Looper<'a, N, R> {
     /// A guest was told everything: it asks again where it may, and else is through.
-    pub(crate) fn end_or_ask_again(&mut self, guest: Guest<N>, hole: Hole) -> Then<N> {
-        let Guest { seated, visit } = guest;
+    pub(crate) fn end_or_ask_again(&mut self, guest: Box<Guest<N>>, hole: Hole) -> Then<N> {
+        let Guest { seated, visit } = Box::into_inner(guest);
         match seated.ask_again(self.settings.alloc) {
-            Err(seated) => self.finish(Guest { seated, visit }, hole),
+            Err(seated) => self.finish_on(seated, visit, hole),
             Ok(seated) => {
-                let is_over = self.shared.is_stopping() && seated.is_silent();
                 let mut visit = visit;
                 let client = client_of(&visit.presence);
                 self.tell_end(&mut visit.presence, &visit.client, By::Nobody, None);
-                let mut visit = visit.renewed(self.settings.alloc);
+                visit.renew(self.settings.alloc);
                 self.begin_account(&mut visit.presence, &visit.client, client);
                 if !seated.is_silent() {
                     note_come(&mut visit.presence);
                 }
-                let guest = Guest { seated, visit };
-                if is_over {
-                    self.finish(guest, hole)
+                if self.shared.is_stopping() && seated.is_silent() {
+                    self.finish_on(seated, visit, hole)
                 } else {
-                    Then::Goes(guest, hole)
+                    self.seat(seated, visit, hole)
                 }
             }
         }
     }
 
-    /// Clients that stay and ask for nothing are through.
+    /// Clients that stay and ask for nothing are through, and so are connections of servers that nobody uses.
     pub(crate) fn dismiss_silent(&mut self) {
         for index in 0..self.room {
             self.dismiss_silent_at(index);
@@ -63,8 +61,9 @@ impl<
         let Some((resident, hole)) = self.guests.lend(token) else {
             return;
         };
-        match Box::into_inner(resident) {
+        match resident {
             Resident::Lingering(lingering) => self.listen(lingering, hole),
+            Resident::Unused(unused) => self.end_unused(unused, hole),
             Resident::Guest(guest) => {
                 let then = self.finish(guest, hole);
                 self.go(then);

@@ -1,6 +1,7 @@
 //! The threads: loops, and one that has servers checked.
 
 use crate::looping::Looper;
+use crate::reusing::Shelves;
 use crate::timing::Keywords;
 use due_key::Moment;
 use exchange_driver::Settings;
@@ -30,6 +31,9 @@ const MOST_GUESTS: u64 = 16_384;
 
 /// So many of its clients linger at once, at most.
 const MOST_LINGERING: u64 = 4096;
+
+/// So many connections of servers that nobody uses a loop has at once, at most.
+const MOST_UNUSED: u64 = 4096;
 
 /// A loop that isn't begun yet.
 #[derive(Drop)]
@@ -155,21 +159,19 @@ fn looper<
     };
     let loops = shared.loops().max(1) as u64;
     let most_lingering = (shared.most.lingering / loops).min(MOST_LINGERING);
-    let room = (shared.most.clients.min(MOST_GUESTS) + most_lingering) as usize;
+    let servers = shared.proxy.config.servers.len();
+    let most_unused = shared.most.unused.min(MOST_UNUSED);
+    let guests = shared.most.clients.min(MOST_GUESTS);
+    let room = (guests + most_lingering + most_unused) as usize;
     let mut limits = Limits::new(alloc);
-    let keywords = Keywords::of(
-        alloc,
-        &shared.proxy.config,
-        shared.front.keeping,
-        &mut limits,
-        room,
-    )?;
+    let keywords = Keywords::of(alloc, shared.front, &mut limits, room)?;
     let rules = Rules {
         aborts: shared.proxy.config.abortonclose,
     };
     let buffer = vec![in alloc; 0u8; BUFFER]?;
     let gate = SocketGate::new(alloc, rt, shared.front)?;
     let agenda = Agenda::with_room(alloc, room)?;
+    let shelves = Shelves::empty(alloc, servers, most_unused as usize)?;
     let guests = Slots::with_room(alloc, room)?;
     Ok(Looper {
         rt,
@@ -187,6 +189,7 @@ fn looper<
         limits,
         keywords,
         buffer,
+        shelves,
         agenda,
         more: true,
         short: false,

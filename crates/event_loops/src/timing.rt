@@ -6,10 +6,9 @@ use crate::looping::Looper;
 use crate::serving::Then;
 use exchange_driver::Moved;
 use grant_board::BoardName;
-use loop_shared::{Gate, Hopeless};
+use loop_shared::{Front, Gate, Hopeless};
 use loop_table::{Hole, Limits, Overdue};
 use mixed_exchange::Clock as Limit;
-use proxy_config::Config;
 use seated_exchange::{Notice, Seated};
 use std::alloc::{AllocError, Global};
 use std::net::{Net, TcpListener, TcpStream};
@@ -26,6 +25,9 @@ const SELDOM: u64 = 1000;
 /// How long a client lingers, in milliseconds.
 const LINGER: u64 = 2000;
 
+/// How long a server's connection stays open that nobody uses, in milliseconds: as long as HAProxy's `pool-purge-delay`, unless that is given there.
+const UNUSED: u64 = 5000;
+
 /// How long a request waits at most before the server that just failed it is tried again, in milliseconds.
 const TURNAROUND: u64 = 1000;
 
@@ -38,25 +40,28 @@ pub(crate) struct Keywords {
     stay: Option<usize>,
     linger: Option<usize>,
     turnaround: Option<usize>,
+    unused: Option<usize>,
 }
 
 impl Keywords {
-    /// Those of a configuration, where a client stays so many milliseconds, for the keys below `room`.
+    /// Those of what gates share, for the keys below `room`.
     pub(crate) fn of(
         alloc: Global,
-        config: &Config,
-        keeping: Option<u64>,
+        front: &Front<'_>,
         limits: &mut Limits,
         room: usize,
     ) -> Result<Keywords, AllocError> {
+        let config = front.config;
+        let unused = front.reusing.map(|_| UNUSED);
         let turnaround = config.connect_timeout.unwrap_or(TURNAROUND).min(TURNAROUND);
         Ok(Keywords {
             client: timed(alloc, limits, config.client_timeout, room)?,
             connect: timed(alloc, limits, config.connect_timeout, room)?,
             server: timed(alloc, limits, config.server_timeout, room)?,
-            stay: timed(alloc, limits, keeping, room)?,
+            stay: timed(alloc, limits, front.keeping, room)?,
             linger: timed(alloc, limits, Some(LINGER), room)?,
             turnaround: timed(alloc, limits, Some(turnaround), room)?,
+            unused: timed(alloc, limits, unused, room)?,
         })
     }
 
@@ -68,6 +73,7 @@ impl Keywords {
             Keyword::Stay => self.stay,
             Keyword::Linger => self.linger,
             Keyword::Turnaround => self.turnaround,
+            Keyword::Unused => self.unused,
         }
     }
 }
@@ -224,8 +230,9 @@ impl<
         let Some((resident, hole)) = self.guests.lend(token) else {
             return;
         };
-        match Box::into_inner(resident) {
+        match resident {
             Resident::Lingering(_lingering) => self.end_lingering(hole),
+            Resident::Unused(unused) => self.end_unused(unused, hole),
             Resident::Guest(guest) => {
                 let then = self.time_is_over(guest, hole);
                 self.go(then);
@@ -233,7 +240,7 @@ impl<
         }
     }
 
-    fn time_is_over(&mut self, guest: Guest<N>, hole: Hole) -> Then<N> {
+    fn time_is_over(&mut self, guest: Box<Guest<N>>, hole: Hole) -> Then<N> {
         let mut guest = guest;
         let limit = match guest.visit.timer.take() {
             Some(Keyword::Turnaround) => {
@@ -244,7 +251,11 @@ impl<
             Some(Keyword::Client) => Limit::Client,
             Some(Keyword::Connect) => Limit::Connect,
             Some(Keyword::Server) => Limit::Server,
-            Some(Keyword::Linger) | None => return self.keep(guest, hole, Soon::Rests),
+            Some(Keyword::Linger | Keyword::Unused) | None => return self.keep(
+                guest,
+                hole,
+                Soon::Rests,
+            ),
         };
         self.tell(guest, hole, Notice::TimeOver(limit))
     }

@@ -11,6 +11,7 @@ use Rattle.lent_seats.proofs.seats.Seats.TheSendSync as seats
 use Rattle.loop_shared.proofs.parked.Parked.TheSendSync as parked
 use Rattle.loop_shared.proofs.mail.Mailbox.TheSendSync as mailbox
 use Rattle.loop_shared.proofs.outside.Outside.TheSendSync as outside
+use Rattle.loop_shared.proofs.unused.UnusedCounts.TheSendSync as counts
 use Rattle.loop_shared.specs.contracts.shared.Shared as shared
 pub use Rattle.relay_workers.proofs.Crosses.{proxy_sync}
 pub use Rattle.socket_gate.proofs.front.Front.TheSendSync.{the_sync as front_sync}
@@ -31,9 +32,9 @@ shared_sync a N g l = declared_sync (shared.the_type a N g l) (
             (
               search (crosses, sendable) depth 60 fits 20000,
               (
-                search (mailbox.the_sync, crosses, sendable) depth 60 fits 20000,
+                search (counts.the_sync, crosses, sendable) depth 60 fits 20000,
                 (
-                  search (crosses, sendable) depth 60 fits 20000,
+                  search (mailbox.the_sync, crosses, sendable) depth 60 fits 20000,
                   (
                     search (crosses, sendable) depth 60 fits 20000,
                     (
@@ -49,12 +50,15 @@ shared_sync a N g l = declared_sync (shared.the_type a N g l) (
                               (
                                 search (crosses, sendable) depth 60 fits 20000,
                                 (
-                                  search (mutex.the_sync, crosses, sendable) depth 60 fits 20000,
+                                  search (crosses, sendable) depth 60 fits 20000,
                                   (
-                                    search (crosses, sendable) depth 60 fits 20000,
+                                    search (mutex.the_sync, crosses, sendable) depth 60 fits 20000,
                                     (
                                       search (crosses, sendable) depth 60 fits 20000,
-                                      tt,
+                                      (
+                                        search (crosses, sendable) depth 60 fits 20000,
+                                        tt,
+                                      ),
                                     ),
                                   ),
                                 ),

@@ -3,7 +3,7 @@
 //! Whoever comes outside looks for a place afterwards, and whoever frees a place looks outside afterwards: so one of the two should find the other. That is
 //! argued here, and in no clause.
 
-use crate::outside::Outsider;
+use crate::outside::{Outside, Outsider};
 use crate::shared::Shared;
 use crate::watching::watch_anew;
 use dispatch_log::Refusal;
@@ -41,6 +41,15 @@ impl<N: BoardName + Ledger> Shared<'_, N> {
         self.outsiders.load(Ordering::SeqCst)
     }
 
+    // So many wait for a place.
+    fn note_outside(&self, outside: &Outside) {
+        let requests = outside.len() as u64;
+        self.outsiders.store(requests, Ordering::SeqCst);
+        if let Some(log) = self.front.log {
+            log.note_outside(requests);
+        }
+    }
+
     /// Whether so many wait that nobody else is accepted.
     pub fn is_crowded(&self) -> bool {
         self.most_outside <= self.outsiders()
@@ -58,7 +67,7 @@ impl<N: BoardName + Ledger> Shared<'_, N> {
             return Turn::Rests;
         }
         let taken = outside.take(token);
-        self.outsiders.store(outside.len() as u64, Ordering::SeqCst);
+        self.note_outside(&outside);
         match (taken, arrived) {
             (Some(outsider), Ok(at)) => Turn::Admitted(outsider, at),
             (Some(outsider), Err(_)) => Turn::Refused(outsider),
@@ -78,7 +87,7 @@ impl<N: BoardName + Ledger> Shared<'_, N> {
         match outside.come(self.proxy.alloc, wish, outsider) {
             Err(outsider) => Err(outsider),
             Ok(token) => {
-                self.outsiders.store(outside.len() as u64, Ordering::SeqCst);
+                self.note_outside(&outside);
                 if let Some(live) = outside.client(token) {
                     let connection = live.stream().as_raw_fd();
                     let subject = Subject::Outside(token);
@@ -100,7 +109,7 @@ impl<N: BoardName + Ledger> Shared<'_, N> {
             return None;
         }
         let taken = outside.take(token);
-        self.outsiders.store(outside.len() as u64, Ordering::SeqCst);
+        self.note_outside(&outside);
         taken
     }
 
@@ -108,7 +117,7 @@ impl<N: BoardName + Ledger> Shared<'_, N> {
     pub fn take_first<R: Wait>(&self, rt: &R) -> Option<Outsider> {
         let mut outside = self.outside.lock(rt);
         let first = outside.take_first();
-        self.outsiders.store(outside.len() as u64, Ordering::SeqCst);
+        self.note_outside(&outside);
         first
     }
 
@@ -116,7 +125,7 @@ impl<N: BoardName + Ledger> Shared<'_, N> {
     pub fn take_late<R: Wait>(&self, rt: &R, now: &Moment) -> Option<Outsider> {
         let mut outside = self.outside.lock(rt);
         let late = outside.take_late(*now);
-        self.outsiders.store(outside.len() as u64, Ordering::SeqCst);
+        self.note_outside(&outside);
         late
     }
 }

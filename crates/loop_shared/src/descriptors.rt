@@ -1,6 +1,7 @@
 //! How many clients there are descriptors for.
 
-ghost use Rattle.std.specs.Prelude.{◌≡◌, ◌-◌, ◌/◌, max};
+ghost use Rattle.std.specs.Prelude.{◌≡◌, ◌-◌, ◌/◌, max, min};
+ghost use Rattle.loop_shared.specs.Descriptors.{most_clients};
 
 use libc::types::rlimit;
 
@@ -11,38 +12,51 @@ const OWN: u64 = 128;
 /// What a loop has: its poll, that poll's copy, and its mailbox.
 const EACH_LOOP: u64 = 3;
 
-/// How many connections of clients there may be at a time.
+/// How many connections there may be at a time.
 #[derive(Clone, Copy, Debug, PartialEq, Eq)]
 pub struct Most {
-    /// Of those that are served, or wait.
+    /// Of clients that are served, or wait.
     pub clients: u64,
-    /// Of those that were told everything, and linger.
+    /// Of clients that were told everything, and linger.
     pub lingering: u64,
+    /// Of servers, that nobody uses.
+    pub unused: u64,
 }
 
-/// What the process has descriptors for, with so many loops, and where so many servers' connections may be.
-pub fn most_connections(loops: usize, servers: usize) -> Most {
+/// What servers' connections there may be: so many that are used, and so many that stay open unused.
+#[derive(Clone, Copy)]
+pub struct ServerConnections {
+    pub used: usize,
+    pub unused: usize,
+}
+
+/// What the process has descriptors for, with so many loops and so many servers' connections.
+pub fn most_connections(loops: usize, servers: ServerConnections) -> Most {
     let mut limit = rlimit {
         rlim_cur: 0,
         rlim_max: 0,
     };
     if libc::getrlimit(libc::RLIMIT_NOFILE, &mut limit) != 0 {
-        return most_within(0, 0);
+        return most_within(0, 0, 0);
     }
     let own = (loops as u64).saturating_mul(EACH_LOOP).saturating_add(OWN);
-    most_within(limit.rlim_cur.saturating_sub(own), servers as u64)
+    let descriptors = limit.rlim_cur.saturating_sub(own);
+    most_within(descriptors, servers.used as u64, servers.unused as u64)
 }
 
-// Of so many descriptors an eighth are for those that linger. A client has one, and one for a server at most: of the others it has all but those of the servers'
-// connections, or half of them where that is more. One client there always is.
-fn most_within(descriptors: u64, servers: u64) -> Most
+// Of so many descriptors an eighth are for those that linger, and another for unused connections of servers, where so many are wanted. A client has one, and one
+// for a server at most: of the others it has all but those of the servers' connections, or half of them where that is more. One client there always is.
+fn most_within(descriptors: u64, servers: u64, wanted: u64) -> Most
     ensures lingering { result.lingering ≡ descriptors / 8 }
-    ensures clients { result.clients ≡ max 1 (max ((descriptors - descriptors / 8) / 2) (descriptors - descriptors / 8 - servers)) }
+    ensures unused { result.unused ≡ min (descriptors / 8) wanted }
+    ensures clients { result.clients ≡ most_clients (descriptors - descriptors / 8 - min (descriptors / 8) wanted) servers }
 {
     let lingering = descriptors / 8;
-    let others = descriptors - lingering;
+    let unused = lingering.min(wanted);
+    let others = descriptors - lingering - unused;
     Most {
         clients: (others / 2).max(others.saturating_sub(servers)).max(1),
         lingering,
+        unused,
     }
 }

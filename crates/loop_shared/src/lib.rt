@@ -20,12 +20,13 @@ mod shared;
 mod spots;
 mod steering;
 mod stopping;
+mod unused;
 mod waiting;
 mod watching;
 mod windows;
 
 pub use admission::Turn;
-pub use descriptors::{Most, most_connections};
+pub use descriptors::{Most, ServerConnections, most_connections};
 pub use granted::Granted;
 pub use looking::Looked;
 pub use mail::Mailbox;
@@ -38,6 +39,7 @@ pub use ringing::run_checks;
 pub use shared::{Shared, SharedParts};
 pub use spots::empty_spots;
 pub use steering::run_controls;
+pub use unused::{Unused, UnusedCounts};
 pub use watching::{watch, watch_anew};
 pub use windows::run_windows;
 

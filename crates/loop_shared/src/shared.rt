@@ -6,6 +6,7 @@ use crate::outside::Outside;
 use crate::parked::Parked;
 use crate::presence::Presence;
 use crate::spots::leave_all;
+use crate::unused::UnusedCounts;
 use exchange_machine::Terms;
 use grant_board::BoardName;
 use lent_seats::{Lent, Seats};
@@ -31,6 +32,8 @@ pub struct SharedParts {
     /// Where requests wait that find no place, and how many are there before no client is accepted.
     pub outside: Outside,
     pub most_outside: u64,
+    /// How many unused connections of servers there are.
+    pub unused: UnusedCounts,
 }
 
 /// What all threads share.
@@ -46,6 +49,8 @@ pub struct Shared<'a, N: BoardName + Ledger> {
     pub(crate) outsiders: AtomicU64,
     /// As many are there when no client is accepted.
     pub(crate) most_outside: u64,
+    /// How many unused connections of servers there are.
+    pub(crate) unused: UnusedCounts,
     pub(crate) mail: Vec<Mailbox>,
     /// So many connections of clients are had at a time.
     pub most: Most,
@@ -86,6 +91,7 @@ impl<'a, N: BoardName + Ledger> Shared<'a, N> {
             most,
             outside,
             most_outside,
+            unused,
         } = parts;
         Shared {
             proxy,
@@ -95,6 +101,7 @@ impl<'a, N: BoardName + Ledger> Shared<'a, N> {
             outside: Mutex::new(outside),
             outsiders: AtomicU64::new(0),
             most_outside,
+            unused,
             mail,
             most,
             came: AtomicU64::new(0),
@@ -120,6 +127,7 @@ impl<'a, N: BoardName + Ledger> Shared<'a, N> {
             outside,
             outsiders: _,
             most_outside: _,
+            unused: _,
             mail: _,
             most: _,
             came: _,
@@ -183,13 +191,20 @@ impl<N: BoardName + Ledger> Shared<'_, N> {
         self.front.controls.is_some()
     }
 
-    /// A server's connection is new for each exchange. It is told of its client, and a client may stay, where that is asked for; the latter as long as there
-    /// is room for others.
-    pub fn terms(&self, presence: &Presence) -> Terms {
+    /// How a server's connection is used, which was opened for this request, or else was used before. It is told of its client, may stay for other requests, and a
+    /// client may stay, where that is asked for; the last as long as there is room for others.
+    pub fn terms(&self, presence: &Presence, fresh: bool) -> Terms
+        ensures { result.fresh ≡ fresh }
+    {
+        let asks = if self.front.reusing.is_some() {
+            Persistence::Persist
+        } else {
+            Persistence::Close
+        };
         Terms {
-            adds: additions(self.front.forwarded_for, presence.address()),
+            adds: additions(asks, self.front.forwarded_for, presence.address()),
             willing: self.front.keeping.is_some() && self.has_room() && !self.is_stopping(),
-            fresh: true,
+            fresh,
         }
     }
 
@@ -223,12 +238,12 @@ impl<N: BoardName + Ledger> Shared<'_, N> {
     }
 }
 
-// What is added to a request: its server closes its connection, and is told of the client where that is asked for.
-fn additions(names: bool, client: IpAddr) -> Additions
-    ensures { result ≡ record { asks = Persistence.Close; client = if names then Some client else None } }
+// What is added to a request: whether its server's connection stays, and its client, where that is asked for.
+fn additions(asks: Persistence, names: bool, client: IpAddr) -> Additions
+    ensures { result ≡ record { asks = asks; client = if names then Some client else None } }
 {
     Additions {
-        asks: Persistence::Close,
+        asks,
         client: if names { Some(client) } else { None },
     }
 }

@@ -118,6 +118,7 @@ fn serve_on<
     let (proxy, source) = proxy_of::<N>(alloc, config, parts);
     let options = RunOptions {
         keeping: None,
+        reusing: None,
         window: None,
         forwarded_for: false,
         controls: None,

@@ -3,7 +3,8 @@
 ghost use Rattle.std.specs.Prelude.{◌≡◌, vec_len, IfOk};
 
 use event_loops::{
-    Front, Outside, Proxy, SharedParts, Unbegun, empty_spots, loops_of, most_connections, polls_of,
+    Front, Outside, Proxy, ServerConnections, SharedParts, Unbegun, UnusedCounts, empty_spots,
+    loops_of, most_connections, polls_of,
 };
 use grant_board::BoardName;
 use run_sizes::LoopSizes;
@@ -23,7 +24,16 @@ pub(crate) fn parts_of<R: Net<Listener = TcpListener, Stream = TcpStream>, N: Bo
     let alloc = proxy.alloc;
     let (polls, mail) = polls_of(rt, alloc, front, sizes.loops)?;
     let loops = loops_of(alloc, polls)?;
-    let most = most_connections(sizes.loops, sizes.slots);
+    let servers = proxy.config.servers.len();
+    let each = front.reusing.map_or(0, |most| most as usize);
+    let most = most_connections(
+        sizes.loops,
+        ServerConnections {
+            used: sizes.slots,
+            unused: servers.saturating_mul(each),
+        },
+    );
+    let unused = UnusedCounts::none(alloc, servers, most.unused)?;
     let outside = Outside::new(alloc, most.clients, proxy.config.queue_timeout)?;
     match empty_spots(alloc, sizes.places) {
         Err(refused) => {
@@ -37,6 +47,7 @@ pub(crate) fn parts_of<R: Net<Listener = TcpListener, Stream = TcpStream>, N: Bo
                 most,
                 outside,
                 most_outside: sizes.waiting,
+                unused,
             };
             Ok((parts, loops))
         }

@@ -16,6 +16,8 @@ use std::os::fd::AsRawFd;
 pub struct RunOptions {
     /// How long a client may stay between two requests, in milliseconds. None: it has one.
     pub keeping: Option<u64>,
+    /// How many unused connections of a server stay open at most. None: a server's connection is for one request.
+    pub reusing: Option<u64>,
     /// After so many milliseconds a window ends. None: once the log is full.
     pub window: Option<u64>,
     /// Whether servers are told whose requests they get.

@@ -27,6 +27,7 @@ pub struct Beside {
     pub addresses: Addresses,
     pub controls: Option<Controls>,
     pub keeping: Option<u64>,
+    pub reusing: Option<u64>,
     pub window: Option<u64>,
     pub forwarded_for: bool,
     pub log: Option<RequestLog>,
@@ -48,6 +49,7 @@ pub fn beside_of<R: Clock + AllocGlobal>(
     };
     let RunOptions {
         keeping,
+        reusing,
         window,
         forwarded_for,
         controls,
@@ -75,6 +77,7 @@ pub fn beside_of<R: Clock + AllocGlobal>(
         addresses: Addresses::new(alloc, config)?,
         controls,
         keeping,
+        reusing,
         window,
         forwarded_for,
         log: RequestLog::new(alloc, logs, extent)?,
@@ -126,6 +129,7 @@ pub fn front_of<'a>(
         log: beside.log.as_ref(),
         admin: beside.admin.as_ref(),
         keeping: beside.keeping,
+        reusing: beside.reusing,
         window: beside.window,
         forwarded_for: beside.forwarded_for,
     }

@@ -11,6 +11,8 @@ mod peers;
 mod runs;
 mod sizes;
 #[cfg(test)]
+mod staying;
+#[cfg(test)]
 mod stories;
 #[cfg(test)]
 mod texts;

@@ -43,6 +43,8 @@ pub(crate) enum Step {
     Answers(usize, &'static [u8]),
     /// It sends back what it gets, so many bytes.
     Echoes(usize, usize),
+    /// It ends the connection.
+    Leaves(usize),
     /// Some time goes by, in milliseconds.
     Passes(u64),
 }
@@ -97,6 +99,7 @@ impl<'a> Peers<'a> {
             Step::Hears(server, text) => gets(self.alloc, of(&mut self.servers, server)?, text),
             Step::Answers(server, text) => of(&mut self.servers, server)?.write_all(text).ok(),
             Step::Echoes(server, count) => echo(self.alloc, of(&mut self.servers, server)?, count),
+            Step::Leaves(server) => self.leave(server),
             Step::Passes(millis) => {
                 thread::sleep(rt, Duration::from_millis(millis));
                 Some(())
@@ -113,6 +116,11 @@ impl<'a> Peers<'a> {
 
     fn go(&mut self, client: usize) -> Option<()> {
         *self.clients.get_mut(client)? = None;
+        Some(())
+    }
+
+    fn leave(&mut self, server: usize) -> Option<()> {
+        *self.servers.get_mut(server)? = None;
         Some(())
     }
 

@@ -99,6 +99,21 @@ fn come<R: Abort + Net<Stream = TcpStream>>(
     clients
 }
 
+// How long a client may stay, how many unused connections a server may have, and how many loops there are.
+#[derive(Clone, Copy)]
+pub(crate) struct Keeping {
+    pub(crate) clients: Option<u64>,
+    pub(crate) servers: Option<u64>,
+    pub(crate) loops: u32,
+}
+
+// Each connection is for one request.
+pub(crate) const ONCE: Keeping = Keeping {
+    clients: None,
+    servers: None,
+    loops: 2,
+};
+
 // Serves as a text says.
 pub(crate) fn serve_text<
     R: Net<Listener = TcpListener, Stream = TcpStream>
@@ -113,13 +128,32 @@ pub(crate) fn serve_text<
         + Send
         + 'static,
 >(rt: &R, text: &str, listener: TcpListener, clients: u32, places: u32) -> bool {
+    serve_keeping(rt, text, listener, (clients, places), ONCE)
+}
+
+// Serves so many clients at so many places, whose connections are kept so long.
+pub(crate) fn serve_keeping<
+    R: Net<Listener = TcpListener, Stream = TcpStream>
+        + Clock
+        + Print
+        + Eprint
+        + AllocGlobal
+        + Threads
+        + Wait
+        + Sync
+        + Copy
+        + Send
+        + 'static,
+>(rt: &R, text: &str, listener: TcpListener, sizes: (u32, u32), keeping: Keeping) -> bool {
+    let (clients, places) = sizes;
     let Ok(config) = read(rt.alloc(), text.as_bytes()) else {
         return false;
     };
     let doors = Doors {
         listener,
         options: RunOptions {
-            keeping: None,
+            keeping: keeping.clients,
+            reusing: keeping.servers,
             window: None,
             forwarded_for: false,
             controls: None,
@@ -131,7 +165,7 @@ pub(crate) fn serve_text<
             admin: None,
         },
     };
-    match Sizes::new(Some(clients), Some(2), None, places, clients) {
+    match Sizes::new(Some(clients), Some(keeping.loops), None, places, clients) {
         Some(sizes) => serve_at(rt, config, doors, sizes).is_ok(),
         None => false,
     }

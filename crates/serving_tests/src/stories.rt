@@ -2,7 +2,7 @@
 
 use crate::hanging::Hanging;
 use crate::peers::{Peers, Step};
-use crate::runs::serve_text;
+use crate::runs::{Keeping, ONCE, serve_keeping};
 use std::alloc::Global;
 use std::net::{Net, SocketAddr, TcpListener, TcpStream};
 use std::process::Abort;
@@ -44,11 +44,11 @@ const LONG: &[u8] = &[b'a'; 15_000];
 
 // A proxy before a server with a limit, and what happens there.
 #[derive(Clone, Copy)]
-struct Story {
-    settings: &'static str,
-    limit: u32,
-    places: u32,
-    steps: &'static [Step],
+pub(crate) struct Story {
+    pub(crate) settings: &'static str,
+    pub(crate) limit: u32,
+    pub(crate) places: u32,
+    pub(crate) steps: &'static [Step],
 }
 
 // Does one step after the other. None where each came out; else the number of the one that didn't, and the clients that are missing then come and go.
@@ -105,6 +105,24 @@ fn play<
         + Send
         + 'static,
 >(rt: &R, story: Story) {
+    play_keeping(rt, story, ONCE);
+}
+
+// The same where connections are kept.
+pub(crate) fn play_keeping<
+    R: Net<Listener = TcpListener, Stream = TcpStream>
+        + Clock
+        + Print
+        + Eprint
+        + AllocGlobal
+        + Threads
+        + Wait
+        + Abort
+        + Sync
+        + Copy
+        + Send
+        + 'static,
+>(rt: &R, story: Story, keeping: Keeping) {
     let alloc = rt.alloc();
     let far = listening(rt);
     far.set_nonblocking(true)
@@ -121,7 +139,8 @@ fn play<
         let telling = scope
             .spawn(move || tell(rt, alloc, proxy, server, steps))
             .ok();
-        let ended = serve_text(rt, text.as_str(), near, clients_of(steps), story.places);
+        let sizes = (clients_of(steps), story.places);
+        let ended = serve_keeping(rt, text.as_str(), near, sizes, keeping);
         match telling {
             Some(handle) => (handle.join(rt), ended),
             None => (None, false),

@@ -27,6 +27,8 @@ pub struct Front<'a> {
     pub addresses: &'a Addresses,
     /// How long a client may stay between two requests, in milliseconds. None: it has one.
     pub keeping: Option<u64>,
+    /// How many unused connections of a server stay open at most. None: a server's connection is for one request.
+    pub reusing: Option<u64>,
     /// Whether servers are told whose requests they get.
     pub forwarded_for: bool,
     /// After so many milliseconds a window ends. None: once the log is full.

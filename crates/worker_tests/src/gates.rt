@@ -140,6 +140,7 @@ fn a_gate_takes_clients_and_checks_servers(rt: HostRuntime) {
         log: None,
         admin: None,
         keeping: None,
+        reusing: None,
         window: None,
         forwarded_for: false,
     };

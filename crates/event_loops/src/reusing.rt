@@ -1,0 +1,240 @@
+//! Connections of servers that stay for further requests (`run --reuse`).
+//!
+//! One whose exchange ended clean lies in a slot of its loop, and the poll tells of it: whatever comes on it closes it, bytes or its end. The last used is the
+//! first that is used again, once a read found nothing on it.
+
+use crate::accounting::note_unanswered;
+use crate::guest::{Guest, Keyword, Resident};
+use crate::looping::Looper;
+use exchange_driver::{Line, Live};
+use grant_board::BoardName;
+use loop_shared::{Unused, watch_anew};
+use loop_table::{Hole, Subject, Token};
+use mio::Interest;
+use std::alloc::{AllocError, Global};
+use std::net::{Net, TcpListener, TcpStream};
+use std::os::fd::AsRawFd;
+use std::sync::Wait;
+use std::sync::ledger::Ledger;
+use std::time::Clock;
+
+/// The unused connections of a loop: of each server their slots, the last used last.
+#[derive(Drop)]
+pub(crate) struct Shelves {
+    shelves: Vec<Vec<Token>>,
+    /// So many there are in all, and so many there may be.
+    count: usize,
+    most: usize,
+}
+
+impl Shelves {
+    /// None, of so many servers, of which there may be so many in all.
+    pub(crate) fn empty(alloc: Global, servers: usize, most: usize) -> Result<Shelves, AllocError> {
+        let mut shelves = Vec::with_capacity(alloc, servers)?;
+        for _ in 0..servers {
+            shelves.push(Vec::new(alloc))?;
+        }
+        Ok(Shelves {
+            shelves,
+            count: 0,
+            most,
+        })
+    }
+
+    fn servers(&self) -> usize {
+        self.shelves.len()
+    }
+
+    /// One more. False: there are as many as there may be, or there is no memory for it.
+    fn put(&mut self, server: usize, token: Token) -> bool {
+        if self.most <= self.count {
+            return false;
+        }
+        let is_put = match self.shelves.get_mut(server) {
+            None => false,
+            Some(shelf) => shelf.push(token).is_ok(),
+        };
+        if is_put {
+            self.count = self.count.saturating_add(1);
+        }
+        is_put
+    }
+
+    /// The last used of a server, which is none any more.
+    fn take(&mut self, server: usize) -> Option<Token> {
+        let token = self.shelves.get_mut(server)?.pop()?;
+        self.count = self.count.saturating_sub(1);
+        Some(token)
+    }
+
+    /// The one that nobody used for longest. `O(n)`.
+    fn oldest(&self, server: usize) -> Option<Token> {
+        self.shelves.get(server)?.first().copied()
+    }
+
+    /// One is none any more. `O(n)`.
+    fn forget(&mut self, server: usize, token: Token) {
+        if let Some(shelf) = self.shelves.get_mut(server) {
+            let before = shelf.len();
+            shelf.retain(|it| *it != token);
+            let gone = before.saturating_sub(shelf.len());
+            self.count = self.count.saturating_sub(gone);
+        }
+    }
+}
+
+impl<
+    'a,
+    N: BoardName + Ledger,
+    R: Net<Listener = TcpListener, Stream = TcpStream> + Clock + Print + Wait,
+> Looper<'a, N, R> {
+    /// A guest's exchange is over for its server: the connection stays where that is asked for and the exchange ended clean, and is given up where the answer isn't
+    /// whole.
+    pub(crate) fn release_server(&mut self, guest: &mut Guest<N>) {
+        let Guest { seated, visit } = guest;
+        if !seated.is_answered() {
+            visit.break_off();
+            note_unanswered(visit);
+        }
+        let dialed = visit.dialed;
+        let line = visit.take_server(self.settings.alloc);
+        if let (Some(dialed), Some(_)) = (dialed, self.shared.front.reusing) {
+            if let Some(unused) = Unused::of(seated, dialed.server, line) {
+                self.set_aside(unused);
+            }
+        }
+    }
+
+    // Closed where the server has as many as it may, or the system or memory is short.
+    fn set_aside(&mut self, unused: Unused) {
+        let server = unused.server();
+        if self.shared.is_stopping() || !self.shared.note_unused(server) {
+            return;
+        }
+        let Some(hole) = self.guests.open() else {
+            return self.shared.note_used(server);
+        };
+        let token = hole.token();
+        let descriptor = unused.descriptor();
+        let subject = Subject::Server(token);
+        let is_kept = watch_anew(&self.registry, descriptor, subject, Interest::READABLE)
+            && self.shelves.put(server, token);
+        if !is_kept {
+            self.guests.close(hole);
+            return self.shared.note_used(server);
+        }
+        match Box::new(self.settings.alloc, unused) {
+            Err(_) => {
+                self.guests.close(hole);
+                self.shared.note_used(server);
+            }
+            Ok(unused) => {
+                self.begin_time(Some(Keyword::Unused), token.index());
+                self.lay(Resident::Unused(unused), hole);
+            }
+        }
+    }
+
+    /// A connection to a guest's server that was used before, where its request may have one. Where it has none, and the server has too many, one is closed for the
+    /// one that is opened.
+    pub(crate) fn used_connection(
+        &mut self,
+        guest: &Guest<N>,
+        server: usize,
+    ) -> Option<Line<Live>> {
+        if !guest.visit.spoilt && guest.seated.takes_used() {
+            for _ in self.rt.forever() {
+                let Some(unused) = self.take_unused(server) else {
+                    break;
+                };
+                let line = unused.used(self.settings.alloc, self.buffer.as_mut_slice());
+                if line.is_some() {
+                    return line;
+                }
+            }
+        }
+        if self.shared.is_crowded_at(self.rt, server) && !self.close_oldest(server) {
+            self.shared.call_for_one(server);
+        }
+        None
+    }
+
+    /// Closes the connections that other loops call for.
+    pub(crate) fn close_called_for(&mut self) {
+        for server in 0..self.shelves.servers() {
+            if self.shelves.oldest(server).is_some() && self.shared.is_one_called_for(server) {
+                self.close_oldest(server);
+            }
+        }
+    }
+
+    /// Closes a connection that nobody uses, of any server. False: there is none.
+    pub(crate) fn close_any(&mut self) -> bool {
+        for server in 0..self.shelves.servers() {
+            if self.close_oldest(server) {
+                return true;
+            }
+        }
+        false
+    }
+
+    // The one of a server that nobody used for longest.
+    fn close_oldest(&mut self, server: usize) -> bool {
+        let Some(token) = self.shelves.oldest(server) else {
+            return false;
+        };
+        self.shelves.forget(server, token);
+        let Some((resident, hole)) = self.guests.lend(token) else {
+            return false;
+        };
+        match resident {
+            Resident::Unused(unused) => {
+                self.end_unused(unused, hole);
+                true
+            }
+            resident => {
+                self.lay(resident, hole);
+                false
+            }
+        }
+    }
+
+    // The last used, out of its slot.
+    fn take_unused(&mut self, server: usize) -> Option<Unused> {
+        for _ in self.rt.forever() {
+            let token = self.shelves.take(server)?;
+            let Some((resident, hole)) = self.guests.lend(token) else {
+                continue;
+            };
+            match resident {
+                Resident::Unused(unused) => {
+                    self.close_slot(hole, Some(Keyword::Unused));
+                    self.shared.note_used(unused.server());
+                    return Some(Box::into_inner(unused));
+                }
+                resident => self.lay(resident, hole),
+            }
+        }
+        unreachable!()
+    }
+
+    /// Something came on a connection that nobody uses, or its time is over: it is closed.
+    pub(crate) fn end_unused(&mut self, unused: Box<Unused>, hole: Hole) {
+        let server = unused.server();
+        self.shelves.forget(server, hole.token());
+        self.close_slot(hole, Some(Keyword::Unused));
+        self.shared.note_used(server);
+    }
+
+    /// The poll tells of a connection that is used again.
+    pub(crate) fn is_watched_anew(&self, line: &Line<Live>, token: Token) -> bool {
+        match line.socket() {
+            None => false,
+            Some(live) => {
+                let descriptor = live.stream().as_raw_fd();
+                let subject = Subject::Server(token);
+                watch_anew(&self.registry, descriptor, subject, Interest::READABLE)
+            }
+        }
+    }
+}

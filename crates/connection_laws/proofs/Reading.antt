@@ -19,7 +19,8 @@ use Rattle.message_readings.specs.Replies.{Reply, IsBefore, IsReply, print_reply
 use Rattle.message_readings.proofs.Bodies.{request_found}
 use Rattle.message_readings.proofs.Replying.{answer_found}
 use Rattle.req_view.specs.Request.{request_of}
-use Rattle.connection_laws.specs.Orders.{IsOpenToClient, IsOpenToServer}
+use Rattle.connection_laws.specs.Orders.{IsOpenToClient}
+use Rattle.seated_exchange.specs.Connections.{IsOpenToServer}
 use Rattle.connection_laws.specs.Readings.{AreAnsweredSo, AreReadSo, AreSentSo, IsNamedIn, IsOf, message_of}
 
 is_message : (w : Whole) → IsWhole w → IsMessage (message_of w)

@@ -15,27 +15,10 @@ use Rattle.mixed_exchange.specs.declared.exchange.Exchange.{Exchange}
 use Rattle.mixed_exchange.specs.declared.exchange.Outcome.{Outcome}
 use Rattle.mixed_exchange.specs.declared.exchange.Outcome.TheVariants as Outcomes
 use Rattle.mixed_exchange.proofs.StepLemmas.{at_sound}
-use Rattle.connection_laws.specs.Orders.{IsOpenToServer, SentInOrder}
+use Rattle.seated_exchange.specs.Connections.{IsOpenToServer, SentInOrder}
 use Rattle.connection_laws.specs.ServerConnections.{ServerConnection, bytes_sent, bytes_come}
 use Rattle.connection_laws.specs.ServerConnections.ServerConnection.{opens, goes_on, handed_on}
-use Rattle.connection_laws.proofs.Counting.{one_more}
-
--- what is given away is neither a byte of the server's nor one for it, where its connection isn't given up
-ended_sent : (outcome : Outcome) (h : History) → outcome ≢ Outcomes.Retries → (ended outcome h).to_server ≡ h.to_server
-ended_sent Outcomes.Quiet h stays = refl
-ended_sent (Outcomes.Posts pass ending) h stays = refl
-ended_sent Outcomes.Starved h stays = refl
-ended_sent (Outcomes.StarvedPosts pass ending) h stays = refl
-ended_sent Outcomes.Retries h stays = absurd (stays refl)
-ended_sent (Outcomes.Returns pass) h stays = refl
-
-ended_came : (outcome : Outcome) (h : History) → outcome ≢ Outcomes.Retries → (ended outcome h).server_in ≡ h.server_in
-ended_came Outcomes.Quiet h stays = refl
-ended_came (Outcomes.Posts pass ending) h stays = refl
-ended_came Outcomes.Starved h stays = refl
-ended_came (Outcomes.StarvedPosts pass ending) h stays = refl
-ended_came Outcomes.Retries h stays = absurd (stays refl)
-ended_came (Outcomes.Returns pass) h stays = refl
+use Rattle.seated_exchange.proofs.Connecting.{ended_sent, ended_came, handed}
 
 pass_sent : (used : ℕ) (pass : Grant) (h : History) → (came_pass used pass h).to_server ≡ h.to_server ++ []
 pass_sent zero pass h = sym (append-nil h.to_server)
@@ -112,10 +95,10 @@ step_ways before x y h sent came event used outcome s stays at = record {
 }
 
 -- a text that was sent whole, and then nothing more yet, is one more
-handed : (f : Whole → List ℕ) (before : List Whole) (w : Whole) (all now next : List ℕ) → all ≡ flat_map f before ++ now → f w ++ [] ≡ now → next ≡ []
+handed_on_to : (f : Whole → List ℕ) (before : List Whole) (w : Whole) (all now next : List ℕ) → all ≡ flat_map f before ++ now → f w ≡ now → next ≡ []
     → all ≡ flat_map f (before ++ w ∷ []) ++ next
-handed f before w all now next is whole none =
-    is ∙ ap (λ l. flat_map f before ++ l) (sym whole) ∙ sym (one_more f before w []) ∙ ap (λ l. flat_map f (before ++ w ∷ []) ++ l) (sym none)
+handed_on_to f before w all now next is whole none =
+    handed f before w all now is whole ∙ sym (append-nil (flat_map f (before ++ w ∷ []))) ∙ ap (λ l. flat_map f (before ++ w ∷ []) ++ l) (sym none)
 
 next_ways : (before : List Whole) (x y : Exchange) (h next : History) (sent came out : List ℕ) → Ways before x h sent came → (clean : EndsClean h out)
     → IsAt y next → IsUnsent next → Ways (before ++ clean.whole ∷ []) y next sent came
@@ -125,9 +108,8 @@ next_ways before x y h next sent came out s clean at none =
     record {
       each = all_append IsWhole before (w ∷ []) s.each (e.is, tt);
       stays = all_append IsOpenToServer before (w ∷ []) s.stays (record { asks = clean.asks; kept = clean.keeps }, tt);
-      went = handed forwarded_of before w sent h.to_server next.to_server s.went
-          (append-nil w.forwarded ∙ e.sends ∙ append-nil h.to_server) none.server;
-      got = handed answer_of_server before w came h.server_in next.server_in s.got (sym e.answers) none.answer;
+      went = handed_on_to forwarded_of before w sent h.to_server next.to_server s.went (e.sends ∙ append-nil h.to_server) none.server;
+      got = handed_on_to answer_of_server before w came h.server_in next.server_in s.got (sym (append-nil w.answer) ∙ sym e.answers) none.answer;
       at = at;
     }
 

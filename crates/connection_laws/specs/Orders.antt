@@ -1,11 +1,11 @@
--- What goes over a client's connection, and over a server's: whole requests and their answers in order, and a front of one more.
-use Rattle.std.specs.Prelude.{◌≡◌, ◌≢◌, ℕ, true, List, ◌++◌}
+-- What goes over a client's connection: whole requests and their answers in order, and a front of one more.
+use Rattle.std.specs.Prelude.{◌≡◌, ◌≢◌, ℕ, List, ◌++◌}
 use Rattle.std.specs.List.{flat_map, AllByRecursion}
 use Rattle.list_facts.specs.Fronts.{IsFront}
-use Rattle.relay_http.specs.declared.persistence.Persistence.TheVariants.{Close, Persist}
-use Rattle.exchange_machine.specs.Headline.{ClientText, ToServer}
+use Rattle.relay_http.specs.declared.persistence.Persistence.TheVariants.{Close}
+use Rattle.exchange_machine.specs.Headline.{ClientText}
 use Rattle.exchange_machine.specs.Histories.{History}
-use Rattle.exchange_machine.specs.Wholes.{Whole, IsWhole, asked, told, forwarded_of, answer_of_server}
+use Rattle.exchange_machine.specs.Wholes.{Whole, IsWhole, asked, told}
 
 -- behind it the client may ask again: both sides agreed that its connection stays
 abbrev pub IsOpenToClient : Whole → Type 0
@@ -21,18 +21,3 @@ pub record AnsweredInOrder (before : List Whole) (now : History) (input output :
   pub text : List ℕ
   pub last : ClientText now text
   pub front : IsFront now.to_client text
-
--- behind it the server may be asked again: it was asked to keep its connection, and keeps it
-pub record IsOpenToServer (w : Whole) : Type 0 where
-  pub asks : w.adds.asks ≡ Persist
-  pub kept : w.kept ≡ true
-
--- What a server was sent is the forwarded texts of the requests that had its connection one after another, each whole before the next begins, none left out and
--- none twice, and then a front of that of the request that has it; and what came of it is their answers one after another, each whole, and then what came for
--- that request.
-pub record SentInOrder (before : List Whole) (now : History) (sent came : List ℕ) : Type 0 where
-  pub each : AllByRecursion IsWhole before
-  pub stays : AllByRecursion IsOpenToServer before
-  pub sent_is : sent ≡ flat_map forwarded_of before ++ now.to_server
-  pub came_is : came ≡ flat_map answer_of_server before ++ now.server_in
-  pub last : ToServer now

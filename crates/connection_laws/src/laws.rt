@@ -11,7 +11,8 @@ ghost use Rattle.exchange_machine.specs.declared.dialing.Dialing as dialing;
 ghost use Rattle.connection_laws.specs.Connections.{Connection, bytes_in, bytes_out};
 ghost use Rattle.std.specs.List.{AllByRecursion};
 ghost use Rattle.exchange_machine.specs.Wholes.{IsWhole};
-ghost use Rattle.connection_laws.specs.Orders.{AnsweredInOrder, IsOpenToClient, IsOpenToServer, SentInOrder};
+ghost use Rattle.connection_laws.specs.Orders.{AnsweredInOrder, IsOpenToClient};
+ghost use Rattle.seated_exchange.specs.Connections.{IsOpenToServer, SentInOrder};
 ghost use Rattle.connection_laws.specs.Readings.{AreAnsweredSo, AreReadSo, AreSentSo, IsNamedIn};
 ghost use Rattle.connection_laws.specs.ServerConnections.{ServerConnection, bytes_sent, bytes_come};
 

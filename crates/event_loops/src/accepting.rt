@@ -4,7 +4,7 @@ use crate::guest::Visit;
 use crate::looping::Looper;
 use exchange_driver::{Line, Live};
 use grant_board::BoardName;
-use seated_exchange::Seated;
+use seated_exchange::Linked;
 use std::io::ErrorKind;
 use std::net::{Net, SocketAddr, TcpListener, TcpStream};
 use std::sync::Wait;
@@ -63,8 +63,8 @@ impl<
         let line = Line::new(alloc, Live::new(client));
         let mut presence = presence;
         self.begin_account(&mut presence, &line, Some(address));
-        let visit = Visit::new(alloc, presence, line);
-        let then = self.seat(Seated::new(alloc), visit, hole);
+        let visit = Visit::new(presence, line);
+        let then = self.seat(Linked::new(alloc), visit, hole);
         self.go(then);
         self.go_on();
     }

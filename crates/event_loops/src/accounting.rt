@@ -57,24 +57,16 @@ impl<
     }
 
     /// Bytes moved: they may be the first ones of the request, or of its answer.
-    pub(crate) fn note_bytes(&mut self, visit: &mut Visit, client: bool, server: bool) {
-        let Visit {
-            presence,
-            server: line,
-            ..
-        } = visit;
-        let Some(account) = &mut presence.account else {
+    pub(crate) fn note_bytes(&mut self, visit: &mut Visit, client: bool, answers: bool) {
+        let Some(account) = &mut visit.presence.account else {
             return;
         };
         if client && account.is_silent {
             account.is_silent = false;
             account.moments.began = self.gate.moment();
         }
-        if server && account.moments.answered.is_none() {
-            let came = line.socket().and_then(|live| live.meter());
-            if came.map_or(0, |meter| meter.received) != 0 {
-                account.moments.answered = Some(self.gate.moment());
-            }
+        if answers && account.moments.answered.is_none() {
+            account.moments.answered = Some(self.gate.moment());
         }
     }
 
@@ -209,6 +201,12 @@ pub(crate) fn note_refused(presence: &mut Presence, stops: bool) {
         let by = if stops { By::Proxy } else { By::ServerTime };
         account.end_by(by, During::Queue);
     }
+}
+
+/// Whether a byte came of a server that is counted.
+pub(crate) fn has_received(server: Option<&Live>) -> bool {
+    let came = server.and_then(|live| live.meter());
+    came.map_or(0, |meter| meter.received) != 0
 }
 
 /// Its server didn't answer, or not to the end.

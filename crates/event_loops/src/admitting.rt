@@ -11,6 +11,7 @@ use loop_table::Token;
 use place_set::PlaceSet;
 use prio_rules::Wish;
 use request_lines::{By, During};
+use seated_exchange::Linked;
 use std::net::{Net, TcpListener, TcpStream};
 use std::sync::Wait;
 use std::sync::ledger::Ledger;
@@ -87,9 +88,9 @@ impl<
             self.tell_end(&mut presence, &client, By::Shortage, None);
             return self.shared.note_end(self.rt, presence);
         };
-        let mut visit = Visit::new(self.settings.alloc, presence, client);
+        let mut visit = Visit::new(presence, client);
         visit.task = Task::Refuse;
-        let then = self.seat(queued.unseated(), visit, hole);
+        let then = self.seat(Linked::unseated(self.settings.alloc, queued), visit, hole);
         self.go(then);
     }
 

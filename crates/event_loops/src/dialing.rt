@@ -1,14 +1,14 @@
 //! From a pass to its server's connection.
 
-ghost use Rattle.std.specs.Prelude.{◌≡◌, IfSome, Some};
+ghost use Rattle.std.specs.Prelude.{◌≡◌, IfSome, Some, true};
 ghost use Rattle.mixed_exchange.specs.Passes.{held_by};
 ghost use Rattle.seated_exchange.specs.Seats.{server_of};
 
-use crate::guest::{Dialed, Guest, Task, Watch};
+use crate::guest::{Guest, Task, Watch};
 use crate::keeping::Soon;
 use crate::looping::Looper;
 use crate::serving::Then;
-use exchange_driver::{Line, Live};
+use exchange_driver::Live;
 use grant_board::BoardName;
 use loop_table::{Hole, Token};
 use mio::net::TcpStream as Dialing;
@@ -21,12 +21,13 @@ use std::time::Clock;
 /// So often a connection is opened in place of one that broke before a byte reached the server.
 const MOST_REDIALS: u32 = 1;
 
-/// A connection that was begun, or is there since it was used before, and to which server.
-#[derive(Drop)]
-struct Begun {
-    server: usize,
-    fresh: bool,
-    line: Line<Live>,
+/// How a guest came by a connection.
+#[derive(Clone, Copy, Debug, PartialEq, Eq)]
+enum Begun {
+    /// It was opened for its request, and comes about or not.
+    Fresh,
+    /// It is there, since it was used before.
+    Used,
 }
 
 impl<
@@ -37,55 +38,46 @@ impl<
     /// A connection to the server of a guest's pass is begun, without waiting, where none is there that was used before. Where that server just failed it, some
     /// time passes first.
     pub(crate) fn dial(&mut self, guest: Box<Guest<N>>, hole: Hole) -> Then<N> {
-        if guest.visit.pauses || guest.visit.server.socket().is_some() {
+        if guest.visit.pauses || guest.linked.socket().is_some() {
             return self.keep(guest, hole, Soon::Rests);
         }
-        match self.begin(&guest) {
+        let mut guest = guest;
+        match self.begin(&mut guest) {
             None => self.tell_of_no_connection(guest, hole),
             Some(begun) => {
-                let Begun {
-                    server,
-                    fresh,
-                    line,
-                } = begun;
                 if self.teller.is_some() {
-                    count_anew(&line);
+                    count_anew(guest.linked.socket());
                 }
-                let mut guest = guest;
-                guest.visit.server_watch = self.watch_of(&line, fresh, hole.token());
-                guest.visit.server = line;
-                guest.visit.dialed = Some(Dialed { server, fresh });
-                if fresh {
-                    self.look_at_connection(guest, hole, false)
-                } else {
-                    self.tell_of_connection(guest, hole)
+                guest.visit.fresh = begun == Begun::Fresh;
+                guest.visit.server_watch = self.watch_of(&guest, hole.token());
+                match begun {
+                    Begun::Fresh => self.look_at_connection(guest, hole, false),
+                    Begun::Used => self.tell_of_connection(guest, hole),
                 }
             }
         }
     }
 
     // Begins a connection to the server of an exchange's pass, where that is by the last look-up of its name. None: there is none to be had.
-    fn begin(&mut self, guest: &Guest<N>) -> Option<Begun>
-        ensures { IfSome result (λ begun. server_of (held_by guest.now.seated.exchange) ≡ Some begun.server) }
+    fn begin(&mut self, guest: &mut Guest<N>) -> Option<Begun>
+        ensures linked { IfSome result (λ _. guest.new.linked.line.there ≡ true) }
+        ensures its { IfSome result (λ _. server_of (held_by guest.old.linked.seated.exchange) ≡ Some guest.new.linked.server) }
+        ensures exchange { guest.new.linked.seated ≡ guest.old.linked.seated }
     {
-        let server = guest.seated.server()?;
-        if let Some(line) = self.used_connection(guest, server) {
-            return Some(Begun {
-                server,
-                fresh: false,
-                line,
-            });
+        let server = guest.linked.seated().server()?;
+        if self.takes_up(guest, server) {
+            return Some(Begun::Used);
         }
-        let line = self.opened(server)?;
-        Some(Begun {
-            server,
-            fresh: true,
-            line,
-        })
+        let live = self.opened(server)?;
+        if guest.linked.open(self.settings.alloc, live) {
+            Some(Begun::Fresh)
+        } else {
+            None
+        }
     }
 
     // Where the system is short, one that nobody uses is closed for it.
-    fn opened(&mut self, server: usize) -> Option<Line<Live>> {
+    fn opened(&mut self, server: usize) -> Option<Live> {
         let address = self.shared.address_of(self.rt, server)?;
         let stream = match Dialing::connect(self.rt, address) {
             Ok(stream) => stream,
@@ -93,13 +85,12 @@ impl<
             Err(_) => return None,
         };
         let _ = stream.set_nodelay(true);
-        let live = Live::new(TcpStream::from(stream));
-        Some(Line::new(self.settings.alloc, live))
+        Some(Live::new(TcpStream::from(stream)))
     }
 
     // What the poll tells of a connection that is begun.
-    fn watch_of(&self, line: &Line<Live>, fresh: bool, token: Token) -> Watch {
-        if !fresh && self.is_watched_anew(line, token) {
+    fn watch_of(&self, guest: &Guest<N>, token: Token) -> Watch {
+        if !guest.visit.fresh && self.is_watched_anew(guest, token) {
             Watch::Reads
         } else {
             Watch::Nothing
@@ -113,7 +104,7 @@ impl<
         hole: Hole,
         broken: bool,
     ) -> Then<N> {
-        let is_there = match guest.visit.server.socket() {
+        let is_there = match guest.linked.socket() {
             None => return self.keep(guest, hole, Soon::Rests),
             Some(live) => live.stream().peer_addr().is_ok(),
         };
@@ -127,14 +118,14 @@ impl<
     }
 
     fn tell_of_connection(&mut self, guest: Box<Guest<N>>, hole: Hole) -> Then<N> {
-        let fresh = guest.visit.is_fresh();
+        let fresh = guest.visit.fresh;
         let terms = self.shared.terms(&guest.visit.presence, fresh);
         self.tell(guest, hole, Notice::Connected(terms))
     }
 
     /// There is no connection to a guest's server, whose name is looked up once more.
     pub(crate) fn tell_of_no_connection(&mut self, guest: Box<Guest<N>>, hole: Hole) -> Then<N> {
-        if let Some(number) = guest.seated.server() {
+        if let Some(number) = guest.linked.seated().server() {
             self.shared.front.addresses.look_again(self.rt, number);
         }
         self.tell(guest, hole, Notice::Unreachable)
@@ -145,8 +136,8 @@ impl<
     pub(crate) fn redial(&mut self, guest: Box<Guest<N>>, hole: Hole) -> Then<N> {
         let mut guest = guest;
         let visit = &mut guest.visit;
-        let fresh = visit.is_fresh();
-        let _broken = visit.take_server(self.settings.alloc);
+        let fresh = visit.fresh;
+        visit.forget_server();
         if fresh {
             visit.redials = visit.redials.saturating_add(1);
         }
@@ -161,8 +152,8 @@ impl<
 }
 
 // What goes over it is counted for this exchange alone.
-fn count_anew(line: &Line<Live>) {
-    if let Some(live) = line.socket() {
+fn count_anew(server: Option<&Live>) {
+    if let Some(live) = server {
         live.count_anew();
     }
 }

@@ -13,7 +13,7 @@ use lent_seats::{Lent, Taken};
 use loop_shared::{Granted, Looked, OwedLooks, Parked};
 use loop_table::Hole;
 use request_lines::{By, During};
-use seated_exchange::{Posting, Stage};
+use seated_exchange::{Linked, Posting, Stage};
 use std::net::{Net, TcpListener, TcpStream};
 use std::sync::Wait;
 use std::sync::ledger::Ledger;
@@ -133,7 +133,7 @@ impl<
             came,
             late,
         } = parked;
-        let mut visit = Visit::new(self.settings.alloc, presence, client);
+        let mut visit = Visit::new(presence, client);
         visit.client_watch = watch;
         match taken.verdict() {
             Verdict::Serve(number) => {
@@ -143,18 +143,19 @@ impl<
                 visit.tried = Some(number);
                 visit.pauses = failed == Some(number);
                 visit.task = Task::Dial;
-                self.seat(queued.grant(taken), visit, hole)
+                let linked = Linked::granted(self.settings.alloc, queued, taken);
+                self.seat(linked, visit, hole)
             }
             Verdict::Told(cause) => {
                 let stops = self.shared.is_refusing();
                 note_cause(&mut visit.presence, cause, !late, stops);
                 self.give_back(taken);
-                let seated = queued.unseated();
+                let linked = Linked::unseated(self.settings.alloc, queued);
                 if cause == Cause::Aborted && !late {
-                    return self.close_on(seated, visit, hole);
+                    return self.close_on(linked, visit, hole);
                 }
                 visit.task = Task::Refuse;
-                self.seat(seated, visit, hole)
+                self.seat(linked, visit, hole)
             }
         }
     }
@@ -166,14 +167,14 @@ impl<
         guest: Box<Guest<N>>,
         hole: Hole,
     ) -> Then<N> {
-        match guest.seated.stage() {
+        match guest.stage() {
             Stage::Waiting => {
-                let Guest { seated, visit } = Box::into_inner(guest);
-                match seated.into_queued() {
+                let Guest { linked, visit } = Box::into_inner(guest);
+                match linked.into_queued() {
                     Ok(queued) => self.fail(posting, queued, visit, hole),
-                    Err(seated) => {
+                    Err(linked) => {
                         self.post(posting);
-                        self.close_on(seated, visit, hole)
+                        self.close_on(linked, visit, hole)
                     }
                 }
             }

@@ -8,10 +8,8 @@ use dispatch_trace::Ticketed;
 use due_key::Moment;
 use exchange_driver::{Line, Live};
 use grant_board::BoardName;
-use loop_shared::{Presence, Unused};
-use seated_exchange::Seated;
-use std::alloc::Global;
-use std::mem;
+use loop_shared::Presence;
+use seated_exchange::{Linked, Stage, Unused};
 use std::os::fd::AsRawFd;
 use std::sync::ledger::Ledger;
 
@@ -38,7 +36,6 @@ pub(crate) enum Keyword {
 pub(crate) struct Visit {
     pub(crate) presence: Presence,
     pub(crate) client: Line<Live>,
-    pub(crate) server: Line<Live>,
     /// Its place and its ticket, once it has them.
     pub(crate) at: Option<Ticketed>,
     /// The server that it was given to last.
@@ -53,8 +50,8 @@ pub(crate) struct Visit {
     pub(crate) pauses: bool,
     /// So many connections were opened on its pass in place of one that broke.
     pub(crate) redials: u32,
-    /// The server whose connection it has, and whether that was used before.
-    pub(crate) dialed: Option<Dialed>,
+    /// The connection to its server was opened for this request, or it has none.
+    pub(crate) fresh: bool,
     /// One that was used before broke: it gets no other such.
     pub(crate) spoilt: bool,
     /// What is to be done for it next.
@@ -64,14 +61,6 @@ pub(crate) struct Visit {
     pub(crate) server_watch: Watch,
     /// The timeout that runs for it.
     pub(crate) timer: Option<Keyword>,
-}
-
-/// Where a connection goes to.
-#[derive(Clone, Copy, Debug, PartialEq, Eq)]
-pub(crate) struct Dialed {
-    pub(crate) server: usize,
-    /// It was opened for this request.
-    pub(crate) fresh: bool,
 }
 
 /// What is to be done for a guest.
@@ -101,7 +90,7 @@ pub(crate) enum Watch {
 
 /// A client that is served.
 pub(crate) struct Guest<N: BoardName + Ledger> {
-    pub(crate) seated: Seated<N>,
+    pub(crate) linked: Linked<N, Live>,
     pub(crate) visit: Visit,
 }
 
@@ -119,7 +108,7 @@ pub(crate) struct Lingering {
 pub(crate) enum Resident<N: BoardName + Ledger> {
     Guest(Box<Guest<N>>),
     Lingering(Box<Lingering>),
-    Unused(Box<Unused>),
+    Unused(Box<Unused<Live>>),
 }
 
 impl<N: BoardName + Ledger> Resident<N> {
@@ -135,21 +124,25 @@ impl<N: BoardName + Ledger> Resident<N> {
 
 impl<N: BoardName + Ledger> Guest<N> {
     fn is_silent(&self) -> bool {
-        self.visit.stayed && self.seated.is_silent()
+        self.visit.stayed && self.linked.seated().is_silent()
+    }
+
+    /// How far its exchange is.
+    pub(crate) fn stage(&self) -> Stage {
+        self.linked.seated().stage()
     }
 }
 
 impl Visit {
-    /// It goes on without its server's connection, which is handed out.
-    pub(crate) fn take_server(&mut self, alloc: Global) -> Line<Live> {
+    /// Its server's connection is given up: whatever comes next is told anew.
+    pub(crate) fn forget_server(&mut self) {
         self.server_watch = Watch::Nothing;
-        self.dialed = None;
-        mem::replace(&mut self.server, Line::without_socket(alloc))
+        self.fresh = true;
     }
 
     /// Its client asks for more.
-    pub(crate) fn renew(&mut self, alloc: Global) {
-        let _server = self.take_server(alloc);
+    pub(crate) fn renew(&mut self) {
+        self.forget_server();
         self.at = None;
         self.tried = None;
         self.came = None;
@@ -165,7 +158,6 @@ impl Visit {
         let Visit {
             presence,
             client,
-            server: _,
             at: _,
             tried: _,
             came: _,
@@ -173,7 +165,7 @@ impl Visit {
             stayed: _,
             pauses: _,
             redials: _,
-            dialed: _,
+            fresh: _,
             spoilt: _,
             task: _,
             client_watch: _,
@@ -183,26 +175,10 @@ impl Visit {
         (presence, client)
     }
 
-    /// Was its server's connection opened for this request?
-    pub(crate) fn is_fresh(&self) -> bool {
-        match self.dialed {
-            None => true,
-            Some(dialed) => dialed.fresh,
-        }
-    }
-
-    /// Its server's connection is given up amid a message.
-    pub(crate) fn break_off(&self) {
-        if let Some(live) = self.server.socket() {
-            reset(live.stream().as_raw_fd());
-        }
-    }
-
-    pub(crate) fn new(alloc: Global, presence: Presence, client: Line<Live>) -> Visit {
+    pub(crate) fn new(presence: Presence, client: Line<Live>) -> Visit {
         Visit {
             presence,
             client,
-            server: Line::without_socket(alloc),
             at: None,
             tried: None,
             came: None,
@@ -210,12 +186,19 @@ impl Visit {
             stayed: false,
             pauses: false,
             redials: 0,
-            dialed: None,
+            fresh: true,
             spoilt: false,
             task: Task::Serve,
             client_watch: Watch::Nothing,
             server_watch: Watch::Nothing,
             timer: None,
         }
+    }
+}
+
+/// An exchange's connection to its server is given up amid a message.
+pub(crate) fn break_off<N: BoardName + Ledger>(linked: &Linked<N, Live>) {
+    if let Some(live) = linked.socket() {
+        reset(live.stream().as_raw_fd());
     }
 }

@@ -1,15 +1,15 @@
 //! Guests in their slots: kept until there is more to do, and let go.
 
-use crate::guest::{Guest, Keyword, Resident, Visit, Watch};
+use crate::guest::{break_off, Guest, Keyword, Resident, Visit, Watch};
 use crate::looping::Looper;
 use crate::serving::Then;
-use exchange_driver::{Line, Live};
+use exchange_driver::{Live, Socket};
 use grant_board::BoardName;
 use loop_shared::{watch, watch_anew};
 use loop_table::{Hole, Subject, Token};
 use mio::Interest;
 use request_lines::{By, During};
-use seated_exchange::{Seated, Stage};
+use seated_exchange::{Linked, Stage};
 use std::net::{Net, TcpListener, TcpStream};
 use std::os::fd::AsRawFd;
 use std::sync::Wait;
@@ -35,12 +35,17 @@ impl<
     R: Net<Listener = TcpListener, Stream = TcpStream> + Clock + Print + Wait,
 > Looper<'a, N, R> {
     /// An exchange and its visit are a guest. Where there is no memory for it, it is over.
-    pub(crate) fn seat(&mut self, seated: Seated<N>, visit: Visit, hole: Hole) -> Then<N> {
-        match Box::new(self.settings.alloc, Guest { seated, visit }) {
+    pub(crate) fn seat(
+        &mut self,
+        linked: Linked<N, Live>,
+        visit: Visit,
+        hole: Hole,
+    ) -> Then<N> {
+        match Box::new(self.settings.alloc, Guest { linked, visit }) {
             Ok(guest) => Then::Goes(guest, hole),
             Err(refused) => {
-                let Guest { seated, visit } = refused.value;
-                self.close_on(seated, visit, hole)
+                let Guest { linked, visit } = refused.value;
+                self.close_on(linked, visit, hole)
             }
         }
     }
@@ -49,15 +54,14 @@ impl<
     pub(crate) fn keep(&mut self, guest: Box<Guest<N>>, hole: Hole, soon: Soon) -> Then<N> {
         let mut guest = guest;
         let token = hole.token();
-        let Guest { seated, visit } = &mut *guest;
-        self.time(seated, visit, token.index());
+        let Guest { linked, visit } = &mut *guest;
+        self.time(linked.seated(), visit, token.index());
         match soon {
             Soon::AtOnce => return Then::Goes(guest, hole),
             Soon::Next => self.agenda.note(token.index()),
             Soon::Later => self.agenda.put_off(token.index()),
             Soon::Rests => {
-                let dials = guest.seated.stage() == Stage::Dialing;
-                if !self.is_watched(&mut guest.visit, token, dials) {
+                if !self.is_watched(&mut guest, token) {
                     return self.close(guest, hole);
                 }
             }
@@ -67,28 +71,32 @@ impl<
     }
 
     // The poll tells of its sockets.
-    fn is_watched(&self, visit: &mut Visit, token: Token, dials: bool) -> bool {
+    fn is_watched(&self, guest: &mut Guest<N>, token: Token) -> bool {
+        let dials = guest.stage() == Stage::Dialing;
+        let Guest { linked, visit } = guest;
         let Visit {
             client,
-            server,
             client_watch,
             server_watch,
             ..
         } = visit;
         let subject = Subject::Client(token);
-        self.watches(client, client_watch, subject, client.is_full())
-            && self.watches(
-                server,
-                server_watch,
-                Subject::Server(token),
-                dials || server.is_full(),
-            )
+        self.watches(client.socket(), client_watch, subject, false)
+            && self.watches(linked.socket(), server_watch, Subject::Server(token), dials)
     }
 
-    fn watches(&self, line: &Line<Live>, told: &mut Watch, subject: Subject, writes: bool) -> bool {
-        let Some(socket) = line.socket() else {
+    // It is told of it for writing too, where its last write found it full, or it is opened.
+    fn watches(
+        &self,
+        socket: Option<&Live>,
+        told: &mut Watch,
+        subject: Subject,
+        opens: bool,
+    ) -> bool {
+        let Some(socket) = socket else {
             return true;
         };
+        let writes = opens || socket.is_full();
         let connection = socket.stream().as_raw_fd();
         let (is_there, interest) = match (*told, writes) {
             (Watch::Both, _) | (Watch::Reads, false) => return true,
@@ -117,35 +125,40 @@ impl<
             Resident::Lingering(_lingering) => self.lingering = self.lingering.saturating_sub(1),
             Resident::Unused(unused) => self.shared.note_used(unused.server()),
             Resident::Guest(guest) => {
-                let Guest { seated, visit } = Box::into_inner(guest);
-                self.dismiss(seated, visit);
+                let Guest { linked, visit } = Box::into_inner(guest);
+                self.dismiss(linked, visit);
             }
         }
     }
 
     /// A guest is over, however far it is: its pass is posted, and its client is through.
     pub(crate) fn close(&mut self, guest: Box<Guest<N>>, hole: Hole) -> Then<N> {
-        let Guest { seated, visit } = Box::into_inner(guest);
-        self.close_on(seated, visit, hole)
+        let Guest { linked, visit } = Box::into_inner(guest);
+        self.close_on(linked, visit, hole)
     }
 
     /// The same of one that lies in no box.
-    pub(crate) fn close_on(&mut self, seated: Seated<N>, visit: Visit, hole: Hole) -> Then<N> {
+    pub(crate) fn close_on(
+        &mut self,
+        linked: Linked<N, Live>,
+        visit: Visit,
+        hole: Hole,
+    ) -> Then<N> {
         self.close_slot(hole, visit.timer);
-        self.dismiss(seated, visit);
+        self.dismiss(linked, visit);
         Then::Rests
     }
 
-    fn dismiss(&mut self, seated: Seated<N>, visit: Visit) {
-        visit.break_off();
-        let during = match seated.stage() {
+    fn dismiss(&mut self, linked: Linked<N, Live>, visit: Visit) {
+        break_off(&linked);
+        let during = match linked.seated().stage() {
             Stage::Telling => Some(During::Last),
             _ => None,
         };
         let (presence, client) = visit.into_client();
         let mut presence = presence;
         self.tell_end(&mut presence, &client, By::Client, during);
-        match seated.abandon() {
+        match linked.abandon() {
             Some(posting) => self.post(posting),
             None => {}
         }

@@ -10,7 +10,7 @@ use loop_shared::{Gate, watch};
 use loop_table::{Hole, Subject};
 use mio::Interest;
 use request_lines::By;
-use seated_exchange::Seated;
+use seated_exchange::Linked;
 use std::net::{Net, Shutdown, TcpListener, TcpStream};
 use std::os::fd::AsRawFd;
 use std::sync::Wait;
@@ -33,17 +33,22 @@ impl<
 > Looper<'a, N, R> {
     /// A guest was told everything: it is through, and lingers.
     pub(crate) fn finish(&mut self, guest: Box<Guest<N>>, hole: Hole) -> Then<N> {
-        let Guest { seated, visit } = Box::into_inner(guest);
-        self.finish_on(seated, visit, hole)
+        let Guest { linked, visit } = Box::into_inner(guest);
+        self.finish_on(linked, visit, hole)
     }
 
     /// The same of one that lies in no box.
-    pub(crate) fn finish_on(&mut self, seated: Seated<N>, visit: Visit, hole: Hole) -> Then<N> {
+    pub(crate) fn finish_on(
+        &mut self,
+        linked: Linked<N, Live>,
+        visit: Visit,
+        hole: Hole,
+    ) -> Then<N> {
         let key = hole.token().index();
         let mut visit = visit;
         self.tell_end(&mut visit.presence, &visit.client, By::Nobody, None);
         self.untime(visit.timer, key);
-        match seated.abandon() {
+        match linked.abandon() {
             Some(posting) => self.post(posting),
             None => {}
         }

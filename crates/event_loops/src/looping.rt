@@ -199,9 +199,9 @@ fn part_with<R: Wait, N: BoardName + Ledger>(
         Resident::Lingering(_lingering) => {}
         Resident::Unused(_unused) => {}
         Resident::Guest(guest) => {
-            let Guest { seated, visit } = Box::into_inner(guest);
+            let Guest { linked, visit } = Box::into_inner(guest);
             let (presence, _client) = visit.into_client();
-            match seated.abandon() {
+            match linked.abandon() {
                 None => {}
                 Some(posting) => shared.return_seat(rt, posting.post(shared.proxy.desk.board())),
             }

@@ -12,7 +12,7 @@ use loop_shared::{Gate, Outsider, Parked, arrive_as};
 use loop_table::Hole;
 use prio_rules::{Wish, decide};
 use request_lines::By;
-use seated_exchange::{Posting, Queued};
+use seated_exchange::{Linked, Posting, Queued};
 use std::net::{Net, TcpListener, TcpStream};
 use std::sync::Wait;
 use std::sync::ledger::Ledger;
@@ -25,9 +25,9 @@ impl<
 > Looper<'a, N, R> {
     /// A guest's request asks for a place. Who finds none, or others who wait for one, waits outside.
     pub(crate) fn arrive(&mut self, guest: Box<Guest<N>>, hole: Hole) -> Then<N> {
-        let Guest { seated, visit } = Box::into_inner(guest);
-        match seated.into_queued() {
-            Err(seated) => self.close_on(seated, visit, hole),
+        let Guest { linked, visit } = Box::into_inner(guest);
+        match linked.into_queued() {
+            Err(linked) => self.close_on(linked, visit, hole),
             Ok(queued) => self.enter(queued, visit, hole),
         }
     }
@@ -54,7 +54,7 @@ impl<
     fn turn_away(&mut self, queued: Queued, visit: Visit, hole: Hole) -> Then<N> {
         let mut visit = visit;
         visit.task = Task::Refuse;
-        self.seat(queued.unseated(), visit, hole)
+        self.seat(Linked::unseated(self.settings.alloc, queued), visit, hole)
     }
 
     // It waits for a place.
@@ -83,7 +83,7 @@ impl<
                     came: _,
                     pin: _,
                 } = outsider;
-                let visit = Visit::new(self.settings.alloc, presence, client);
+                let visit = Visit::new(presence, client);
                 self.turn_away(queued, visit, hole)
             }
         }

@@ -3,14 +3,20 @@
 //! One whose exchange ended clean lies in a slot of its loop, and the poll tells of it: whatever comes on it closes it, bytes or its end. The last used is the
 //! first that is used again, once a read found nothing on it.
 
+ghost use Rattle.std.specs.Bool.{OnTrue};
+ghost use Rattle.std.specs.Prelude.{◌≡◌, Some, true};
+ghost use Rattle.mixed_exchange.specs.Passes.{held_by};
+ghost use Rattle.seated_exchange.specs.Seats.{server_of};
+
 use crate::accounting::note_unanswered;
-use crate::guest::{Guest, Keyword, Resident};
+use crate::guest::{Guest, Keyword, Resident, break_off};
 use crate::looping::Looper;
-use exchange_driver::{Line, Live};
+use exchange_driver::Live;
 use grant_board::BoardName;
-use loop_shared::{Unused, watch_anew};
+use loop_shared::watch_anew;
 use loop_table::{Hole, Subject, Token};
 use mio::Interest;
+use seated_exchange::Unused;
 use std::alloc::{AllocError, Global};
 use std::net::{Net, TcpListener, TcpStream};
 use std::os::fd::AsRawFd;
@@ -91,22 +97,20 @@ impl<
     /// A guest's exchange is over for its server: the connection stays where that is asked for and the exchange ended clean, and is given up where the answer isn't
     /// whole.
     pub(crate) fn release_server(&mut self, guest: &mut Guest<N>) {
-        let Guest { seated, visit } = guest;
-        if !seated.is_answered() {
-            visit.break_off();
+        let Guest { linked, visit } = guest;
+        if !linked.seated().is_answered() {
+            break_off(linked);
             note_unanswered(visit);
         }
-        let dialed = visit.dialed;
-        let line = visit.take_server(self.settings.alloc);
-        if let (Some(dialed), Some(_)) = (dialed, self.shared.front.reusing) {
-            if let Some(unused) = Unused::of(seated, dialed.server, line) {
-                self.set_aside(unused);
-            }
+        visit.forget_server();
+        let unused = linked.release(self.settings.alloc);
+        if let (Some(unused), Some(_)) = (unused, self.shared.front.reusing) {
+            self.set_aside(unused);
         }
     }
 
     // Closed where the server has as many as it may, or the system or memory is short.
-    fn set_aside(&mut self, unused: Unused) {
+    fn set_aside(&mut self, unused: Unused<Live>) {
         let server = unused.server();
         if self.shared.is_stopping() || !self.shared.note_unused(server) {
             return;
@@ -115,7 +119,7 @@ impl<
             return self.shared.note_used(server);
         };
         let token = hole.token();
-        let descriptor = unused.descriptor();
+        let descriptor = unused.socket().stream().as_raw_fd();
         let subject = Subject::Server(token);
         let is_kept = watch_anew(&self.registry, descriptor, subject, Interest::READABLE)
             && self.shelves.put(server, token);
@@ -135,28 +139,27 @@ impl<
         }
     }
 
-    /// A connection to a guest's server that was used before, where its request may have one. Where it has none, and the server has too many, one is closed for the
-    /// one that is opened.
-    pub(crate) fn used_connection(
-        &mut self,
-        guest: &Guest<N>,
-        server: usize,
-    ) -> Option<Line<Live>> {
-        if !guest.visit.spoilt && guest.seated.takes_used() {
+    /// A connection to a guest's server that was used before becomes its own, where its request may have one. Where it has none, and the server has too many,
+    /// one is closed for the one that is opened.
+    pub(crate) fn takes_up(&mut self, guest: &mut Guest<N>, server: usize) -> bool
+        ensures linked { OnTrue result (guest.new.linked.line.there ≡ true) }
+        ensures its { OnTrue result (server_of (held_by guest.old.linked.seated.exchange) ≡ Some guest.new.linked.server) }
+        ensures exchange { guest.new.linked.seated ≡ guest.old.linked.seated }
+    {
+        if !guest.visit.spoilt && guest.linked.seated().takes_used() {
             for _ in self.rt.forever() {
                 let Some(unused) = self.take_unused(server) else {
                     break;
                 };
-                let line = unused.used(self.settings.alloc, self.buffer.as_mut_slice());
-                if line.is_some() {
-                    return line;
+                if guest.linked.take_up(self.settings.alloc, unused, self.buffer.as_mut_slice()) {
+                    return true;
                 }
             }
         }
         if self.shared.is_crowded_at(self.rt, server) && !self.close_oldest(server) {
             self.shared.call_for_one(server);
         }
-        None
+        false
     }
 
     /// Closes the connections that other loops call for.
@@ -200,7 +203,7 @@ impl<
     }
 
     // The last used, out of its slot.
-    fn take_unused(&mut self, server: usize) -> Option<Unused> {
+    fn take_unused(&mut self, server: usize) -> Option<Unused<Live>> {
         for _ in self.rt.forever() {
             let token = self.shelves.take(server)?;
             let Some((resident, hole)) = self.guests.lend(token) else {
@@ -219,7 +222,7 @@ impl<
     }
 
     /// Something came on a connection that nobody uses, or its time is over: it is closed.
-    pub(crate) fn end_unused(&mut self, unused: Box<Unused>, hole: Hole) {
+    pub(crate) fn end_unused(&mut self, unused: Box<Unused<Live>>, hole: Hole) {
         let server = unused.server();
         self.shelves.forget(server, hole.token());
         self.close_slot(hole, Some(Keyword::Unused));
@@ -227,8 +230,8 @@ impl<
     }
 
     /// The poll tells of a connection that is used again.
-    pub(crate) fn is_watched_anew(&self, line: &Line<Live>, token: Token) -> bool {
-        match line.socket() {
+    pub(crate) fn is_watched_anew(&self, guest: &Guest<N>, token: Token) -> bool {
+        match guest.linked.socket() {
             None => false,
             Some(live) => {
                 let descriptor = live.stream().as_raw_fd();

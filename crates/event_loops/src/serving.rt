@@ -1,13 +1,14 @@
 //! What a guest's exchange is told, and what it gives away.
 
+use crate::accounting::has_received;
 use crate::guest::{Guest, Keyword, Resident, Task, Visit};
 use crate::keeping::Soon;
 use crate::looping::Looper;
-use exchange_driver::Rest;
+use exchange_driver::{Live, Rest};
 use grant_board::BoardName;
 use loop_table::{Hole, Token};
 use mio::event::Event;
-use seated_exchange::{Given, Notice, Served, Stage};
+use seated_exchange::{Carried, Given, Notice, Stage};
 use std::net::{Net, TcpListener, TcpStream};
 use std::sync::Wait;
 use std::sync::ledger::Ledger;
@@ -76,7 +77,7 @@ impl<
 
     // Whether a client sends no more, and `option abortonclose` says that it waits for no answer then.
     fn has_left(&self, guest: &Guest<N>) -> bool {
-        guest.visit.ended && self.settings.rules.aborts && guest.seated.has_asked()
+        guest.visit.ended && self.settings.rules.aborts && guest.linked.seated().has_asked()
     }
 
     /// The poll told of a server's connection.
@@ -89,8 +90,8 @@ impl<
             Resident::Unused(unused) => self.end_unused(unused, hole),
             Resident::Guest(guest) => {
                 let mut guest = guest;
-                guest.visit.server.wake(told.reads, told.writes);
-                let then = match guest.seated.stage() {
+                guest.linked.wake(told.reads, told.writes);
+                let then = match guest.stage() {
                     Stage::Dialing => self.look_at_connection(guest, hole, told.broken),
                     _ => Then::Goes(guest, hole),
                 };
@@ -136,45 +137,51 @@ impl<
 
     // Reads and writes.
     fn serve(&mut self, guest: Box<Guest<N>>, hole: Hole) -> Then<N> {
-        let Guest { seated, visit } = Box::into_inner(guest);
+        let Guest { linked, visit } = Box::into_inner(guest);
         let mut visit = visit;
-        let served = seated.drive(
+        let carried = linked.drive(
             self.settings,
             &mut visit.client,
-            &mut visit.server,
             self.buffer.as_mut_slice(),
         );
-        let soon = match served.rest {
+        let soon = match carried.rest {
             Rest::Waits => Soon::Rests,
             Rest::Again => Soon::Later,
         };
-        self.settle(served, visit, hole, soon)
+        self.settle(carried, visit, hole, soon)
     }
 
     /// Tells a guest's exchange something.
     pub(crate) fn tell(&mut self, guest: Box<Guest<N>>, hole: Hole, notice: Notice) -> Then<N> {
-        let Guest { seated, visit } = Box::into_inner(guest);
+        let Guest { linked, visit } = Box::into_inner(guest);
         let mut visit = visit;
         visit.task = Task::Serve;
-        self.note_notice(&mut visit, seated.stage(), &notice);
-        let served = seated.tell(self.settings, notice);
-        self.settle(served, visit, hole, Soon::AtOnce)
+        self.note_notice(&mut visit, linked.seated().stage(), &notice);
+        let carried = linked.tell(self.settings, notice);
+        self.settle(carried, visit, hole, Soon::AtOnce)
     }
 
-    fn settle(&mut self, served: Served<N>, visit: Visit, hole: Hole, soon: Soon) -> Then<N> {
-        let Served {
-            seated,
+    fn settle(
+        &mut self,
+        carried: Carried<N, Live>,
+        visit: Visit,
+        hole: Hole,
+        soon: Soon,
+    ) -> Then<N> {
+        let Carried {
+            linked,
             given,
             client,
             server,
             rest: _,
-        } = served;
+        } = carried;
         let key = hole.token().index();
         let mut visit = visit;
-        self.note_bytes(&mut visit, client.is_some(), server.is_some());
+        let answers = server.is_some() && has_received(linked.socket());
+        self.note_bytes(&mut visit, client.is_some(), answers);
         self.note_moved(&visit, key, client, Keyword::Client);
         self.note_moved(&visit, key, server, Keyword::Server);
-        match self.seat(seated, visit, hole) {
+        match self.seat(linked, visit, hole) {
             Then::Goes(guest, hole) => self.give(given, guest, hole, soon),
             Then::Rests => {
                 self.give_up_with(given);
@@ -206,12 +213,12 @@ impl<
             guest.visit.ended = false;
             return next(guest, hole, Task::Leave);
         }
-        match guest.seated.stage() {
+        match guest.stage() {
             Stage::Asking | Stage::Passing => self.keep(guest, hole, soon),
             Stage::Waiting => next(guest, hole, Task::Arrive),
             Stage::Dialing => next(guest, hole, Task::Dial),
             Stage::Telling => {
-                if guest.seated.has_told() {
+                if guest.linked.seated().has_told() {
                     self.end_or_ask_again(guest, hole)
                 } else {
                     self.keep(guest, hole, soon)

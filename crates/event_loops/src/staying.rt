@@ -19,22 +19,22 @@ impl<
 > Looper<'a, N, R> {
     /// A guest was told everything: it asks again where it may, and else is through.
     pub(crate) fn end_or_ask_again(&mut self, guest: Box<Guest<N>>, hole: Hole) -> Then<N> {
-        let Guest { seated, visit } = Box::into_inner(guest);
-        match seated.ask_again(self.settings.alloc) {
-            Err(seated) => self.finish_on(seated, visit, hole),
-            Ok(seated) => {
+        let Guest { linked, visit } = Box::into_inner(guest);
+        match linked.ask_again(self.settings.alloc) {
+            Err(linked) => self.finish_on(linked, visit, hole),
+            Ok(linked) => {
                 let mut visit = visit;
                 let client = client_of(&visit.presence);
                 self.tell_end(&mut visit.presence, &visit.client, By::Nobody, None);
-                visit.renew(self.settings.alloc);
+                visit.renew();
                 self.begin_account(&mut visit.presence, &visit.client, client);
-                if !seated.is_silent() {
+                if !linked.seated().is_silent() {
                     note_come(&mut visit.presence);
                 }
-                if self.shared.is_stopping() && seated.is_silent() {
-                    self.finish_on(seated, visit, hole)
+                if self.shared.is_stopping() && linked.seated().is_silent() {
+                    self.finish_on(linked, visit, hole)
                 } else {
-                    self.seat(seated, visit, hole)
+                    self.seat(linked, visit, hole)
                 }
             }
         }

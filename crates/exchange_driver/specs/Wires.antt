@@ -1,5 +1,5 @@
 -- One side of an exchange: a socket, and what came of it that waits to be taken.
-use Rattle.std.specs.Prelude.{◌≡◌, ◌<◌, ℕ, Bool, true, false, List, ◌++◌, length, Option, Some, None}
+use Rattle.std.specs.Prelude.{◌≡◌, ◌<◌, ℕ, Bool, true, false, List, [], ◌++◌, length, Option, Some, None}
 use Rattle.std.specs.Io.KnownBytes.{Consumes, Appends}
 use Rattle.exchange_driver.specs.Answers.{is_still}
 
@@ -34,7 +34,8 @@ abbrev pub is_still_at : Bool → Bool → Bool → Bool
 is_still_at false answered told = answered
 is_still_at true answered told = is_still answered told
 
--- What the socket gave came, or waits to be taken; what it took is what was sent; and bytes moved exactly where there is one among these.
+-- What the socket gave came, or waits to be taken; what it took is what was sent; and bytes moved exactly where there is one among these. Where there is no
+-- socket, none comes about, nothing moves, and nothing waits that didn't.
 pub record Carries (old new : Wire) (came_old came_new sent_old sent_new : List ℕ) (moved : Bool) : Type 0 where
   pub gave : List ℕ
   pub gone : Consumes old.left new.left gave
@@ -44,3 +45,6 @@ pub record Carries (old new : Wire) (came_old came_new sent_old sent_new : List 
   pub sent : sent_new ≡ sent_old ++ took
   pub some : moved ≡ true → 0 < length (gave ++ took)
   pub none : 0 < length (gave ++ took) → moved ≡ true
+  pub same : new.there ≡ old.there
+  pub idle : old.there ≡ false → moved ≡ false
+  pub still : old.there ≡ false → old.waits ≡ [] → new.waits ≡ []

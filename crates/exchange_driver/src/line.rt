@@ -1,4 +1,4 @@
-ghost use Rattle.std.specs.Prelude.{◌≡◌, ◌≤◌, ◌<◌, ◌+◌, ◌++◌, ℕ, [], length, take, drop, None, true, false};
+ghost use Rattle.std.specs.Prelude.{◌≡◌, ◌≤◌, ◌<◌, ◌+◌, ◌++◌, ℕ, [], length, take, drop, None, true, false, is_some, IfSome};
 ghost use Rattle.std.specs.Io.KnownBytes.{Consumes, Appends};
 ghost use Rattle.exchange_driver.specs.Answers.{came, went};
 ghost use Rattle.exchange_driver.specs.Wires.{is_still_at};
@@ -61,12 +61,18 @@ impl<S: Socket> Line<S> {
     }
 
     /// The socket, where there is one.
-    pub fn socket(&self) -> Option<&S> {
+    pub fn socket(&self) -> Option<&S>
+        ensures { is_some result ≡ self.now.there }
+    {
         self.socket.as_ref()
     }
 
     /// The socket, and what came of it that nobody took is let go.
-    pub fn into_socket(self) -> Option<S> {
+    pub fn into_socket(self) -> Option<S>
+        ensures there { is_some result ≡ self.there }
+        ensures left { IfSome result (λ socket. S.left socket ≡ self.left) }
+        ensures taken { IfSome result (λ socket. S.taken socket ≡ self.taken) }
+    {
         let Line { socket, waits: _ } = self;
         socket
     }
@@ -127,6 +133,7 @@ impl<S: Socket> Line<S> {
         ensures left { (self.new.left ≡ self.old.left) × (self.new.taken ≡ self.old.taken) }
         ensures waits { self.new.waits ≡ drop count self.old.waits }
         ensures told { (self.new.dry ≡ self.old.dry) × (self.new.full ≡ self.old.full) }
+        ensures there { self.new.there ≡ self.old.there }
     {
         forget(&mut self.waits, count);
     }
@@ -142,6 +149,8 @@ impl<S: Socket> Line<S> {
         ensures dry { result ≡ Heard.Nothing → self.new.dry ≡ true }
         ensures waits { self.new.waits ≡ self.old.waits }
         ensures taken { (self.new.taken ≡ self.old.taken) × (self.new.full ≡ self.old.full) }
+        ensures there { self.new.there ≡ self.old.there }
+        ensures none { self.old.there ≡ false → came result ≡ 0 }
     {
         if self.waits.reserve(buffer.len()).is_err() {
             return Heard::Ended { well: false };
@@ -158,6 +167,7 @@ impl<S: Socket> Line<S> {
         ensures left { (self.new.left ≡ self.old.left) × (self.new.taken ≡ self.old.taken) }
         ensures waits { self.new.waits ≡ self.old.waits ++ bytes.now }
         ensures told { (self.new.dry ≡ self.old.dry) × (self.new.full ≡ self.old.full) }
+        ensures there { self.new.there ≡ self.old.there }
     {
         match self.waits.extend_from_slice(bytes) {
             Ok(()) => {}
@@ -174,6 +184,8 @@ impl<S: Socket> Line<S> {
         ensures full { result ≡ Said.Full → self.new.full ≡ true }
         ensures left { (self.new.left ≡ self.old.left) × (self.new.dry ≡ self.old.dry) }
         ensures waits { (self.new.waits ≡ self.old.waits) × (self.new.room ≡ self.old.room) }
+        ensures there { self.new.there ≡ self.old.there }
+        ensures none { self.old.there ≡ false → went result ≡ 0 }
     {
         match &mut self.socket {
             None => Said::Full,

@@ -39,7 +39,7 @@ pub use ringing::run_checks;
 pub use shared::{Shared, SharedParts};
 pub use spots::empty_spots;
 pub use steering::run_controls;
-pub use unused::{Unused, UnusedCounts};
+pub use unused::UnusedCounts;
 pub use watching::{watch, watch_anew};
 pub use windows::run_windows;
 

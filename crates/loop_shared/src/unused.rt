@@ -1,71 +1,11 @@
-//! Connections of servers that no exchange uses, and whose next byte is the first of an answer.
-
-ghost use Rattle.std.specs.Prelude.{◌≡◌, [], true, IfSome};
-ghost use Rattle.mixed_exchange.specs.Chains.{is_clean};
+//! How many connections of servers no exchange uses.
 
 use crate::shared::Shared;
-use exchange_driver::{Heard, Line, Live, Socket};
 use grant_board::BoardName;
-use seated_exchange::Seated;
 use std::alloc::{AllocError, Global};
-use std::os::fd::{AsRawFd, RawFd};
 use std::sync::Wait;
 use std::sync::atomic::{AtomicBool, AtomicU64, Ordering};
 use std::sync::ledger::Ledger;
-
-/// A server's connection between two exchanges. It is made of one alone whose exchange ended clean: both messages stand at their ends, and both sides agreed
-/// that it stays (RFC 9112, section 9.3).
-#[derive(Drop)]
-pub struct Unused {
-    server: usize,
-    live: Live,
-}
-
-impl Unused {
-    /// The connection of an exchange to this server, where it can be used for another.
-    pub fn of<N: BoardName + Ledger>(
-        seated: &Seated<N>,
-        server: usize,
-        line: Line<Live>,
-    ) -> Option<Unused>
-        ensures clean { IfSome result (λ it. is_clean seated.now.exchange ≡ true) }
-        ensures read { IfSome result (λ it. line.waits ≡ []) }
-        ensures server { IfSome result (λ it. it.server ≡ server) }
-    {
-        if !seated.is_clean() || !line.waiting().is_empty() {
-            return None;
-        }
-        let live = line.into_socket()?;
-        Some(Unused { server, live })
-    }
-
-    /// The number of its server.
-    pub fn server(&self) -> usize
-        ensures { result ≡ self.now.server }
-    {
-        self.server
-    }
-
-    pub fn descriptor(&self) -> RawFd {
-        self.live.stream().as_raw_fd()
-    }
-
-    /// The connection for another exchange. None: a byte came meanwhile that nobody asked for, or its end, so that it is closed.
-    pub fn used(self, alloc: Global, buffer: &mut [u8]) -> Option<Line<Live>>
-        ensures there { IfSome result (λ line. (line.there ≡ true) × (line.waits ≡ [])) }
-        ensures dry { IfSome result (λ line. line.dry ≡ true) }
-    {
-        if buffer.is_empty() {
-            return None;
-        }
-        let Unused { server: _, live } = self;
-        let mut live = live;
-        match live.hear(buffer) {
-            Heard::Nothing => Some(Line::new(alloc, live)),
-            Heard::Bytes(_) | Heard::Ended { well: _ } => None,
-        }
-    }
-}
 
 /// How many unused connections there are, of each server and in all.
 #[derive(Drop)]

@@ -1,6 +1,8 @@
 ghost use Rattle.std.specs.Prelude.{◌≡◌, ℕ, []};
+ghost use Rattle.exchange_machine.specs.Histories.{History};
 ghost use Rattle.mixed_exchange.specs.Passes.{came_with};
-ghost use Rattle.mixed_exchange.specs.Steps.{IsOwn, IsOwnOf};
+ghost use Rattle.mixed_exchange.specs.Steps.{IsOwn, IsOwnOf, heard};
+ghost use Rattle.mixed_exchange.specs.declared.exchange.Exchange.{Exchange};
 ghost use Rattle.mixed_exchange.specs.declared.exchange.Outcome.{Outcome};
 
 use exchange_machine::Terms;
@@ -27,6 +29,8 @@ impl Notice {
     pub(crate) fn event(self) -> Event<'static>
         ensures none { (used : ℕ) → came_with result used ≡ [] }
         ensures own { (outcome : Outcome) → IsOwnOf result outcome → IsOwn outcome }
+        ensures sent { (x : Exchange) (used : ℕ) (h : History) → (heard x result used h).to_server ≡ h.to_server }
+        ensures came { (x : Exchange) (used : ℕ) (h : History) → (heard x result used h).server_in ≡ h.server_in }
     {
         match self {
             Notice::Unserved => Event::Unserved,

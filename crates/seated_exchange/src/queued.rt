@@ -1,6 +1,7 @@
 ghost use Rattle.std.specs.Prelude.{◌≡◌, ◌∷◌, []};
 ghost use Rattle.mixed_exchange.specs.Passes.{held_by};
 ghost use Rattle.relay_http.specs.States.{Serves};
+ghost use Rattle.seated_exchange.specs.Connections.{IsUnsentYet};
 ghost use Rattle.seated_exchange.specs.Seats.{HasWaited};
 
 use crate::seated::Seated;
@@ -35,6 +36,7 @@ impl Queued {
     pub fn grant<N: BoardName + Ledger>(self, taken: Taken<N>) -> Seated<N>
         requires { Serves taken.held.pass.verdict }
         ensures pass { held_by result.exchange ≡ taken.held.pass ∷ [] }
+        ensures unsent { IsUnsentYet result.exchange }
     {
         let Queued { waiting } = self;
         let (seat, pass, out) = taken.into_parts();

@@ -1,11 +1,13 @@
 ghost use Rattle.std.specs.Prelude.{◌≡◌, ◌<◌, ◌≤◌, ◌++◌, ◌∷◌, [], true, false, length, is_some, IfOk, IfErr, IfSome, MatchOption};
-ghost use Rattle.exchange_driver.specs.Drives.{IsDownAtRest, IsUpAtRest};
+ghost use Rattle.exchange_driver.specs.Drives.{Drives, IsDownAtRest, IsUpAtRest};
 ghost use Rattle.grant_board.specs.RelayCalls.{post_after};
 ghost use Rattle.exchange_machine.specs.Histories.{History};
 ghost use Rattle.mixed_exchange.specs.Chains as chains;
 ghost use Rattle.mixed_exchange.specs.Passes.{held_by, gone_with};
 ghost use Rattle.mixed_exchange.specs.Steps as steps;
+ghost use Rattle.mixed_exchange.specs.declared.exchange.Outcome as outcomes;
 ghost use Rattle.mixed_exchange.specs.Steps.{HasHistory};
+ghost use Rattle.seated_exchange.specs.Connections.{StillHolds};
 ghost use Rattle.seated_exchange.specs.Seats.{passes_at, board_at, terms_at, is_taken, all_serve, server_of, served_by, may_end};
 
 use crate::notice::Notice;
@@ -278,6 +280,12 @@ impl<N: BoardName + Ledger> Seated<N> {
         buffer: &mut [u8],
     ) -> Served<N>
         requires { 0 < length buffer.old }
+        ensures at { (h : History) → steps.IsAt self.exchange h → (outcome : outcomes.Outcome)
+            × Drives client.old client.new server.old server.new (is_some result.client) (is_some result.server) h result.seated.exchange outcome
+            × (outcome ≡ outcomes.Outcome.Retries → result.given ≡ Given.Retries)
+            × (result.given ≡ Given.Retries → outcome ≡ outcomes.Outcome.Retries) }
+        ensures holds { StillHolds (held_by self.exchange) (held_by result.seated.exchange) }
+        ensures there { server.new.there ≡ server.old.there }
         ensures down { result.rest ≡ Rest.Waits → IsDownAtRest result.seated.exchange client.new server.new }
         ensures up { result.rest ≡ Rest.Waits → IsUpAtRest result.seated.exchange client.new server.new }
     {
@@ -304,8 +312,14 @@ impl<N: BoardName + Ledger> Seated<N> {
         }
     }
 
-    /// It is told something.
-    pub fn tell(self, settings: Settings, notice: Notice) -> Served<N> {
+    /// It is told something: no byte goes to a server by it, and none comes of one.
+    pub fn tell(self, settings: Settings, notice: Notice) -> Served<N>
+        ensures at { (h : History) → steps.IsAt self.exchange h → (now : History) × (outcome : outcomes.Outcome)
+            × (now.to_server ≡ h.to_server) × (now.server_in ≡ h.server_in) × steps.IsAt result.seated.exchange (steps.ended outcome now)
+            × (outcome ≡ outcomes.Outcome.Retries → result.given ≡ Given.Retries)
+            × (result.given ≡ Given.Retries → outcome ≡ outcomes.Outcome.Retries) }
+        ensures holds { StillHolds (held_by self.exchange) (held_by result.seated.exchange) }
+    {
         let Seated {
             exchange,
             seat,
@@ -382,6 +396,8 @@ fn part<N: BoardName + Ledger>(
     requires few { length (gone_with outcome ++ held_by exchange) ≤ 1 }
     requires at { HasHistory exchange }
     ensures exchange { result.seated.exchange ≡ exchange }
+    ensures retries { outcome ≡ Outcome.Retries → result.given ≡ Given.Retries }
+    ensures anew { result.given ≡ Given.Retries → outcome ≡ Outcome.Retries }
 {
     match outcome {
         Outcome::Quiet | Outcome::Starved => Parted {
@@ -405,6 +421,7 @@ fn posts<N: BoardName + Ledger>(exchange: Exchange, posting: Posting<N>) -> Part
     requires none { held_by exchange ≡ [] }
     requires at { HasHistory exchange }
     ensures exchange { result.seated.exchange ≡ exchange }
+    ensures given { result.given ≡ Given.Posts posting }
 {
     Parted {
         seated: Seated::of(exchange, None, None),

@@ -9,4 +9,4 @@ returns-clause-at g c h is =
     let step = c.step-step.result in
     let at = subst (λ (l : List ℕ). IsAt step.next (ended step.outcome (server_came h (take step.used l)))) c.waiting.ensures (c.step-step.ensures.at h is) in
     rw (c.behind.ensures.exchange, c.behind.ensures.outcome, c.behind.ensures.did)
-    (server_used _ _ _ h step.used _ _ c.taken.ensures.left.0 c.taken.ensures.left.1 c.taken.ensures.waits at)
+    (server_used _ _ _ h step.used _ _ c.taken.ensures.left.0 c.taken.ensures.left.1 c.taken.ensures.waits c.taken.ensures.there at)

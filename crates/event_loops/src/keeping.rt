@@ -1,6 +1,6 @@
 //! Guests in their slots: kept until there is more to do, and let go.
 
-use crate::guest::{break_off, Guest, Keyword, Resident, Visit, Watch};
+use crate::guest::{Guest, Keyword, Resident, Visit, Watch, break_off};
 use crate::looping::Looper;
 use crate::serving::Then;
 use exchange_driver::{Live, Socket};
@@ -35,12 +35,7 @@ impl<
     R: Net<Listener = TcpListener, Stream = TcpStream> + Clock + Print + Wait,
 > Looper<'a, N, R> {
     /// An exchange and its visit are a guest. Where there is no memory for it, it is over.
-    pub(crate) fn seat(
-        &mut self,
-        linked: Linked<N, Live>,
-        visit: Visit,
-        hole: Hole,
-    ) -> Then<N> {
+    pub(crate) fn seat(&mut self, linked: Linked<N, Live>, visit: Visit, hole: Hole) -> Then<N> {
         match Box::new(self.settings.alloc, Guest { linked, visit }) {
             Ok(guest) => Then::Goes(guest, hole),
             Err(refused) => {

@@ -151,7 +151,10 @@ impl<
                 let Some(unused) = self.take_unused(server) else {
                     break;
                 };
-                if guest.linked.take_up(self.settings.alloc, unused, self.buffer.as_mut_slice()) {
+                if guest
+                    .linked
+                    .take_up(self.settings.alloc, unused, self.buffer.as_mut_slice())
+                {
                     return true;
                 }
             }

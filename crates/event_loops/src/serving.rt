@@ -139,11 +139,7 @@ impl<
     fn serve(&mut self, guest: Box<Guest<N>>, hole: Hole) -> Then<N> {
         let Guest { linked, visit } = Box::into_inner(guest);
         let mut visit = visit;
-        let carried = linked.drive(
-            self.settings,
-            &mut visit.client,
-            self.buffer.as_mut_slice(),
-        );
+        let carried = linked.drive(self.settings, &mut visit.client, self.buffer.as_mut_slice());
         let soon = match carried.rest {
             Rest::Waits => Soon::Rests,
             Rest::Again => Soon::Later,

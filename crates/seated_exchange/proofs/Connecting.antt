@@ -1,5 +1,7 @@
 -- A server's connection over what its exchange does.
-use Rattle.std.proofs.Common.{◌≡◌, ◌≢◌, ◌∙◌, ◌<◌, ◌≤◌, ◌⊎◌, inl, inr, ℕ, Bool, true, false, List, [], ◌∷◌, ◌++◌, Option, length, refl, sym, ap, subst, append_assoc, append-nil, arith}
+use Rattle.std.proofs.Common.{◌≡◌, ◌≢◌, ◌∙◌, ◌<◌, ◌≤◌, ◌==◌, ◌⊎◌, inl, inr, ℕ, Bool, true, false, List, [], ◌∷◌, ◌++◌, Option, Some, None, length, refl, sym, ap, subst, append_assoc, append-nil, arith}
+use Rattle.std.proofs.Math.Logic.{∥∥₁_map}
+use Rattle.std.proofs.lemmas.Bool.{eqb-true}
 use Rattle.std.specs.List.{flat_map, AllByRecursion}
 use Rattle.std.specs.Io.KnownBytes.{Consumes, Appends}
 use Rattle.std.proofs.lemmas.Grind.{flat_map-append}
@@ -10,14 +12,18 @@ use Rattle.exchange_machine.specs.Histories.{History}
 use Rattle.exchange_machine.specs.Stages.{IsUnsent}
 use Rattle.exchange_machine.specs.Wholes.{Whole, IsWhole, EndsClean, forwarded_of, answer_of_server}
 use Rattle.mixed_exchange.specs.Passes.{held_by, gone_with}
-use Rattle.mixed_exchange.specs.Steps.{IsAt, ended}
+use Rattle.exchange_machine.specs.declared.dialing.Dialing.{Dialing}
+use Rattle.mixed_exchange.specs.Steps.{IsAt, HasHistory, ended}
 use Rattle.mixed_exchange.specs.declared.exchange.Exchange.{Exchange}
+use Rattle.mixed_exchange.specs.declared.exchange.Exchange.TheVariants as Stages
 use Rattle.mixed_exchange.specs.declared.exchange.Outcome.{Outcome}
 use Rattle.mixed_exchange.specs.declared.exchange.Outcome.TheVariants as Outcomes
 use Rattle.mixed_exchange.proofs.StepLemmas.{at_sound}
 use Rattle.exchange_driver.specs.Drives.{Drives}
 use Rattle.exchange_driver.specs.Wires.{Wire, Carries}
-use Rattle.seated_exchange.specs.Connections.{IsOpenToServer, SentInOrder, IsServedOn, IsBehind, IsLeftBy, StillHolds}
+use Rattle.seated_exchange.specs.Connections.{IsOpenToServer, SentInOrder, IsServedOn, IsBehind, IsLeftBy, IsUnsentYet, StillHolds}
+use Rattle.seated_exchange.specs.Seats.{server_of}
+use Rattle.seated_exchange.proofs.Seating.{held_one}
 
 -- what is given away is neither a byte of the server's nor one for it, where its connection isn't given up
 pub ended_sent : (outcome : Outcome) (h : History) → outcome ≢ Outcomes.Retries → (ended outcome h).to_server ≡ h.to_server
@@ -57,6 +63,10 @@ handed f before w all now is whole =
 none_of : (l : List ℕ) → ¬ (0 < length l) → l ≡ []
 none_of [] never = refl
 none_of (b ∷ l) never = absurd (never (omega arith))
+
+pub none_waits : (l : List ℕ) → (length l == 0) ≡ true → l ≡ []
+none_waits [] is = refl
+none_waits (b ∷ l) is = absurd (omega (arith, eqb-true (length (b ∷ l)) 0 is))
 
 front_none : (a b : List ℕ) → a ++ b ≡ [] → a ≡ []
 front_none [] b is = refl
@@ -124,7 +134,7 @@ pub driven_unsent : (c0 c1 s0 s1 : Wire) (a b : Bool) (h : History) (y : Exchang
 driven_unsent c0 c1 s0 s1 a b h y outcome d there waits u =
     let idle = d.server.idle there in
     let none : d.server.gave ++ d.server.took ≡ [] = none_of (d.server.gave ++ d.server.took)
-        (λ low. let no : true ≡ false = sym (d.server.none low) ∙ idle in cc) in
+    (λ low. let no : true ≡ false = sym (d.server.none low) ∙ idle in cc) in
     let came : d.now.server_in ++ s1.waits ≡ [] =
     d.server.came ∙ ap (λ l. (l ++ s0.waits) ++ d.server.gave) u.answer ∙ ap (λ l. l ++ d.server.gave) waits
     ∙ front_none d.server.gave d.server.took none in
@@ -206,3 +216,34 @@ still_holds old [] (Outcomes.StarvedPosts pass ending) few is = inl refl
 still_holds old (p ∷ new) (Outcomes.StarvedPosts pass ending) few is = absurd (omega (arith, few))
 still_holds old new Outcomes.Retries few is = inr (sym is)
 still_holds old new (Outcomes.Returns pass) few is = inr (sym is)
+
+pub holds_on : (x y z : Exchange) (outcome : Outcome) → held_by x ≡ gone_with outcome ++ held_by y → z ≡ y → StillHolds (held_by x) (held_by z)
+holds_on x y z outcome is same = subst (λ (v : Exchange). StillHolds (held_by x) (held_by v)) (sym same)
+    (still_holds (held_by x) (held_by y) outcome (subst (λ (l : List Grant). length l ≤ 1) is (held_one x)) is)
+
+-- who is dialed for was sent nothing
+pub dialing_unsent : (x : Exchange) (d : Dialing) → x ≡ Stages.Dialing d → HasHistory x → IsUnsentYet x
+dialing_unsent x d is has some = subst (λ (v : Exchange). ∥ ((h : History) × IsAt v h × IsUnsent h) ∥₁) (sym is)
+    (∥∥₁_map (subst HasHistory is has) (λ it. (it.0, it.1, it.1.unsent)))
+
+-- a poll that told of it changes nothing of what went over it
+pub woken_on : (opened s0 s1 : Wire) (before : List Whole) (x : Exchange) → s1.left ≡ s0.left → s1.taken ≡ s0.taken → s1.waits ≡ s0.waits
+    → IsServedOn opened before x s0 → IsServedOn opened before x s1
+woken_on opened s0 s1 before x left taken waits s = record {
+  history = s.history;
+  at = s.at;
+  sent = s.sent;
+  came = s.came;
+  order = s.order;
+  took = subst (λ (l : Option (List ℕ)). Appends opened.taken l s.sent) (sym taken) s.took;
+  gave = subst (λ (l : Option (List ℕ)). Consumes opened.left l (s.came ++ s1.waits)) (sym left)
+      (subst (λ (l : List ℕ). Consumes opened.left s0.left (s.came ++ l)) (sym waits) s.gave);
+}
+
+pub held_before : (old new : List Grant) → StillHolds old new → new ≢ [] → old ≢ []
+held_before old new (inl none) some is = some none
+held_before old new (inr same) some is = some (same ∙ is)
+
+pub has_server : (passes : List Grant) (server : ℕ) → server_of passes ≡ Some server → passes ≢ []
+has_server passes server is none =
+    let lost : None ≡ Some server = sym (ap server_of none) ∙ is in cc

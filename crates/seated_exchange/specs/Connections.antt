@@ -12,7 +12,7 @@ use Rattle.mixed_exchange.specs.Passes.{held_by}
 use Rattle.mixed_exchange.specs.Steps.{IsAt}
 use Rattle.mixed_exchange.specs.declared.exchange.Exchange.{Exchange}
 use Rattle.exchange_driver.specs.Wires.{Wire}
-use Rattle.seated_exchange.specs.Seats.{served_by}
+use Rattle.seated_exchange.specs.Seats.{server_of}
 
 -- behind it the server may be asked again: it was asked to keep its connection, and keeps it
 pub record IsOpenToServer (w : Whole) : Type 0 where
@@ -69,8 +69,7 @@ IsUnsentYet x = held_by x ≢ [] → ∥ ((h : History) × IsAt x h × IsUnsent 
 
 -- the server is that of the pass, where one is held
 abbrev pub IsFor : ℕ → List Grant → Type 0
-IsFor server [] = Unit {0}
-IsFor server (pass ∷ passes) = served_by pass.verdict ≡ Some server
+IsFor server passes = passes ≢ [] → server_of passes ≡ Some server
 
 -- no pass is held any more, or the same
 abbrev pub StillHolds : List Grant → List Grant → Type 0

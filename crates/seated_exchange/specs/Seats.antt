@@ -3,16 +3,18 @@ use Rattle.std.specs.Prelude.{ℕ, Bool, true, false, ◌&&◌, List, [], ◌∷
 use Rattle.atomic_table.specs.Seated.{TableId}
 use Rattle.exchange_machine.specs.Histories.{History}
 use Rattle.exchange_machine.specs.Stages.{IsWaiting}
-use Rattle.exchange_machine.specs.declared.waiting.Waiting.{Waiting}
+use Rattle.exchange_machine.specs.declared.waiting.Waiting as waitings
 use Rattle.grant_board.specs.RelayCalls.{Relay}
 use Rattle.grant_board.specs.Views.{Grant, Terms}
+use Rattle.mixed_exchange.specs.declared.exchange.Exchange.{Exchange}
+use Rattle.mixed_exchange.specs.declared.exchange.Exchange.TheVariants.{Asking, Waiting, Dialing, Passing, Settling, Leaving, Telling, Over}
 use Rattle.verdict.specs.declared.Ending.{Ending}
 use Rattle.verdict.specs.declared.Ending.TheVariants.{Done, Failed}
 use Rattle.verdict.specs.declared.Verdict.{Verdict}
 use Rattle.verdict.specs.declared.Verdict.TheVariants.{Serve, Told}
 
 -- there is a history that it waits after
-abbrev pub HasWaited : Waiting → Type 0
+abbrev pub HasWaited : waitings.Waiting → Type 0
 HasWaited w = ∥ ((h : History) × IsWaiting w h) ∥₁
 
 abbrev pub has_one : List Grant → Bool
@@ -62,3 +64,14 @@ abbrev pub may_end : Verdict → Ending → Bool
 may_end (Serve server) ending = true
 may_end (Told cause) Done = true
 may_end (Told cause) Failed = false
+
+-- it waits for a pass
+abbrev pub is_waiting : Exchange → Bool
+is_waiting (Asking a) = false
+is_waiting (Waiting w) = true
+is_waiting (Dialing d) = false
+is_waiting (Passing p) = false
+is_waiting (Settling s) = false
+is_waiting (Leaving l) = false
+is_waiting (Telling t) = false
+is_waiting Over = false

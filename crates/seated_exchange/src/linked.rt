@@ -9,7 +9,7 @@ ghost use Rattle.mixed_exchange.specs.Passes.{held_by};
 ghost use Rattle.mixed_exchange.specs.Steps as steps;
 ghost use Rattle.seated_exchange.specs.Connections.{IsOn, IsBehind, IsLeft, IsFor, IsUnsentYet};
 ghost use Rattle.relay_http.specs.States.{Serves};
-ghost use Rattle.seated_exchange.specs.Seats.{server_of};
+ghost use Rattle.seated_exchange.specs.Seats.{is_waiting, server_of};
 
 use crate::notice::Notice;
 use crate::queued::Queued;
@@ -136,10 +136,12 @@ impl<N: BoardName + Ledger, S: Socket> Linked<N, S> {
             → IsOn opened before self.new.seated.exchange self.new.line) }
         ensures refused { OnFalse result (self.new ≡ self.old) }
     {
-        if !self.seated.takes_used() || self.wanted() != Some(unused.server()) {
+        let Some(server) = self.wanted() else {
+            return false;
+        };
+        if server != unused.server() || !self.seated.takes_used() {
             return false;
         }
-        let server = unused.server();
         let Some(socket) = unused.into_quiet(buffer) else {
             return false;
         };
@@ -225,20 +227,19 @@ impl<N: BoardName + Ledger, S: Socket> Linked<N, S> {
 
     /// The exchange that waits for a pass, where it does.
     pub fn into_queued(self) -> Result<Queued, Linked<N, S>>
-        ensures same { IfErr result (λ linked. linked ≡ self) }
+        ensures same { IfErr result (λ linked. (linked ≡ self) × (is_waiting self.seated.exchange ≡ false)) }
     {
+        if !self.seated.is_waiting() {
+            return Err(self);
+        }
         let Linked {
             seated,
-            line,
-            server,
+            line: _,
+            server: _,
         } = self;
         match seated.into_queued() {
             Ok(queued) => Ok(queued),
-            Err(seated) => Err(Linked {
-                seated,
-                line,
-                server,
-            }),
+            Err(_seated) => unreachable!(),
         }
     }
 
@@ -250,18 +251,17 @@ impl<N: BoardName + Ledger, S: Socket> Linked<N, S> {
         ensures may { IfOk result (λ next. chains.may_ask_again self.seated.exchange ≡ true) }
         ensures same { IfErr result (λ linked. (linked ≡ self) × (chains.may_ask_again self.seated.exchange ≡ false)) }
     {
+        if !self.seated.may_ask_again() {
+            return Err(self);
+        }
         let Linked {
             seated,
-            line,
-            server,
+            line: _,
+            server: _,
         } = self;
         match seated.ask_again(alloc) {
             Ok(next) => Ok(Linked::without_line(alloc, next)),
-            Err(seated) => Err(Linked {
-                seated,
-                line,
-                server,
-            }),
+            Err(_seated) => unreachable!(),
         }
     }
 

@@ -1,14 +1,15 @@
-ghost use Rattle.std.specs.Prelude.{◌≡◌, ◌<◌, ◌≤◌, ◌++◌, ◌∷◌, [], true, false, length, is_some, IfOk, IfErr, IfSome, MatchOption};
+ghost use Rattle.std.specs.Prelude.{◌≡◌, ◌<◌, ◌≤◌, ◌++◌, ◌∷◌, [], true, false, length, is_some, IfOk, IfErr, IfSome, IsTrue, MatchOption};
 ghost use Rattle.exchange_driver.specs.Drives.{Drives, IsDownAtRest, IsUpAtRest};
 ghost use Rattle.grant_board.specs.RelayCalls.{post_after};
 ghost use Rattle.exchange_machine.specs.Histories.{History};
+ghost use Rattle.exchange_machine.specs.Wholes.{EndsClean};
 ghost use Rattle.mixed_exchange.specs.Chains as chains;
 ghost use Rattle.mixed_exchange.specs.Passes.{held_by, gone_with};
 ghost use Rattle.mixed_exchange.specs.Steps as steps;
 ghost use Rattle.mixed_exchange.specs.declared.exchange.Outcome as outcomes;
 ghost use Rattle.mixed_exchange.specs.Steps.{HasHistory};
 ghost use Rattle.seated_exchange.specs.Connections.{StillHolds};
-ghost use Rattle.seated_exchange.specs.Seats.{passes_at, board_at, terms_at, is_taken, all_serve, server_of, served_by, may_end};
+ghost use Rattle.seated_exchange.specs.Seats.{is_waiting, passes_at, board_at, terms_at, is_taken, all_serve, server_of, served_by, may_end};
 
 use crate::notice::Notice;
 use crate::queued::Queued;
@@ -204,7 +205,8 @@ impl<N: BoardName + Ledger> Seated<N> {
 
     /// Can its server's connection be used again, as `mixed_exchange` says?
     pub fn is_clean(&self) -> bool
-        ensures { result ≡ chains.is_clean self.now.exchange }
+        ensures clean { result ≡ chains.is_clean self.now.exchange }
+        ensures ends { IsTrue result → (h : History) → steps.IsAt self.now.exchange h → EndsClean h (steps.to_client self.now.exchange) }
     {
         self.exchange.is_clean()
     }
@@ -250,24 +252,40 @@ impl<N: BoardName + Ledger> Seated<N> {
     }
 
     /// The exchange that waits for a pass, where it does.
-    pub fn into_queued(self) -> Result<Queued, Seated<N>> {
+    pub fn into_queued(self) -> Result<Queued, Seated<N>>
+        ensures same { IfErr result (λ seated. (seated ≡ self) × (is_waiting self.exchange ≡ false)) }
+    {
+        if !self.is_waiting() {
+            return Err(self);
+        }
         let Seated {
             exchange,
-            seat,
+            seat: _,
             out,
-            name,
+            name: _,
         } = self;
         match exchange {
             Exchange::Waiting(waiting) => match out {
                 None => Ok(Queued::of(waiting)),
                 Some(_) => unreachable!(),
             },
-            exchange => Err(Seated {
-                exchange,
-                seat,
-                out,
-                name,
-            }),
+            _exchange => unreachable!(),
+        }
+    }
+
+    /// Does it wait for a pass?
+    pub fn is_waiting(&self) -> bool
+        ensures { result ≡ is_waiting self.now.exchange }
+    {
+        match &self.exchange {
+            Exchange::Waiting(_) => true,
+            Exchange::Asking(_)
+            | Exchange::Dialing(_)
+            | Exchange::Passing(_)
+            | Exchange::Settling(_)
+            | Exchange::Leaving(_)
+            | Exchange::Telling(_)
+            | Exchange::Over => false,
         }
     }
 

@@ -1,3 +1,7 @@
+use Rattle.std.proofs.Common.{◌∙◌, List, ◌++◌, sym, ap, append-nil}
+use Rattle.grant_board.specs.Views.{Grant}
+use Rattle.mixed_exchange.specs.Passes.{held_by}
+use Rattle.seated_exchange.proofs.Connecting.{holds_on}
 use Rattle.seated_exchange.proofs.Seating.{gone_few}
 use Rattle.seated_exchange.proofs.seated.Seated.tell.Goals as goal
 
@@ -6,3 +10,8 @@ part-seated-requires-clause-own g c = c.event.ensures.own _ c.step-next.ensures.
 
 pub part-seated-requires-clause-few : goal.part-seated-requires-clause-few
 part-seated-requires-clause-few g c = gone_few _ _ _ (c.step-next.ensures.passes c.args.self.at) (c.event.ensures.none _)
+
+pub returns-clause-holds : goal.returns-clause-holds
+returns-clause-holds g c =
+    holds_on _ _ _ _ (sym (append-nil (held_by c.args.self.exchange)) ∙ ap (λ (l : List Grant). held_by c.args.self.exchange ++ l) (sym (c.event.ensures.none _))
+    ∙ c.step-next.ensures.passes c.args.self.at) c.part-seated.ensures.exchange

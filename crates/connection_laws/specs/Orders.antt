@@ -2,7 +2,7 @@
 use Rattle.std.specs.Prelude.{◌≡◌, ◌≢◌, ℕ, true, List, ◌++◌}
 use Rattle.std.specs.List.{flat_map, AllByRecursion}
 use Rattle.list_facts.specs.Fronts.{IsFront}
-use Rattle.relay_http.specs.declared.persistence.Persistence.TheVariants.{Close, Persist}
+use Rattle.http_texts.specs.declared.persistence.Persistence.TheVariants.{Close, Persist}
 use Rattle.exchange_machine.specs.Headline.{ClientText, ToServer}
 use Rattle.exchange_machine.specs.Histories.{History}
 use Rattle.exchange_machine.specs.Wholes.{Whole, IsWhole, asked, told, forwarded_of, answer_of_server}

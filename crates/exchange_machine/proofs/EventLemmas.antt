@@ -1,15 +1,15 @@
 -- Ends, errors, times and refusals.
-use Rattle.std.proofs.Common.{◌≡◌, ◌∙◌, ℕ, ◌≢◌, ◌≤◌, ◌⊎◌, inl, inr, true, false, None, List, [], ◌∷◌, ◌++◌, take, drop, refl, sym, ap, append_assoc, subst}
+use Rattle.std.proofs.Common.{IsSome, ◌≡◌, ◌∙◌, ℕ, ◌≢◌, ◌≤◌, ◌⊎◌, inl, inr, true, false, None, List, [], ◌∷◌, ◌++◌, take, drop, refl, sym, ap, append_assoc, subst}
 use Rattle.std.proofs.lemmas.List.{take-append-drop, map-append}
 use Rattle.std.specs.List.{AllByRecursion}
 use Rattle.list_facts.proofs.Fronts.{front_nil, front_as}
 use Rattle.list_facts.proofs.Members.{all_append}
-use Rattle.relay_http.specs.Framings.{answer_plan, is_interim}
-use Rattle.relay_http.specs.Replies.{refusal_text}
-use Rattle.relay_http.specs.declared.fault.Fault.{Fault}
-use Rattle.relay_http.specs.declared.fault.Fault.TheVariants as Faulty
-use Rattle.relay_http.specs.declared.refusing.Code.{Code}
-use Rattle.relay_http.specs.declared.refusing.Code.TheVariants.{BadGateway, BadRequest, Unavailable}
+use Rattle.http_texts.specs.Framings.{answer_plan, is_interim}
+use Rattle.http_texts.specs.Replies.{refusal_text}
+use Rattle.http_texts.specs.declared.fault.Fault.{Fault}
+use Rattle.http_texts.specs.declared.fault.Fault.TheVariants as Faulty
+use Rattle.http_texts.specs.declared.refusals.Code.{Code}
+use Rattle.http_texts.specs.declared.refusals.Code.TheVariants.{BadGateway, BadRequest, Unavailable}
 use Rattle.req_view.specs.Answer.{Answer}
 use Rattle.req_view.specs.AnswerHeads.{SaysAnswer}
 use Rattle.req_view.specs.Request.{Request}
@@ -400,10 +400,11 @@ passing_lacks p h count is phase none =
 
 pub head_refused : (p : Passing) (h : History) (count : ℕ) (a : Answer) (len : ℕ) (method : List ℕ) → method ≡ p.view.method → IsPassing p h
     → p.phase ≡ Heads count
-    → SaysAnswer p.down_held.items a len → (answer_plan method a ≡ None) ⊎ ((is_interim a.status ≡ true) × (8 ≤ count)) → LacksAnswer p.view.method h.server_in
+    → SaysAnswer p.down_held.items a len → (answer_plan method a ≡ None) ⊎ (IsSome (answer_plan method a) × (is_interim a.status ≡ true) × (8 ≤ count))
+    → LacksAnswer p.view.method h.server_in
 head_refused p h count a len method same is phase says (inl none) =
     passing_lacks p h count is phase (unplanned a len says (ap (λ m. answer_plan m a) (sym same) ∙ none))
-head_refused p h count a len method same is phase says (inr more) = passing_lacks p h count is phase (ninth a len says more.0 more.1)
+head_refused p h count a len method same is phase says (inr more) = passing_lacks p h count is phase (ninth a len says more.1 more.2)
 
 pub ended_reason : (signs : List Sign) (r : Request) (behind answer : List ℕ) → HasEnded signs → Reason signs r behind answer BadGateway
 ended_reason signs r behind answer is = of_sign is.sign BadGateway is.shows is.tells

@@ -1,30 +1,30 @@
 -- What the sides gave, by the definitions of whole messages.
 use Rattle.std.proofs.Common.{cond, ◌&&◌, ◌≡◌, ◌≢◌, ◌∙◌, ℕ, ◌+◌, ◌-◌, ◌<◌, ◌≤◌, Bool, true, false, true≢false, Some, IsSome, List, [], ◌∷◌, ◌++◌, length, take, drop, refl, sym, ap, arith, append_assoc, append-nil, length-append, length-drop, subst, inl, inr}
 use Rattle.httparse.specs.Grammar.{ResponseHead, print_response}
-use Rattle.relay_http.specs.declared.refusing.Code.{Code}
+use Rattle.http_texts.specs.declared.refusals.Code.{Code}
 use Rattle.list_facts.specs.Fronts.{IsFront}
 use Rattle.relay_body.specs.Framings.{IsBody, LacksBody}
 use Rattle.relay_body.specs.declared.framing.Framing as Framed
-use Rattle.relay_http.specs.Messages.{PartOfForwarded, PartOfAnswered, IsForwarded, IsAnswered, print_heads, interims_text, IsInterim}
-use Rattle.relay_http.specs.Messages.PartOfForwarded.{head_and_body as forwards}
-use Rattle.relay_http.specs.Messages.PartOfAnswered.{some_heads, head_and_body as answers}
-use Rattle.relay_http.specs.Persistences.{is_delimited, is_kept_by_server, wished, answer_says}
-use Rattle.relay_http.specs.Texts.{request_text, answer_text, interim_text}
+use Rattle.http_texts.specs.Messages.{PartOfForwarded, PartOfAnswered, IsForwarded, IsAnswered, print_heads, interims_text, IsInterim}
+use Rattle.http_texts.specs.Messages.PartOfForwarded.{head_and_body as forwards}
+use Rattle.http_texts.specs.Messages.PartOfAnswered.{some_heads, head_and_body as answers}
+use Rattle.http_texts.specs.Persistences.{is_delimited, is_kept_by_server, wished, answer_says}
+use Rattle.http_texts.specs.Texts.{request_text, answer_text, interim_text}
 use Rattle.req_view.specs.Answer.{Answer, answer_of}
 use Rattle.req_view.specs.AnswerHeads.{SaysAnswer}
-use Rattle.relay_http.specs.Framings.{request_framing, answer_plan, is_interim}
-use Rattle.relay_http.specs.declared.additions.Additions.{Additions}
-use Rattle.relay_http.specs.declared.persistence.Persistence.{Persistence}
-use Rattle.relay_http.specs.declared.persistence.Persistence.TheVariants.{Close}
-use Rattle.relay_http.specs.declared.plans.Plan.{Plan}
-use Rattle.relay_http.proofs.Standing.{answer_alone, request_alone}
+use Rattle.http_texts.specs.Framings.{request_framing, answer_plan, is_interim}
+use Rattle.http_texts.specs.declared.additions.Additions.{Additions}
+use Rattle.http_texts.specs.declared.persistence.Persistence.{Persistence}
+use Rattle.http_texts.specs.declared.persistence.Persistence.TheVariants.{Close}
+use Rattle.http_texts.specs.declared.plans.Plan.{Plan}
+use Rattle.http_texts.proofs.Alone.{answer_alone, request_alone}
 use Rattle.req_view.specs.Heads.{BeginsWith, Tells}
 use Rattle.req_view.specs.declared.refusal.HeadRefusal.{HeadRefusal}
 use Rattle.req_view.specs.declared.refusal.HeadRefusal.TheVariants.{HeadFault, NoMemory}
 use Rattle.req_view.specs.declared.viewing.Viewed.TheVariants.{Refused as Seen}
-use Rattle.relay_http.specs.Faults.{of_refusal}
-use Rattle.relay_http.specs.declared.fault.Fault.{Fault}
-use Rattle.relay_http.specs.declared.fault.Fault.TheVariants as Faulty
+use Rattle.http_texts.specs.Faults.{of_refusal}
+use Rattle.http_texts.specs.declared.fault.Fault.{Fault}
+use Rattle.http_texts.specs.declared.fault.Fault.TheVariants as Faulty
 use Rattle.std.specs.Prelude.{None}
 use Rattle.std.proofs.lemmas.Grind.{flat_map-append}
 use Rattle.req_view.specs.Request.{Request}
@@ -38,8 +38,8 @@ use Rattle.body_coder.proofs.Running.{run_text, run_done, run_bad}
 use Rattle.std.specs.List.{AllByRecursion}
 use Rattle.httparse.specs.Grammar.{print_request}
 use Rattle.list_facts.proofs.Fronts.{front_same, front_nil, front_as, behind}
-use Rattle.relay_http.specs.Replies.{leave_text, refusal_text}
-use Rattle.relay_http.specs.Texts.{framed_for}
+use Rattle.http_texts.specs.Replies.{leave_text, refusal_text}
+use Rattle.http_texts.specs.Texts.{framed_for}
 use Rattle.exchange_machine.specs.Repeats.{IsTry}
 use Rattle.exchange_machine.specs.Headline.AreTries.{none as untried, of_request as some_tries}
 use Rattle.exchange_machine.specs.Answerings.{TellsAnswer}

@@ -5,7 +5,6 @@ pub mod Reasons
 pub mod Repeatables
 pub mod Repeats
 pub mod Requests
-pub mod Roles
 pub mod Settlings
 pub mod Sides
 pub mod Stages

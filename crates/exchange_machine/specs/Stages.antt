@@ -1,12 +1,12 @@
 -- What an exchange at each stage is, after a history.
 use Rattle.std.specs.Prelude.{◌≡◌, ◌≢◌, ℕ, false, true, List, [], ◌∷◌, ◌++◌, length, Some}
 use Rattle.std.specs.List.{AllByRecursion}
-use Rattle.relay_http.specs.Framings.{request_framing}
-use Rattle.relay_http.specs.Persistences.{wished}
-use Rattle.relay_http.specs.Replies.{leave_text}
-use Rattle.relay_http.specs.Texts.{framed_for}
-use Rattle.relay_http.specs.declared.fault.Fault.{Fault}
-use Rattle.relay_http.specs.declared.persistence.Persistence.TheVariants.{Close}
+use Rattle.http_texts.specs.Framings.{request_framing}
+use Rattle.http_texts.specs.Persistences.{wished}
+use Rattle.http_texts.specs.Replies.{leave_text}
+use Rattle.http_texts.specs.Texts.{framed_for}
+use Rattle.http_texts.specs.declared.fault.Fault.{Fault}
+use Rattle.http_texts.specs.declared.persistence.Persistence.TheVariants.{Close}
 use Rattle.req_view.specs.Heads.{HasNoHead}
 use Rattle.exchange_machine.specs.Answerings.{TellsAnswer}
 use Rattle.exchange_machine.specs.Headline.{AreTries, IsFair, ClientText, ToClient, ToServer}

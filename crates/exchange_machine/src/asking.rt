@@ -3,17 +3,16 @@ ghost use Rattle.exchange_machine.specs.Histories.{History, client_came, nothing
 ghost use Rattle.exchange_machine.specs.Reasons.{Shows};
 ghost use Rattle.exchange_machine.specs.Stages as stages;
 ghost use Rattle.exchange_machine.specs.Wants.{is_none};
-ghost use Rattle.relay_http.specs.Framings.{request_framing};
+ghost use Rattle.http_texts.specs.Framings.{request_framing};
 ghost use Rattle.req_view.specs.Heads.{BeginsWith, HasNoHead};
 
 use crate::held::{HEAD_BYTES, forget, has_feed};
-use crate::roles::fault_of;
 use crate::signs::Sign;
 use crate::telling::Telling;
 use crate::waiting::{Asked, Waiting};
 use body_coder::Coding;
 use relay_body::Framing;
-use relay_http::{Code, Fault, request_framing};
+use http_texts::{Code, Fault, fault_of, request_framing};
 use req_view::{View, Viewed, view};
 use std::alloc::Global;
 

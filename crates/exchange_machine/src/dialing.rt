@@ -2,8 +2,8 @@ ghost use Rattle.std.specs.Prelude.{◌≡◌, [], false, IfOk, IfErr};
 ghost use Rattle.exchange_machine.specs.Histories.{History, connected_on, posted};
 ghost use Rattle.exchange_machine.specs.Repeatables as repeats;
 ghost use Rattle.exchange_machine.specs.Stages as stages;
-ghost use Rattle.relay_http.specs.Replies.{leave_text};
-ghost use Rattle.relay_http.specs.Texts.{request_text};
+ghost use Rattle.http_texts.specs.Replies.{leave_text};
+ghost use Rattle.http_texts.specs.Texts.{request_text};
 
 use crate::passing::Passing;
 use crate::repeating::{is_bare, is_idempotent};
@@ -12,7 +12,7 @@ use crate::texts::{put_leave, put_request};
 use crate::waiting::{Asked, Waiting};
 use crate::way::Way;
 use grant_board::Pass;
-use relay_http::{Additions, Persistence};
+use http_texts::{Additions, Persistence};
 use std::alloc::Global;
 use verdict::Ending;
 

@@ -15,11 +15,10 @@ use crate::passing::Passing;
 use crate::repeating::{is_bare, is_idempotent};
 use crate::settling::Settling;
 use crate::sides::Down;
-use crate::telling::refusal;
 use crate::texts::put_text;
 use crate::waiting::{Asked, Waiting};
 use grant_board::Pass;
-use relay_http::{Code, Persistence};
+use http_texts::{Code, Persistence};
 use verdict::Ending;
 
 /// What is left of an exchange whose pass is to be posted.
@@ -57,7 +56,7 @@ impl Passing {
         let Ended { pass, ending, rest } = self.end();
         let Leaving { mut out, .. } = rest;
         out.keep_front(leave_left);
-        let _ = put_text(&mut out, refusal(code));
+        let _ = put_text(&mut out, code.text());
         Ended {
             pass,
             ending,

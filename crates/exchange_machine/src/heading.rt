@@ -4,15 +4,14 @@ ghost use Rattle.std.specs.Prelude.{◌≡◌, ◌≢◌, ◌<◌, ℕ, true, fa
 ghost use Rattle.exchange_machine.specs.Histories.{History};
 ghost use Rattle.exchange_machine.specs.Reasons.{LacksAnswer};
 ghost use Rattle.exchange_machine.specs.Stages as stages;
-ghost use Rattle.relay_http.specs.Framings.{answer_plan, is_interim};
+ghost use Rattle.http_texts.specs.Framings.{answer_plan, is_interim};
 ghost use Rattle.req_view.specs.AnswerHeads.{SaysAnswer};
 
 use crate::held::forget;
 use crate::passing::Passing;
-use crate::roles::{Role, is_framed, role_of};
 use crate::sides::Down;
 use crate::texts::put_text;
-use relay_http::{Plan, answer_head_text, answer_says, interim_head, is_kept_by_server};
+use http_texts::{Plan, Role, answer_head_text, answer_says, interim_head, is_framed, is_kept_by_server, role_of};
 use req_view::{AnswerHead, HeadRefusal, Viewed, answer_head};
 use std::alloc::Global;
 

@@ -10,7 +10,6 @@ mod laws;
 mod leaving;
 mod passing;
 mod repeating;
-mod roles;
 mod settling;
 mod sides;
 mod signs;

@@ -12,7 +12,7 @@ use crate::signs::Sign;
 use crate::way::Way;
 use grant_board::Pass;
 use relay_body::Framing;
-use relay_http::{Additions, Persistence};
+use http_texts::{Additions, Persistence};
 use req_view::View;
 use std::alloc::AllocError;
 

@@ -7,7 +7,7 @@ use crate::dialing::Dialing;
 use crate::telling::Telling;
 use grant_board::Pass;
 use relay_body::Framing;
-use relay_http::Code;
+use http_texts::Code;
 use req_view::View;
 
 /// A request whose head was read, and what came behind it.

@@ -4,15 +4,15 @@ ghost use Rattle.exchange_machine.specs.Reasons.{told_for};
 ghost use Rattle.exchange_machine.specs.declared.signs.Sign.{Sign};
 ghost use Rattle.exchange_machine.specs.Stages.{IsAsking, IsDialing, IsPassing, IsTurn, IsUnread};
 ghost use Rattle.mixed_exchange.specs.Steps as steps;
-ghost use Rattle.relay_http.specs.declared.additions.Additions as additions;
-ghost use Rattle.relay_http.specs.declared.refusing.Code as codes;
+ghost use Rattle.http_texts.specs.declared.additions.Additions as additions;
+ghost use Rattle.http_texts.specs.declared.refusals.Code as codes;
 
 use crate::event::Clock;
 use crate::exchange::{Exchange, Outcome, Step};
 use crate::relaying::{Turned, go_on, not_redialed, refused_late};
 use exchange_machine::{Asking, Dialing, Passing, Sign, Telling, Terms, Turn, Way};
 use grant_board::Pass;
-use relay_http::{Code, Fault};
+use http_texts::{Code, Fault};
 use std::alloc::Global;
 use verdict::Ending;
 

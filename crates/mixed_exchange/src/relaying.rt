@@ -6,12 +6,12 @@ ghost use Rattle.exchange_machine.specs.Repeatables.{IsRepeatable, IsUntouched};
 ghost use Rattle.exchange_machine.specs.Settlings.{IsRest};
 ghost use Rattle.exchange_machine.specs.Stages.{IsLeaving, IsPassing};
 ghost use Rattle.mixed_exchange.specs.Steps as steps;
-ghost use Rattle.relay_http.specs.declared.refusing.Code as codes;
+ghost use Rattle.http_texts.specs.declared.refusals.Code as codes;
 ghost use Rattle.verdict.specs.declared.Ending as endings;
 
 use crate::exchange::{Exchange, Outcome};
 use exchange_machine::{Down, Ended, Headed, Passing, Rest, Settled, Sign};
-use relay_http::Code;
+use http_texts::Code;
 use std::alloc::Global;
 
 /// How an exchange goes on, and what it gives away.

@@ -1,10 +1,5 @@
-pub mod Agreeing
-pub mod AnswerRows
 pub mod Failing
-pub mod Lengths
 pub mod Marking
-pub mod Passing
-pub mod Planning
 pub mod Putting
 pub mod WorkedRows
 pub mod Standing

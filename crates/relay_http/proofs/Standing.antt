@@ -1,31 +1,21 @@
 -- Heads that stand at the front of what is held.
-use Rattle.std.proofs.Common.{◌≡◌, ◌∙◌, ℕ, List, [], ◌++◌, length, drop, sym, append-nil, subst}
-use Rattle.httparse.specs.Grammar.{RequestHead, ResponseHead, print_request, print_response}
+use Rattle.std.proofs.Common.{◌≡◌, ◌∙◌, ℕ, List, [], ◌++◌, length, drop, sym, subst}
 use Rattle.counted_io.specs.Streams.{Stream}
 use Rattle.body_pipe.specs.declared.pipe.Pipe.{Pipe}
 use Rattle.body_pipe.specs.Steps.{Ends, ends, Moves}
 use Rattle.list_facts.proofs.Fronts.{behind}
 use Rattle.body_pipe.proofs.Stepping.{moves_trans, moves_use}
 use Rattle.relay_http.specs.Failures.{Fails}
-use Rattle.relay_http.specs.Faults.{of_refusal}
-use Rattle.relay_http.specs.Heads.{IsRequest, IsAnswer, NoRequest, NoAnswer, LacksRequest}
-use Rattle.relay_http.specs.declared.fault.Fault.{Fault}
-use Rattle.relay_http.specs.declared.fault.Fault.TheVariants as Faulty
+use Rattle.http_texts.specs.Faults.{of_refusal}
+use Rattle.http_texts.specs.Heads.{NoRequest, NoAnswer, LacksRequest}
+use Rattle.http_texts.specs.declared.fault.Fault.{Fault}
+use Rattle.http_texts.specs.declared.fault.Fault.TheVariants as Faulty
 use Rattle.relay_http.proofs.Failing.{fails_head, fails_memory}
-use Rattle.req_view.specs.AnswerHeads.{HasAnswer, NeverHasAnswer, TellsAnswer}
-use Rattle.req_view.specs.Heads.{HasHead, NeverHasHead, Tells}
+use Rattle.req_view.specs.AnswerHeads.{NeverHasAnswer, TellsAnswer}
+use Rattle.req_view.specs.Heads.{NeverHasHead, Tells}
 use Rattle.req_view.specs.declared.refusal.HeadRefusal.{HeadRefusal}
 use Rattle.req_view.specs.declared.refusal.HeadRefusal.TheVariants.{HeadFault, NoMemory}
 use Rattle.req_view.specs.declared.viewing.Viewed.TheVariants.{Refused}
-
-pub request_alone : {bytes rest : List ℕ} (h : RequestHead) → HasHead bytes h rest → IsRequest h
-request_alone h has = (
-  record { reads = (has.0.reads.0, sym (append-nil (print_request h))); few_bytes = has.0.few_bytes; few_fields = has.0.few_fields },
-  has.1,
-)
-
-pub answer_alone : {bytes rest : List ℕ} (h : ResponseHead) → HasAnswer bytes h rest → IsAnswer h
-answer_alone h has = record { reads = (has.reads.0, sym (append-nil (print_response h))); few_bytes = has.few_bytes; few_fields = has.few_fields }
 
 -- the front of what is held is used
 pub moves_front : {a : Ends} (p q : Pipe) (s w : Stream) (held front rest : List ℕ) (n : ℕ) → Moves a (ends p s w) [] [] → held ≡ p.inbox → held ≡ front ++ rest

@@ -1,13 +1,11 @@
 ghost use Rattle.std.specs.Prelude.{◌≡◌, ◌+◌, ◌^◌, ◌<◌, ◌++◌, OnOk, IfErr};
 ghost use Rattle.relay_http.specs.Emissions.{Puts, Halts};
-ghost use Rattle.relay_http.specs.Texts as texts;
+ghost use Rattle.http_texts.specs.Texts as texts;
 
-use crate::fields::Way;
 use crate::lines::{put, put_end, put_fields, put_host, put_three, send};
-use crate::persistence::Persistence;
-use crate::plans::Plan;
 use body_pipe::Pipe;
 use counted_io::Sink;
+use http_texts::{Persistence, Plan, Way, stated, status_digits};
 use relay_body::{Fault, Framing};
 use req_view::{AnswerHead, View};
 
@@ -56,15 +54,6 @@ pub(crate) fn put_answer<K: Sink>(
     put_answer_lines(pipe, sink, head)?;
     put_end(pipe, sink, stated(framed, plan.stated), persistence)?;
     Ok(())
-}
-
-pub(crate) fn stated(framed: bool, framing: Framing) -> Framing
-    ensures { result ≡ texts.stated framed framing }
-{
-    match framing {
-        Framing::Chunked if !framed => Framing::Empty,
-        _ => framing,
-    }
 }
 
 /// Puts a head that comes before the answer, where the client is to have it.
@@ -125,14 +114,4 @@ fn put_status_line<K: Sink>(pipe: &mut Pipe, sink: &mut K, head: &AnswerHead) ->
     put(pipe, sink, head.reason())?;
     put(pipe, sink, b"\r\n")?;
     Ok(())
-}
-
-pub(crate) fn status_digits(status: u16) -> [u8; 3]
-    requires { status < 1000 }
-    ensures { result ≡ texts.status_text status }
-{
-    let hundreds = (status / 100) as u8;
-    let tens = (status / 10 % 10) as u8;
-    let ones = (status % 10) as u8;
-    [b'0' + hundreds, b'0' + tens, b'0' + ones]
 }

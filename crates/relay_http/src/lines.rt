@@ -1,14 +1,13 @@
 ghost use Rattle.std.specs.Prelude.{◌≡◌, ◌+◌, ◌^◌, ◌<◌, ◌++◌, ◌∷◌, [], ℕ, List, Some, slice_get, OnOk, IfErr};
 ghost use Rattle.httparse.specs.Ascii.{space};
 ghost use Rattle.relay_http.specs.Emissions.{Puts, Halts};
-ghost use Rattle.relay_http.specs.Fields.{dropped, kept};
-ghost use Rattle.relay_http.specs.Lines.{kept_line};
-ghost use Rattle.relay_http.specs.Texts as texts;
+ghost use Rattle.http_texts.specs.Fields.{dropped, kept};
+ghost use Rattle.http_texts.specs.Lines.{kept_line};
+ghost use Rattle.http_texts.specs.Texts as texts;
 
-use crate::fields::{Way, is_kept, keeps_host};
-use crate::persistence::{Persistence, connection_text};
 use body_pipe::Pipe;
 use counted_io::Sink;
+use http_texts::{Persistence, Way, connection_text, is_kept, keeps_host};
 use itoa::Buffer;
 use relay_body::{Fault, Framing};
 use req_view::Section;

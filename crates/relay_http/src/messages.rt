@@ -5,42 +5,25 @@ ghost use Rattle.relay_body.specs.Framings.{IsBody, PartOfBody};
 ghost use Rattle.body_pipe.specs.Steps.{ends, Countable, Moves};
 ghost use Rattle.relay_http.specs.Emissions.{Puts, Halts};
 ghost use Rattle.relay_http.specs.Failures.{Fails};
-ghost use Rattle.relay_http.specs.Messages as messages;
-ghost use Rattle.relay_http.specs.Texts.{answer_text, interim_text, framed_for, unnamed};
+ghost use Rattle.http_texts.specs.Messages as messages;
+ghost use Rattle.http_texts.specs.Texts.{answer_text, interim_text, framed_for, unnamed};
 ghost use Rattle.req_view.specs.Answer.{answer_of};
 
-use crate::fault::Fault;
-use crate::framings::request_framing;
 use crate::heads::{pass_interim, put_answer, put_request};
 use crate::lines::send;
-use crate::persistence::Persistence;
-use crate::plans::{Plan, answer_plan, is_interim};
 use crate::reading::read_answer_head;
 use body_pipe::Pipe;
 use counted_io::{Sink, Source};
+use http_texts::{Fault, Persistence, Plan, Role, is_framed, request_framing, role_of};
 use relay_body::{Fault as BodyFault, Framing};
-use req_view::{AnswerHead, Version, View};
+use req_view::{AnswerHead, View};
 use std::alloc::Global;
-
-/// The most heads that come before an answer (RFC 9110, section 15.2, sets no bound).
-pub const MOST_INTERIMS: usize = 8;
 
 /// An answer's head, and what is done with it.
 #[derive(Drop)]
 pub(crate) struct Planned {
     head: AnswerHead,
     plan: Plan,
-}
-
-/// What a head is to the answer that is waited for.
-#[derive(Clone, Copy)]
-enum Role {
-    /// The answer's own, with which this is done.
-    Final(Plan),
-    /// One before it.
-    Interim,
-    /// One with a bad framing, or one too many.
-    Refused,
 }
 
 /// Hands on a request whose head was read, and writes all of it.
@@ -148,22 +131,6 @@ fn read_answer<S: Source, K: Sink>(
     }
 }
 
-// What a head behind so many others is to the answer.
-fn role_of(method: &[u8], head: &AnswerHead, count: usize) -> Role
-    ensures { messages.HasRole method.now head.now count result }
-{
-    let Some(plan) = answer_plan(method, head) else {
-        return Role::Refused;
-    };
-    if !is_interim(head.status()) {
-        return Role::Final(plan);
-    }
-    if MOST_INTERIMS <= count {
-        return Role::Refused;
-    }
-    Role::Interim
-}
-
 // Takes the head, of which so nothing is left at the exits of the loop that calls it: they are proved faster.
 fn pass_before<K: Sink>(
     pipe: &mut Pipe,
@@ -176,13 +143,4 @@ fn pass_before<K: Sink>(
     ensures err { IfErr result (Halts pipe.old pipe.new (K.stream sink.old) (K.stream sink.new) (interim_text framed head)) }
 {
     pass_interim(pipe, sink, &head, framed)
-}
-
-pub(crate) fn is_framed(version: Version) -> bool
-    ensures { result ≡ framed_for version }
-{
-    match version {
-        Version::Http10 => false,
-        Version::Http11 => true,
-    }
 }

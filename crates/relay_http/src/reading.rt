@@ -3,17 +3,15 @@ ghost use Rattle.counted_io.specs.Streams.{Stream};
 ghost use Rattle.httparse.specs.Grammar.{RequestHead, ResponseHead, print_request, print_response};
 ghost use Rattle.body_pipe.specs.Steps.{ends, Moves};
 ghost use Rattle.relay_http.specs.Failures.{Fails};
-ghost use Rattle.relay_http.specs.Faults.{of_refusal};
-ghost use Rattle.relay_http.specs.Heads.{IsRequest, IsAnswer, NoRequest, NoAnswer, LacksRequest};
-ghost use Rattle.relay_http.specs.Framings as framings;
+ghost use Rattle.http_texts.specs.Heads.{IsRequest, IsAnswer, NoRequest, NoAnswer, LacksRequest};
+ghost use Rattle.http_texts.specs.Framings as framings;
 ghost use Rattle.req_view.specs.Answer.{answer_of};
 ghost use Rattle.req_view.specs.Request.{request_of};
 
-use crate::fault::Fault;
-use crate::framings::request_framing;
 use body_pipe::Pipe;
 use counted_io::Source;
-use req_view::{AnswerHead, HeadRefusal, View, Viewed, answer_head, view};
+use http_texts::{Fault, fault_of, request_framing};
+use req_view::{AnswerHead, View, Viewed, answer_head, view};
 use std::alloc::Global;
 
 /// Reads a request's head. `O(n)` a read.
@@ -90,14 +88,5 @@ pub(crate) fn read_answer_head<S: Source>(
         if count == 0 {
             return Err(Fault::Read);
         }
-    }
-}
-
-fn fault_of(refusal: HeadRefusal) -> Fault
-    ensures { result ≡ of_refusal refusal }
-{
-    match refusal {
-        HeadRefusal::HeadFault => Fault::Head,
-        HeadRefusal::NoMemory => Fault::NoMemory,
     }
 }

@@ -3,8 +3,8 @@ use Rattle.std.proofs.lemmas.List.{take_rest}
 use Rattle.body_coder.specs.Readings.{read, start_of}
 use Rattle.body_coder.specs.Stops.{is_bad}
 use Rattle.body_coder.specs.declared.coding.Coding.{Coding}
-use Rattle.relay_http.specs.Framings.{request_framing}
-use Rattle.relay_http.specs.declared.fault.Fault.TheVariants.{Framing}
+use Rattle.http_texts.specs.Framings.{request_framing}
+use Rattle.http_texts.specs.declared.fault.Fault.TheVariants.{Framing}
 use Rattle.exchange_machine.specs.Requests.{IsNoRequest}
 use Rattle.exchange_machine.proofs.SideLemmas.{look_broken, look_whole}
 use Rattle.exchange_machine.proofs.asking.look_behind.Goals as goal

@@ -1,7 +1,7 @@
 use Rattle.exchange_machine.specs.Reasons.Reason.{of_sign}
 use Rattle.exchange_machine.proofs.EventLemmas.{passing_signed, shows_last}
 use Rattle.exchange_machine.specs.Histories.{signed}
-use Rattle.relay_http.specs.declared.refusing.Code.TheVariants.{Unavailable}
+use Rattle.http_texts.specs.declared.refusals.Code.TheVariants.{Unavailable}
 use Rattle.mixed_exchange.proofs.relaying.not_redialed.Goals as goal
 
 pub returns-clause-at : goal.returns-clause-at

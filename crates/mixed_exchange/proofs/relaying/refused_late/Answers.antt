@@ -3,7 +3,7 @@ use Rattle.exchange_machine.specs.Reasons.Reason.{of_sign}
 use Rattle.exchange_machine.proofs.EventLemmas.{passing_signed, shows_last}
 use Rattle.exchange_machine.specs.Histories.{signed}
 use Rattle.exchange_machine.specs.declared.signs.Sign.TheVariants.{ServerOver}
-use Rattle.relay_http.specs.declared.refusing.Code.TheVariants.{BadGateway}
+use Rattle.http_texts.specs.declared.refusals.Code.TheVariants.{BadGateway}
 use Rattle.mixed_exchange.proofs.relaying.refused_late.Goals as goal
 
 pub returns-clause-at : goal.returns-clause-at

@@ -1,5 +1,5 @@
 use Rattle.exchange_machine.specs.declared.signs.Sign.TheVariants.{NoMemory}
-use Rattle.relay_http.specs.declared.refusing.Code.TheVariants.{Unavailable}
+use Rattle.http_texts.specs.declared.refusals.Code.TheVariants.{Unavailable}
 use Rattle.std.proofs.Common.{refl}
 use Rattle.exchange_machine.specs.Reasons.Reason.{of_sign}
 use Rattle.exchange_machine.proofs.EventLemmas.{passing_signed, shows_last}

@@ -1,6 +1,6 @@
 use Rattle.std.proofs.Common.{ap}
 use Rattle.body_pipe.proofs.Exits.{at_exit}
-use Rattle.relay_http.specs.Texts.{end_text, stated}
+use Rattle.http_texts.specs.Texts.{end_text, stated}
 use Rattle.relay_http.proofs.Putting.{puts_trans, puts_halts, halts_front, puts_as, halts_as}
 use Rattle.relay_http.proofs.heads.put_answer.Goals as goal
 

@@ -1,7 +1,7 @@
 use Rattle.std.proofs.Common.{List, ap}
 use Rattle.body_pipe.proofs.Exits.{at_exit}
-use Rattle.relay_http.specs.Fields.{kept, of_connection}
-use Rattle.relay_http.specs.Texts.{fields_text}
+use Rattle.http_texts.specs.Fields.{kept, of_connection}
+use Rattle.http_texts.specs.Texts.{fields_text}
 use Rattle.relay_http.proofs.Putting.{puts_trans, puts_halts, halts_front, puts_as, halts_as}
 use Rattle.req_view.specs.Request.{NamedValue}
 use Rattle.relay_http.proofs.heads.put_answer_lines.Goals as goal

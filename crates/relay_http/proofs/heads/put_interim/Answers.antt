@@ -2,7 +2,7 @@
 use Rattle.std.proofs.Common.{◌≡◌, ◌∙◌, ◌++◌, sym}
 use Rattle.httparse.specs.Ascii.{crlf_bytes}
 use Rattle.body_pipe.proofs.Exits.{at_exit}
-use Rattle.relay_http.specs.Texts.{answer_lines, interim_text}
+use Rattle.http_texts.specs.Texts.{answer_lines, interim_text}
 use Rattle.relay_http.proofs.Putting.{puts_trans, puts_halts, halts_front, puts_as, halts_as, for_client}
 use Rattle.relay_http.proofs.heads.put_interim.Goals as goal
 

@@ -1,7 +1,7 @@
 use Rattle.std.proofs.Common.{◌∙◌, ℕ, List, [], ◌∷◌, ◌++◌, codes, ap}
 use Rattle.body_pipe.proofs.Exits.{at_exit}
 use Rattle.httparse.specs.Ascii.{crlf_bytes, space}
-use Rattle.relay_http.specs.Texts.{status_text}
+use Rattle.http_texts.specs.Texts.{status_text}
 use Rattle.relay_http.proofs.Putting.{puts_trans, puts_halts, halts_front, puts_as, halts_as}
 use Rattle.relay_http.proofs.heads.put_status_line.Goals as goal
 

@@ -3,7 +3,7 @@ use Rattle.std.proofs.Common.{◌≡◌, ◌∙◌, List, ℕ, Bool, false, true
 use Rattle.body_pipe.proofs.Exits.{at_exit}
 use Rattle.body_pipe.proofs.Stepping.{moves_none, moves_as}
 use Rattle.relay_http.specs.Failures.{NoCause}
-use Rattle.relay_http.specs.Replies.{waits_for_leave}
+use Rattle.http_texts.specs.Replies.{waits_for_leave}
 use Rattle.relay_http.proofs.Failing.{fails_put, fails_as}
 use Rattle.relay_http.proofs.leave.give_leave.Goals as goal
 

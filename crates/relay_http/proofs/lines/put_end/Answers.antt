@@ -1,5 +1,5 @@
 use Rattle.body_pipe.proofs.Exits.{at_exit}
-use Rattle.relay_http.specs.Texts.{connection_text}
+use Rattle.http_texts.specs.Texts.{connection_text}
 use Rattle.relay_http.proofs.Putting.{puts_trans, puts_halts, puts_as, halts_as, halts_front}
 use Rattle.relay_http.proofs.lines.put_end.Goals as goal
 

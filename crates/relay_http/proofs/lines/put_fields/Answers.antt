@@ -3,9 +3,9 @@ use Rattle.std.proofs.Common.{◌≡◌, ◌∙◌, ◌+◌, ◌<◌, [], ◌++�
 use Rattle.std.specs.Prelude.{filter}
 use Rattle.std.proofs.lemmas.Option.{slice_get-get_or}
 use Rattle.body_pipe.proofs.Exits.{at_exit}
-use Rattle.relay_http.specs.Fields.{is_kept, dropped}
-use Rattle.relay_http.specs.Lines.{kept_line}
-use Rattle.relay_http.specs.Texts.{field_text, fields_text}
+use Rattle.http_texts.specs.Fields.{is_kept, dropped}
+use Rattle.http_texts.specs.Lines.{kept_line}
+use Rattle.http_texts.specs.Texts.{field_text, fields_text}
 use Rattle.list_facts.proofs.Filtered.{flat_more, flat_front}
 use Rattle.relay_http.proofs.Putting.{puts_trans, puts_halts, halts_front, puts_as, halts_as}
 use Rattle.req_view.specs.Request.{NamedValue}

@@ -1,8 +1,8 @@
 use Rattle.std.proofs.Common.{take}
 use Rattle.std.specs.Prelude.{filter}
 use Rattle.relay_http.specs.Emissions.{Puts}
-use Rattle.relay_http.specs.Fields.{is_kept, dropped}
-use Rattle.relay_http.specs.Texts.{fields_text}
+use Rattle.http_texts.specs.Fields.{is_kept, dropped}
+use Rattle.http_texts.specs.Texts.{fields_text}
 use Rattle.relay_http.proofs.lines.put_fields.Given as goal
 
 abbrev pub invariant-fields : goal.invariant-fields

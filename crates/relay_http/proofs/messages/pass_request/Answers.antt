@@ -3,13 +3,13 @@ use Rattle.std.proofs.Common.{◌∙◌, [], ◌++◌, refl, sym, append-nil}
 use Rattle.relay_body.specs.Framings.{LacksBody}
 use Rattle.body_pipe.proofs.Exits.{at_exit}
 use Rattle.body_pipe.proofs.Stepping.{moves_none, moves_trans, moves_as}
-use Rattle.relay_http.specs.Messages.{NoBody, LacksForwarded}
-use Rattle.relay_http.specs.Messages.PartOfForwarded.{nothing, head_and_body}
-use Rattle.relay_http.specs.Messages.LacksForwarded.{no_framing, no_body}
-use Rattle.relay_http.specs.Texts.{request_text, unnamed}
+use Rattle.http_texts.specs.Messages.{NoBody, LacksForwarded}
+use Rattle.http_texts.specs.Messages.PartOfForwarded.{nothing, head_and_body}
+use Rattle.http_texts.specs.Messages.LacksForwarded.{no_framing, no_body}
+use Rattle.http_texts.specs.Texts.{request_text, unnamed}
 use Rattle.relay_http.proofs.Failing.{moves_fails, moves_put, moves_halts, fails_put, fails_of, fails_as, fails_framing}
-use Rattle.relay_http.proofs.Passing.{part_none, body_part}
-use Rattle.relay_http.specs.declared.persistence.Persistence.TheVariants.{Close}
+use Rattle.http_texts.proofs.Passing.{part_none, body_part}
+use Rattle.http_texts.specs.declared.persistence.Persistence.TheVariants.{Close}
 use Rattle.relay_http.proofs.messages.pass_request.Goals as goal
 
 pub returns-in_default-clause-err : goal.returns-in_default-clause-err

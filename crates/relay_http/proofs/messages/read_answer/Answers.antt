@@ -6,15 +6,15 @@ use Rattle.httparse.specs.Grammar.{print_response}
 use Rattle.body_pipe.proofs.Exits.{at_exit}
 use Rattle.list_facts.proofs.Filtered.{flat_last}
 use Rattle.body_pipe.proofs.Stepping.{moves_none, moves_trans, moves_as, Countable-later}
-use Rattle.relay_http.specs.Framings.{answer_plan, is_interim}
-use Rattle.relay_http.specs.Heads.{NoAnswer}
-use Rattle.relay_http.specs.Messages.{IsInterim, AreInterims, print_heads, interims_text, LacksAnswer}
-use Rattle.relay_http.specs.Messages.BadlyFramed.{no_plan}
-use Rattle.relay_http.specs.Texts.{framed_for}
-use Rattle.relay_http.specs.declared.fault.Fault.TheVariants.{Framing}
-use Rattle.relay_http.specs.declared.plans.Plan.{Plan}
+use Rattle.http_texts.specs.Framings.{answer_plan, is_interim}
+use Rattle.http_texts.specs.Heads.{NoAnswer}
+use Rattle.http_texts.specs.Messages.{IsInterim, AreInterims, print_heads, interims_text, LacksAnswer}
+use Rattle.http_texts.specs.Messages.BadlyFramed.{no_plan}
+use Rattle.http_texts.specs.Texts.{framed_for}
+use Rattle.http_texts.specs.declared.fault.Fault.TheVariants.{Framing}
+use Rattle.http_texts.specs.declared.plans.Plan.{Plan}
 use Rattle.relay_http.proofs.Failing.{moves_fails, moves_put, moves_halts, fails_as, fails_less, fails_framing}
-use Rattle.relay_http.proofs.Passing.{heads_then, bad_here, ninth_here, interims_more, interims_text_more}
+use Rattle.http_texts.proofs.Passing.{heads_then, bad_here, ninth_here, interims_more, interims_text_more}
 use Rattle.req_view.specs.Answer.{Answer, answer_of}
 use Rattle.relay_http.proofs.messages.read_answer.Goals as goal
 

@@ -2,8 +2,8 @@ use Rattle.std.proofs.Common.{◌≡◌, ◌-◌, ◌≤◌, List, length}
 use Rattle.std.specs.List.{AllByRecursion}
 use Rattle.httparse.specs.Grammar.{ResponseHead}
 use Rattle.body_pipe.specs.Steps.{ends, Moves}
-use Rattle.relay_http.specs.Messages.{IsInterim, print_heads, interims_text}
-use Rattle.relay_http.specs.Texts.{framed_for}
+use Rattle.http_texts.specs.Messages.{IsInterim, print_heads, interims_text}
+use Rattle.http_texts.specs.Texts.{framed_for}
 use Rattle.relay_http.proofs.messages.read_answer.Given as goal
 
 abbrev pub invariant-heads : goal.invariant-heads

@@ -3,9 +3,10 @@ use Rattle.std.proofs.Common.{◌∙◌, sym, arith, refl, subst}
 use Rattle.httparse.specs.Grammar.{print_response}
 use Rattle.body_pipe.proofs.Exits.{at_exit}
 use Rattle.body_pipe.proofs.Stepping.{moves_none, moves_trans}
-use Rattle.relay_http.specs.Heads.{NoAnswer}
+use Rattle.http_texts.specs.Heads.{NoAnswer}
 use Rattle.relay_http.proofs.Failing.{moves_fails, fails_plainly, fails_end}
-use Rattle.relay_http.proofs.Standing.{answer_alone, answer_refused, moves_front}
+use Rattle.http_texts.proofs.Alone.{answer_alone}
+use Rattle.relay_http.proofs.Standing.{answer_refused, moves_front}
 use Rattle.req_view.specs.AnswerHeads.{HasNoAnswer}
 use Rattle.relay_http.proofs.reading.read_answer_head.Goals as goal
 

@@ -3,8 +3,8 @@ use Rattle.std.proofs.Common.{◌∙◌, [], refl, sym, ap}
 use Rattle.httparse.specs.Grammar.{print_request}
 use Rattle.body_pipe.proofs.Exits.{at_exit}
 use Rattle.body_pipe.proofs.Stepping.{moves_none}
-use Rattle.relay_http.specs.Framings.{request_framing}
-use Rattle.relay_http.specs.Heads.{NoRequest, LacksRequest}
+use Rattle.http_texts.specs.Framings.{request_framing}
+use Rattle.http_texts.specs.Heads.{NoRequest, LacksRequest}
 use Rattle.relay_http.proofs.Failing.{moves_fails, fails_less, fails_framing}
 use Rattle.relay_http.proofs.Standing.{request_lacks}
 use Rattle.relay_http.proofs.reading.read_request.Goals as goal

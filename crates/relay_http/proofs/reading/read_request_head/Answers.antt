@@ -3,9 +3,10 @@ use Rattle.std.proofs.Common.{◌∙◌, sym, arith, refl, subst}
 use Rattle.httparse.specs.Grammar.{print_request}
 use Rattle.body_pipe.proofs.Exits.{at_exit}
 use Rattle.body_pipe.proofs.Stepping.{moves_none, moves_trans}
-use Rattle.relay_http.specs.Heads.{NoRequest}
+use Rattle.http_texts.specs.Heads.{NoRequest}
 use Rattle.relay_http.proofs.Failing.{moves_fails, fails_plainly, fails_end}
-use Rattle.relay_http.proofs.Standing.{request_alone, request_refused, moves_front}
+use Rattle.http_texts.proofs.Alone.{request_alone}
+use Rattle.relay_http.proofs.Standing.{request_refused, moves_front}
 use Rattle.req_view.specs.Heads.{HasNoHead}
 use Rattle.relay_http.proofs.reading.read_request_head.Goals as goal
 

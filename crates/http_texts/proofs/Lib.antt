@@ -1,0 +1,7 @@
+pub mod Agreeing
+pub mod Alone
+pub mod AnswerRows
+pub mod Lengths
+pub mod Passing
+pub mod Planning
+pub mod WorkedRows

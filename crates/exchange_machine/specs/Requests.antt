@@ -39,3 +39,13 @@ IsNoRequest Read input = ⊥
 IsNoRequest Write input = ⊥
 IsNoRequest Turns input = ⊥
 IsNoRequest Closed input = ⊥
+
+-- what is wrong with an input that begins with no head, or with one that frames its body badly, whatever stands behind it
+abbrev pub LacksHead : Fault → List ℕ → Type 0
+LacksHead Head input = NeverHasHead input
+LacksHead Framing input = FramedBadly input
+LacksHead NoMemory input = Unit {0}
+LacksHead Read input = ⊥
+LacksHead Write input = ⊥
+LacksHead Turns input = ⊥
+LacksHead Closed input = ⊥

@@ -22,7 +22,7 @@ mod way;
 pub use asking::{Asking, Turn};
 pub use dialing::{Dialing, Terms};
 pub use ending::{Ended, Rest, Settled};
-pub use heading::Headed;
+pub use heading::{Headed, Seen, see_head};
 pub use held::forget;
 pub use laws::{what_a_way_sends, what_holds, what_sides_send};
 pub use leaving::Leaving;

@@ -17,9 +17,7 @@ impl Telling {
     pub(crate) fn of(code: Code) -> Telling
         ensures { result.rest.now ≡ refusal_text code }
     {
-        Telling {
-            rest: code.text(),
-        }
+        Telling { rest: code.text() }
     }
 
     /// What came is none that the proxy takes: 400.

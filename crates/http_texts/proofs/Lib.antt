@@ -4,4 +4,5 @@ pub mod AnswerRows
 pub mod Lengths
 pub mod Passing
 pub mod Planning
+pub mod Putting
 pub mod WorkedRows

@@ -1,3 +1,4 @@
+pub mod Emissions
 pub mod Faults
 pub mod Fields
 pub mod Framings

@@ -9,20 +9,20 @@ use req_view::{Section, Values};
 
 /// Where a message goes.
 #[derive(Clone, Copy)]
-pub enum Way {
+pub(crate) enum Way {
     ToServer,
     ToClient,
 }
 
 /// Whether a field of this name is handed on. `O(n)` in Connection's values.
-pub fn is_kept(section: &Section, way: Way, name: &[u8]) -> bool
+pub(crate) fn is_kept(section: &Section, way: Way, name: &[u8]) -> bool
     ensures { result ≡ fields.is_kept (fields.dropped way) section.now.fields name.now }
 {
     !(is_of_this_connection(section, name) || is_dropped(way, name))
 }
 
 /// Whether a Host field is handed on to the server.
-pub fn keeps_host(section: &Section) -> bool
+pub(crate) fn keeps_host(section: &Section) -> bool
     ensures { result ≡ list_any (is_named (codes "Host")) (fields.kept fields.of_request section.now.fields) }
 {
     'fields: for position in 0..section.count() {

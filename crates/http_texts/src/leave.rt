@@ -7,7 +7,7 @@ use relay_body::Framing;
 use req_view::{Values, View};
 
 /// Whether the client waits for leave to send a body (RFC 9110, section 10.1.1).
-pub fn waits_for_leave(view: &View) -> bool
+pub(crate) fn waits_for_leave(view: &View) -> bool
     ensures { result ≡ replies.waits_for_leave view.now }
 {
     is_framed(view.version()) && has_body(request_framing(view)) && expects(view.values(b"Expect"))

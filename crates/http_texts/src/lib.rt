@@ -6,8 +6,10 @@ mod fault;
 mod fields;
 mod framings;
 mod head_texts;
+mod heads;
 mod laws;
 mod leave;
+mod lines;
 mod persistence;
 mod plans;
 mod refusals;
@@ -16,14 +18,11 @@ mod staying;
 
 pub use additions::Additions;
 pub use fault::{Fault, fault_of};
-pub use fields::{Way, is_kept, keeps_host};
 pub use framings::request_framing;
-pub use head_texts::{
-    answer_head_text, given_leave, interim_head, request_head, stated, status_digits,
-};
+pub use head_texts::{answer_head_text, given_leave, interim_head, request_head};
+pub use heads::{Added, Wording, put_answer, put_interim, put_request};
 pub use laws::{texts_of_a_request_are_comparable, texts_of_an_answer_are_comparable};
-pub use leave::waits_for_leave;
-pub use persistence::{Persistence, connection_text};
+pub use persistence::Persistence;
 pub use plans::{Plan, answer_plan};
 pub use refusals::Code;
 pub use relay_body::Framing;

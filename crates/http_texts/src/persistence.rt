@@ -13,7 +13,7 @@ pub enum Persistence {
 }
 
 /// The connection's last line, if there is one, and the empty one.
-pub fn connection_text(persistence: Persistence) -> &'static [u8]
+pub(crate) fn connection_text(persistence: Persistence) -> &'static [u8]
     ensures { result.now ≡ connection_text persistence }
 {
     match persistence {

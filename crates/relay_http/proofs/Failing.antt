@@ -9,7 +9,7 @@ use Rattle.body_pipe.specs.Steps.{Ends, ends, Reads, Moves, Breaks, LacksNothing
 use Rattle.body_pipe.specs.Steps as Body_steps
 use Rattle.body_pipe.proofs.Stepping.{joined, Reads-trans, moves_emit, breaks_emit}
 use Rattle.relay_body.proofs.Writing.{Wrote-trans}
-use Rattle.relay_http.specs.Emissions.{Puts, Halts}
+use Rattle.http_texts.specs.Emissions.{Puts, Halts}
 use Rattle.relay_http.specs.Failures.{Blames, Fails, Explains, Passes, Misses}
 use Rattle.http_texts.specs.Faults.{relayed}
 use Rattle.http_texts.specs.declared.fault.Fault.{Fault}

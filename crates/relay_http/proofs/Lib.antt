@@ -1,7 +1,7 @@
 pub mod Failing
 pub mod Marking
-pub mod Putting
-pub mod WorkedRows
-pub mod Standing
+pub mod Seeing
+pub mod Telling
 pub mod Thinning
 pub mod Turning
+pub mod WorkedRows

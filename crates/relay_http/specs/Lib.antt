@@ -1,4 +1,4 @@
 pub mod Asides
-pub mod Emissions
+pub mod Askings
 pub mod Failures
 pub mod States

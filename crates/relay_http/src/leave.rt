@@ -4,10 +4,10 @@ ghost use Rattle.body_pipe.specs.Steps.{ends, Moves};
 ghost use Rattle.relay_http.specs.Failures.{Fails, NoCause};
 ghost use Rattle.http_texts.specs.Replies as replies;
 
-use crate::lines::send_text;
+use crate::sending::send_text;
 use body_pipe::Pipe;
 use counted_io::Sink;
-use http_texts::{Fault, waits_for_leave};
+use http_texts::{Fault, given_leave};
 use req_view::View;
 
 /// Tells a client that waits for it that it may send the body.
@@ -20,9 +20,6 @@ pub(crate) fn give_leave<K: Sink>(pipe: &mut Pipe, view: &View, sink: &mut K) ->
     ensures err { (s : Stream)
         → IfErr result (Fails (ends pipe.old s (K.stream sink.old)) (ends pipe.new s (K.stream sink.new)) [] (replies.leave_text view.now) NoCause) }
 {
-    if !waits_for_leave(view) {
-        return Ok(());
-    }
-    send_text(pipe, sink, b"HTTP/1.1 100 Continue\r\n\r\n")?;
+    send_text(pipe, sink, given_leave(view))?;
     Ok(())
 }

@@ -2,14 +2,13 @@
 #![tactic(auto)]
 
 mod aside;
+mod asking;
 mod calls;
 mod exchange;
-mod heads;
 mod leave;
-mod lines;
 mod messages;
-mod reading;
 mod refusing;
+mod sending;
 mod steps;
 
 pub use aside::Aside;

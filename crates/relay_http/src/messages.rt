@@ -3,18 +3,19 @@ ghost use Rattle.std.specs.Io.KnownBytes.{IsAtEnd};
 ghost use Rattle.httparse.specs.Grammar.{ResponseHead, print_response};
 ghost use Rattle.relay_body.specs.Framings.{IsBody, PartOfBody};
 ghost use Rattle.body_pipe.specs.Steps.{ends, Countable, Moves};
-ghost use Rattle.relay_http.specs.Emissions.{Puts, Halts};
+ghost use Rattle.http_texts.specs.Emissions.{Puts, Halts};
 ghost use Rattle.relay_http.specs.Failures.{Fails};
 ghost use Rattle.http_texts.specs.Messages as messages;
 ghost use Rattle.http_texts.specs.Texts.{answer_text, interim_text, framed_for, unnamed};
 ghost use Rattle.req_view.specs.Answer.{answer_of};
 
-use crate::heads::{pass_interim, put_answer, put_request};
-use crate::lines::send;
-use crate::reading::read_answer_head;
+use crate::sending::{pass_interim, send};
 use body_pipe::Pipe;
 use counted_io::{Sink, Source};
-use http_texts::{Fault, Persistence, Plan, Role, is_framed, request_framing, role_of};
+use exchange_machine::{Seen, see_head};
+use http_texts::{
+    Added, Fault, Persistence, Plan, Wording, is_framed, put_answer, put_request, request_framing,
+};
 use relay_body::{Fault as BodyFault, Framing};
 use req_view::{AnswerHead, View};
 use std::alloc::Global;
@@ -44,7 +45,11 @@ pub(crate) fn pass_request<S: Source, K: Sink>(
     let Some(framing) = request_framing(view) else {
         return Err(Fault::Framing);
     };
-    put_request(pipe, sink, view, framing, Persistence::Close)?;
+    let added = Added {
+        asks: Persistence::Close,
+        client: b"",
+    };
+    put_request(pipe, sink, view, framing, added)?;
     pipe.pass_body(source, sink, framing, true)?;
     send(pipe, sink)?;
     Ok(())
@@ -94,7 +99,12 @@ fn pass_planned<S: Source, K: Sink>(
         (answer_text Persistence.Close framed planned.now.head planned.now.plan ++ passed) (messages.NoBody planned.now.plan.body) fault) }
 {
     let plan = planned.plan;
-    put_answer(pipe, sink, &planned.head, plan, framed, Persistence::Close)?;
+    let wording = Wording {
+        plan,
+        framed,
+        says: Persistence::Close,
+    };
+    put_answer(pipe, sink, &planned.head, wording)?;
     pipe.pass_body(source, sink, plan.body, framed)?;
     send(pipe, sink)?;
     Ok(())
@@ -121,13 +131,24 @@ fn read_answer<S: Source, K: Sink>(
     let framed = is_framed(view.version());
     let mut count = 0;
     'heads: loop {
-        let head = read_answer_head(pipe, alloc, source)?;
-        match role_of(view.method(), &head, count) {
-            Role::Final(plan) => return Ok(Planned { head, plan }),
-            Role::Interim => pass_before(pipe, sink, head, framed)?,
-            Role::Refused => return Err(Fault::Framing),
+        match see_head(alloc, view.method(), pipe.held(), count) {
+            Seen::Final(head, len, plan) => {
+                pipe.consume(len);
+                return Ok(Planned { head, plan });
+            }
+            Seen::Interim(head, len) => {
+                pipe.consume(len);
+                pass_before(pipe, sink, head, framed)?;
+                count += 1;
+            }
+            Seen::Refused(fault) => return Err(fault),
+            Seen::More => {
+                let came = pipe.fill(source)?;
+                if came == 0 {
+                    return Err(Fault::Read);
+                }
+            }
         }
-        count += 1;
     }
 }
 

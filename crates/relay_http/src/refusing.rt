@@ -4,7 +4,7 @@ ghost use Rattle.http_texts.specs.Replies.{refusal_text};
 ghost use Rattle.relay_http.specs.States.{Marks};
 
 use crate::exchange::{Exchange, Stage};
-use crate::lines::send_text;
+use crate::sending::send_text;
 use crate::steps::has_begun;
 use counted_io::Sink;
 use http_texts::{Code, Fault};

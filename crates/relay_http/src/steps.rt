@@ -13,10 +13,10 @@ ghost use Rattle.relay_http.specs.States.{IsAt, Serves, emptied, Marks};
 ghost use Rattle.http_texts.specs.Texts.{framed_for, unnamed};
 ghost use Rattle.req_view.specs.Request.{request_of};
 
+use crate::asking::read_request;
 use crate::exchange::{Exchange, Stage};
 use crate::leave::give_leave;
 use crate::messages::{pass_answer, pass_request};
-use crate::reading::read_request;
 use counted_io::{Sink, Source};
 use grant_board::Pass;
 use http_texts::{Fault, Persistence};

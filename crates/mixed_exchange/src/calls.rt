@@ -403,19 +403,19 @@ pub(crate) fn gone(exchange: Exchange, sign: Sign) -> Step
 {
     match exchange {
         Exchange::Dialing(dialing) => {
-            let (pass, ending) = dialing.abandon();
+            let pass = dialing.abandon();
             Step {
                 next: Exchange::Over,
                 used: 0,
-                outcome: Outcome::Posts(pass, ending),
+                outcome: Outcome::Posts(pass, Ending::Done),
             }
         }
         Exchange::Passing(passing) => {
-            let (pass, ending) = passing.abandon();
+            let pass = passing.abandon();
             Step {
                 next: Exchange::Over,
                 used: 0,
-                outcome: Outcome::Posts(pass, ending),
+                outcome: Outcome::Posts(pass, Ending::Done),
             }
         }
         Exchange::Asking(_asking) => quiet(Exchange::Over, 0),

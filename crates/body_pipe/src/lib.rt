@@ -7,8 +7,10 @@
 
 mod bodies;
 mod inbox;
+mod page;
 mod pipe;
 mod text;
 
 pub use inbox::INBOX_BYTES;
+pub use page::Page;
 pub use pipe::Pipe;

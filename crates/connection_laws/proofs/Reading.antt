@@ -6,9 +6,9 @@ use Rattle.relay_body.specs.Framings.{IsBody}
 use Rattle.relay_body.specs.Bodies.{chunked_text}
 use Rattle.relay_body.specs.declared.framing.Framing.{Framing}
 use Rattle.relay_body.specs.declared.framing.Framing.TheVariants.{Empty, Length, Chunked, ToEnd}
-use Rattle.relay_http.specs.Messages.{IsInterim}
-use Rattle.relay_http.specs.Persistences.{is_delimited, server_keeps}
-use Rattle.relay_http.specs.Texts.{framed_for}
+use Rattle.http_texts.specs.Messages.{IsInterim}
+use Rattle.http_texts.specs.Persistences.{is_delimited, server_keeps}
+use Rattle.http_texts.specs.Texts.{framed_for}
 use Rattle.req_view.specs.Answer.{answer_of}
 use Rattle.req_view.specs.declared.version.Version.{Version}
 use Rattle.req_view.specs.declared.version.Version.TheVariants.{Http10, Http11}

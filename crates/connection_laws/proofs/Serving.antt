@@ -4,7 +4,7 @@ use Rattle.std.specs.Prelude.{zero, suc}
 use Rattle.std.specs.List.{flat_map, AllByRecursion}
 use Rattle.grant_board.specs.Views.{Grant}
 use Rattle.list_facts.proofs.Members.{all_append}
-use Rattle.relay_http.specs.declared.additions.Additions.{Additions}
+use Rattle.http_texts.specs.declared.additions.Additions.{Additions}
 use Rattle.exchange_machine.specs.Histories.{History}
 use Rattle.exchange_machine.specs.Stages.{IsUnsent}
 use Rattle.exchange_machine.specs.Wholes.{Whole, IsWhole, EndsClean, forwarded_of, answer_of_server}

@@ -2,7 +2,7 @@
 use Rattle.std.specs.Prelude.{◌≡◌, ◌≢◌, ℕ, List, ◌++◌}
 use Rattle.std.specs.List.{flat_map, AllByRecursion}
 use Rattle.list_facts.specs.Fronts.{IsFront}
-use Rattle.relay_http.specs.declared.persistence.Persistence.TheVariants.{Close}
+use Rattle.http_texts.specs.declared.persistence.Persistence.TheVariants.{Close}
 use Rattle.exchange_machine.specs.Headline.{ClientText}
 use Rattle.exchange_machine.specs.Histories.{History}
 use Rattle.exchange_machine.specs.Wholes.{Whole, IsWhole, asked, told}

@@ -3,7 +3,7 @@ use Rattle.std.specs.Prelude.{◌≡◌, ℕ, true, List, [], ◌∷◌, map, So
 use Rattle.std.specs.List.{flat_map, AllByRecursion}
 use Rattle.relay_body.specs.Framings.{IsBody}
 use Rattle.relay_body.specs.declared.framing.Framing.{Framing}
-use Rattle.relay_http.specs.Framings.{request_framing}
+use Rattle.http_texts.specs.Framings.{request_framing}
 use Rattle.req_view.specs.Request.{request_of}
 use Rattle.exchange_machine.specs.Wholes.{Whole, asked, told, forwarded_of, answer_of_server}
 use Rattle.message_readings.specs.Alike.{AsksAlike, IsNamed}

@@ -3,10 +3,10 @@ use Rattle.std.proofs.Common.{◌≡◌, ◌∙◌, ◌&&◌, ℕ, Bool, true, f
 use Rattle.httparse.specs.Grammar.{print_response}
 use Rattle.relay_body.specs.Framings.{IsBody}
 use Rattle.relay_body.specs.declared.framing.Framing as Framed
-use Rattle.relay_http.specs.Messages.{print_heads}
-use Rattle.relay_http.specs.Persistences.{is_delimited}
-use Rattle.relay_http.specs.Replies.{leave_text}
-use Rattle.relay_http.specs.Texts.{framed_for}
+use Rattle.http_texts.specs.Messages.{print_heads}
+use Rattle.http_texts.specs.Persistences.{is_delimited}
+use Rattle.http_texts.specs.Replies.{leave_text}
+use Rattle.http_texts.specs.Texts.{framed_for}
 use Rattle.req_view.specs.Request.{request_of}
 use Rattle.body_coder.specs.Parts.{next, told as given_for, is_over}
 use Rattle.body_coder.specs.Readings.{Feeds, Reading, behind, reading, read_parts, start_of}

@@ -1,17 +1,16 @@
 -- Ends, errors, times and refusals.
-use Rattle.std.proofs.Common.{◌≡◌, ◌∙◌, ℕ, ◌≢◌, ◌≤◌, ◌⊎◌, inl, inr, true, false, None, List, [], ◌∷◌, ◌++◌, take, drop, refl, sym, ap, append_assoc, subst}
+use Rattle.std.proofs.Common.{◌≡◌, ◌∙◌, ℕ, ◌≢◌, inl, inr, true, false, List, [], ◌∷◌, ◌++◌, take, drop, refl, sym, ap, append_assoc, subst}
 use Rattle.std.proofs.lemmas.List.{take-append-drop, map-append}
 use Rattle.std.specs.List.{AllByRecursion}
 use Rattle.list_facts.proofs.Fronts.{front_nil, front_as}
 use Rattle.list_facts.proofs.Members.{all_append}
-use Rattle.relay_http.specs.Framings.{answer_plan, is_interim}
-use Rattle.relay_http.specs.Replies.{refusal_text}
-use Rattle.relay_http.specs.declared.fault.Fault.{Fault}
-use Rattle.relay_http.specs.declared.fault.Fault.TheVariants as Faulty
-use Rattle.relay_http.specs.declared.refusing.Code.{Code}
-use Rattle.relay_http.specs.declared.refusing.Code.TheVariants.{BadGateway, BadRequest, Unavailable}
-use Rattle.req_view.specs.Answer.{Answer}
-use Rattle.req_view.specs.AnswerHeads.{SaysAnswer}
+use Rattle.http_texts.specs.Framings.{answer_plan}
+use Rattle.http_texts.specs.Replies.{refusal_text}
+use Rattle.http_texts.specs.declared.fault.Fault.{Fault}
+use Rattle.http_texts.specs.declared.fault.Fault.TheVariants as Faulty
+use Rattle.http_texts.specs.declared.refusals.Code.{Code}
+use Rattle.http_texts.specs.declared.refusals.Code.TheVariants.{BadGateway, BadRequest, Unavailable}
+use Rattle.req_view.specs.AnswerHeads.{SaysAnswer, NeverHasAnswer}
 use Rattle.req_view.specs.Request.{Request}
 use Rattle.verdict.specs.declared.Ending.TheVariants.{Done}
 use Rattle.exchange_machine.specs.Answerings.{TellsAnswer}
@@ -23,7 +22,8 @@ use Rattle.exchange_machine.specs.Headline.ClientText.{silent, refused_unread, l
 use Rattle.exchange_machine.specs.Histories.{History, Post, nothing_yet, client_came, client_got, signed, passes_of, posted, reached_by}
 use Rattle.exchange_machine.specs.Reasons.{HasEnded, Shows, NoneFollows, LacksAnswer, Reason}
 use Rattle.exchange_machine.specs.Reasons.Reason.{of_sign, bad_answer, broken_answer, broken_request}
-use Rattle.exchange_machine.specs.Reasons.NoneFollows.{unplanned, ninth}
+use Rattle.exchange_machine.specs.Reasons.NoneFollows.{never, unplanned, ninth}
+use Rattle.exchange_machine.specs.Findings.{NoneStands}
 use Rattle.exchange_machine.specs.Settlings.{IsSettling}
 use Rattle.exchange_machine.specs.Stages.{IsFresh, IsUnread, IsAsking, IsWaiting, IsDialing, IsPassing, IsLeaving, IsTelling, IsOver}
 use Rattle.exchange_machine.specs.declared.sides.Down.TheVariants.{Heads}
@@ -398,12 +398,22 @@ passing_lacks p h count is phase none =
       lacks = subst (λ (n : ℕ). NoneFollows p.view.method n p.down_held.items) at.count_is none;
     }
 
-pub head_refused : (p : Passing) (h : History) (count : ℕ) (a : Answer) (len : ℕ) (method : List ℕ) → method ≡ p.view.method → IsPassing p h
-    → p.phase ≡ Heads count
-    → SaysAnswer p.down_held.items a len → (answer_plan method a ≡ None) ⊎ ((is_interim a.status ≡ true) × (8 ≤ count)) → LacksAnswer p.view.method h.server_in
-head_refused p h count a len method same is phase says (inl none) =
-    passing_lacks p h count is phase (unplanned a len says (ap (λ m. answer_plan m a) (sym same) ∙ none))
-head_refused p h count a len method same is phase says (inr more) = passing_lacks p h count is phase (ninth a len says more.0 more.1)
+pub head_refused : (p : Passing) (h : History) (count : ℕ) (held method : List ℕ) (why : Fault) → method ≡ p.view.method → held ≡ p.down_held.items
+    → IsPassing p h → p.phase ≡ Heads count
+    → NoneStands method count held why → why ≢ Faulty.NoMemory → LacksAnswer p.view.method h.server_in
+head_refused p h count held method Faulty.Head same all is phase none other =
+    passing_lacks p h count is phase (never (subst (λ (l : List ℕ). NeverHasAnswer l) all none))
+head_refused p h count held method Faulty.Framing same all is phase none other =
+    let says = subst (λ (l : List ℕ). SaysAnswer l none.answer none.len) all none.says in
+    elim none.role [
+      | inl unread ↦ passing_lacks p h count is phase (unplanned none.answer none.len says (ap (λ m. answer_plan m none.answer) (sym same) ∙ unread))
+      | inr more ↦ passing_lacks p h count is phase (ninth none.answer none.len says more.1 more.2)
+    ]
+head_refused p h count held method Faulty.NoMemory same all is phase none other = absurd (other refl)
+head_refused p h count held method Faulty.Read same all is phase none other = absurd none
+head_refused p h count held method Faulty.Write same all is phase none other = absurd none
+head_refused p h count held method Faulty.Turns same all is phase none other = absurd none
+head_refused p h count held method Faulty.Closed same all is phase none other = absurd none
 
 pub ended_reason : (signs : List Sign) (r : Request) (behind answer : List ℕ) → HasEnded signs → Reason signs r behind answer BadGateway
 ended_reason signs r behind answer is = of_sign is.sign BadGateway is.shows is.tells

@@ -7,10 +7,10 @@ use Rattle.httparse.specs.Grammar.{ResponseHead}
 use Rattle.list_facts.proofs.Members.{all_append}
 use Rattle.relay_body.specs.declared.framing.Framing.{Framing}
 use Rattle.relay_body.specs.declared.framing.Framing.TheVariants.{Empty, Length as Sized, Chunked as InChunks, ToEnd as UpToEnd}
-use Rattle.relay_http.specs.Framings.{request_framing}
-use Rattle.relay_http.specs.Messages.{print_heads}
-use Rattle.relay_http.specs.Replies.{leave_text, has_body, expects}
-use Rattle.relay_http.specs.Texts.{framed_for, request_text}
+use Rattle.http_texts.specs.Framings.{request_framing}
+use Rattle.http_texts.specs.Messages.{print_heads}
+use Rattle.http_texts.specs.Replies.{leave_text, has_body, expects}
+use Rattle.http_texts.specs.Texts.{framed_for, request_text}
 use Rattle.req_view.specs.Request.{Request, values_of}
 use Rattle.std.specs.Prelude.{codes}
 use Rattle.body_coder.specs.Readings.{Reading, Feeds, start_of}

@@ -2,13 +2,13 @@
 use Rattle.std.proofs.Common.{◌≡◌, ◌≢◌, ◌∙◌, ◌&&◌, ℕ, Bool, true, false, true≢false, List, [], ◌∷◌, ◌++◌, take, drop, refl, sym, ap, append_assoc, subst}
 use Rattle.std.proofs.lemmas.List.{take-append-drop}
 use Rattle.httparse.specs.Grammar.{print_request}
-use Rattle.relay_http.specs.Framings.{request_framing}
-use Rattle.relay_http.specs.Messages.{IsForwarded, IsAnswered}
-use Rattle.relay_http.specs.Persistences.{is_delimited, is_kept_by_server, wished}
-use Rattle.relay_http.specs.Replies.{leave_text}
-use Rattle.relay_http.specs.Texts.{framed_for}
-use Rattle.relay_http.specs.declared.persistence.Persistence.{Persistence}
-use Rattle.relay_http.specs.declared.persistence.Persistence.TheVariants.{Close, Persist, KeepAlive}
+use Rattle.http_texts.specs.Framings.{request_framing}
+use Rattle.http_texts.specs.Messages.{IsForwarded, IsAnswered}
+use Rattle.http_texts.specs.Persistences.{is_delimited, is_kept_by_server, wished}
+use Rattle.http_texts.specs.Replies.{leave_text}
+use Rattle.http_texts.specs.Texts.{framed_for}
+use Rattle.http_texts.specs.declared.persistence.Persistence.{Persistence}
+use Rattle.http_texts.specs.declared.persistence.Persistence.TheVariants.{Close, Persist, KeepAlive}
 use Rattle.req_view.specs.Answer.{answer_of}
 use Rattle.req_view.specs.Request.{Request}
 use Rattle.verdict.specs.declared.Ending.{Ending}

@@ -1,30 +1,31 @@
 -- What the sides gave, by the definitions of whole messages.
-use Rattle.std.proofs.Common.{cond, ◌&&◌, ◌≡◌, ◌≢◌, ◌∙◌, ℕ, ◌+◌, ◌-◌, ◌<◌, ◌≤◌, Bool, true, false, true≢false, Some, IsSome, List, [], ◌∷◌, ◌++◌, length, take, drop, refl, sym, ap, arith, append_assoc, append-nil, length-append, length-drop, subst, inl, inr}
+use Rattle.std.proofs.Common.{cond, ◌&&◌, ◌≡◌, ◌≢◌, ◌∙◌, ℕ, ◌+◌, ◌-◌, ◌<◌, ◌≤◌, Bool, true, false, true≢false, Some, IsSome, List, [], ◌∷◌, ◌++◌, length, take, drop, refl, sym, ap, arith, append_assoc, append-nil, length-append, length-drop, subst, inr}
 use Rattle.httparse.specs.Grammar.{ResponseHead, print_response}
-use Rattle.relay_http.specs.declared.refusing.Code.{Code}
+use Rattle.http_texts.specs.declared.refusals.Code.{Code}
 use Rattle.list_facts.specs.Fronts.{IsFront}
 use Rattle.relay_body.specs.Framings.{IsBody, LacksBody}
 use Rattle.relay_body.specs.declared.framing.Framing as Framed
-use Rattle.relay_http.specs.Messages.{PartOfForwarded, PartOfAnswered, IsForwarded, IsAnswered, print_heads, interims_text, IsInterim}
-use Rattle.relay_http.specs.Messages.PartOfForwarded.{head_and_body as forwards}
-use Rattle.relay_http.specs.Messages.PartOfAnswered.{some_heads, head_and_body as answers}
-use Rattle.relay_http.specs.Persistences.{is_delimited, is_kept_by_server, wished, answer_says}
-use Rattle.relay_http.specs.Texts.{request_text, answer_text, interim_text}
+use Rattle.http_texts.specs.Messages.{PartOfForwarded, PartOfAnswered, IsForwarded, IsAnswered, print_heads, interims_text, IsInterim}
+use Rattle.http_texts.specs.Messages.PartOfForwarded.{head_and_body as forwards}
+use Rattle.http_texts.specs.Messages.PartOfAnswered.{some_heads, head_and_body as answers}
+use Rattle.http_texts.specs.Persistences.{is_delimited, is_kept_by_server, wished, answer_says}
+use Rattle.http_texts.specs.Texts.{request_text, answer_text, interim_text}
 use Rattle.req_view.specs.Answer.{Answer, answer_of}
 use Rattle.req_view.specs.AnswerHeads.{SaysAnswer}
-use Rattle.relay_http.specs.Framings.{request_framing, answer_plan, is_interim}
-use Rattle.relay_http.specs.declared.additions.Additions.{Additions}
-use Rattle.relay_http.specs.declared.persistence.Persistence.{Persistence}
-use Rattle.relay_http.specs.declared.persistence.Persistence.TheVariants.{Close}
-use Rattle.relay_http.specs.declared.plans.Plan.{Plan}
-use Rattle.relay_http.proofs.Standing.{answer_alone, request_alone}
+use Rattle.http_texts.specs.Framings.{request_framing, answer_plan, is_interim}
+use Rattle.http_texts.specs.Heads.{FramedBadly}
+use Rattle.http_texts.specs.declared.additions.Additions.{Additions}
+use Rattle.http_texts.specs.declared.persistence.Persistence.{Persistence}
+use Rattle.http_texts.specs.declared.persistence.Persistence.TheVariants.{Close}
+use Rattle.http_texts.specs.declared.plans.Plan.{Plan}
+use Rattle.http_texts.proofs.Alone.{answer_alone, request_alone}
 use Rattle.req_view.specs.Heads.{BeginsWith, Tells}
 use Rattle.req_view.specs.declared.refusal.HeadRefusal.{HeadRefusal}
 use Rattle.req_view.specs.declared.refusal.HeadRefusal.TheVariants.{HeadFault, NoMemory}
 use Rattle.req_view.specs.declared.viewing.Viewed.TheVariants.{Refused as Seen}
-use Rattle.relay_http.specs.Faults.{of_refusal}
-use Rattle.relay_http.specs.declared.fault.Fault.{Fault}
-use Rattle.relay_http.specs.declared.fault.Fault.TheVariants as Faulty
+use Rattle.http_texts.specs.Faults.{of_refusal}
+use Rattle.http_texts.specs.declared.fault.Fault.{Fault}
+use Rattle.http_texts.specs.declared.fault.Fault.TheVariants as Faulty
 use Rattle.std.specs.Prelude.{None}
 use Rattle.std.proofs.lemmas.Grind.{flat_map-append}
 use Rattle.req_view.specs.Request.{Request}
@@ -38,8 +39,8 @@ use Rattle.body_coder.proofs.Running.{run_text, run_done, run_bad}
 use Rattle.std.specs.List.{AllByRecursion}
 use Rattle.httparse.specs.Grammar.{print_request}
 use Rattle.list_facts.proofs.Fronts.{front_same, front_nil, front_as, behind}
-use Rattle.relay_http.specs.Replies.{leave_text, refusal_text}
-use Rattle.relay_http.specs.Texts.{framed_for}
+use Rattle.http_texts.specs.Replies.{leave_text, refusal_text}
+use Rattle.http_texts.specs.Texts.{framed_for}
 use Rattle.exchange_machine.specs.Repeats.{IsTry}
 use Rattle.exchange_machine.specs.Headline.AreTries.{none as untried, of_request as some_tries}
 use Rattle.exchange_machine.specs.Answerings.{TellsAnswer}
@@ -50,7 +51,7 @@ use Rattle.exchange_machine.specs.Headline.ToServer.{nothing, of_request}
 use Rattle.exchange_machine.specs.Headline.ClientText.{silent, refused_unread, late, starved, unserved, refused, answered}
 use Rattle.exchange_machine.specs.Headline.ArePosted.{all_posted, one_held}
 use Rattle.exchange_machine.specs.Histories.{Post, History, client_came, server_came, client_got, connected_on, posted, passes_of, reached_by}
-use Rattle.exchange_machine.specs.Requests.{IsAskedBy, BreaksBody, IsNoRequest}
+use Rattle.exchange_machine.specs.Requests.{IsAskedBy, BreaksBody, IsNoRequest, LacksHead}
 use Rattle.exchange_machine.specs.Stages.{IsFresh, IsAsking, IsWaiting, IsDialing, IsPassing, IsLeaving, HasLeave}
 use Rattle.exchange_machine.specs.declared.leaving.Leaving.{Leaving}
 use Rattle.grant_board.specs.Views.{Grant}
@@ -746,13 +747,17 @@ look_whole w h v held len begins framed view rest fresh came = record {
 }
 
 -- and what came behind it is none of its bodies
-pub look_broken : (v : Request) (f : Framed.Framing) (held : List ℕ) (len : ℕ) → BeginsWith held v len → request_framing v ≡ Some f
-    → is_bad (read (start_of f true) (drop len held)).coding ≡ true → IsNoRequest Faulty.Framing held
-look_broken v f held len begins framed broken = inr (record {
-  request = v;
-  behind = drop len held;
-  asked = asked_at v v held held (drop len held) len begins refl refl refl;
-  breaks = record { framing = f; framed = framed; breaks = λ more. bad f true (drop len held) more broken };
+pub look_broken : (w : Waiting) (h : History) → IsWaiting w h → is_bad (read (start_of w.asked.framing true) w.asked.held.items).coding ≡ true
+    → IsNoRequest Faulty.Framing h.client_in
+look_broken w h is broken = inr (record {
+  request = w.asked.view;
+  behind = w.asked.held.items;
+  asked = is.asked.asked;
+  breaks = record {
+    framing = w.asked.framing;
+    framed = is.asked.framed;
+    breaks = λ more. bad w.asked.framing true w.asked.held.items more broken;
+  };
 })
 
 -- what is held is taken in part
@@ -1009,14 +1014,18 @@ pub look_refused : (why : HeadRefusal) (fault : Fault) (bytes : List ℕ) → Te
 look_refused HeadFault fault bytes never is = subst (λ (f : Fault). IsNoRequest f bytes) (sym is) never
 look_refused NoMemory fault bytes never is = subst (λ (f : Fault). IsNoRequest f bytes) (sym is) tt
 
-pub look_framed_badly : (v : Request) (seen : List ℕ) (len : ℕ) → BeginsWith seen v len → request_framing v ≡ None → IsNoRequest Faulty.Framing seen
-look_framed_badly v seen len begins none = inl (record {
+pub look_framed_badly : (v : Request) (seen : List ℕ) (len : ℕ) → BeginsWith seen v len → request_framing v ≡ None → FramedBadly seen
+look_framed_badly v seen len begins none = record {
   head = begins.head;
   rest = begins.rest;
   is = request_alone begins.head begins.stands;
   input_is = begins.stands.0.reads.1;
   no_framing = ap request_framing (sym begins.request) ∙ none;
-})
+}
+
+pub look_lacks : (why : HeadRefusal) (fault : Fault) (bytes : List ℕ) → Tells bytes (Seen why) → fault ≡ of_refusal why → LacksHead fault bytes
+look_lacks HeadFault fault bytes never is = subst (λ (f : Fault). LacksHead f bytes) (sym is) never
+look_lacks NoMemory fault bytes never is = subst (λ (f : Fault). LacksHead f bytes) (sym is) tt
 
 -- what came behind a head is none of its bodies
 pub passing_breaks : (p : Passing) (h : History) → (is : IsPassing p h) → is_bad p.up.coding ≡ true → BreaksBody p.view is.behind

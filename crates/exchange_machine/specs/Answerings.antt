@@ -1,10 +1,10 @@
 -- Whole answers, as they are read and as a client is told of them.
 use Rattle.std.specs.Prelude.{◌≡◌, ℕ, Bool, false, ◌&&◌, List, ◌++◌}
 use Rattle.relay_body.specs.declared.framing.Framing.TheVariants as Framed
-use Rattle.relay_http.specs.Messages.{IsAnswered}
-use Rattle.relay_http.specs.Replies.{leave_text}
-use Rattle.relay_http.specs.Texts.{framed_for}
-use Rattle.relay_http.specs.declared.persistence.Persistence.{Persistence}
+use Rattle.http_texts.specs.Messages.{IsAnswered}
+use Rattle.http_texts.specs.Replies.{leave_text}
+use Rattle.http_texts.specs.Texts.{framed_for}
+use Rattle.http_texts.specs.declared.persistence.Persistence.{Persistence}
 use Rattle.req_view.specs.Request.{Request}
 use Rattle.body_coder.specs.declared.coding.Coding.{Coding}
 use Rattle.exchange_machine.specs.Reasons.{Shows}

@@ -3,14 +3,14 @@ use Rattle.std.specs.Prelude.{◌≡◌, ◌≢◌, ℕ, List, [], ◌∷◌, �
 use Rattle.std.specs.List.{AllByRecursion}
 use Rattle.grant_board.specs.Views.{Grant}
 use Rattle.list_facts.specs.Fronts.{IsFront}
-use Rattle.relay_http.specs.Messages.{PartOfForwarded, PartOfAnswered}
-use Rattle.relay_http.specs.Replies.{leave_text, refusal_text}
-use Rattle.relay_http.specs.Texts.{framed_for}
-use Rattle.relay_http.specs.declared.persistence.Persistence.{Persistence}
-use Rattle.relay_http.specs.declared.fault.Fault.{Fault}
-use Rattle.relay_http.specs.declared.fault.Fault.TheVariants as Faulty
-use Rattle.relay_http.specs.declared.refusing.Code.{Code}
-use Rattle.relay_http.specs.declared.refusing.Code.TheVariants.{BadRequest, Unavailable}
+use Rattle.http_texts.specs.Messages.{PartOfForwarded, PartOfAnswered}
+use Rattle.http_texts.specs.Replies.{leave_text, refusal_text}
+use Rattle.http_texts.specs.Texts.{framed_for}
+use Rattle.http_texts.specs.declared.persistence.Persistence.{Persistence}
+use Rattle.http_texts.specs.declared.fault.Fault.{Fault}
+use Rattle.http_texts.specs.declared.fault.Fault.TheVariants as Faulty
+use Rattle.http_texts.specs.declared.refusals.Code.{Code}
+use Rattle.http_texts.specs.declared.refusals.Code.TheVariants.{BadRequest, Unavailable}
 use Rattle.req_view.specs.Heads.{HasNoHead}
 use Rattle.req_view.specs.Request.{Request}
 use Rattle.verdict.specs.declared.Ending.TheVariants.{Failed}

@@ -1,11 +1,11 @@
 pub mod Answerings
+pub mod Findings
 pub mod Headline
 pub mod Histories
 pub mod Reasons
 pub mod Repeatables
 pub mod Repeats
 pub mod Requests
-pub mod Roles
 pub mod Settlings
 pub mod Sides
 pub mod Stages

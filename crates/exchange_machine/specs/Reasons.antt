@@ -2,11 +2,11 @@
 use Rattle.std.specs.Prelude.{◌≡◌, ℕ, ◌≤◌, true, List, ◌∷◌, ◌++◌, length, Option, Some, None}
 use Rattle.httparse.specs.Grammar.{ResponseHead, print_response}
 use Rattle.relay_body.specs.Framings.{LacksBody}
-use Rattle.relay_http.specs.Framings.{answer_plan, is_interim}
-use Rattle.relay_http.specs.Messages.{AreInterims, IsFinal, print_heads}
-use Rattle.relay_http.specs.declared.refusing.Code.{Code}
-use Rattle.relay_http.specs.declared.refusing.Code.TheVariants.{BadGateway, BadRequest, Unavailable}
-use Rattle.relay_http.specs.declared.plans.Plan.{Plan}
+use Rattle.http_texts.specs.Framings.{answer_plan, is_interim}
+use Rattle.http_texts.specs.Messages.{AreInterims, IsFinal, print_heads}
+use Rattle.http_texts.specs.declared.refusals.Code.{Code}
+use Rattle.http_texts.specs.declared.refusals.Code.TheVariants.{BadGateway, BadRequest, Unavailable}
+use Rattle.http_texts.specs.declared.plans.Plan.{Plan}
 use Rattle.req_view.specs.Answer.{Answer}
 use Rattle.req_view.specs.AnswerHeads.{SaysAnswer, NeverHasAnswer}
 use Rattle.req_view.specs.Request.{Request}

@@ -3,10 +3,10 @@ use Rattle.std.specs.Prelude.{◌≡◌, ◌⊎◌, ℕ, List, ◌++◌, Some}
 use Rattle.httparse.specs.Grammar.{RequestHead, print_request}
 use Rattle.relay_body.specs.Framings.{LacksBody}
 use Rattle.relay_body.specs.declared.framing.Framing as Framed
-use Rattle.relay_http.specs.Framings.{request_framing}
-use Rattle.relay_http.specs.Heads.{IsRequest, FramedBadly}
-use Rattle.relay_http.specs.declared.fault.Fault.{Fault}
-use Rattle.relay_http.specs.declared.fault.Fault.TheVariants.{NoMemory, Head, Framing, Read, Write, Turns, Closed}
+use Rattle.http_texts.specs.Framings.{request_framing}
+use Rattle.http_texts.specs.Heads.{IsRequest, FramedBadly}
+use Rattle.http_texts.specs.declared.fault.Fault.{Fault}
+use Rattle.http_texts.specs.declared.fault.Fault.TheVariants.{NoMemory, Head, Framing, Read, Write, Turns, Closed}
 use Rattle.req_view.specs.Heads.{NeverHasHead}
 use Rattle.req_view.specs.Request.{Request, request_of}
 
@@ -39,3 +39,13 @@ IsNoRequest Read input = ⊥
 IsNoRequest Write input = ⊥
 IsNoRequest Turns input = ⊥
 IsNoRequest Closed input = ⊥
+
+-- what is wrong with an input that begins with no head, or with one that frames its body badly, whatever stands behind it
+abbrev pub LacksHead : Fault → List ℕ → Type 0
+LacksHead Head input = NeverHasHead input
+LacksHead Framing input = FramedBadly input
+LacksHead NoMemory input = Unit {0}
+LacksHead Read input = ⊥
+LacksHead Write input = ⊥
+LacksHead Turns input = ⊥
+LacksHead Closed input = ⊥

@@ -3,8 +3,8 @@ use Rattle.std.specs.Prelude.{◌≡◌, ◌≢◌, ℕ, Bool, true, false, ◌&
 use Rattle.std.specs.List.{AllByRecursion}
 use Rattle.body_coder.specs.Stops.{is_done}
 use Rattle.body_coder.specs.declared.coding.Coding.{Coding}
-use Rattle.relay_http.specs.declared.persistence.Persistence.{Persistence}
-use Rattle.relay_http.specs.declared.persistence.Persistence.TheVariants.{Close, Persist, KeepAlive}
+use Rattle.http_texts.specs.declared.persistence.Persistence.{Persistence}
+use Rattle.http_texts.specs.declared.persistence.Persistence.TheVariants.{Close, Persist, KeepAlive}
 use Rattle.exchange_machine.specs.Headline.{AreTries, IsFair, ClientText, ToServer}
 use Rattle.exchange_machine.specs.Histories.{History, passes_of}
 use Rattle.exchange_machine.specs.Repeats.{is_bare}

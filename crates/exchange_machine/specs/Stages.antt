@@ -1,19 +1,19 @@
 -- What an exchange at each stage is, after a history.
-use Rattle.std.specs.Prelude.{◌≡◌, ◌≢◌, ℕ, false, true, List, [], ◌∷◌, ◌++◌, length, Some}
+use Rattle.std.specs.Prelude.{◌≡◌, ◌≢◌, ℕ, ◌<◌, false, true, List, [], ◌∷◌, ◌++◌, length, Some}
 use Rattle.std.specs.List.{AllByRecursion}
-use Rattle.relay_http.specs.Framings.{request_framing}
-use Rattle.relay_http.specs.Persistences.{wished}
-use Rattle.relay_http.specs.Replies.{leave_text}
-use Rattle.relay_http.specs.Texts.{framed_for}
-use Rattle.relay_http.specs.declared.fault.Fault.{Fault}
-use Rattle.relay_http.specs.declared.persistence.Persistence.TheVariants.{Close}
+use Rattle.http_texts.specs.Framings.{request_framing}
+use Rattle.http_texts.specs.Persistences.{wished}
+use Rattle.http_texts.specs.Replies.{leave_text}
+use Rattle.http_texts.specs.Texts.{framed_for}
+use Rattle.http_texts.specs.declared.fault.Fault.{Fault}
+use Rattle.http_texts.specs.declared.persistence.Persistence.TheVariants.{Close}
 use Rattle.req_view.specs.Heads.{HasNoHead}
 use Rattle.exchange_machine.specs.Answerings.{TellsAnswer}
 use Rattle.exchange_machine.specs.Headline.{AreTries, IsFair, ClientText, ToClient, ToServer}
 use Rattle.exchange_machine.specs.Histories.{History, passes_of, reached_by}
 use Rattle.exchange_machine.specs.Reasons.{HasEnded, Shows}
 use Rattle.exchange_machine.specs.Repeats.{IsTry}
-use Rattle.exchange_machine.specs.Requests.{IsAskedBy, IsNoRequest}
+use Rattle.exchange_machine.specs.Requests.{IsAskedBy, IsNoRequest, LacksHead}
 use Rattle.exchange_machine.specs.Sides.{IsUp, IsDown}
 use Rattle.exchange_machine.specs.Wholes.{EndsClean}
 use Rattle.exchange_machine.specs.declared.waiting.Asked.{Asked}
@@ -120,6 +120,17 @@ abbrev pub IsTurn : Turn → History → Type 0
 IsTurn (Turns.More a) h = IsAsking a h
 IsTurn (Turns.Whole w) h = IsWaiting w h
 IsTurn (Turns.Refused held why) h = IsUnread why h
+
+abbrev pub IsMore : Turn → Type 0
+IsMore (Turns.More a) = Unit {0}
+IsMore (Turns.Whole w) = ⊥
+IsMore (Turns.Refused held why) = ⊥
+
+-- what became of a look for a head alone in these bytes: all are held, and more may come, or they lack a head for this reason
+abbrev pub HeadSays : Turn → List ℕ → Type 0
+HeadSays (Turns.More a) bytes = (a.held.items ≡ bytes) × (length bytes < 16384)
+HeadSays (Turns.Whole w) bytes = Unit {0}
+HeadSays (Turns.Refused held why) bytes = LacksHead why bytes
 
 -- a refusal goes out of which no outbox holds a byte
 pub record IsTelling (t : Telling) (h : History) : Type 0 where

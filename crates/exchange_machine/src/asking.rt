@@ -1,19 +1,18 @@
-ghost use Rattle.std.specs.Prelude.{◌≡◌, ◌≤◌, ◌++◌, List, [], length, take, drop, false, Some};
+ghost use Rattle.std.specs.Prelude.{◌≡◌, ◌≤◌, ◌++◌, List, [], length, take, drop, false};
 ghost use Rattle.exchange_machine.specs.Histories.{History, client_came, nothing_yet};
 ghost use Rattle.exchange_machine.specs.Reasons.{Shows};
 ghost use Rattle.exchange_machine.specs.Stages as stages;
 ghost use Rattle.exchange_machine.specs.Wants.{is_none};
-ghost use Rattle.relay_http.specs.Framings.{request_framing};
-ghost use Rattle.req_view.specs.Heads.{BeginsWith, HasNoHead};
+ghost use Rattle.http_texts.specs.Heads.{LacksRequest};
+ghost use Rattle.req_view.specs.Heads.{HasNoHead};
 
 use crate::held::{HEAD_BYTES, forget, has_feed};
-use crate::roles::fault_of;
 use crate::signs::Sign;
 use crate::telling::Telling;
 use crate::waiting::{Asked, Waiting};
 use body_coder::Coding;
+use http_texts::{Code, Fault, fault_of, request_framing};
 use relay_body::Framing;
-use relay_http::{Code, Fault, request_framing};
 use req_view::{View, Viewed, view};
 use std::alloc::Global;
 
@@ -58,6 +57,17 @@ impl Asking {
         ensures within { result.0 ≤ length input.now }
         ensures turn { (h : History) → stages.IsAsking self h → stages.IsTurn result.1 (client_came h (take result.0 input.now)) }
     {
+        let (used, turn) = self.head_bytes(alloc, input);
+        (used, looked_behind(turn))
+    }
+
+    /// The same, whatever stands behind a head: that may be none of its bodies.
+    pub fn head_bytes(self, alloc: Global, input: &[u8]) -> (usize, Turn)
+        ensures within { result.0 ≤ length input.now }
+        ensures turn { (h : History) → stages.IsAsking self h → stages.IsTurn result.1 (client_came h (take result.0 input.now)) }
+        ensures says { stages.HeadSays result.1 (self.held.items ++ take result.0 input.now) }
+        ensures more { stages.IsMore result.1 → result.0 ≡ length input.now }
+    {
         let Asking { mut held } = self;
         let room = HEAD_BYTES.saturating_sub(held.len());
         let used = input.len().min(room);
@@ -65,6 +75,23 @@ impl Asking {
         match held.extend_from_slice(came) {
             Ok(()) => (used, look_further(alloc, held, has_feed(came))),
             Err(_) => (0, Turn::Refused(held, Fault::NoMemory)),
+        }
+    }
+
+    /// How many bytes of the client are held.
+    pub fn count(&self) -> usize
+        ensures { result ≡ length self.now.held.items }
+    {
+        self.held.len()
+    }
+
+    /// The client sends no more: what is wrong with what came. `O(n)`.
+    pub fn fault(&self, alloc: Global) -> Fault
+        ensures { (h : History) → stages.IsAsking self.now h → LacksRequest result h.client_in }
+    {
+        match view(alloc, self.held.as_slice()) {
+            Viewed::Refused(why) => fault_of(why),
+            Viewed::More | Viewed::Whole(_, _) => Fault::Read,
         }
     }
 
@@ -78,7 +105,8 @@ impl Asking {
 
 // Where no line ended since there was no head, there is none.
 fn look_further(alloc: Global, held: Vec<u8>, feed: bool) -> Turn
-    ensures { (h : History) → stages.IsFresh h → h.client_in ≡ held.items → (feed ≡ false → HasNoHead h.client_in) → stages.IsTurn result h }
+    ensures turn { (h : History) → stages.IsFresh h → h.client_in ≡ held.items → (feed ≡ false → HasNoHead h.client_in) → stages.IsTurn result h }
+    ensures says { stages.HeadSays result held.items }
 {
     if !feed && held.len() < HEAD_BYTES {
         return Turn::More(Asking { held });
@@ -86,31 +114,46 @@ fn look_further(alloc: Global, held: Vec<u8>, feed: bool) -> Turn
     look(alloc, held)
 }
 
-// What stands in the bytes that came.
-pub(crate) fn look(alloc: Global, held: Vec<u8>) -> Turn
-    ensures { (h : History) → stages.IsFresh h → h.client_in ≡ held.items → stages.IsTurn result h }
+// Which head stands in the bytes that came.
+fn look(alloc: Global, held: Vec<u8>) -> Turn
+    ensures turn { (h : History) → stages.IsFresh h → h.client_in ≡ held.items → stages.IsTurn result h }
+    ensures says { stages.HeadSays result held.items }
 {
     match view(alloc, held.as_slice()) {
         Viewed::More => Turn::More(Asking { held }),
         Viewed::Refused(why) => Turn::Refused(held, fault_of(why)),
         Viewed::Whole(view, len) => match request_framing(&view) {
             None => Turn::Refused(held, Fault::Framing),
-            Some(framing) => look_behind(view, framing, held, len),
+            Some(framing) => Turn::Whole(waiting_with(view, framing, held, len)),
         },
     }
 }
 
-// A head was read: is what came behind it a body, or may it become one?
-fn look_behind(view: View, framing: Framing, held: Vec<u8>, len: usize) -> Turn
-    requires begins { BeginsWith held.items view len }
-    requires framed { request_framing view ≡ Some framing }
+// What stands in the bytes that came, and behind its head.
+pub(crate) fn look_on(alloc: Global, held: Vec<u8>) -> Turn
     ensures { (h : History) → stages.IsFresh h → h.client_in ≡ held.items → stages.IsTurn result h }
 {
-    let coding = Coding::new(framing, true);
-    if coding.breaks(&held.as_slice()[len..]) {
-        Turn::Refused(held, Fault::Framing)
+    looked_behind(look(alloc, held))
+}
+
+fn looked_behind(turn: Turn) -> Turn
+    ensures { (h : History) → stages.IsFresh h → stages.IsTurn turn h → stages.IsTurn result h }
+{
+    match turn {
+        Turn::Whole(waiting) => look_behind(waiting),
+        other => other,
+    }
+}
+
+// A head was read: is what came behind it a body, or may it become one?
+fn look_behind(waiting: Waiting) -> Turn
+    ensures { (h : History) → stages.IsFresh h → stages.IsWaiting waiting h → stages.IsTurn result h }
+{
+    let coding = Coding::new(waiting.asked.framing, true);
+    if coding.breaks(waiting.asked.held.as_slice()) {
+        Turn::Refused(waiting.asked.held, Fault::Framing)
     } else {
-        Turn::Whole(waiting_with(view, framing, held, len))
+        Turn::Whole(waiting)
     }
 }
 

@@ -2,8 +2,9 @@ ghost use Rattle.std.specs.Prelude.{◌≡◌, [], false, IfOk, IfErr};
 ghost use Rattle.exchange_machine.specs.Histories.{History, connected_on, posted};
 ghost use Rattle.exchange_machine.specs.Repeatables as repeats;
 ghost use Rattle.exchange_machine.specs.Stages as stages;
-ghost use Rattle.relay_http.specs.Replies.{leave_text};
-ghost use Rattle.relay_http.specs.Texts.{request_text};
+ghost use Rattle.http_texts.specs.Replies.{leave_text};
+ghost use Rattle.http_texts.specs.Texts.{request_text};
+ghost use Rattle.verdict.specs.declared.Ending.TheVariants as ending;
 
 use crate::passing::Passing;
 use crate::repeating::{is_bare, is_idempotent};
@@ -12,9 +13,8 @@ use crate::texts::{put_leave, put_request};
 use crate::waiting::{Asked, Waiting};
 use crate::way::Way;
 use grant_board::Pass;
-use relay_http::{Additions, Persistence};
+use http_texts::{Additions, Persistence};
 use std::alloc::Global;
-use verdict::Ending;
 
 /// Its pass is there, and a server is being connected to.
 pub struct Dialing {
@@ -37,17 +37,16 @@ pub struct Terms {
 
 impl Dialing {
     /// Its client has gone: the pass goes back as done, since the server isn't to blame.
-    pub fn abandon(self) -> (Pass, Ending)
-        ensures ends { (h : History) → stages.IsDialing self h → stages.IsOver (posted h result.0 result.1) }
-        ensures pass { result.0 ≡ self.pass }
-        ensures done { result.1 ≡ Ending.Done }
+    pub fn abandon(self) -> Pass
+        ensures ends { (h : History) → stages.IsDialing self h → stages.IsOver (posted h result ending.Done) }
+        ensures pass { result ≡ self.pass }
     {
         let Dialing {
             waiting: _,
             pass,
             reached: _,
         } = self;
-        (pass, Ending::Done)
+        pass
     }
 
     /// Its pass, to be looked at.
@@ -75,7 +74,7 @@ impl Dialing {
     /// The server can't be reached, and nothing reached one before: the pass goes back as failed, and another may be waited for.
     pub fn fail(self) -> (Waiting, Pass)
         requires { self.reached ≡ false }
-        ensures { (h : History) → stages.IsDialing self h → stages.IsWaiting result.0 (posted h result.1 Ending.Failed) }
+        ensures { (h : History) → stages.IsDialing self h → stages.IsWaiting result.0 (posted h result.1 ending.Failed) }
     {
         let Dialing {
             waiting,
@@ -87,7 +86,7 @@ impl Dialing {
 
     /// Nothing is tried any more: the pass goes back as done, and its client is to be told why.
     pub fn give_up(self) -> (Waiting, Pass)
-        ensures { (h : History) → stages.IsDialing self h → stages.IsWaiting result.0 (posted h result.1 Ending.Done) }
+        ensures { (h : History) → stages.IsDialing self h → stages.IsWaiting result.0 (posted h result.1 ending.Done) }
     {
         let Dialing {
             waiting,

@@ -8,6 +8,7 @@ ghost use Rattle.exchange_machine.specs.Reasons.{Reason};
 ghost use Rattle.exchange_machine.specs.Repeatables as repeats;
 ghost use Rattle.exchange_machine.specs.Settlings as settling;
 ghost use Rattle.exchange_machine.specs.Stages as stages;
+ghost use Rattle.verdict.specs.declared.Ending.TheVariants as ending;
 
 use crate::dialing::Dialing;
 use crate::leaving::Leaving;
@@ -15,12 +16,10 @@ use crate::passing::Passing;
 use crate::repeating::{is_bare, is_idempotent};
 use crate::settling::Settling;
 use crate::sides::Down;
-use crate::telling::refusal;
 use crate::texts::put_text;
 use crate::waiting::{Asked, Waiting};
 use grant_board::Pass;
-use relay_http::{Code, Persistence};
-use verdict::Ending;
+use http_texts::{Code, Persistence};
 
 /// What is left of an exchange whose pass is to be posted.
 #[derive(Drop)]
@@ -31,17 +30,15 @@ pub enum Rest {
     Leaving(Leaving),
 }
 
-/// A pass to be posted, and what is left.
+/// A pass to be posted as done, and what is left.
 pub struct Settled {
     pub pass: Pass,
-    pub ending: Ending,
     pub rest: Rest,
 }
 
-/// A pass to be posted, and what is left.
+/// A pass to be posted as done, and what is left.
 pub struct Ended {
     pub pass: Pass,
-    pub ending: Ending,
     pub rest: Leaving,
 }
 
@@ -49,18 +46,16 @@ impl Passing {
     /// The client is told this in place of an answer of which it took no byte, for this reason, behind what it took of the leave.
     pub fn refuse(self, code: Code) -> Ended
         requires { self.begun ≡ false }
-        ensures ends { (h : History) → (is : stages.IsPassing self h) → Reason h.signs self.view is.behind h.server_in code
-            → stages.IsLeaving result.rest (posted h result.pass result.ending) }
-        ensures done { result.ending ≡ Ending.Done }
+        ensures { (h : History) → (is : stages.IsPassing self h) → Reason h.signs self.view is.behind h.server_in code
+            → stages.IsLeaving result.rest (posted h result.pass ending.Done) }
     {
         let leave_left = self.leave_left;
-        let Ended { pass, ending, rest } = self.end();
+        let Ended { pass, rest } = self.end();
         let Leaving { mut out, .. } = rest;
         out.keep_front(leave_left);
-        let _ = put_text(&mut out, refusal(code));
+        let _ = put_text(&mut out, code.text());
         Ended {
             pass,
-            ending,
             rest: Leaving {
                 out,
                 whole: false,
@@ -73,8 +68,7 @@ impl Passing {
     pub fn refuse_unanswered(self) -> Ended
         requires none { self.begun ≡ false }
         requires ended { self.ended ≡ true }
-        ensures ends { (h : History) → stages.IsPassing self h → stages.IsLeaving result.rest (posted h result.pass result.ending) }
-        ensures done { result.ending ≡ Ending.Done }
+        ensures { (h : History) → stages.IsPassing self h → stages.IsLeaving result.rest (posted h result.pass ending.Done) }
     {
         self.refuse(Code::BadGateway)
     }
@@ -84,8 +78,7 @@ impl Passing {
         requires none { self.begun ≡ false }
         requires body { self.phase ≡ Down.Body }
         requires bad { is_bad self.down.coding ≡ true }
-        ensures ends { (h : History) → stages.IsPassing self h → stages.IsLeaving result.rest (posted h result.pass result.ending) }
-        ensures done { result.ending ≡ Ending.Done }
+        ensures { (h : History) → stages.IsPassing self h → stages.IsLeaving result.rest (posted h result.pass ending.Done) }
     {
         self.refuse(Code::BadGateway)
     }
@@ -94,24 +87,18 @@ impl Passing {
     pub fn refuse_request(self) -> Ended
         requires none { self.begun ≡ false }
         requires bad { is_bad self.up.coding ≡ true }
-        ensures ends { (h : History) → stages.IsPassing self h → stages.IsLeaving result.rest (posted h result.pass result.ending) }
-        ensures done { result.ending ≡ Ending.Done }
+        ensures { (h : History) → stages.IsPassing self h → stages.IsLeaving result.rest (posted h result.pass ending.Done) }
     {
         self.refuse(Code::BadRequest)
     }
 
     /// Its client has gone: nothing more is written, and the pass goes back as done, since the server isn't to blame.
-    pub fn abandon(self) -> (Pass, Ending)
-        ensures ends { (h : History) → stages.IsPassing self h → stages.IsOver (posted h result.0 result.1) }
-        ensures pass { result.0 ≡ self.pass }
-        ensures done { result.1 ≡ Ending.Done }
+    pub fn abandon(self) -> Pass
+        ensures ends { (h : History) → stages.IsPassing self h → stages.IsOver (posted h result ending.Done) }
+        ensures pass { result ≡ self.pass }
     {
-        let Ended {
-            pass,
-            ending: _,
-            rest: _,
-        } = self.end();
-        (pass, Ending::Done)
+        let Ended { pass, rest: _ } = self.end();
+        pass
     }
 
     /// May the request be sent once more, on another connection? No byte of an answer came and it has no body; and no byte of it reached a server, or the
@@ -228,8 +215,7 @@ impl Passing {
 
     /// It is over: its pass is to be posted. Where both messages were whole the client may ask again.
     pub fn settle(self) -> Settled
-        ensures ends { (h : History) → stages.IsPassing self h → settling.IsRest result.rest (posted h result.pass result.ending) }
-        ensures done { result.ending ≡ Ending.Done }
+        ensures ends { (h : History) → stages.IsPassing self h → settling.IsRest result.rest (posted h result.pass ending.Done) }
         ensures whole { settling.IsMarked (has_answered self) result.rest }
         ensures clean { settling.IsCleanAs (settling.is_clean self) result.rest }
     {
@@ -238,18 +224,16 @@ impl Passing {
         }
         let whole = self.has_answered();
         let clean = self.is_clean();
-        let Ended { pass, ending, rest } = self.end_as(whole, clean);
+        let Ended { pass, rest } = self.end_as(whole, clean);
         Settled {
             pass,
-            ending,
             rest: Rest::Leaving(rest),
         }
     }
 
     fn settle_whole(self) -> Settled
         requires { (self.phase ≡ Down.Body) × (is_done self.up.coding ≡ true) × (is_done self.down.coding ≡ true) × (self.says ≢ Persistence.Close) }
-        ensures ends { (h : History) → stages.IsPassing self h → settling.IsRest result.rest (posted h result.pass result.ending) }
-        ensures done { result.ending ≡ Ending.Done }
+        ensures ends { (h : History) → stages.IsPassing self h → settling.IsRest result.rest (posted h result.pass ending.Done) }
         ensures whole { settling.IsMarked (has_answered self) result.rest }
         ensures clean { settling.IsCleanAs (settling.is_clean self) result.rest }
     {
@@ -279,7 +263,6 @@ impl Passing {
         } = self;
         Settled {
             pass,
-            ending: Ending::Done,
             rest: Rest::Settling(Settling {
                 out: down,
                 behind: up_held,
@@ -290,9 +273,8 @@ impl Passing {
 
     /// It is over, however far it is: its pass is to be posted as done, since nothing is tried again.
     pub fn end(self) -> Ended
-        ensures ends { (h : History) → stages.IsPassing self h → stages.IsLeaving result.rest (posted h result.pass result.ending) }
+        ensures ends { (h : History) → stages.IsPassing self h → stages.IsLeaving result.rest (posted h result.pass ending.Done) }
         ensures pass { result.pass ≡ self.pass }
-        ensures done { result.ending ≡ Ending.Done }
         ensures rest { (result.rest.out ≡ self.down) × (result.rest.whole ≡ false) × (result.rest.clean ≡ false) }
     {
         self.end_as(false, false)
@@ -302,9 +284,8 @@ impl Passing {
     fn end_as(self, whole: bool, clean: bool) -> Ended
         requires whole { whole ≡ true → has_answered self ≡ true }
         requires clean { clean ≡ true → settling.is_clean self ≡ true }
-        ensures ends { (h : History) → stages.IsPassing self h → stages.IsLeaving result.rest (posted h result.pass result.ending) }
+        ensures ends { (h : History) → stages.IsPassing self h → stages.IsLeaving result.rest (posted h result.pass ending.Done) }
         ensures pass { result.pass ≡ self.pass }
-        ensures done { result.ending ≡ Ending.Done }
         ensures rest { (result.rest.out ≡ self.down) × (result.rest.whole ≡ whole) × (result.rest.clean ≡ clean) }
     {
         let Passing {
@@ -332,7 +313,6 @@ impl Passing {
         } = self;
         Ended {
             pass,
-            ending: Ending::Done,
             rest: Leaving {
                 out: down,
                 whole,

@@ -3,17 +3,20 @@
 ghost use Rattle.std.specs.Prelude.{◌≡◌, ◌≢◌, ◌<◌, ℕ, true, false, Some, IsSome};
 ghost use Rattle.exchange_machine.specs.Histories.{History};
 ghost use Rattle.exchange_machine.specs.Reasons.{LacksAnswer};
+ghost use Rattle.exchange_machine.specs.Findings.{IsSeen};
 ghost use Rattle.exchange_machine.specs.Stages as stages;
-ghost use Rattle.relay_http.specs.Framings.{answer_plan, is_interim};
+ghost use Rattle.http_texts.specs.Framings.{answer_plan, is_interim};
 ghost use Rattle.req_view.specs.AnswerHeads.{SaysAnswer};
 
 use crate::held::forget;
 use crate::passing::Passing;
-use crate::roles::{Role, is_framed, role_of};
 use crate::sides::Down;
 use crate::texts::put_text;
-use relay_http::{Plan, answer_head_text, answer_says, interim_head, is_kept_by_server};
-use req_view::{AnswerHead, HeadRefusal, Viewed, answer_head};
+use http_texts::{
+    Fault, Plan, Role, Wording, answer_head_text, answer_says, fault_of, interim_head, is_framed,
+    is_kept_by_server, role_of,
+};
+use req_view::{AnswerHead, Viewed, answer_head};
 use std::alloc::Global;
 
 /// What became of a look for a head of an answer.
@@ -31,6 +34,34 @@ pub enum Headed {
     Refused,
 }
 
+/// What stands at the front of what came of a server, behind so many heads before an answer.
+#[derive(Drop)]
+pub enum Seen {
+    /// No head yet.
+    More,
+    /// A head before the answer, of so many bytes.
+    Interim(AnswerHead, usize),
+    /// The answer's own, of so many bytes, and what is done with it.
+    Final(AnswerHead, usize, Plan),
+    /// No head that is passed on, whatever follows, for this reason; or memory is wanting.
+    Refused(Fault),
+}
+
+/// Looks for the next head of an answer to a request of this method. `O(n)`.
+pub fn see_head(alloc: Global, method: &[u8], held: &[u8], count: u64) -> Seen
+    ensures { IsSeen method.now count held.now result }
+{
+    match answer_head(alloc, held) {
+        Viewed::More => Seen::More,
+        Viewed::Refused(why) => Seen::Refused(fault_of(why)),
+        Viewed::Whole(head, len) => match role_of(method, &head, count) {
+            Role::Refused => Seen::Refused(Fault::Framing),
+            Role::Interim => Seen::Interim(head, len),
+            Role::Final(plan) => Seen::Final(head, len, plan),
+        },
+    }
+}
+
 impl Passing {
     /// Looks for a head in what is held, where a line of it ended since the last look, and hands it on. Nothing else changes.
     pub fn read_head(&mut self, alloc: Global) -> Headed
@@ -43,27 +74,14 @@ impl Passing {
         if !self.looks {
             return Headed::More;
         }
-        match answer_head(alloc, self.down_held.as_slice()) {
-            Viewed::More => {
+        match see_head(alloc, self.view.method(), self.down_held.as_slice(), count) {
+            Seen::More => {
                 self.looks = false;
                 Headed::More
             }
-            Viewed::Refused(HeadRefusal::HeadFault) => Headed::Refused,
-            Viewed::Refused(HeadRefusal::NoMemory) => Headed::Short,
-            Viewed::Whole(head, len) => self.pass_head(alloc, &head, len, count),
-        }
-    }
-
-    fn pass_head(&mut self, alloc: Global, head: &AnswerHead, len: usize, count: u64) -> Headed
-        requires phase { self.old.phase ≡ Down.Heads count }
-        requires says { SaysAnswer self.old.down_held.items head.now len }
-        ensures passes { (h : History) → stages.IsPassing self.old h → stages.IsPassing self.new h }
-        ensures refused { result ≡ Headed.Refused → (h : History) → stages.IsPassing self.old h → LacksAnswer self.new.view.method h.server_in }
-    {
-        match role_of(self.view.method(), head, count) {
-            Role::Refused => Headed::Refused,
-            Role::Interim => self.pass_interim(alloc, head, len, count),
-            Role::Final(plan) => self.pass_final(alloc, head, len, plan),
+            Seen::Interim(head, len) => self.pass_interim(alloc, &head, len, count),
+            Seen::Final(head, len, plan) => self.pass_final(alloc, &head, len, plan),
+            Seen::Refused(why) => headed_for(why),
         }
     }
 
@@ -98,7 +116,8 @@ impl Passing {
     {
         let framed = is_framed(self.view.version());
         let says = answer_says(self.willing, &self.view, plan);
-        let Ok(text) = answer_head_text(alloc, head, plan, framed, says) else {
+        let wording = Wording { plan, framed, says };
+        let Ok(text) = answer_head_text(alloc, head, wording) else {
             return Headed::Short;
         };
         if !put_text(&mut self.down, text.as_slice()) {
@@ -110,5 +129,15 @@ impl Passing {
         forget(&mut self.down_held, len);
         self.phase = Down::Body;
         Headed::Answer
+    }
+}
+
+fn headed_for(why: Fault) -> Headed
+    ensures { result ≡ Headed.Refused → why ≢ Fault.NoMemory }
+{
+    if why == Fault::NoMemory {
+        Headed::Short
+    } else {
+        Headed::Refused
     }
 }

@@ -11,8 +11,8 @@ use crate::sides::Down;
 use crate::signs::Sign;
 use crate::way::Way;
 use grant_board::Pass;
+use http_texts::{Additions, Persistence};
 use relay_body::Framing;
-use relay_http::{Additions, Persistence};
 use req_view::View;
 use std::alloc::AllocError;
 

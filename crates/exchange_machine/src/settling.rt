@@ -4,7 +4,7 @@ ghost use Rattle.exchange_machine.specs.Settlings as settling;
 ghost use Rattle.exchange_machine.specs.Stages as stages;
 ghost use Rattle.exchange_machine.specs.Wholes.{begun};
 
-use crate::asking::{Turn, look};
+use crate::asking::{Turn, look_on};
 use crate::way::Way;
 use std::alloc::Global;
 
@@ -46,6 +46,6 @@ impl Settling {
         ensures { stages.IsTurn result (begun self.behind.items) }
     {
         let Settling { behind, .. } = self;
-        look(alloc, behind)
+        look_on(alloc, behind)
     }
 }

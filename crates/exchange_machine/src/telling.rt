@@ -1,11 +1,11 @@
 ghost use Rattle.std.specs.Prelude.{◌≡◌, ◌≢◌, ◌≤◌, [], length, take};
 ghost use Rattle.exchange_machine.specs.Histories.{History, client_got, signed};
 ghost use Rattle.exchange_machine.specs.Stages as stages;
-ghost use Rattle.relay_http.specs.Replies.{refusal_text};
-ghost use Rattle.relay_http.specs.declared.fault.Fault as faults;
+ghost use Rattle.http_texts.specs.Replies.{refusal_text};
+ghost use Rattle.http_texts.specs.declared.fault.Fault as faults;
 
 use crate::signs::Sign;
-use relay_http::{Code, Fault};
+use http_texts::{Code, Fault};
 
 /// A refusal that goes out where no outbox was made yet: what is still to be told of it.
 #[derive(Drop)]
@@ -13,29 +13,11 @@ pub struct Telling {
     rest: &'static [u8],
 }
 
-pub(crate) fn refusal(code: Code) -> &'static [u8]
-    ensures { result.now ≡ refusal_text code }
-{
-    match code {
-        Code::BadRequest => {
-            b"HTTP/1.1 400 Bad Request\r\nContent-Length: 0\r\nConnection: close\r\n\r\n"
-        }
-        Code::BadGateway => {
-            b"HTTP/1.1 502 Bad Gateway\r\nContent-Length: 0\r\nConnection: close\r\n\r\n"
-        }
-        Code::Unavailable => {
-            b"HTTP/1.1 503 Service Unavailable\r\nContent-Length: 0\r\nConnection: close\r\n\r\n"
-        }
-    }
-}
-
 impl Telling {
     pub(crate) fn of(code: Code) -> Telling
         ensures { result.rest.now ≡ refusal_text code }
     {
-        Telling {
-            rest: refusal(code),
-        }
+        Telling { rest: code.text() }
     }
 
     /// What came is none that the proxy takes: 400.

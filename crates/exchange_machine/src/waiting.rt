@@ -6,8 +6,8 @@ ghost use Rattle.exchange_machine.specs.Stages as stages;
 use crate::dialing::Dialing;
 use crate::telling::Telling;
 use grant_board::Pass;
+use http_texts::Code;
 use relay_body::Framing;
-use relay_http::Code;
 use req_view::View;
 
 /// A request whose head was read, and what came behind it.
@@ -30,6 +30,15 @@ impl Waiting {
         ensures { result.now ≡ self.now.asked.view }
     {
         &self.asked.view
+    }
+
+    /// Its request, and what came behind its head.
+    pub fn parts(self) -> (View, Vec<u8>)
+        ensures view { result.0 ≡ self.asked.view }
+        ensures behind { result.1.items ≡ self.asked.held.items }
+    {
+        let Waiting { asked } = self;
+        (asked.view, asked.held)
     }
 
     /// A pass came.

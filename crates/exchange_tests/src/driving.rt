@@ -5,7 +5,7 @@ use crate::till::Till;
 use exchange_driver::{Driven, Duplex, Line, Moved, Settings, drive};
 use exchange_machine::Terms;
 use mixed_exchange::{Event, Exchange, Outcome, Rules, Step};
-use relay_http::{Additions, Persistence};
+use http_texts::{Additions, Persistence};
 use std::alloc::{AllocError, Global};
 use std::cell::Cell;
 use std::io;

@@ -5,7 +5,7 @@ use crate::till::Till;
 use exchange_machine::Terms;
 use grant_board::Pass;
 use mixed_exchange::{Clock, Event, Exchange, Outcome, Rules, Step};
-use relay_http::{Additions, Persistence};
+use http_texts::{Additions, Persistence};
 use std::alloc::Global;
 use std::net::{IpAddr, Ipv4Addr};
 use std::process::Abort;

@@ -16,20 +16,20 @@ use Rattle.httparse.specs.Spans.{name_and_value}
 use Rattle.proxy_words.specs.Parts.{parts}
 use Rattle.relay_body.specs.declared.framing.Framing.{Framing}
 use Rattle.relay_body.specs.declared.framing.Framing.TheVariants.{Empty, Length, Chunked, ToEnd}
-use Rattle.relay_http.specs.Fields.{kept, is_kept, is_among, parts_of}
-use Rattle.relay_http.specs.declared.persistence.Persistence.{Persistence}
+use Rattle.http_texts.specs.Fields.{kept, is_kept, is_among, parts_of}
+use Rattle.http_texts.specs.declared.persistence.Persistence.{Persistence}
 use Rattle.req_view.specs.Request.{NamedValue, values_of}
 use Rattle.req_view.specs.declared.version.Version.{Version}
 use Rattle.req_view.specs.declared.version.Version.TheVariants.{Http10, Http11}
 use Rattle.std.specs.Char.{is_ascii_digit, digit_value}
 use Rattle.std.specs.Str.Parse.{AllDigits, digits_value}
 use Rattle.httparse.specs.Grammar.{Field, IsField, ResponseHead, IsResponseHead, print_field, print_section, print_response, status_code, trim_ows}
-use Rattle.relay_http.specs.Fields.{of_connection}
-use Rattle.relay_http.specs.Framings.{by_fields, by_status, common, is_chunked, is_refused, bare, stating}
-use Rattle.relay_http.specs.Messages.{IsFinal}
-use Rattle.relay_http.specs.Persistences.{is_delimited}
-use Rattle.relay_http.specs.Texts.{answer_lines, status_line, status_text, fields_text, end_text, stated}
-use Rattle.relay_http.specs.declared.plans.Plan.{Plan}
+use Rattle.http_texts.specs.Fields.{of_connection}
+use Rattle.http_texts.specs.Framings.{by_fields, by_status, common, is_chunked, is_refused, bare, stating}
+use Rattle.http_texts.specs.Messages.{IsFinal}
+use Rattle.http_texts.specs.Persistences.{is_delimited}
+use Rattle.http_texts.specs.Texts.{answer_lines, status_line, status_text, fields_text, end_text, stated}
+use Rattle.http_texts.specs.declared.plans.Plan.{Plan}
 use Rattle.req_view.specs.Answer.{Answer, answer_of}
 use Rattle.std.specs.Str.{bytes_eq}
 use Rattle.std.proofs.lemmas.Int.Digits.{digits_value-lt}

@@ -20,9 +20,9 @@ use Rattle.relay_body.specs.Chunks.{IsSizeLine, Chunk, IsChunk, print_chunk, chu
 use Rattle.relay_body.specs.Framings.{IsBody}
 use Rattle.relay_body.specs.declared.framing.Framing.{Framing}
 use Rattle.relay_body.specs.declared.framing.Framing.TheVariants.{Empty, Length, Chunked, ToEnd}
-use Rattle.relay_http.specs.Heads.{IsRequest}
-use Rattle.relay_http.specs.Messages.{IsForwarded}
-use Rattle.relay_http.specs.declared.additions.Additions.{Additions}
+use Rattle.http_texts.specs.Heads.{IsRequest}
+use Rattle.http_texts.specs.Messages.{IsForwarded}
+use Rattle.http_texts.specs.declared.additions.Additions.{Additions}
 use Rattle.req_view.specs.Request.{request_of}
 use Rattle.message_readings.specs.Alike.{IsNamed}
 use Rattle.message_readings.specs.Found.{FindsRequest}

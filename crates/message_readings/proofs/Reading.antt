@@ -10,8 +10,8 @@ use Rattle.list_facts.proofs.Fronts.{front_nil, comparable_as, under}
 use Rattle.relay_body.specs.Framings.{IsBody}
 use Rattle.relay_body.specs.declared.framing.Framing.{Framing}
 use Rattle.relay_body.specs.declared.framing.Framing.TheVariants.{Empty, Length, Chunked, ToEnd}
-use Rattle.relay_http.specs.Fields.{parts_of}
-use Rattle.relay_http.specs.Framings.{request_framing, by_fields, common, is_chunked}
+use Rattle.http_texts.specs.Fields.{parts_of}
+use Rattle.http_texts.specs.Framings.{request_framing, by_fields, common, is_chunked}
 use Rattle.req_view.specs.Request.{Request, request_of, values_of}
 use Rattle.req_view.specs.declared.version.Version.{Version}
 use Rattle.req_view.specs.declared.version.Version.TheVariants.{Http10, Http11}

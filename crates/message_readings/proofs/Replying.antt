@@ -12,14 +12,14 @@ use Rattle.httparse.proofs.GrammarLemmas.{response_unique}
 use Rattle.relay_body.specs.Framings.{IsBody}
 use Rattle.relay_body.specs.declared.framing.Framing.{Framing}
 use Rattle.relay_body.specs.declared.framing.Framing.TheVariants.{Empty, Length, Chunked, ToEnd}
-use Rattle.relay_http.specs.Fields.{kept, is_kept, of_connection}
-use Rattle.relay_http.specs.Framings.{answer_plan, is_interim}
-use Rattle.relay_http.specs.Messages.{IsInterim, IsAnswered, print_heads, interims_text}
-use Rattle.relay_http.specs.Persistences.{is_delimited}
-use Rattle.relay_http.specs.Replies.{leave_text, waits_for_leave}
-use Rattle.relay_http.specs.Texts.{answer_lines, answer_text, interim_text, status_line, status_text, fields_text, framed_for}
-use Rattle.relay_http.specs.declared.persistence.Persistence.{Persistence}
-use Rattle.relay_http.specs.declared.plans.Plan.{Plan}
+use Rattle.http_texts.specs.Fields.{kept, is_kept, of_connection}
+use Rattle.http_texts.specs.Framings.{answer_plan, is_interim}
+use Rattle.http_texts.specs.Messages.{IsInterim, IsAnswered, print_heads, interims_text}
+use Rattle.http_texts.specs.Persistences.{is_delimited}
+use Rattle.http_texts.specs.Replies.{leave_text, waits_for_leave}
+use Rattle.http_texts.specs.Texts.{answer_lines, answer_text, interim_text, status_line, status_text, fields_text, framed_for}
+use Rattle.http_texts.specs.declared.persistence.Persistence.{Persistence}
+use Rattle.http_texts.specs.declared.plans.Plan.{Plan}
 use Rattle.req_view.specs.Answer.{Answer, answer_of}
 use Rattle.req_view.specs.Request.{Request}
 use Rattle.message_readings.specs.Found.{FindsAnswer}

@@ -25,13 +25,13 @@ use Rattle.proxy_words.specs.Text.{is_blank}
 use Rattle.proxy_words.proofs.Limits.{numeral_small}
 use Rattle.relay_body.specs.declared.framing.Framing.{Framing}
 use Rattle.relay_body.specs.declared.framing.Framing.TheVariants.{Empty, Length, Chunked, ToEnd}
-use Rattle.relay_http.specs.Fields.{kept, is_kept, is_among, of_request, parts_of}
-use Rattle.relay_http.specs.Framings.{request_framing, by_fields, common, is_number, is_chunked}
-use Rattle.relay_http.specs.Heads.{IsRequest}
-use Rattle.relay_http.specs.Texts.{request_text, field_text, fields_text, framing_text, host_text, client_text, connection_text, end_text}
-use Rattle.relay_http.specs.declared.additions.Additions.{Additions}
-use Rattle.relay_http.specs.declared.persistence.Persistence.{Persistence}
-use Rattle.relay_http.specs.declared.persistence.Persistence.TheVariants.{Close, Persist, KeepAlive}
+use Rattle.http_texts.specs.Fields.{kept, is_kept, is_among, of_request, parts_of}
+use Rattle.http_texts.specs.Framings.{request_framing, by_fields, common, is_number, is_chunked}
+use Rattle.http_texts.specs.Heads.{IsRequest}
+use Rattle.http_texts.specs.Texts.{request_text, field_text, fields_text, framing_text, host_text, client_text, connection_text, end_text}
+use Rattle.http_texts.specs.declared.additions.Additions.{Additions}
+use Rattle.http_texts.specs.declared.persistence.Persistence.{Persistence}
+use Rattle.http_texts.specs.declared.persistence.Persistence.TheVariants.{Close, Persist, KeepAlive}
 use Rattle.req_view.specs.Request.{NamedValue, Request, request_of, values_of, is_named}
 use Rattle.req_view.specs.declared.version.Version.{Version}
 use Rattle.req_view.specs.declared.version.Version.TheVariants.{Http10, Http11}

@@ -1,7 +1,7 @@
 -- What a server finds that reads by the grammar, and what a client finds.
 use Rattle.std.specs.Prelude.{◌≡◌, ℕ, List, Option}
 use Rattle.std.specs.declared.net.ip_addr.IpAddr.{IpAddr}
-use Rattle.relay_http.specs.declared.plans.Plan.{Plan}
+use Rattle.http_texts.specs.declared.plans.Plan.{Plan}
 use Rattle.req_view.specs.Answer.{Answer, answer_of}
 use Rattle.req_view.specs.Request.{Request}
 use Rattle.message_readings.specs.Alike.{AsksAlike}

@@ -3,7 +3,7 @@ use Rattle.std.specs.Prelude.{◌≡◌, ℕ, true, List, ◌++◌, Some}
 use Rattle.httparse.specs.Grammar.{RequestHead, IsRequestHead, print_request}
 use Rattle.relay_body.specs.Framings.{IsBody}
 use Rattle.relay_body.specs.declared.framing.Framing.{Framing}
-use Rattle.relay_http.specs.Framings.{request_framing}
+use Rattle.http_texts.specs.Framings.{request_framing}
 use Rattle.req_view.specs.Request.{request_of}
 
 -- a head, and the bytes of a body

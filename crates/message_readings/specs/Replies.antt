@@ -4,9 +4,9 @@ use Rattle.std.specs.List.{AllByRecursion}
 use Rattle.httparse.specs.Grammar.{ResponseHead, IsResponseHead, print_response}
 use Rattle.relay_body.specs.Framings.{IsBody}
 use Rattle.relay_body.specs.declared.framing.Framing.TheVariants.{ToEnd}
-use Rattle.relay_http.specs.Framings.{answer_plan, is_interim}
-use Rattle.relay_http.specs.Messages.{print_heads}
-use Rattle.relay_http.specs.declared.plans.Plan.{Plan}
+use Rattle.http_texts.specs.Framings.{answer_plan, is_interim}
+use Rattle.http_texts.specs.Messages.{print_heads}
+use Rattle.http_texts.specs.declared.plans.Plan.{Plan}
 use Rattle.req_view.specs.Answer.{answer_of}
 
 -- heads before an answer, its own, and its body

@@ -3,7 +3,7 @@ use Rattle.std.proofs.Common.{◌≡◌, ◌∙◌, ℕ, List, [], ◌++◌, ref
 use Rattle.std.specs.Prelude.{zero, suc}
 use Rattle.std.proofs.lemmas.List.{append_cancel_left, map-append}
 use Rattle.grant_board.specs.Views.{Grant}
-use Rattle.relay_http.specs.declared.additions.Additions.{Additions}
+use Rattle.http_texts.specs.declared.additions.Additions.{Additions}
 use Rattle.exchange_machine.specs.Histories.{History, Post, passes_of}
 use Rattle.mixed_exchange.specs.Passes.{held_by, if_taken, came_with, gone_with}
 use Rattle.mixed_exchange.specs.Steps.{IsAt, heard, ended, after, came_pass, connected_with, FailsInTurn, TellsInTurn, IsOwn, IsOwnOf}

@@ -1,6 +1,6 @@
 -- Requests one after another on a client's connection.
 use Rattle.std.specs.Prelude.{◌≡◌, ◌≢◌, ◌⊎◌, ℕ, Bool, true, false, List, []}
-use Rattle.relay_http.specs.declared.persistence.Persistence.TheVariants.{Close}
+use Rattle.http_texts.specs.declared.persistence.Persistence.TheVariants.{Close}
 use Rattle.exchange_machine.specs.Histories.{History, signed}
 use Rattle.exchange_machine.specs.Repeatables.{takes_used as goes_used}
 use Rattle.exchange_machine.specs.Wants.{is_none}

@@ -2,7 +2,7 @@
 use Rattle.std.specs.Prelude.{◌≡◌, ◌≤◌, ℕ, zero, suc, Bool, true, false, ◌||◌, not, if◌then◌else◌, List, [], ◌∷◌, length, take, Option, Some, None}
 use Rattle.body_coder.specs.Stops.{is_done}
 use Rattle.grant_board.specs.Views.{Grant}
-use Rattle.relay_http.specs.declared.additions.Additions.{Additions}
+use Rattle.http_texts.specs.declared.additions.Additions.{Additions}
 use Rattle.exchange_machine.specs.Histories.{History, connected_on, client_came, server_came, server_got, client_got, granted, posted, retried, signed}
 use Rattle.exchange_machine.specs.Settlings.{IsSettling}
 use Rattle.exchange_machine.specs.Wants.{takes_request, takes_answer, sends_request}

@@ -4,15 +4,15 @@ ghost use Rattle.exchange_machine.specs.Reasons.{told_for};
 ghost use Rattle.exchange_machine.specs.declared.signs.Sign.{Sign};
 ghost use Rattle.exchange_machine.specs.Stages.{IsAsking, IsDialing, IsPassing, IsTurn, IsUnread};
 ghost use Rattle.mixed_exchange.specs.Steps as steps;
-ghost use Rattle.relay_http.specs.declared.additions.Additions as additions;
-ghost use Rattle.relay_http.specs.declared.refusing.Code as codes;
+ghost use Rattle.http_texts.specs.declared.additions.Additions as additions;
+ghost use Rattle.http_texts.specs.declared.refusals.Code as codes;
 
 use crate::event::Clock;
 use crate::exchange::{Exchange, Outcome, Step};
 use crate::relaying::{Turned, go_on, not_redialed, refused_late};
 use exchange_machine::{Asking, Dialing, Passing, Sign, Telling, Terms, Turn, Way};
 use grant_board::Pass;
-use relay_http::{Code, Fault};
+use http_texts::{Code, Fault};
 use std::alloc::Global;
 use verdict::Ending;
 
@@ -403,19 +403,19 @@ pub(crate) fn gone(exchange: Exchange, sign: Sign) -> Step
 {
     match exchange {
         Exchange::Dialing(dialing) => {
-            let (pass, ending) = dialing.abandon();
+            let pass = dialing.abandon();
             Step {
                 next: Exchange::Over,
                 used: 0,
-                outcome: Outcome::Posts(pass, ending),
+                outcome: Outcome::Posts(pass, Ending::Done),
             }
         }
         Exchange::Passing(passing) => {
-            let (pass, ending) = passing.abandon();
+            let pass = passing.abandon();
             Step {
                 next: Exchange::Over,
                 used: 0,
-                outcome: Outcome::Posts(pass, ending),
+                outcome: Outcome::Posts(pass, Ending::Done),
             }
         }
         Exchange::Asking(_asking) => quiet(Exchange::Over, 0),

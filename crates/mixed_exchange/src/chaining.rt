@@ -11,7 +11,7 @@ ghost use Rattle.mixed_exchange.specs.Steps as steps;
 
 use crate::exchange::Exchange;
 use exchange_machine::{Telling, Turn};
-use relay_http::Fault;
+use http_texts::Fault;
 use std::alloc::Global;
 
 impl Exchange {

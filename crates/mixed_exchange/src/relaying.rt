@@ -6,13 +6,14 @@ ghost use Rattle.exchange_machine.specs.Repeatables.{IsRepeatable, IsUntouched};
 ghost use Rattle.exchange_machine.specs.Settlings.{IsRest};
 ghost use Rattle.exchange_machine.specs.Stages.{IsLeaving, IsPassing};
 ghost use Rattle.mixed_exchange.specs.Steps as steps;
-ghost use Rattle.relay_http.specs.declared.refusing.Code as codes;
-ghost use Rattle.verdict.specs.declared.Ending as endings;
+ghost use Rattle.http_texts.specs.declared.refusals.Code as codes;
+ghost use Rattle.verdict.specs.declared.Ending.TheVariants as ending;
 
 use crate::exchange::{Exchange, Outcome};
 use exchange_machine::{Down, Ended, Headed, Passing, Rest, Settled, Sign};
-use relay_http::Code;
+use http_texts::Code;
 use std::alloc::Global;
+use verdict::Ending;
 
 /// How an exchange goes on, and what it gives away.
 pub(crate) struct Turned {
@@ -125,14 +126,13 @@ fn asked_badly(passing: Passing) -> Turned
 }
 
 fn left(ended: Ended) -> Turned
-    requires { ended.ending ≡ endings.Ending.Done }
-    ensures at { (h : History) → IsLeaving ended.rest (posted h ended.pass ended.ending) → steps.IsAt result.next (steps.ended result.outcome h) }
+    ensures at { (h : History) → IsLeaving ended.rest (posted h ended.pass ending.Done) → steps.IsAt result.next (steps.ended result.outcome h) }
     ensures fails { steps.FailsInTurn result.outcome result.next }
 {
-    let Ended { pass, ending, rest } = ended;
+    let Ended { pass, rest } = ended;
     Turned {
         next: Exchange::Leaving(rest),
-        outcome: Outcome::Posts(pass, ending),
+        outcome: Outcome::Posts(pass, Ending::Done),
     }
 }
 
@@ -188,15 +188,16 @@ fn settles(passing: Passing) -> Turned
     ensures at { (h : History) → IsPassing passing h → steps.IsAt result.next (steps.ended result.outcome h) }
     ensures fails { steps.FailsInTurn result.outcome result.next }
 {
-    let Settled { pass, ending, rest } = passing.settle();
+    let Settled { pass, rest } = passing.settle();
+    let outcome = Outcome::Posts(pass, Ending::Done);
     match rest {
         Rest::Settling(settling) => Turned {
             next: Exchange::Settling(settling),
-            outcome: Outcome::Posts(pass, ending),
+            outcome,
         },
         Rest::Leaving(leaving) => Turned {
             next: Exchange::Leaving(leaving),
-            outcome: Outcome::Posts(pass, ending),
+            outcome,
         },
     }
 }
@@ -216,10 +217,10 @@ fn refused_short(passing: Passing) -> Turned
     if passing.has_begun() {
         return ends(passing);
     }
-    let Ended { pass, ending, rest } = passing.refuse(Code::Unavailable);
+    let Ended { pass, rest } = passing.refuse(Code::Unavailable);
     Turned {
         next: Exchange::Leaving(rest),
-        outcome: Outcome::StarvedPosts(pass, ending),
+        outcome: Outcome::StarvedPosts(pass, Ending::Done),
     }
 }
 

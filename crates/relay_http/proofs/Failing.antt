@@ -9,11 +9,11 @@ use Rattle.body_pipe.specs.Steps.{Ends, ends, Reads, Moves, Breaks, LacksNothing
 use Rattle.body_pipe.specs.Steps as Body_steps
 use Rattle.body_pipe.proofs.Stepping.{joined, Reads-trans, moves_emit, breaks_emit}
 use Rattle.relay_body.proofs.Writing.{Wrote-trans}
-use Rattle.relay_http.specs.Emissions.{Puts, Halts}
+use Rattle.http_texts.specs.Emissions.{Puts, Halts}
 use Rattle.relay_http.specs.Failures.{Blames, Fails, Explains, Passes, Misses}
-use Rattle.relay_http.specs.Faults.{relayed}
-use Rattle.relay_http.specs.declared.fault.Fault.{Fault}
-use Rattle.relay_http.specs.declared.fault.Fault.TheVariants.{NoMemory, Head, Framing, Read, Write, Turns, Closed}
+use Rattle.http_texts.specs.Faults.{relayed}
+use Rattle.http_texts.specs.declared.fault.Fault.{Fault}
+use Rattle.http_texts.specs.declared.fault.Fault.TheVariants.{NoMemory, Head, Framing, Read, Write, Turns, Closed}
 
 -- whose the fault is doesn't depend on where one begins to look, as long as no call failed before
 blames_earlier : (fault : Fault) (a b c : Ends) (Why Whole : Fault → List ℕ → Type 0) (used input whole : List ℕ)

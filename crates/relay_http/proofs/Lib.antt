@@ -1,12 +1,7 @@
-pub mod Agreeing
-pub mod AnswerRows
 pub mod Failing
-pub mod Lengths
 pub mod Marking
-pub mod Passing
-pub mod Planning
-pub mod Putting
-pub mod WorkedRows
-pub mod Standing
+pub mod Seeing
+pub mod Telling
 pub mod Thinning
 pub mod Turning
+pub mod WorkedRows

@@ -9,10 +9,10 @@ use Rattle.counted_io.specs.Streams.{Stream}
 use Rattle.list_facts.proofs.Fronts.{some_behind}
 use Rattle.relay_body.specs.Texts.{Wrote}
 use Rattle.body_pipe.specs.declared.pipe.Pipe.{Pipe}
-use Rattle.relay_http.specs.Messages.{IsAnswered, interims_text}
+use Rattle.http_texts.specs.Messages.{IsAnswered, interims_text}
 use Rattle.relay_http.specs.States.{Marks, emptied}
-use Rattle.relay_http.specs.Texts.{answer_text}
-use Rattle.relay_http.specs.declared.persistence.Persistence.TheVariants.{Close}
+use Rattle.http_texts.specs.Texts.{answer_text}
+use Rattle.http_texts.specs.declared.persistence.Persistence.TheVariants.{Close}
 use Rattle.req_view.specs.Answer.{answer_of}
 
 nothing_kept : (old new : Option (List ℕ)) (front : List ℕ) → front ≡ [] → Appends old new front → Keeps old new

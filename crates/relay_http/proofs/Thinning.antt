@@ -9,13 +9,13 @@ use Rattle.body_pipe.specs.Steps.{Ends, ends, Moves}
 use Rattle.relay_body.specs.Texts.{Wrote, WritesFront}
 use Rattle.relay_body.specs.declared.framing.Framing.TheVariants.{ToEnd}
 use Rattle.relay_http.specs.Failures.{Fails, Passes, Misses, WrotePrefix}
-use Rattle.relay_http.specs.Framings.{request_framing}
-use Rattle.relay_http.specs.Heads.{IsRequest}
-use Rattle.relay_http.specs.Messages.{IsAnswered}
-use Rattle.relay_http.specs.declared.fault.Fault.{Fault}
-use Rattle.relay_http.specs.declared.fault.Fault.TheVariants.{Write}
+use Rattle.http_texts.specs.Framings.{request_framing}
+use Rattle.http_texts.specs.Heads.{IsRequest}
+use Rattle.http_texts.specs.Messages.{IsAnswered}
+use Rattle.http_texts.specs.declared.fault.Fault.{Fault}
+use Rattle.http_texts.specs.declared.fault.Fault.TheVariants.{Write}
 use Rattle.relay_http.proofs.Failing.{passes_of, misses_of}
-use Rattle.relay_http.specs.declared.persistence.Persistence.TheVariants.{Close}
+use Rattle.http_texts.specs.declared.persistence.Persistence.TheVariants.{Close}
 use Rattle.req_view.specs.Request.{Request, request_of}
 
 -- the bytes of a reader and of a writer, before and after

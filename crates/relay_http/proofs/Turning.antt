@@ -3,8 +3,8 @@ use Rattle.std.proofs.Common.{◌≡◌, ℕ, ◌≤◌, List, ◌++◌, subst, 
 use Rattle.std.specs.Prelude.{Err, Result}
 use Rattle.body_pipe.specs.Steps.{Ends, Moves}
 use Rattle.relay_http.specs.Failures.{Fails, Blames}
-use Rattle.relay_http.specs.declared.fault.Fault.{Fault}
-use Rattle.relay_http.specs.declared.fault.Fault.TheVariants.{Turns}
+use Rattle.http_texts.specs.declared.fault.Fault.{Fault}
+use Rattle.http_texts.specs.declared.fault.Fault.TheVariants.{Turns}
 
 pub moves_turns : {a b : Ends} {used text : List ℕ} → Moves a b used text → b.pipe.turns ≤ a.pipe.turns
 moves_turns m = omega (arith, m.reads.reads, m.reads.writes, m.reads.spent)

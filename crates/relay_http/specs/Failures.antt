@@ -3,8 +3,8 @@ use Rattle.std.specs.Prelude.{◌≡◌, ℕ, ◌+◌, ◌⊎◌, List, ◌++◌
 use Rattle.std.specs.Io.KnownBytes.{Appends, Consumes, IsAtEnd}
 use Rattle.body_pipe.specs.Steps.{Ends, Reads}
 use Rattle.relay_body.specs.Texts.{WritesFront}
-use Rattle.relay_http.specs.declared.fault.Fault.{Fault}
-use Rattle.relay_http.specs.declared.fault.Fault.TheVariants.{NoMemory, Head, Framing, Read, Write, Turns, Closed}
+use Rattle.http_texts.specs.declared.fault.Fault.{Fault}
+use Rattle.http_texts.specs.declared.fault.Fault.TheVariants.{NoMemory, Head, Framing, Read, Write, Turns, Closed}
 
 -- no call failed
 pub record Fine (old new : Ends) : Type 0 where

@@ -1,14 +1,4 @@
 pub mod Asides
-pub mod Emissions
+pub mod Askings
 pub mod Failures
-pub mod Faults
-pub mod Fields
-pub mod Framings
-pub mod Heads
-pub mod Lines
-pub mod Messages
-pub mod Persistences
-pub mod Replies
 pub mod States
-pub mod Summaries
-pub mod Texts

@@ -2,21 +2,19 @@ ghost use Rattle.std.specs.Prelude.{◌≡◌, ◌≢◌, ◌≤◌, ℕ, List, 
 ghost use Rattle.std.specs.Io.KnownBytes.{Appends, Keeps, IsAtEnd};
 ghost use Rattle.httparse.specs.Grammar.{RequestHead, print_request};
 ghost use Rattle.relay_http.specs.Failures.{Passes, Misses, NoCause, WrotePrefix};
-ghost use Rattle.relay_http.specs.Framings as framings;
-ghost use Rattle.relay_http.specs.Heads.{IsRequest, LacksRequest};
-ghost use Rattle.relay_http.specs.Messages as messages;
-ghost use Rattle.relay_http.specs.Replies.{leave_text, refusal_text};
+ghost use Rattle.http_texts.specs.Framings as framings;
+ghost use Rattle.http_texts.specs.Heads.{IsRequest, LacksRequest};
+ghost use Rattle.http_texts.specs.Messages as messages;
+ghost use Rattle.http_texts.specs.Replies.{leave_text, refusal_text};
 ghost use Rattle.relay_http.specs.States as states;
 ghost use Rattle.relay_http.specs.States.{IsAt, Serves};
-ghost use Rattle.relay_http.specs.Texts.{framed_for, unnamed};
+ghost use Rattle.http_texts.specs.Texts.{framed_for, unnamed};
 ghost use Rattle.req_view.specs.Request.{request_of};
 
 use crate::exchange::{Exchange, Stage};
-use crate::fault::Fault;
-use crate::persistence::Persistence;
-use crate::refusing::Code;
 use counted_io::Counted;
 use grant_board::Pass;
+use http_texts::{Code, Fault, Persistence};
 use relay_body::Framing;
 use req_view::View;
 use std::alloc::Global;

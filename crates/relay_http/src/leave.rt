@@ -2,16 +2,13 @@ ghost use Rattle.std.specs.Prelude.{◌≡◌, ◌+◌, ◌^◌, ◌<◌, [], On
 ghost use Rattle.counted_io.specs.Streams.{Stream};
 ghost use Rattle.body_pipe.specs.Steps.{ends, Moves};
 ghost use Rattle.relay_http.specs.Failures.{Fails, NoCause};
-ghost use Rattle.relay_http.specs.Replies as replies;
+ghost use Rattle.http_texts.specs.Replies as replies;
 
-use crate::fault::Fault;
-use crate::framings::request_framing;
-use crate::lines::send_text;
-use crate::messages::is_framed;
+use crate::sending::send_text;
 use body_pipe::Pipe;
 use counted_io::Sink;
-use relay_body::Framing;
-use req_view::{Values, View};
+use http_texts::{Fault, given_leave};
+use req_view::View;
 
 /// Tells a client that waits for it that it may send the body.
 pub(crate) fn give_leave<K: Sink>(pipe: &mut Pipe, view: &View, sink: &mut K) -> Result<(), Fault>
@@ -23,31 +20,6 @@ pub(crate) fn give_leave<K: Sink>(pipe: &mut Pipe, view: &View, sink: &mut K) ->
     ensures err { (s : Stream)
         → IfErr result (Fails (ends pipe.old s (K.stream sink.old)) (ends pipe.new s (K.stream sink.new)) [] (replies.leave_text view.now) NoCause) }
 {
-    if !waits_for_leave(view) {
-        return Ok(());
-    }
-    send_text(pipe, sink, b"HTTP/1.1 100 Continue\r\n\r\n")?;
+    send_text(pipe, sink, given_leave(view))?;
     Ok(())
-}
-
-pub(crate) fn waits_for_leave(view: &View) -> bool
-    ensures { result ≡ replies.waits_for_leave view.now }
-{
-    is_framed(view.version()) && has_body(request_framing(view)) && expects(view.values(b"Expect"))
-}
-
-fn has_body(framing: Option<Framing>) -> bool
-    ensures { result ≡ replies.has_body framing }
-{
-    match framing {
-        Some(Framing::Length(count)) => 0 < count,
-        Some(Framing::Chunked) => true,
-        _ => false,
-    }
-}
-
-fn expects(mut values: Values<'_>) -> bool
-    ensures { result ≡ replies.expects values.entry }
-{
-    values.any(|value| value.eq_ignore_ascii_case(b"100-continue"))
 }

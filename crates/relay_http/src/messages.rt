@@ -3,44 +3,28 @@ ghost use Rattle.std.specs.Io.KnownBytes.{IsAtEnd};
 ghost use Rattle.httparse.specs.Grammar.{ResponseHead, print_response};
 ghost use Rattle.relay_body.specs.Framings.{IsBody, PartOfBody};
 ghost use Rattle.body_pipe.specs.Steps.{ends, Countable, Moves};
-ghost use Rattle.relay_http.specs.Emissions.{Puts, Halts};
+ghost use Rattle.http_texts.specs.Emissions.{Puts, Halts};
 ghost use Rattle.relay_http.specs.Failures.{Fails};
-ghost use Rattle.relay_http.specs.Messages as messages;
-ghost use Rattle.relay_http.specs.Texts.{answer_text, interim_text, framed_for, unnamed};
+ghost use Rattle.http_texts.specs.Messages as messages;
+ghost use Rattle.http_texts.specs.Texts.{answer_text, interim_text, framed_for, unnamed};
 ghost use Rattle.req_view.specs.Answer.{answer_of};
 
-use crate::fault::Fault;
-use crate::framings::request_framing;
-use crate::heads::{pass_interim, put_answer, put_request};
-use crate::lines::send;
-use crate::persistence::Persistence;
-use crate::plans::{Plan, answer_plan, is_interim};
-use crate::reading::read_answer_head;
+use crate::sending::{pass_interim, send};
 use body_pipe::Pipe;
 use counted_io::{Sink, Source};
+use exchange_machine::{Seen, see_head};
+use http_texts::{
+    Added, Fault, Persistence, Plan, Wording, is_framed, put_answer, put_request, request_framing,
+};
 use relay_body::{Fault as BodyFault, Framing};
-use req_view::{AnswerHead, Version, View};
+use req_view::{AnswerHead, View};
 use std::alloc::Global;
-
-/// The most heads that come before an answer (RFC 9110, section 15.2, sets no bound).
-pub const MOST_INTERIMS: usize = 8;
 
 /// An answer's head, and what is done with it.
 #[derive(Drop)]
 pub(crate) struct Planned {
     head: AnswerHead,
     plan: Plan,
-}
-
-/// What a head is to the answer that is waited for.
-#[derive(Clone, Copy)]
-enum Role {
-    /// The answer's own, with which this is done.
-    Final(Plan),
-    /// One before it.
-    Interim,
-    /// One with a bad framing, or one too many.
-    Refused,
 }
 
 /// Hands on a request whose head was read, and writes all of it.
@@ -61,7 +45,11 @@ pub(crate) fn pass_request<S: Source, K: Sink>(
     let Some(framing) = request_framing(view) else {
         return Err(Fault::Framing);
     };
-    put_request(pipe, sink, view, framing, Persistence::Close)?;
+    let added = Added {
+        asks: Persistence::Close,
+        client: b"",
+    };
+    put_request(pipe, sink, view, framing, added)?;
     pipe.pass_body(source, sink, framing, true)?;
     send(pipe, sink)?;
     Ok(())
@@ -111,7 +99,12 @@ fn pass_planned<S: Source, K: Sink>(
         (answer_text Persistence.Close framed planned.now.head planned.now.plan ++ passed) (messages.NoBody planned.now.plan.body) fault) }
 {
     let plan = planned.plan;
-    put_answer(pipe, sink, &planned.head, plan, framed, Persistence::Close)?;
+    let wording = Wording {
+        plan,
+        framed,
+        says: Persistence::Close,
+    };
+    put_answer(pipe, sink, &planned.head, wording)?;
     pipe.pass_body(source, sink, plan.body, framed)?;
     send(pipe, sink)?;
     Ok(())
@@ -138,30 +131,25 @@ fn read_answer<S: Source, K: Sink>(
     let framed = is_framed(view.version());
     let mut count = 0;
     'heads: loop {
-        let head = read_answer_head(pipe, alloc, source)?;
-        match role_of(view.method(), &head, count) {
-            Role::Final(plan) => return Ok(Planned { head, plan }),
-            Role::Interim => pass_before(pipe, sink, head, framed)?,
-            Role::Refused => return Err(Fault::Framing),
+        match see_head(alloc, view.method(), pipe.held(), count) {
+            Seen::Final(head, len, plan) => {
+                pipe.consume(len);
+                return Ok(Planned { head, plan });
+            }
+            Seen::Interim(head, len) => {
+                pipe.consume(len);
+                pass_before(pipe, sink, head, framed)?;
+                count += 1;
+            }
+            Seen::Refused(fault) => return Err(fault),
+            Seen::More => {
+                let came = pipe.fill(source)?;
+                if came == 0 {
+                    return Err(Fault::Read);
+                }
+            }
         }
-        count += 1;
     }
-}
-
-// What a head behind so many others is to the answer.
-fn role_of(method: &[u8], head: &AnswerHead, count: usize) -> Role
-    ensures { messages.HasRole method.now head.now count result }
-{
-    let Some(plan) = answer_plan(method, head) else {
-        return Role::Refused;
-    };
-    if !is_interim(head.status()) {
-        return Role::Final(plan);
-    }
-    if MOST_INTERIMS <= count {
-        return Role::Refused;
-    }
-    Role::Interim
 }
 
 // Takes the head, of which so nothing is left at the exits of the loop that calls it: they are proved faster.
@@ -176,13 +164,4 @@ fn pass_before<K: Sink>(
     ensures err { IfErr result (Halts pipe.old pipe.new (K.stream sink.old) (K.stream sink.new) (interim_text framed head)) }
 {
     pass_interim(pipe, sink, &head, framed)
-}
-
-pub(crate) fn is_framed(version: Version) -> bool
-    ensures { result ≡ framed_for version }
-{
-    match version {
-        Version::Http10 => false,
-        Version::Http11 => true,
-    }
 }

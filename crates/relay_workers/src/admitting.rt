@@ -5,7 +5,7 @@ ghost use Rattle.relay_http.specs.declared.exchange.Stage.TheVariants.{Asked};
 ghost use Rattle.relay_workers.specs.Admissions.{IsAdmitted, IsAdmittedAs, IsAdmittedLate, IsTurnedAway, IsRefusedFor};
 ghost use Rattle.relay_workers.specs.declared.outcome.Outcome.TheVariants.{Answered};
 ghost use Rattle.relay_workers.specs.Outcomes.{after_reading};
-ghost use Rattle.relay_http.specs.declared.fault.Fault.{Fault};
+ghost use Rattle.http_texts.specs.declared.fault.Fault.{Fault};
 
 use crate::gate::Gate;
 use crate::outcome::Outcome;

@@ -3,7 +3,7 @@ use Rattle.std.specs.Prelude.{◌≡◌, ◌≢◌, ◌⊎◌, ℕ, true, List, 
 use Rattle.std.specs.Io.KnownBytes.{Appends, Consumes}
 use Rattle.std.specs.List.{flat_map, AllByRecursion}
 use Rattle.grant_board.specs.Views.{Grant}
-use Rattle.relay_http.specs.declared.persistence.Persistence.TheVariants.{Persist}
+use Rattle.http_texts.specs.declared.persistence.Persistence.TheVariants.{Persist}
 use Rattle.exchange_machine.specs.Headline.{ToServer}
 use Rattle.exchange_machine.specs.Histories.{History}
 use Rattle.exchange_machine.specs.Stages.{IsUnsent}

@@ -1,6 +1,6 @@
 -- Numbers of clients, each of which stays at its greatest value once it has it.
 use Rattle.std.specs.Prelude.{ℕ, ◌+◌, ◌-◌, ◌^◌, min, Result, Ok, Err}
-use Rattle.relay_http.specs.declared.refusing.Code.TheVariants.{BadRequest, BadGateway, Unavailable}
+use Rattle.http_texts.specs.declared.refusals.Code.TheVariants.{BadRequest, BadGateway, Unavailable}
 use Rattle.relay_workers.specs.declared.outcome.Outcome.{Outcome}
 use Rattle.relay_workers.specs.declared.outcome.Outcome.TheVariants.{Answered, Refused, Cut}
 use Rattle.worker_crew.specs.declared.tally.Tally.{Tally}

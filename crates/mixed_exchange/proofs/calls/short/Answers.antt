@@ -1,6 +1,6 @@
 use Rattle.std.proofs.Common.{refl}
 use Rattle.verdict.specs.declared.Ending.TheVariants.{Done}
-use Rattle.relay_http.specs.declared.refusing.Code.TheVariants.{Unavailable}
+use Rattle.http_texts.specs.declared.refusals.Code.TheVariants.{Unavailable}
 use Rattle.exchange_machine.specs.declared.signs.Sign.TheVariants.{NoMemory}
 use Rattle.exchange_machine.specs.Histories.{signed, posted}
 use Rattle.exchange_machine.specs.Reasons.Reason.{of_sign}

@@ -1,5 +1,5 @@
 use Rattle.verdict.specs.declared.Ending.TheVariants.{Done}
-use Rattle.relay_http.specs.declared.refusing.Code.TheVariants.{Unavailable}
+use Rattle.http_texts.specs.declared.refusals.Code.TheVariants.{Unavailable}
 use Rattle.exchange_machine.specs.Histories.{signed, posted}
 use Rattle.exchange_machine.specs.Reasons.Reason.{of_sign}
 use Rattle.exchange_machine.proofs.EventLemmas.{dialing_signed, shows_last}

@@ -2,7 +2,7 @@ use Rattle.exchange_machine.specs.Reasons.Reason.{of_sign}
 use Rattle.exchange_machine.specs.Histories.{signed}
 use Rattle.exchange_machine.proofs.EventLemmas.{waiting_signed, shows_last}
 use Rattle.mixed_exchange.proofs.StepLemmas.{at_as}
-use Rattle.relay_http.specs.declared.refusing.Code.TheVariants.{Unavailable}
+use Rattle.http_texts.specs.declared.refusals.Code.TheVariants.{Unavailable}
 use Rattle.mixed_exchange.proofs.calls.unserved.Goals as goal
 
 pub returns-in-Waiting-clause-at : goal.returns-in-Waiting-clause-at

@@ -5,13 +5,13 @@ use Rattle.httparse.specs.Grammar.{print_response}
 use Rattle.body_pipe.proofs.Exits.{at_exit}
 use Rattle.relay_body.specs.Framings.{IsBody, PartOfBody}
 use Rattle.body_pipe.proofs.Stepping.{moves_trans, moves_as}
-use Rattle.relay_http.specs.Messages.{NoBody, LacksAnswer, print_heads, interims_text}
-use Rattle.relay_http.specs.Messages.PartOfAnswered.{some_heads, head_and_body}
-use Rattle.relay_http.specs.Texts.{answer_text, framed_for}
+use Rattle.http_texts.specs.Messages.{NoBody, LacksAnswer, print_heads, interims_text}
+use Rattle.http_texts.specs.Messages.PartOfAnswered.{some_heads, head_and_body}
+use Rattle.http_texts.specs.Texts.{answer_text, framed_for}
 use Rattle.relay_http.proofs.Failing.{moves_fails, fails_as}
-use Rattle.relay_http.proofs.Passing.{body_then}
+use Rattle.http_texts.proofs.Passing.{body_then}
 use Rattle.req_view.specs.Answer.{answer_of}
-use Rattle.relay_http.specs.declared.persistence.Persistence.TheVariants.{Close}
+use Rattle.http_texts.specs.declared.persistence.Persistence.TheVariants.{Close}
 use Rattle.relay_http.proofs.messages.pass_answer.Goals as goal
 
 pub returns-in_err-planned-clause-err : goal.returns-in_err-planned-clause-err

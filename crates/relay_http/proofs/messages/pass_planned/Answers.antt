@@ -3,11 +3,11 @@ use Rattle.std.proofs.Common.{◌∙◌, [], ◌++◌, refl, sym, append-nil}
 use Rattle.relay_body.specs.Framings.{LacksBody}
 use Rattle.body_pipe.proofs.Exits.{at_exit}
 use Rattle.body_pipe.proofs.Stepping.{moves_trans, moves_as}
-use Rattle.relay_http.specs.Messages.{NoBody}
-use Rattle.relay_http.specs.Texts.{answer_text}
+use Rattle.http_texts.specs.Messages.{NoBody}
+use Rattle.http_texts.specs.Texts.{answer_text}
 use Rattle.relay_http.proofs.Failing.{moves_fails, moves_put, moves_halts, fails_put, fails_of, fails_as}
-use Rattle.relay_http.proofs.Passing.{part_none, body_part}
-use Rattle.relay_http.specs.declared.persistence.Persistence.TheVariants.{Close}
+use Rattle.http_texts.proofs.Passing.{part_none, body_part}
+use Rattle.http_texts.specs.declared.persistence.Persistence.TheVariants.{Close}
 use Rattle.relay_http.proofs.messages.pass_planned.Goals as goal
 
 pub returns-in_err-put_answer-clause-err : goal.returns-in_err-put_answer-clause-err

@@ -1,15 +1,15 @@
 -- The head, the body and what waits, one after the other.
-use Rattle.std.proofs.Common.{◌∙◌, [], ◌++◌, refl, sym, append-nil}
+use Rattle.std.proofs.Common.{◌∙◌, None, [], ◌++◌, refl, sym, append-nil}
 use Rattle.relay_body.specs.Framings.{LacksBody}
 use Rattle.body_pipe.proofs.Exits.{at_exit}
-use Rattle.body_pipe.proofs.Stepping.{moves_none, moves_trans, moves_as}
-use Rattle.relay_http.specs.Messages.{NoBody, LacksForwarded}
-use Rattle.relay_http.specs.Messages.PartOfForwarded.{nothing, head_and_body}
-use Rattle.relay_http.specs.Messages.LacksForwarded.{no_framing, no_body}
-use Rattle.relay_http.specs.Texts.{request_text, unnamed}
+use Rattle.body_pipe.proofs.Stepping.{moves_none, moves_trans, moves_as, Countable-later}
+use Rattle.http_texts.specs.Messages.{NoBody, LacksForwarded}
+use Rattle.http_texts.specs.Messages.PartOfForwarded.{nothing, head_and_body}
+use Rattle.http_texts.specs.Messages.LacksForwarded.{no_framing, no_body}
+use Rattle.http_texts.specs.Texts.{request_text, unnamed}
 use Rattle.relay_http.proofs.Failing.{moves_fails, moves_put, moves_halts, fails_put, fails_of, fails_as, fails_framing}
-use Rattle.relay_http.proofs.Passing.{part_none, body_part}
-use Rattle.relay_http.specs.declared.persistence.Persistence.TheVariants.{Close}
+use Rattle.http_texts.proofs.Passing.{part_none, body_part}
+use Rattle.http_texts.specs.declared.persistence.Persistence.TheVariants.{Close}
 use Rattle.relay_http.proofs.messages.pass_request.Goals as goal
 
 pub returns-in_default-clause-err : goal.returns-in_default-clause-err
@@ -27,7 +27,7 @@ returns-in_err-put_request-clause-err g c =
       request_text (unnamed Close) r framing ++ [],
       head_and_body framing [] [] is (part_none framing _),
       fails_as (LacksForwarded r) refl (sym (append-nil (request_text (unnamed Close) r framing)))
-          (fails_put (g.S.Source.stream c.args.source.now) (LacksForwarded r) c.in_err-put_request.ensures.err),
+          (fails_put (g.S.Source.stream c.args.source.now) (LacksForwarded r) (c.in_err-put_request.ensures.err None refl)),
     )
 
 pub returns-in_err-pass_body-clause-err : goal.returns-in_err-pass_body-clause-err
@@ -35,7 +35,7 @@ returns-in_err-pass_body-clause-err g c =
     let r = c.args.view.now in
     let framing = c.in-Some.framing in
     let is = sym c.request_framing.ensures ∙ c.in-Some.is in
-    let put = moves_put (g.S.Source.stream c.args.source.now) c.in_ok-put_request.ensures.ok in
+    let put = moves_put (g.S.Source.stream c.args.source.now) (c.in_ok-put_request.ensures.ok None refl) in
     let part = c.in_err-pass_body.ensures.err in
     at_exit _ _ _ c.from_residual-in_err-pass_body.ensures.1 (
       part.0,
@@ -50,7 +50,7 @@ returns-in_err-send-clause-err g c =
     let r = c.args.view.now in
     let framing = c.in-Some.framing in
     let is = sym c.request_framing.ensures ∙ c.in-Some.is in
-    let put = moves_put (g.S.Source.stream c.args.source.now) c.in_ok-put_request.ensures.ok in
+    let put = moves_put (g.S.Source.stream c.args.source.now) (c.in_ok-put_request.ensures.ok None refl) in
     let passed = c.in_ok-pass_body.ensures.ok in
     at_exit _ _ _ c.from_residual-in_err-send.ensures.1 (
       passed.0,
@@ -65,7 +65,7 @@ returns-clause-ok g c =
     let r = c.args.view.now in
     let framing = c.in-Some.framing in
     let is = sym c.request_framing.ensures ∙ c.in-Some.is in
-    let put = moves_put (g.S.Source.stream c.args.source.now) c.in_ok-put_request.ensures.ok in
+    let put = moves_put (g.S.Source.stream c.args.source.now) (c.in_ok-put_request.ensures.ok None refl) in
     let passed = c.in_ok-pass_body.ensures.ok in
     let sent = moves_put (g.S.Source.stream c.pass_body.new.source) c.in_ok-send.ensures.ok in (
       passed.0,
@@ -73,3 +73,13 @@ returns-clause-ok g c =
       record { framing = framing; framed = is; body = passed.1; passes = passed.2; text_is = refl },
       moves_as (append-nil passed.0) (append-nil (request_text (unnamed Close) r framing ++ passed.1)) (moves_trans (moves_trans put passed.3) sent),
     )
+
+pub pass_body-requires : goal.pass_body-requires
+pass_body-requires g c =
+    let put = moves_put (g.S.Source.stream c.args.source.now) (c.in_ok-put_request.ensures.ok None refl) in
+    Countable-later put.reads c.requires
+
+pub send-requires : goal.send-requires
+send-requires g c =
+    let put = moves_put (g.S.Source.stream c.args.source.now) (c.in_ok-put_request.ensures.ok None refl) in
+    (Countable-later (moves_trans put c.in_ok-pass_body.ensures.ok.3).reads c.requires).writes

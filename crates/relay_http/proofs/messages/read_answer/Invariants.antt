@@ -1,9 +1,9 @@
-use Rattle.std.proofs.Common.{◌≡◌, ◌-◌, ◌≤◌, List, length}
+use Rattle.std.proofs.Common.{◌≡◌, ◌+◌, ◌-◌, ◌≤◌, List, length}
 use Rattle.std.specs.List.{AllByRecursion}
 use Rattle.httparse.specs.Grammar.{ResponseHead}
 use Rattle.body_pipe.specs.Steps.{ends, Moves}
-use Rattle.relay_http.specs.Messages.{IsInterim, print_heads, interims_text}
-use Rattle.relay_http.specs.Texts.{framed_for}
+use Rattle.http_texts.specs.Messages.{IsInterim, print_heads, interims_text}
+use Rattle.http_texts.specs.Texts.{framed_for}
 use Rattle.relay_http.proofs.messages.read_answer.Given as goal
 
 abbrev pub invariant-heads : goal.invariant-heads
@@ -11,5 +11,6 @@ invariant-heads g l = (hs : List ResponseHead) × AllByRecursion (IsInterim l.vi
     × Moves (ends l.initial.pipe (g.S.Source.stream l.initial.source) (g.K.Sink.stream l.initial.sink)) (ends l.pipe (g.S.Source.stream l.source)
     (g.K.Sink.stream l.sink)) (print_heads hs) (interims_text (framed_for l.view.version) hs)
 
+-- each step takes a head or a turn
 abbrev pub decreases-heads : goal.decreases-heads
-decreases-heads g l = 8 - l.count
+decreases-heads g l = (8 - l.count) + l.pipe.turns

@@ -1,4 +1,4 @@
-use Rattle.relay_http.specs.declared.fault.Fault.TheVariants.{NoMemory}
+use Rattle.http_texts.specs.declared.fault.Fault.TheVariants.{NoMemory}
 use Rattle.relay_workers.proofs.admitting.admit.Goals as goal
 
 pub returns-in-Err-arrive-clause-told : goal.returns-in-Err-arrive-clause-told

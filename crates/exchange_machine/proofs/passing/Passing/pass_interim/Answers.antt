@@ -1,5 +1,5 @@
 use Rattle.std.proofs.Common.{◌≡◌, ◌∙◌, ◌++◌, Bool, refl, ap}
-use Rattle.relay_http.specs.Texts.{interim_text, framed_for}
+use Rattle.http_texts.specs.Texts.{interim_text, framed_for}
 use Rattle.exchange_machine.proofs.SideLemmas.{passing_interim}
 use Rattle.exchange_machine.proofs.passing.Passing.pass_interim.Goals as goal
 

@@ -2,5 +2,5 @@ use Rattle.exchange_machine.specs.Reasons.Reason.{broken_request}
 use Rattle.exchange_machine.proofs.SideLemmas.{passing_breaks}
 use Rattle.exchange_machine.proofs.passing.Passing.refuse_request.Goals as goal
 
-pub returns-clause-ends : goal.returns-clause-ends
-returns-clause-ends c h is = c.refuse.ensures.ends h is (broken_request (passing_breaks c.args.self h is c.requires.bad))
+pub returns : goal.returns
+returns c h is = c.refuse.ensures h is (broken_request (passing_breaks c.args.self h is c.requires.bad))

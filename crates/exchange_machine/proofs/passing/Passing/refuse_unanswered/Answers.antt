@@ -1,5 +1,5 @@
 use Rattle.exchange_machine.proofs.EventLemmas.{ended_reason}
 use Rattle.exchange_machine.proofs.passing.Passing.refuse_unanswered.Goals as goal
 
-pub returns-clause-ends : goal.returns-clause-ends
-returns-clause-ends c h is = c.refuse.ensures.ends h is (ended_reason h.signs c.args.self.view is.behind h.server_in (is.ended c.requires.ended))
+pub returns : goal.returns
+returns c h is = c.refuse.ensures h is (ended_reason h.signs c.args.self.view is.behind h.server_in (is.ended c.requires.ended))

@@ -1,9 +1,9 @@
 use Rattle.std.proofs.Common.{rules, arith}
-use Rattle.relay_http.specs.Messages.{PartOfAnswered, LacksAnswer}
-use Rattle.relay_http.specs.Texts.{framed_for}
+use Rattle.http_texts.specs.Messages.{PartOfAnswered, LacksAnswer}
+use Rattle.http_texts.specs.Texts.{framed_for}
 use Rattle.std.proofs.lemmas.Grind.{common_steps}
 use Rattle.relay_http.proofs.Thinning.{thin_answer, thin_both_fault, thin_same}
-use Rattle.relay_http.specs.declared.persistence.Persistence.TheVariants.{Close}
+use Rattle.http_texts.specs.declared.persistence.Persistence.TheVariants.{Close}
 use Rattle.relay_http.proofs.exchange.Exchange.answer.Goals as goal
 
 pub returns-clause-ok : goal.returns-clause-ok

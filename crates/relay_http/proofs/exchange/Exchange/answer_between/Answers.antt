@@ -1,6 +1,6 @@
 -- The answer is handed on by a pipe that holds nothing, and what was written is known by how many writes succeeded.
 use Rattle.std.proofs.Common.{◌<◌, ℕ, length, arith, ap, length-append}
-use Rattle.relay_http.specs.Messages.{LacksAnswer}
+use Rattle.http_texts.specs.Messages.{LacksAnswer}
 use Rattle.std.proofs.lemmas.Grind.{common_steps}
 use Rattle.relay_http.proofs.Failing.{fails_after}
 use Rattle.relay_http.proofs.Marking.{marks, begun_by, pipe_emptied, answered_some}

@@ -1,9 +1,9 @@
 -- The streams count from 0 on.
 use Rattle.std.proofs.Common.{arith, rules}
-use Rattle.relay_http.specs.Messages.{PartOfForwarded, LacksForwarded}
-use Rattle.relay_http.specs.Texts.{unnamed}
+use Rattle.http_texts.specs.Messages.{PartOfForwarded, LacksForwarded}
+use Rattle.http_texts.specs.Texts.{unnamed}
 use Rattle.relay_http.proofs.Thinning.{thin_both_fault, thin_same}
-use Rattle.relay_http.specs.declared.persistence.Persistence.TheVariants.{Close}
+use Rattle.http_texts.specs.declared.persistence.Persistence.TheVariants.{Close}
 use Rattle.relay_http.proofs.exchange.Exchange.forward.Goals as goal
 
 pub forward_between-requires-clause-countable : goal.forward_between-requires-clause-countable

@@ -1,6 +1,6 @@
 use Rattle.std.proofs.Common.{rules}
 use Rattle.relay_http.specs.Failures.{NoCause}
-use Rattle.relay_http.specs.Replies.{leave_text}
+use Rattle.http_texts.specs.Replies.{leave_text}
 use Rattle.relay_http.proofs.Thinning.{thin_write, thin_write_fault, thin_same}
 use Rattle.relay_http.proofs.exchange.Exchange.go_on.Goals as goal
 

@@ -1,5 +1,5 @@
 use Rattle.std.proofs.Common.{rules}
-use Rattle.relay_http.specs.Heads.{LacksRequest}
+use Rattle.http_texts.specs.Heads.{LacksRequest}
 use Rattle.relay_http.proofs.Thinning.{thin_read, thin_read_fault, thin_same}
 use Rattle.relay_http.proofs.exchange.Exchange.read_request.Goals as goal
 

@@ -1,4 +1,4 @@
-use Rattle.relay_http.specs.Heads.{LacksRequest}
+use Rattle.http_texts.specs.Heads.{LacksRequest}
 use Rattle.relay_http.proofs.Failing.{fails_after}
 use Rattle.relay_http.proofs.Turning.{moves_turns, fails_turns, fails_spent}
 use Rattle.relay_http.proofs.exchange.Exchange.read_request_from.Goals as goal

@@ -1,5 +1,5 @@
 use Rattle.std.proofs.Common.{rules}
-use Rattle.relay_http.specs.Replies.{refusal_text}
+use Rattle.http_texts.specs.Replies.{refusal_text}
 use Rattle.relay_http.proofs.Thinning.{thin_wrote, thin_prefix, keeps_as}
 use Rattle.relay_http.proofs.exchange.Exchange.refuse.Goals as goal
 

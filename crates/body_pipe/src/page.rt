@@ -1,0 +1,28 @@
+ghost use Rattle.std.specs.Prelude.{◌≡◌, ◌+◌, ◌^◌, ◌<◌, ◌++◌, OnOk, IfErr};
+ghost use Rattle.body_pipe.specs.declared.pipe.Pipe as pipes;
+ghost use Rattle.relay_body.specs.Texts.{Emits, Stops};
+
+use crate::pipe::Pipe;
+use counted_io::Sink;
+use relay_body::Fault;
+
+/// What a text is put on, piece by piece: a pipe, which is written from where there is no room, or memory, which never is.
+pub trait Page {
+    // The pipe that it is, or is like.
+    ghost pipe: { Self → pipes.Pipe };
+
+    /// Puts the bytes behind what waits.
+    fn put<K: Sink>(&mut self, sink: &mut K, bytes: &[u8]) -> Result<(), Fault>
+        requires { (K.stream sink.old).calls + (pipe self.old).turns < 2 ^ 64 }
+        ensures ok { OnOk result (Emits (K.stream sink.old) (K.stream sink.new) (pipe self.old).turns (pipe self.new).turns (pipe self.old).outbox (pipe self.new).outbox bytes.now) }
+        ensures err { IfErr result (Stops (K.stream sink.old) (K.stream sink.new) (pipe self.old).turns (pipe self.new).turns ((pipe self.old).outbox ++ bytes.now)) }
+        ensures inbox { (pipe self.new).inbox ≡ (pipe self.old).inbox };
+}
+
+impl Page for Pipe {
+    ghost pipe = { λ p. p };
+
+    fn put<K: Sink>(&mut self, sink: &mut K, bytes: &[u8]) -> Result<(), Fault> {
+        self.emit(sink, bytes)
+    }
+}

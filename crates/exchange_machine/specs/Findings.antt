@@ -1,0 +1,34 @@
+-- What stands at the front of what came of a server.
+use Rattle.std.specs.Prelude.{ℕ, List}
+use Rattle.http_texts.specs.Messages.{HasRole}
+use Rattle.http_texts.specs.declared.fault.Fault.{Fault}
+use Rattle.http_texts.specs.declared.fault.Fault.TheVariants as Faulty
+use Rattle.http_texts.specs.declared.roles.Role.TheVariants as Roles
+use Rattle.req_view.specs.Answer.{Answer}
+use Rattle.req_view.specs.AnswerHeads.{NeverHasAnswer, SaysAnswer, WaitsForAnswer}
+use Rattle.exchange_machine.specs.declared.heading.Seen.{Seen}
+use Rattle.exchange_machine.specs.declared.heading.Seen.TheVariants.{More, Interim, Final, Refused}
+
+-- a head that is framed badly, or one too many
+pub record Unplanned (method : List ℕ) (count : ℕ) (held : List ℕ) : Type 0 where
+  pub answer : Answer
+  pub len : ℕ
+  pub says : SaysAnswer held answer len
+  pub role : HasRole method answer count Roles.Refused
+
+-- why none is passed on
+abbrev pub NoneStands : List ℕ → ℕ → List ℕ → Fault → Type 0
+NoneStands method count held Faulty.Head = NeverHasAnswer held
+NoneStands method count held Faulty.Framing = Unplanned method count held
+NoneStands method count held Faulty.NoMemory = Unit {0}
+NoneStands method count held Faulty.Read = ⊥
+NoneStands method count held Faulty.Write = ⊥
+NoneStands method count held Faulty.Turns = ⊥
+NoneStands method count held Faulty.Closed = ⊥
+
+-- what is seen behind so many heads before an answer to a request of this method
+abbrev pub IsSeen : List ℕ → ℕ → List ℕ → Seen → Type 0
+IsSeen method count held More = WaitsForAnswer held
+IsSeen method count held (Interim a len) = SaysAnswer held a len × HasRole method a count Roles.Interim
+IsSeen method count held (Final a len plan) = SaysAnswer held a len × HasRole method a count (Roles.Final plan)
+IsSeen method count held (Refused why) = NoneStands method count held why

@@ -1,0 +1,8 @@
+pub mod Agreeing
+pub mod Alone
+pub mod AnswerRows
+pub mod Lengths
+pub mod Passing
+pub mod Planning
+pub mod Putting
+pub mod WorkedRows

@@ -1,0 +1,38 @@
+-- Texts put behind what waits, one after the other.
+use Rattle.std.proofs.Common.{◌≡◌, ◌∙◌, ℕ, ◌==◌, Bool, true, false, cond, List, [], ◌++◌, refl, arith, append_assoc, subst}
+use Rattle.std.specs.Prelude.{◌&&◌, not}
+use Rattle.std.proofs.lemmas.Bool.Decides.{nat_tests}
+use Rattle.counted_io.specs.Streams.{Stream}
+use Rattle.relay_body.specs.declared.fault.Fault.{Fault}
+use Rattle.body_pipe.specs.declared.pipe.Pipe.{Pipe}
+use Rattle.relay_body.proofs.Emitting.{emits_none, emits_trans, emits_stops, stops_more, stops_as}
+use Rattle.http_texts.specs.Emissions.{Puts, Halts}
+
+pub puts_none : (p : Pipe) (w : Stream) → Puts p p w w []
+puts_none p w = record { emits = emits_none w p.turns p.outbox; inbox = refl }
+
+pub puts_trans : {p q r : Pipe} {a b c : Stream} {first second : List ℕ} → Puts p q a b first → Puts q r b c second → Puts p r a c (first ++ second)
+puts_trans x y = record { emits = emits_trans x.emits y.emits; inbox = y.inbox ∙ x.inbox }
+
+pub puts_halts : {p q r : Pipe} {a b c : Stream} {first second : List ℕ} {fault : Fault} → Puts p q a b first → Halts q r b c second fault
+    → Halts p r a c (first ++ second) fault
+puts_halts {second = second} x y = record { stops = emits_stops second x.emits y.stops; inbox = y.inbox ∙ x.inbox }
+
+-- more was to follow
+pub halts_front : {p q : Pipe} {a b : Stream} {first : List ℕ} {fault : Fault} (more : List ℕ) → Halts p q a b first fault → Halts p q a b (first ++ more) fault
+halts_front {p} {first = first} more x = record { stops = stops_as (append_assoc p.outbox first more) (stops_more more x.stops); inbox = x.inbox }
+
+pub puts_as : {p q : Pipe} {a b : Stream} {text same : List ℕ} → text ≡ same → Puts p q a b text → Puts p q a b same
+puts_as {p} {q} {a} {b} e x = subst (λ (l : List ℕ). Puts p q a b l) e x
+
+pub halts_as : {p q : Pipe} {a b : Stream} {text same : List ℕ} {fault : Fault} → text ≡ same → Halts p q a b text fault → Halts p q a b same fault
+halts_as {p} {q} {a} {b} {fault = fault} e x = subst (λ (l : List ℕ). Halts p q a b l fault) e x
+
+-- a head before the answer that is handed on
+test_other : (framed test : Bool) (text : List ℕ) → framed ≡ true → test ≡ false → cond (framed && not test) text [] ≡ text
+test_other true false text e f = refl
+test_other false test text e f = cc
+test_other true true text e f = cc
+
+pub for_client : (framed : Bool) (status : ℕ) (text : List ℕ) → framed ≡ true → (status ≡ 100 → ⊥) → cond (framed && not (status == 100)) text [] ≡ text
+for_client framed status text e other = let is : (status == 100) ≡ false = grind (arith, nat_tests, other) in test_other framed (status == 100) text e is

@@ -1,0 +1,72 @@
+-- How far the body of a message goes, by its head (RFC 9112, section 6.3).
+use Rattle.std.specs.Prelude.{ℕ, Bool, ◌==◌, ◌&&◌, ◌||◌, nat_lt, true, List, [], ◌∷◌, if◌then◌else◌, Option, Some, None, option_map, codes}
+use Rattle.std.specs.List.{list_all}
+use Rattle.std.specs.Str.{bytes_eq, str_eq_ignore_ascii_case}
+use Rattle.proxy_words.specs.Numerals.{is_numeral, value_of}
+use Rattle.relay_body.specs.declared.framing.Framing.{Framing}
+use Rattle.relay_body.specs.declared.framing.Framing.TheVariants.{Empty, Length, Chunked, ToEnd}
+use Rattle.http_texts.specs.Fields.{parts_of}
+use Rattle.http_texts.specs.declared.plans.Plan.{Plan}
+use Rattle.req_view.specs.Answer.{Answer}
+use Rattle.req_view.specs.Request.{Request, values_of}
+use Rattle.req_view.specs.declared.version.Version.{Version}
+use Rattle.req_view.specs.declared.version.Version.TheVariants.{Http10, Http11}
+
+-- the part is this number, of at most 18 digits
+abbrev pub is_number : ℕ → List ℕ → Bool
+is_number count part = is_numeral 18 part && (value_of part == count)
+
+-- the one number that all parts are
+abbrev pub common : List (List ℕ) → Option ℕ
+common [] = None
+common (part ∷ more) = if is_numeral 18 part && list_all (is_number (value_of part)) more then Some (value_of part) else None
+
+abbrev pub is_chunked : List ℕ → Bool
+is_chunked coding = str_eq_ignore_ascii_case coding (codes "chunked")
+
+-- By the values of Transfer-Encoding and the parts of Content-Length: one of them at most. A length is one number, however
+-- often it stands there; the only coding is `chunked`, of version 1.1. `unstated` is the framing of a message without both.
+abbrev pub by_fields : Version → Framing → List (List ℕ) → List (List ℕ) → Option Framing
+by_fields version unstated [] [] = Some unstated
+by_fields version unstated [] (part ∷ more) = option_map Length (common (part ∷ more))
+by_fields Http11 unstated (coding ∷ []) [] = if is_chunked coding then Some Chunked else None
+by_fields version unstated codings lengths = None
+
+-- the framing of a request; none is bad framing
+abbrev pub request_framing : Request → Option Framing
+request_framing r =
+    by_fields r.version Empty (values_of (codes "Transfer-Encoding") r.fields) (parts_of (codes "Content-Length") r.fields)
+
+-- no body, and no framing
+abbrev pub bare : Plan
+bare = record { body = Empty; stated = Empty }
+
+-- a length that is stated without a body
+abbrev pub stating : List (List ℕ) → Option Plan
+stating [] = Some bare
+stating (part ∷ more) = option_map (λ count. record { body = Empty; stated = Length count }) (common (part ∷ more))
+
+-- the head alone, before the answer
+abbrev pub is_interim : ℕ → Bool
+is_interim status = nat_lt 99 status && nat_lt status 200
+
+-- by the status, where no rule stands against the head as a whole
+abbrev pub by_status : ℕ → Bool → Version → List (List ℕ) → List (List ℕ) → Option Plan
+by_status status to_head version codings lengths =
+    if is_interim status then Some bare
+    else if status == 204 then Some bare
+    else if to_head || (status == 304) then stating lengths
+    else option_map (λ framing. record { body = framing; stated = framing }) (by_fields version ToEnd codings lengths)
+
+-- a coding in an answer of version 1.0 is bad framing, and so is a change of protocols
+abbrev pub is_refused : ℕ → Version → List (List ℕ) → Bool
+is_refused status Http10 (coding ∷ codings) = true
+is_refused status version codings = status == 101
+
+-- the plan of an answer to a request of this method; none is bad framing
+abbrev pub answer_plan : List ℕ → Answer → Option Plan
+answer_plan method a =
+    let codings = values_of (codes "Transfer-Encoding") a.fields in
+    let lengths = parts_of (codes "Content-Length") a.fields in
+    if is_refused a.status a.version codings then None
+    else by_status a.status (bytes_eq method (codes "HEAD")) a.version codings lengths

@@ -1,0 +1,11 @@
+pub mod Emissions
+pub mod Faults
+pub mod Fields
+pub mod Framings
+pub mod Heads
+pub mod Lines
+pub mod Messages
+pub mod Persistences
+pub mod Replies
+pub mod Summaries
+pub mod Texts

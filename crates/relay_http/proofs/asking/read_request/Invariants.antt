@@ -1,0 +1,13 @@
+use Rattle.std.proofs.Common.{◌≡◌, []}
+use Rattle.counted_io.specs.Streams.{Stream}
+use Rattle.body_pipe.specs.Steps.{ends, Moves}
+use Rattle.relay_http.specs.Askings.{HasAsked}
+use Rattle.relay_http.proofs.asking.read_request.Given as goal
+
+abbrev pub invariant-reading : goal.invariant-reading
+invariant-reading g l = ((w : Stream)
+    → Moves (ends l.initial.pipe (g.S.Source.stream l.initial.source) w) (ends l.pipe (g.S.Source.stream l.source) w) [] [])
+    × (l.pipe.outbox ≡ l.initial.pipe.outbox) × HasAsked l.asking l.pipe.inbox
+
+abbrev pub decreases-reading : goal.decreases-reading
+decreases-reading g l = l.pipe.turns

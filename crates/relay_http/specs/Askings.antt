@@ -1,0 +1,25 @@
+-- A request's head that is read from what a pipe holds.
+use Rattle.std.specs.Prelude.{◌≡◌, ◌<◌, ℕ, List, ◌++◌, length, IsSome}
+use Rattle.httparse.specs.Grammar.{RequestHead, print_request}
+use Rattle.body_pipe.specs.declared.pipe.Pipe.{Pipe}
+use Rattle.exchange_machine.specs.Requests.{LacksHead}
+use Rattle.exchange_machine.specs.declared.asking.Asking.{Asking}
+use Rattle.http_texts.specs.Framings.{request_framing}
+use Rattle.http_texts.specs.Heads.{IsRequest}
+use Rattle.relay_http.specs.declared.asking.Told.{Told}
+use Rattle.relay_http.specs.declared.asking.Told.TheVariants.{More, Whole, Refused}
+use Rattle.req_view.specs.Heads.{HasNoHead}
+use Rattle.req_view.specs.Request.{request_of}
+
+-- a front of what is held was told, and is no head
+pub record HasAsked (asking : Asking) (inbox : List ℕ) : Type 0 where
+  pub rest : List ℕ
+  pub all : inbox ≡ asking.held.items ++ rest
+  pub none : HasNoHead asking.held.items
+
+-- what the machine makes of what a pipe holds: all of it was told, and is no head yet; or a head stands there, whose bytes are used; or none will
+abbrev pub IsTold : Told → Pipe → Pipe → Type 0
+IsTold (More a) p q = (q ≡ p) × (a.held.items ≡ p.inbox) × HasNoHead p.inbox × (length p.inbox < 16384)
+IsTold (Whole v) p q = (h : RequestHead) × IsRequest h × (v ≡ request_of h) × IsSome (request_framing v) × (p.inbox ≡ print_request h ++ q.inbox)
+    × (q.outbox ≡ p.outbox) × (q.turns ≡ p.turns)
+IsTold (Refused why) p q = (q ≡ p) × LacksHead why p.inbox

@@ -1,0 +1,68 @@
+ghost use Rattle.std.specs.Prelude.{◌≡◌, ◌+◌, ◌^◌, ◌<◌, [], IfOk, IfErr, IsSome};
+ghost use Rattle.counted_io.specs.Streams.{Stream};
+ghost use Rattle.httparse.specs.Grammar.{RequestHead, print_request};
+ghost use Rattle.body_pipe.specs.Steps.{ends, Moves};
+ghost use Rattle.http_texts.specs.Framings as framings;
+ghost use Rattle.http_texts.specs.Heads.{IsRequest, LacksRequest};
+ghost use Rattle.relay_http.specs.Askings.{HasAsked, IsTold};
+ghost use Rattle.relay_http.specs.Failures.{Fails};
+ghost use Rattle.req_view.specs.Request.{request_of};
+
+use body_pipe::Pipe;
+use counted_io::Source;
+use exchange_machine::{Asking, Turn};
+use http_texts::Fault;
+use req_view::View;
+use std::alloc::Global;
+
+/// What the machine makes of what is held.
+#[derive(Drop)]
+pub(crate) enum Told {
+    More(Asking),
+    Whole(View),
+    Refused(Fault),
+}
+
+/// Reads a request's head, whose framing is good. `O(n)` a read in which a line ends.
+pub(crate) fn read_request<S: Source>(
+    pipe: &mut Pipe,
+    alloc: Global,
+    source: &mut S,
+) -> Result<View, Fault>
+    requires { (S.stream source.old).calls + pipe.old.turns < 2 ^ 64 }
+    ensures ok { IfOk result (λ view. (h : RequestHead) × IsRequest h × (view ≡ request_of h) × IsSome (framings.request_framing view)
+        × ((w : Stream) → Moves (ends pipe.old (S.stream source.old) w) (ends pipe.new (S.stream source.new) w) (print_request h) [])) }
+    ensures err { (w : Stream) → IfErr result (Fails (ends pipe.old (S.stream source.old) w) (ends pipe.new (S.stream source.new) w) [] [] LacksRequest) }
+    ensures waiting { pipe.new.outbox ≡ pipe.old.outbox }
+{
+    let mut asking = Asking::new(alloc);
+    'reading: loop {
+        match ask(pipe, alloc, asking) {
+            Told::Whole(view) => return Ok(view),
+            Told::Refused(fault) => return Err(fault),
+            Told::More(more) => asking = more,
+        }
+        let count = pipe.fill(source)?;
+        if count == 0 {
+            return Err(asking.fault(alloc));
+        }
+    }
+}
+
+// What came since the last time is told. Of a whole head the bytes are used.
+fn ask(pipe: &mut Pipe, alloc: Global, asking: Asking) -> Told
+    requires { HasAsked asking pipe.old.inbox }
+    ensures { IsTold result pipe.old pipe.new }
+{
+    let before = asking.count();
+    let (used, turn) = asking.head_bytes(alloc, &pipe.held()[before..]);
+    match turn {
+        Turn::More(more) => Told::More(more),
+        Turn::Refused(_, fault) => Told::Refused(fault),
+        Turn::Whole(waiting) => {
+            let (view, behind) = waiting.parts();
+            pipe.consume(before + used - behind.len());
+            Told::Whole(view)
+        }
+    }
+}

@@ -1,12 +1,10 @@
 //! The thread that has servers checked, and how others than loops tell of places.
 
-ghost use Rattle.relay_http.specs.States.{Serves};
-
 use crate::shared::Shared;
 use due_key::Moment;
-use grant_board::{BoardName, Pass};
+use grant_board::BoardName;
 use place_set::PlaceSet;
-use relay_workers::{Gate, checker};
+use relay_workers::{Gate, Slot, checker};
 use reporting_core::Window;
 use socket_gate::{Pauses, SocketGate};
 use std::net::{Net, TcpListener, TcpStream};
@@ -41,8 +39,8 @@ impl<
         None
     }
 
-    fn connect(&mut self, pass: &Pass) -> Option<TcpStream> {
-        self.gate.connect(pass)
+    fn connect<M: BoardName>(&mut self, slot: &Slot<'_, M>) -> Option<TcpStream> {
+        self.gate.connect(slot)
     }
 
     fn probe(&mut self, server: usize) -> Option<bool> {

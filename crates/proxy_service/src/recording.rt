@@ -1,6 +1,7 @@
 //! A service whose log is copied while it serves.
 
 ghost use Rattle.std.specs.Prelude.{◌≡◌, ◌≤◌, ◌+◌, ◌^◌, true, []};
+ghost use Rattle.config_setup.specs.Setups.{IsAskedBy};
 ghost use Rattle.dispatch_log.specs.declared.setup.Setup.{Setup};
 ghost use Rattle.outstanding.specs.Books.{terms_of};
 ghost use Rattle.proxy_config.specs.Sound.{IsSoundConfig};
@@ -112,7 +113,8 @@ fn serve_on<
     requires named { parts.board ≡ N.board }
     requires ledger { (parts.ledger.name ≡ N.name) × (parts.ledger.parts ≡ N.parts) }
     requires room { 2 ^ 64 ≤ parts.ledger.parts + 1 }
-    requires parts { (setup : Setup) × AreNew setup parts × (N.terms ≡ terms_of setup) × (setup.places ≡ watched.crew.threads.places) }
+    requires sound { IsSoundConfig config }
+    requires parts { (setup : Setup) × AreNew setup parts × IsAskedBy config setup × (N.terms ≡ terms_of setup) × (setup.places ≡ watched.crew.threads.places) }
 {
     let alloc = rt.alloc();
     let (proxy, source) = proxy_of::<N>(alloc, config, parts);

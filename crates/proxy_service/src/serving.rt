@@ -1,4 +1,5 @@
 ghost use Rattle.std.specs.Prelude.{◌≡◌, ◌≤◌, ◌+◌, ◌^◌, [], true};
+ghost use Rattle.config_setup.specs.Setups.{IsAskedBy};
 ghost use Rattle.dispatch_log.specs.declared.setup.Setup.{Setup};
 ghost use Rattle.outstanding.specs.Books.{terms_of};
 ghost use Rattle.proxy_config.specs.Sound.{IsSoundConfig};
@@ -6,7 +7,6 @@ ghost use Rattle.service_parts.specs.Parts.{AreNew};
 
 use crate::ending::fault_of;
 use grant_board::{BoardName, RelaySeat};
-use grant_desk::Desk;
 use proxy_config::Config;
 use relay_loops::{LoopsFault, Proxy, SeatSource, serve};
 use run_sizes::{LoopSizes, Sizes};
@@ -84,7 +84,8 @@ fn serve_on<
     requires named { parts.board ≡ N.board }
     requires ledger { (parts.ledger.name ≡ N.name) × (parts.ledger.parts ≡ N.parts) }
     requires room { 2 ^ 64 ≤ parts.ledger.parts + 1 }
-    requires parts { (setup : Setup) × AreNew setup parts × (N.terms ≡ terms_of setup) × (setup.places ≡ crew.threads.places) }
+    requires sound { IsSoundConfig config }
+    requires parts { (setup : Setup) × AreNew setup parts × IsAskedBy config setup × (N.terms ≡ terms_of setup) × (setup.places ≡ crew.threads.places) }
 {
     let alloc = rt.alloc();
     let (proxy, source) = proxy_of::<N>(alloc, config, parts);
@@ -105,14 +106,15 @@ fn serve_on<
     ended
 }
 
-/// A proxy that did nothing so far, of these parts, and what its relays' seats come from.
+/// A proxy that did nothing so far, of these parts, which are what the configuration asks for, and what its relays' seats come from.
 pub(crate) fn proxy_of<N: BoardName + Ledger>(
     alloc: Global,
     config: Config,
     parts: Parts,
 ) -> (Proxy<N>, SeatSource)
     requires named { parts.board ≡ N.board }
-    requires parts { (setup : Setup) × AreNew setup parts × (N.terms ≡ terms_of setup) }
+    requires sound { IsSoundConfig config }
+    requires parts { (setup : Setup) × AreNew setup parts × IsAskedBy config setup × (N.terms ≡ terms_of setup) }
     ensures named { (result.1.first.board ≡ N.board) × (result.1.first.view.terms ≡ N.terms) }
     ensures first { result.1.first.view.first ≡ true }
     ensures idle { result.1.first.view.passes ≡ [] }
@@ -126,11 +128,7 @@ pub(crate) fn proxy_of<N: BoardName + Ledger>(
         relay,
         ledger,
     } = parts;
-    let proxy = Proxy {
-        alloc,
-        desk: Desk::new(core, board, keeper, running),
-        config,
-    };
+    let proxy = Proxy::new(alloc, config, core, running, (board, keeper));
     let source = SeatSource {
         first: relay,
         ledger,

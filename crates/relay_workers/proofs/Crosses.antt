@@ -9,4 +9,4 @@ use Rattle.proxy_config.proofs.parts.Config.TheSendSync as config
 use Rattle.relay_workers.specs.contracts.proxy.Proxy as proxy
 
 pub proxy_sync : (N : RattleType) (g : board_name.Ghosts N.Denot) → IsSync (proxy.the_row N g)
-proxy_sync N g = declared_sync (proxy.the_type N g) (search (crosses, sendable) depth 60 fits 20000, (desk_sync N g, (config.the_sync, tt)))
+proxy_sync N g = declared_sync (proxy.the_type N g) (search (crosses, sendable) depth 60 fits 20000, (desk_sync N g, (config.the_sync, (search (crosses, sendable) depth 60 fits 20000, tt))))

@@ -1,1 +1,3 @@
 pub mod Crosses
+mod Boards
+mod Known

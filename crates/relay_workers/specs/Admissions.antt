@@ -12,6 +12,7 @@ use Rattle.locked_book.specs.declared.book.Deferred.{Deferred}
 use Rattle.prio_rules.specs.Wishes.{wish}
 use Rattle.prio_rules.specs.declared.wish.Wish.{Wish}
 use Rattle.proxy_config.specs.declared.parts.Config.{Config}
+use Rattle.relay_workers.specs.Boards.{IsBoardOf}
 use Rattle.req_view.specs.Request.{Request}
 
 -- a request arrived at some moment, in the class, with the offset and bound to the server that were wished for it
@@ -30,9 +31,13 @@ pub record IsAdmittedAs (terms : Terms) (wished : Wish) (it : Ticketed) : Type 0
   pub place : it.place < terms.places
   pub arrives : ArrivesAs wished it terms
 
--- as the rules wish for it
+-- as the rules wish for it, at a board of the configuration whose rules they are
 abbrev pub IsAdmitted : Terms → Config → Request → Ticketed → Type 0
-IsAdmitted terms config request it = IsAdmittedAs terms (wish config request) it
+IsAdmitted terms config request it = IsBoardOf config terms × IsAdmittedAs terms (wish config request) it
+
+-- it was, by some configuration
+abbrev pub IsRequestAt : Terms → Request → Ticketed → Type 0
+IsRequestAt terms request it = ∥ ((config : Config) × IsAdmitted terms config request it) ∥₁
 
 -- a request that waited elsewhere arrived at some moment with the due date that it had, or the earliest that there was at that moment
 abbrev pub ArrivesLate : Deferred → Ticketed → Terms → Type 0
@@ -54,6 +59,6 @@ pub record IsAdmittedLate (terms : Terms) (deferred : Deferred) (it : Ticketed) 
 abbrev pub IsRefusedFor : Terms → Option ℕ → Refusal → Type 0
 IsRefusedFor terms pin refusal = SomeHeld terms (λ held. RefusedOrNoMemory (refuses_arrival held.history pin) refusal)
 
--- the same with the pin that the rules wish
+-- the same with the pin that the rules wish, at a board of the configuration whose rules they are
 abbrev pub IsTurnedAway : Terms → Config → Request → Refusal → Type 0
-IsTurnedAway terms config request refusal = IsRefusedFor terms (wish config request).pin refusal
+IsTurnedAway terms config request refusal = IsBoardOf config terms × IsRefusedFor terms (wish config request).pin refusal

@@ -1,4 +1,5 @@
 pub mod Admissions
+pub mod Boards
 pub mod Outcomes
 pub mod Seats
 pub mod Windows

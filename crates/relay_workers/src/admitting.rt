@@ -1,8 +1,9 @@
 ghost use Rattle.std.specs.Prelude.{◌≡◌, ◌≢◌, IfOk, OnOk, IfErr, false};
+ghost use Rattle.dispatch_log.specs.declared.refusal.Refusal.TheVariants.{NoSuchServer};
 ghost use Rattle.relay_http.specs.States.{IsFresh};
 ghost use Rattle.relay_http.specs.declared.exchange.Stage.TheVariants as stage;
 ghost use Rattle.relay_http.specs.declared.exchange.Stage.TheVariants.{Asked};
-ghost use Rattle.relay_workers.specs.Admissions.{IsAdmitted, IsAdmittedAs, IsAdmittedLate, IsTurnedAway, IsRefusedFor};
+ghost use Rattle.relay_workers.specs.Admissions.{IsAdmitted, IsAdmittedAs, IsAdmittedLate, IsRequestAt, IsTurnedAway, IsRefusedFor};
 ghost use Rattle.relay_workers.specs.declared.outcome.Outcome.TheVariants.{Answered};
 ghost use Rattle.relay_workers.specs.Outcomes.{after_reading};
 ghost use Rattle.http_texts.specs.declared.fault.Fault.{Fault};
@@ -19,28 +20,31 @@ use prio_rules::{Wish, decide};
 use relay_http::{Code, Exchange};
 use req_view::View;
 use std::io::{Read, Write};
+use std::marker::PhantomData;
 use std::sync::Wait;
 
-/// A client whose request has a place and a ticket.
+/// A client whose request arrived at the board that N names.
 #[derive(Drop)]
-pub struct Admitted<C: Read + Write + Drop> {
+pub struct Admitted<N: BoardName, C: Read + Write + Drop> {
     pub client: C,
     pub view: View,
     /// Its place and its ticket.
     pub at: Ticketed,
+    of: PhantomData<N>,
+    pub ghost arrived: { IsRequestAt N.terms view at },
 }
 
 /// From a client to a place: its request's head is read, and it arrives as the rules wish. Where it doesn't, the client is told so, and its connection is
 /// closed.
 ///
 /// Refused with 400 where the head is none that is taken, and with 503 where there is no memory, or the dispatcher refuses: all places are taken, the log is
-/// full, the tickets are spent, or the rules name a server that it hasn't.
+/// full, or the tickets are spent.
 pub fn admit<R: Wait, N: BoardName, G: Gate + Drop>(
     rt: &R,
     proxy: &Proxy<N>,
     runner: &mut Runner<G>,
     client: G::Client,
-) -> Result<Admitted<G::Client>, Outcome>
+) -> Result<Admitted<N, G::Client>, Outcome>
     requires { IsFresh runner.old.exchange.most runner.old.exchange }
     ensures ok { IfOk result (λ it. IsAdmitted N.terms proxy.now.config it.view it.at) }
     ensures asked { OnOk result (runner.new.exchange.stage ≡ Asked) }
@@ -56,7 +60,12 @@ pub fn admit<R: Wait, N: BoardName, G: Gate + Drop>(
             Err(tell(&mut runner.exchange, &mut client, outcome))
         }
         Ok(view) => match arrive(rt, proxy, &mut runner.gate, &view) {
-            Ok(at) => Ok(Admitted { client, view, at }),
+            Ok(at) => Ok(Admitted {
+                client,
+                view,
+                at,
+                of: PhantomData,
+            }),
             Err(_) => {
                 let outcome = Outcome::Refused(Code::Unavailable);
                 Err(tell(&mut runner.exchange, &mut client, outcome))
@@ -75,6 +84,8 @@ pub fn arrive<R: Wait, N: BoardName, G: Gate>(
 ) -> Result<Ticketed, Refusal>
     ensures ok { IfOk result (λ it. IsAdmitted N.terms proxy.now.config view.now it) }
     ensures err { IfErr result (λ refusal. IsTurnedAway N.terms proxy.now.config view.now refusal) }
+    // A pin is a server of the dispatcher.
+    ensures known { IfErr result (λ refusal. refusal ≢ NoSuchServer) }
 {
     let wish = decide(&proxy.config, view);
     arrive_as(rt, proxy, gate, &wish)

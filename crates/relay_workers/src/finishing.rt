@@ -13,6 +13,7 @@ use crate::admitting::{Admitted, tell};
 use crate::gate::Gate;
 use crate::outcome::Outcome;
 use crate::proxy::{Proxy, Runner};
+use crate::slot::Slot;
 use crate::waiting::Granted;
 use grant_board::{BoardName, Pass, RelaySeat};
 use relay_http::Exchange;
@@ -30,8 +31,8 @@ pub fn finish<R: Wait, N: BoardName, G: Gate + Drop>(
     proxy: &Proxy<N>,
     seat: &mut RelaySeat,
     runner: &mut Runner<G>,
-    granted: Granted<G::Client>,
-) -> Result<Outcome, Admitted<G::Client>>
+    granted: Granted<N, G::Client>,
+) -> Result<Outcome, Admitted<N, G::Client>>
     requires named { (seat.old.board ≡ N.board) × (seat.old.view.terms ≡ N.terms) }
     requires holds { seat.old.view.passes ≡ granted.pass ∷ [] }
     requires its_own { (granted.pass.place ≡ granted.admitted.at.place) × (granted.pass.ticket ≡ granted.admitted.at.ticket) }
@@ -47,7 +48,7 @@ pub fn finish<R: Wait, N: BoardName, G: Gate + Drop>(
 {
     let Granted { admitted, pass } = granted;
     let mut admitted = admitted;
-    let carried = carry(proxy.alloc, &pass, runner, &mut admitted);
+    let carried = carry(proxy.alloc, seat, &pass, runner, &mut admitted);
     let ending = match carried {
         Some(_) => Ending::Done,
         None => Ending::Failed,
@@ -58,13 +59,17 @@ pub fn finish<R: Wait, N: BoardName, G: Gate + Drop>(
 }
 
 // What a pass asks for is done. None where there is no connection to its server.
-fn carry<G: Gate + Drop>(
+fn carry<N: BoardName, G: Gate + Drop>(
     alloc: Global,
+    seat: &RelaySeat,
     pass: &Pass,
     runner: &mut Runner<G>,
-    admitted: &mut Admitted<G::Client>,
+    admitted: &mut Admitted<N, G::Client>,
 ) -> Option<Outcome>
-    requires { (runner.old.exchange.stage ≡ stage.Asked) × (runner.old.exchange.begun ≡ false) }
+    requires named { (seat.now.board ≡ N.board) × (seat.now.view.terms ≡ N.terms) }
+    requires holds { seat.now.view.passes ≡ pass.now ∷ [] }
+    requires its_own { (pass.now.place ≡ admitted.old.at.place) × (pass.now.ticket ≡ admitted.old.at.ticket) }
+    requires asked { (runner.old.exchange.stage ≡ stage.Asked) × (runner.old.exchange.begun ≡ false) }
     ensures told { (cause : Cause) → pass.now.verdict ≡ Told cause → result ≡ Some (after_telling cause) }
     ensures answered { IfSome result (λ outcome. (outcome ≡ Answered) ↔ (runner.new.exchange.stage ≡ stage.Answered)) }
     ensures none { IfNone result (Serves pass.now.verdict × (runner.new.exchange ≡ runner.old.exchange)) }
@@ -76,29 +81,28 @@ fn carry<G: Gate + Drop>(
             let outcome = Outcome::after_telling(cause);
             Some(tell(&mut runner.exchange, &mut admitted.client, outcome))
         }
-        Verdict::Serve(_) => {
-            let mut server = runner.gate.connect(pass)?;
-            Some(hand_on(alloc, pass, &mut runner.exchange, admitted, &mut server))
+        Verdict::Serve(server) => {
+            let slot = Slot::<N>::new(seat, pass, &admitted.view, admitted.at, server);
+            let mut server = runner.gate.connect(&slot)?;
+            let client = &mut admitted.client;
+            Some(hand_on(alloc, &slot, &mut runner.exchange, client, &mut server))
         }
     }
 }
 
-// The request goes to the server, and the answer comes back.
-fn hand_on<C: Read + Write + Drop, S: Read + Write>(
+// The request of a slot goes to the server, and the answer comes back.
+fn hand_on<N: BoardName, C: Read + Write, S: Read + Write>(
     alloc: Global,
-    pass: &Pass,
+    slot: &Slot<'_, N>,
     exchange: &mut Exchange,
-    admitted: &mut Admitted<C>,
+    client: &mut C,
     server: &mut S,
 ) -> Outcome
     requires asked { (exchange.old.stage ≡ stage.Asked) × (exchange.old.begun ≡ false) }
-    requires serves { Serves pass.now.verdict }
     ensures answered { (result ≡ Answered) ↔ (exchange.new.stage ≡ stage.Answered) }
-    ensures kept { (admitted.new.at ≡ admitted.old.at) × (admitted.new.view ≡ admitted.old.view) }
     ensures most { exchange.new.most ≡ exchange.old.most }
 {
-    let view = &admitted.view;
-    let client = &mut admitted.client;
+    let (pass, view) = slot.parts();
     if exchange.go_on(view, client).is_err() {
         return Outcome::Cut;
     }

@@ -1,10 +1,10 @@
 ghost use Rattle.std.specs.Prelude.{◌≡◌, ◌<◌, ℕ};
 ghost use Rattle.std.specs.Bool.{OnTrue, OnFalse};
-ghost use Rattle.relay_http.specs.States.{Serves};
 ghost use Rattle.relay_workers.specs.Windows.{HasEnded};
 
+use crate::slot::Slot;
 use due_key::Moment;
-use grant_board::Pass;
+use grant_board::BoardName;
 use place_set::PlaceSet;
 use reporting_core::Window;
 use std::io::{Read, Write};
@@ -18,9 +18,8 @@ pub trait Gate {
     /// The next client. None: no more come to this thread. It may wait as long as it likes.
     fn next(&mut self) -> Option<Self::Client>;
 
-    /// A connection to the server of a pass. None: there is none, and the request is tried again or elsewhere.
-    fn connect(&mut self, pass: &Pass) -> Option<Self::Server>
-        requires { Serves pass.now.verdict };
+    /// A connection to the server of a slot. None: there is none, and the request is tried again or elsewhere.
+    fn connect<N: BoardName>(&mut self, slot: &Slot<'_, N>) -> Option<Self::Server>;
 
     /// Looks at a check of a server by its number, and begins one where none runs. None: it isn't over yet. It doesn't wait, so that no
     /// server's checks are delayed by another's.

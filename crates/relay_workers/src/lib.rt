@@ -11,6 +11,7 @@ mod gate;
 mod lending;
 mod outcome;
 mod proxy;
+mod slot;
 mod stopping;
 mod waiting;
 
@@ -21,5 +22,6 @@ pub use gate::{Gate, Pause};
 pub use lending::{join_all, split_off};
 pub use outcome::Outcome;
 pub use proxy::{Hand, Proxy, Runner};
+pub use slot::Slot;
 pub use stopping::{Stopped, TURNS};
 pub use waiting::{Granted, wait};

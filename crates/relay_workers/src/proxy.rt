@@ -1,25 +1,38 @@
-ghost use Rattle.std.specs.Prelude.{◌<◌, ◌≡◌, ℕ, IfErr, OnOk, Some};
+ghost use Rattle.std.specs.Prelude.{◌<◌, ◌≡◌, ℕ, [], length, IfErr, OnOk, Some};
+ghost use Rattle.config_setup.specs.Setups.{IsAskedBy};
 ghost use Rattle.dispatch_log.specs.declared.entry.Entry.TheVariants.{Limit};
-ghost use Rattle.dispatch_log.specs.Histories.{effective, refuses_limit};
+ghost use Rattle.dispatch_log.specs.Histories.{effective, first_window, refuses_limit};
 ghost use Rattle.dispatch_log.specs.Legal.{AddsEvent};
+ghost use Rattle.grant_board.specs.KeeperCalls.{new_keeper};
 ghost use Rattle.grant_desk.specs.Replies.{SomeHeld, SomeStep};
+ghost use Rattle.outstanding.specs.Books.{terms_of};
+ghost use Rattle.proxy_config.specs.Sound.{IsSoundConfig};
+ghost use Rattle.relay_workers.specs.Boards.{IsBoardOf};
+ghost use Rattle.reporting_core.specs.Reporting.{IsNew};
 
 use crate::gate::{Gate, Pause};
+use dispatch_core::Core;
 use dispatch_log::{Intake, Refusal};
-use grant_board::{BoardName, Return};
-use grant_desk::Desk;
+use grant_board::{Board, BoardName, KeeperSeat, Return};
+use grant_desk::{Desk, Queues};
+use late_cert::Running;
 use place_set::PlaceSet;
 use proxy_config::Config;
 use relay_http::Exchange;
 use std::alloc::Global;
+use std::marker::PhantomData;
 use std::sync::Wait;
 
-/// What all threads of a proxy share: its dispatcher and its configuration, and where their memory comes from.
+/// What all threads of a proxy share: its dispatcher and its configuration, and where their memory comes from. The board is one of the configuration's, and
+/// `new` alone makes one.
 #[derive(Drop)]
 pub struct Proxy<N: BoardName> {
     pub alloc: Global,
     pub desk: Desk<N>,
     pub config: Config,
+    of: PhantomData<N>,
+    pub ghost its_board: { IsBoardOf config N.terms },
+    pub ghost sound: { ∥ IsSoundConfig config ∥₁ },
 }
 
 /// What hands messages on: a gate, and one exchange for all its clients, one after the other.
@@ -37,6 +50,33 @@ pub struct Hand<G: Gate + Drop, P: Pause + Drop> {
 }
 
 impl<N: BoardName> Proxy<N> {
+    /// A proxy of a configuration that was accepted, over a dispatcher that has done nothing and is set up as the configuration asks, and a board that was opened
+    /// for it.
+    pub fn new(
+        alloc: Global,
+        config: Config,
+        core: Core<Queues>,
+        running: Running,
+        opened: (Board, KeeperSeat),
+    ) -> Proxy<N>
+        requires sound { IsSoundConfig config }
+        requires asked { IsAskedBy config core.setup }
+        requires first { core ≡ first_window core.setup [] }
+        requires running { IsNew running (length core.setup.servers) }
+        requires board { (opened.0 ≡ N.board) × (opened.1.board ≡ N.board) }
+        requires terms { N.terms ≡ terms_of core.setup }
+        requires seat { opened.1.view ≡ new_keeper N.terms }
+        ensures config { result.config ≡ config }
+    {
+        let (board, seat) = opened;
+        Proxy {
+            alloc,
+            desk: Desk::new(core, board, seat, running),
+            config,
+            of: PhantomData,
+        }
+    }
+
     /// A turn of the desk: it looks at each place that is out. One that is refused is as one that found nothing.
     pub fn turn<R: Wait, G: Gate>(&self, rt: &R, gate: &mut G) {
         let moment = gate.moment();

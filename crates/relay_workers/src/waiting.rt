@@ -9,9 +9,21 @@ use std::io::{Read, Write};
 use std::sync::Wait;
 
 /// A client whose request has its pass. It has no `Drop`: the pass is posted.
-pub struct Granted<C: Read + Write + Drop> {
-    pub admitted: Admitted<C>,
+pub struct Granted<N: BoardName, C: Read + Write + Drop> {
+    pub admitted: Admitted<N, C>,
     pub pass: Pass,
+    pub ghost its_place: { pass.place ≡ admitted.at.place },
+    pub ghost its_ticket: { pass.ticket ≡ admitted.at.ticket },
+}
+
+impl<N: BoardName, C: Read + Write + Drop> Granted<N, C> {
+    // A client with the pass of its request's place and ticket.
+    fn new(admitted: Admitted<N, C>, pass: Pass) -> Granted<N, C>
+        requires { (pass.place ≡ admitted.at.place) × (pass.ticket ≡ admitted.at.ticket) }
+        ensures { (result.admitted ≡ admitted) × (result.pass ≡ pass) }
+    {
+        Granted { admitted, pass }
+    }
 }
 
 /// From a place to a pass: tries to take it, and between two tries asks whether the client is gone, pauses, and turns. A request whose client
@@ -23,8 +35,8 @@ pub fn wait<R: Wait, N: BoardName, G: Gate + Drop, P: Pause + Drop>(
     proxy: &Proxy<N>,
     seat: &mut RelaySeat,
     hand: &mut Hand<G, P>,
-    admitted: Admitted<G::Client>,
-) -> Option<Granted<G::Client>>
+    admitted: Admitted<N, G::Client>,
+) -> Option<Granted<N, G::Client>>
     requires named { (seat.old.board ≡ N.board) × (seat.old.view.terms ≡ N.terms) }
     requires idle { seat.old.view.passes ≡ [] }
     requires place { admitted.at.place < N.terms.places }
@@ -41,13 +53,13 @@ pub fn wait<R: Wait, N: BoardName, G: Gate + Drop, P: Pause + Drop>(
     let mut spent = false;
     for _ in rt.forever() {
         match seat.try_take(proxy.desk.board(), admitted.at.place, admitted.at.ticket) {
-            Taking::Taken(pass) => return Some(Granted { admitted, pass }),
+            Taking::Taken(pass) => return Some(Granted::new(admitted, pass)),
             Taking::NotYet => {}
         }
         if spent {
             return None;
         }
-        if !given_up && hand.runner.gate.gone(&mut admitted.client) {
+        if !given_up && is_gone(&mut hand.runner.gate, &mut admitted) {
             proxy.give_up(rt, &mut hand.runner.gate, admitted.at.ticket);
             given_up = true;
             continue;
@@ -59,4 +71,11 @@ pub fn wait<R: Wait, N: BoardName, G: Gate + Drop, P: Pause + Drop>(
         proxy.turn(rt, &mut hand.runner.gate);
     }
     unreachable!()
+}
+
+// Whether a client that waits is gone.
+fn is_gone<N: BoardName, G: Gate>(gate: &mut G, admitted: &mut Admitted<N, G::Client>) -> bool
+    ensures { (admitted.new.at ≡ admitted.old.at) × (admitted.new.view ≡ admitted.old.view) }
+{
+    gate.gone(&mut admitted.client)
 }

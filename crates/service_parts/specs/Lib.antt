@@ -1,4 +1,4 @@
-pub mod Setups
+pub mod Queues
 pub mod Gauges
 pub mod Faults
 pub mod Parts

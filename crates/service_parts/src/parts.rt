@@ -1,9 +1,10 @@
 ghost use Rattle.std.specs.Prelude.{◌<◌, ◌≤◌, ◌+◌, ◌^◌, IfOk};
+ghost use Rattle.config_setup.specs.Setups as setups;
 ghost use Rattle.proxy_config.specs.Sound.{IsSoundConfig};
 ghost use Rattle.service_parts.specs.Parts.{AreNew};
-ghost use Rattle.service_parts.specs.Setups.{setup_of};
 
-use crate::preparing::{limits_of, setup_of};
+use crate::preparing::LOG;
+use config_setup::{limits_of, setup_of};
 use dispatch_core::Core;
 use grant_board::{Board, KeeperSeat, RelaySeat};
 use grant_desk::Queues;
@@ -27,10 +28,10 @@ pub struct Parts {
 pub fn parts_of(alloc: Global, config: &Config, places: usize) -> Result<Parts, AllocError>
     requires config { IsSoundConfig config.now }
     requires places { (0 < places) × (places ≤ 4096) }
-    ensures parts { IfOk result (AreNew (setup_of config.now places)) }
+    ensures parts { IfOk result (AreNew (setups.setup_of config.now places 262144)) }
     ensures ledger { IfOk result (λ parts. 2 ^ 64 ≤ parts.ledger.parts + 1) }
 {
-    let setup = setup_of(alloc, config, places)?;
+    let setup = setup_of(alloc, config, places, LOG)?;
     let limits = limits_of(alloc, &setup)?;
     let running = Running::new(alloc, limits.len())?;
     let core = Core::new(alloc, setup)?;

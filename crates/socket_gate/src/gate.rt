@@ -1,6 +1,5 @@
 ghost use Rattle.std.specs.Prelude.{◌≡◌, ◌≤◌, ℕ, IfOk, false, length};
 ghost use Rattle.place_set.specs.Sets.{Has};
-ghost use Rattle.relay_http.specs.States.{Serves};
 ghost use Rattle.relay_workers.specs.Windows.{HasEnded};
 
 use crate::dialing::dial;
@@ -9,9 +8,9 @@ use crate::leaving::has_left;
 use crate::probing::Probe;
 use crate::waits::{duration, left, patience, turnaround};
 use due_key::Moment;
-use grant_board::Pass;
+use grant_board::BoardName;
 use place_set::PlaceSet;
-use relay_workers::Gate;
+use relay_workers::{Gate, Slot};
 use reporting_core::Window;
 use request_log::CheckFailure;
 use std::alloc::{AllocError, Global};
@@ -20,7 +19,6 @@ use std::os::fd::AsRawFd;
 use std::sync::Wait;
 use std::time::{Clock, Duration};
 use std::{mem, thread};
-use verdict::Verdict;
 
 /// So many places there are at most.
 const MOST_PLACES: usize = 4096;
@@ -167,18 +165,16 @@ impl<'a, R: Net<Listener = TcpListener, Stream = TcpStream> + Clock + Wait> Gate
         self.front.next(self.rt)
     }
 
-    fn connect(&mut self, pass: &Pass) -> Option<TcpStream> {
-        let Verdict::Serve(number) = pass.verdict() else {
-            return None;
-        };
-        self.hold_back(pass.ticket(), number);
+    fn connect<N: BoardName>(&mut self, slot: &Slot<'_, N>) -> Option<TcpStream> {
+        let number = slot.server();
+        self.hold_back(slot.ticket(), number);
         let config = self.front.config;
         let server = config.servers.as_slice().get(number)?;
         let dialed = dial(self.rt, &server.address, duration(config.connect_timeout));
         match dialed {
             Some(stream) => Some(within(stream, config.server_timeout)),
             None => {
-                self.note_failure(pass.ticket(), number);
+                self.note_failure(slot.ticket(), number);
                 None
             }
         }

@@ -1,11 +1,18 @@
-use grant_board::{Board, Taking};
+ghost use Rattle.std.specs.Prelude.{◌≡◌};
+ghost use Rattle.outstanding.specs.Books.{terms_of};
+ghost use Rattle.proxy_config.specs.Sound.{IsSoundConfig};
+
+use crate::workers::{Opened, open, start};
+use grant_board::{BoardName, Taking};
 use proxy_config::{Config, read};
-use relay_workers::Gate;
+use relay_workers::{Gate, Slot, arrive};
+use req_view::{Viewed, view};
 use script::Names;
 use server_names::Addresses;
 use socket_gate::{Clients, Front, SocketGate, has_left};
 use std::alloc::Global;
 use std::io::{Read, Write};
+use std::marker::Brand;
 use std::net::{Net, SocketAddr, TcpListener, TcpStream};
 use std::os::fd::AsRawFd;
 use std::process::Abort;
@@ -46,7 +53,9 @@ fn an_end_is_seen_behind_unread_bytes(rt: HostRuntime) {
 }
 
 // A configuration with one server, at a port of this machine.
-fn config_of(rt: &impl Abort, alloc: Global, port: u16) -> Config {
+fn config_of(rt: &impl Abort, alloc: Global, port: u16) -> Config
+    ensures { IsSoundConfig result }
+{
     let text = format!(in alloc;
         "listen w\n bind :1\n server it 127.0.0.1:{port} check inter 1s\n"
     ).expect(rt, "memory");
@@ -65,24 +74,33 @@ fn checked<G: Gate>(clock: &impl Clock, gate: &mut G) -> Option<bool> {
     None
 }
 
-// A pass of the only server, which is posted again.
-fn connects<R: Abort + Net<Listener = TcpListener, Stream = TcpStream>, G: Gate>(
-    rt: &R,
-    alloc: Global,
-    gate: &mut G,
-    far: &TcpListener,
-) {
-    let (board, mut keeper, mut relay) = Board::open(alloc, 1, &[1]).expect(rt, "a board");
-    keeper.offer(&board, 0, 1, Verdict::Serve(0));
-    let pass = match relay.try_take(&board, 0, 1) {
+// A request arrives and has its slot, and the gate connects to the slot's server.
+fn connects<
+    N: BoardName,
+    R: Abort + Wait + Net<Listener = TcpListener, Stream = TcpStream>,
+    G: Gate,
+>(rt: &R, alloc: Global, gate: &mut G, far: &TcpListener, opened: Opened)
+    requires named { opened.board ≡ N.board }
+    requires terms { N.terms ≡ terms_of opened.core.setup }
+{
+    let Viewed::Whole(head, _) = view(alloc, b"GET / HTTP/1.1\r\nHost: h\r\n\r\n") else {
+        panic!(rt; "no head");
+    };
+    let (proxy, idle) = start::<N>(alloc, opened);
+    let at = arrive(rt, &proxy, gate, &head).expect(rt, "a place");
+    let mut relay = idle.seat();
+    let pass = match relay.try_take(proxy.desk.board(), at.place, at.ticket) {
         Taking::Taken(pass) => pass,
         Taking::NotYet => panic!(rt; "not offered"),
     };
     let mut server = match pass.verdict() {
-        Verdict::Serve(_) => gate.connect(&pass).expect(rt, "a connection"),
+        Verdict::Serve(server) => {
+            let slot = Slot::<N>::new(&relay, &pass, &head, at, server);
+            gate.connect(&slot).expect(rt, "a connection")
+        }
         Verdict::Told(_) => panic!(rt; "told"),
     };
-    relay.post(&board, pass, Ending::Done);
+    relay.post(proxy.desk.board(), pass, Ending::Done);
     server.write_all(b"x").expect(rt, "a byte written");
     let (mut accepted, _) = far.accept().expect(rt, "a connection");
     let mut byte = [0u8; 1];
@@ -102,12 +120,13 @@ fn asks<'a, R: Abort + Net<Listener = TcpListener, Stream = TcpStream> + Clock +
     rt: &'a R,
     front: &'a Front<'a>,
     far: TcpListener,
+    opened: Opened,
 ) {
     let mut gate = SocketGate::new(front.alloc, rt, front).expect(rt, "a gate");
     let mut accepted = gate.next().expect(rt, "a client");
     assert!(rt; gate.next().is_none());
     assert!(rt; !gate.gone(&mut accepted));
-    connects(rt, front.alloc, &mut gate, &far);
+    connects::<Brand, _, _>(rt, front.alloc, &mut gate, &far, opened);
     assert_eq!(rt; checked(rt, &mut gate), Some(true));
     drop(far);
     assert_eq!(rt; checked(rt, &mut gate), Some(false));
@@ -144,6 +163,8 @@ fn a_gate_takes_clients_and_checks_servers(rt: HostRuntime) {
         window: None,
         forwarded_for: false,
     };
-    asks(&rt, &front, far);
+    let config = config_of(&rt, alloc, address(&rt, &far).port());
+    let opened = open(&rt, alloc, config, 4096);
+    asks(&rt, &front, far, opened);
     drop(client);
 }

@@ -1,20 +1,22 @@
-ghost use Rattle.std.specs.Prelude.{◌≡◌, [], length, map, true};
+ghost use Rattle.std.specs.Prelude.{◌≡◌, ◌<◌, ◌≤◌, [], length, true};
+ghost use Rattle.config_setup.specs.Setups.{IsAskedBy};
 ghost use Rattle.dispatch_log.specs.Histories.{first_window};
 ghost use Rattle.grant_board.specs.KeeperCalls.{new_keeper};
 ghost use Rattle.grant_board.specs.RelayCalls.{new_relay};
 ghost use Rattle.outstanding.specs.Books.{terms_of};
+ghost use Rattle.proxy_config.specs.Sound.{IsSoundConfig};
 ghost use Rattle.reporting_core.specs.Reporting.{IsNew};
 
+use config_setup::{limits_of, setup_of};
 use dispatch_core::Core;
-use dispatch_log::{ServerSet, Servers, Setup};
 use due_key::Moment;
-use grant_board::{Board, BoardName, Closing, KeeperSeat, Pass, RelaySeat};
+use grant_board::{Board, BoardName, Closing, KeeperSeat, RelaySeat};
 use grant_desk::{Desk, Queues};
 use late_cert::Running;
 use pass_seat::Idle;
 use place_set::PlaceSet;
 use proxy_config::{Config, read};
-use relay_workers::{Gate, Pause, Proxy, Stopped, checker};
+use relay_workers::{Gate, Pause, Proxy, Slot, Stopped, checker};
 use reporting_core::Window;
 use std::alloc::Global;
 use std::io::{self, Read, Write};
@@ -39,14 +41,17 @@ struct Found {
     closing: Closing,
 }
 
-// A dispatcher that has done nothing, and the board that was opened for its places and limits.
+/// A configuration, a dispatcher that has done nothing and is set up as it asks, and the board that was opened for it.
 #[derive(Drop)]
-struct Opened {
+pub(crate) struct Opened {
+    config: Config,
     core: Core<Queues>,
     board: Board,
     seat: KeeperSeat,
     relay: RelaySeat,
     running: Running,
+    ghost sound: { ∥ IsSoundConfig config ∥₁ },
+    ghost asked: { IsAskedBy config core.setup },
     ghost first: { core ≡ first_window core.setup [] },
     ghost named: { (seat.board ≡ board) × (relay.board ≡ board) },
     ghost keeper: { seat.view ≡ new_keeper (terms_of core.setup) },
@@ -54,26 +59,26 @@ struct Opened {
     ghost told_nothing: { IsNew running (length core.setup.servers) },
 }
 
-// A server whose health one result of a check decides.
-fn server(limit: u32) -> ServerSet
-    ensures { result.limit ≡ limit }
-{
-    ServerSet {
-        limit,
-        maxqueue: 0,
-        weight: 1,
-        rise_fall: Some((1, 1)),
-    }
-}
+// One server, whose health one result of a check decides.
+const ONE_SLOT: &[u8] =
+    b"listen w\n    bind :80\n    server a 127.0.0.1:9001 maxconn 1 check rise 1 fall 1\n";
 
-fn open(rt: &impl Abort, alloc: Global, setup: Setup, limits: &[u32]) -> Opened
-    requires limits { map (λ server. server.limit) setup.servers ≡ limits.now }
+const TWO_SLOTS: &[u8] =
+    b"listen w\n    bind :80\n    server a 127.0.0.1:9001 maxconn 2 check rise 1 fall 1\n";
+
+/// What a configuration asks for, for four places and with a log of this length.
+pub(crate) fn open(rt: &impl Abort, alloc: Global, config: Config, log: usize) -> Opened
+    requires sound { IsSoundConfig config }
+    requires log { (0 < log) × (log ≤ 262144) }
 {
-    assert!(rt; setup.sound());
+    let setup = setup_of(alloc, &config, 4, log).expect(rt, "memory");
+    let limits = limits_of(alloc, &setup).expect(rt, "memory");
     let running = Running::new(alloc, limits.len()).expect(rt, "memory");
-    let (board, seat, relay) = Board::open(alloc, setup.places, limits).expect(rt, "a board");
+    let core = Core::new(alloc, setup).expect(rt, "a dispatcher");
+    let (board, seat, relay) = Board::open(alloc, 4, &limits).expect(rt, "a board");
     Opened {
-        core: Core::new(alloc, setup).expect(rt, "a dispatcher"),
+        config,
+        core,
         board,
         seat,
         relay,
@@ -81,55 +86,37 @@ fn open(rt: &impl Abort, alloc: Global, setup: Setup, limits: &[u32]) -> Opened
     }
 }
 
-// One server of this limit, four places, and a log of this length.
-fn one_server(rt: &impl Abort, alloc: Global, limit: u32, log: usize) -> Opened {
-    let servers = vec![in alloc; server(limit)].expect(rt, "memory");
-    let setup = Setup {
-        servers: Servers::from_vec(servers),
-        places: 4,
-        log,
-        retries: 3,
-        redispatch: false,
-        queue_timeout: 0,
-    };
-    open(rt, alloc, setup, &[limit])
+// The same of a text.
+fn open_text(rt: &impl Abort, alloc: Global, text: &[u8], log: usize) -> Opened
+    requires log { (0 < log) × (log ≤ 262144) }
+{
+    let config = read(alloc, text).expect(rt, "a configuration");
+    open(rt, alloc, config, log)
 }
 
-fn config(rt: &impl Abort, alloc: Global) -> Config {
-    let text = b"listen w\n    bind :80\n    server a 127.0.0.1:9001 maxconn 2 check\n";
-    read(alloc, text).expect(rt, "a configuration")
-}
-
-// A proxy over what was opened, and the first of the seats that take.
-fn start<N: BoardName>(alloc: Global, config: Config, opened: Opened) -> (Proxy<N>, Idle<N>)
+/// A proxy over what was opened, and the first of the seats that take.
+pub(crate) fn start<N: BoardName>(alloc: Global, opened: Opened) -> (Proxy<N>, Idle<N>)
     requires named { opened.board ≡ N.board }
     requires terms { N.terms ≡ terms_of opened.core.setup }
     ensures { result.1.seat.view ≡ new_relay N.terms true }
 {
     let Opened {
+        config,
         core,
         board,
         seat,
         relay,
         running,
     } = opened;
-    let proxy = Proxy {
-        alloc,
-        desk: Desk::new(core, board, seat, running),
-        config,
-    };
+    let proxy = Proxy::new(alloc, config, core, running, (board, seat));
     (proxy, Idle::new(relay))
 }
 
-// What is left on a proxy's board once its threads are done.
-fn close<N: BoardName>(proxy: Proxy<N>, idle: Idle<N>) -> Closing
+/// What is left on a proxy's board once its threads are done.
+pub(crate) fn close<N: BoardName>(proxy: Proxy<N>, idle: Idle<N>) -> Closing
     requires first { idle.seat.view.first ≡ true }
     requires settled { idle.seat.view.split ≡ idle.seat.view.joined }
 {
-    let Proxy {
-        alloc: _,
-        desk,
-        config: _,
-    } = proxy;
+    let Proxy { desk, .. } = proxy;
     desk.close(idle.seat())
 }

@@ -27,16 +27,11 @@ fn check_thrice<N: BoardName, R: Abort + Wait>(
 }
 
 // A server that fails its checks, is checked by none who was told to stop, and then passes.
-fn down_and_up<N: BoardName, R: Abort + Wait>(
-    rt: &R,
-    alloc: Global,
-    config: Config,
-    opened: Opened,
-) -> [Checked; 3]
+fn down_and_up<N: BoardName, R: Abort + Wait>(rt: &R, alloc: Global, opened: Opened) -> [Checked; 3]
     requires named { opened.board ≡ N.board }
     requires terms { N.terms ≡ terms_of opened.core.setup }
 {
-    let (proxy, idle) = start::<N>(alloc, config, opened);
+    let (proxy, idle) = start::<N>(alloc, opened);
     let found = [
         check_thrice(rt, &proxy, false, false),
         check_thrice(rt, &proxy, true, true),
@@ -48,23 +43,22 @@ fn down_and_up<N: BoardName, R: Abort + Wait>(
 
 // Each call of the gate's clock is a millisecond later.
 fn check_with<R: Abort + Wait>(rt: &R, alloc: Global, text: &[u8]) -> [Checked; 3] {
-    let config = read(alloc, text).expect(rt, "a configuration");
-    let opened = one_server(rt, alloc, 2, 4096);
-    down_and_up::<Brand, _>(rt, alloc, config, opened)
+    let opened = open_text(rt, alloc, text, 4096);
+    down_and_up::<Brand, _>(rt, alloc, opened)
 }
 
 #[test]
 fn a_server_is_seen_down_and_up_again(rt: HostRuntime) {
-    let text = b"listen w\n    bind :80\n    server a 127.0.0.1:9001 maxconn 2 check\n";
     assert_eq!(rt;
-        check_with(&rt, rt.alloc(), text),
+        check_with(&rt, rt.alloc(), TWO_SLOTS),
         [(1, false), (0, false), (1, true)]
     );
 }
 
 #[test]
 fn checks_come_again_after_their_interval(rt: HostRuntime) {
-    let text = b"listen w\n    bind :80\n    server a 127.0.0.1:9001 maxconn 2 check inter 1ms\n";
+    let text =
+        b"listen w\n    bind :80\n    server a 127.0.0.1:9001 maxconn 2 check inter 1ms rise 1 fall 1\n";
     assert_eq!(rt;
         check_with(&rt, rt.alloc(), text),
         [(4, false), (0, false), (4, true)]

@@ -12,13 +12,12 @@ use worker_crew::serve;
 fn serve_two<N: BoardName + Send + Sync, R: Abort + Threads + Wait + Sync>(
     rt: &R,
     alloc: Global,
-    config: Config,
     opened: Opened,
 ) -> Found
     requires named { opened.board ≡ N.board }
     requires terms { N.terms ≡ terms_of opened.core.setup }
 {
-    let (proxy, idle) = start::<N>(alloc, config, opened);
+    let (proxy, idle) = start::<N>(alloc, opened);
     let seen = Seen::new();
     let one = Scene {
         clients: 1,
@@ -50,9 +49,8 @@ fn serve_two<N: BoardName + Send + Sync, R: Abort + Threads + Wait + Sync>(
 #[test]
 fn an_answer_waits_for_another_workers(rt: HostRuntime) {
     let alloc = rt.alloc();
-    let config = config(&rt, alloc);
-    let opened = one_server(&rt, alloc, 2, 4096);
-    let found = serve_two::<Brand, _>(&rt, alloc, config, opened);
+    let opened = open_text(&rt, alloc, TWO_SLOTS, 4096);
+    let found = serve_two::<Brand, _>(&rt, alloc, opened);
     let both = Tally {
         clients: 2,
         answered: 2,

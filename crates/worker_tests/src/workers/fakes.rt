@@ -139,7 +139,7 @@ impl<'a> Gate for Fake<'a> {
         })
     }
 
-    fn connect(&mut self, _pass: &Pass) -> Option<Peer<'a>> {
+    fn connect<N: BoardName>(&mut self, _slot: &Slot<'_, N>) -> Option<Peer<'a>> {
         let before = self.seen.connects.fetch_add(1, Ordering::SeqCst);
         if before < self.scene.failing {
             return None;

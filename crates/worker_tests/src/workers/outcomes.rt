@@ -1,5 +1,5 @@
 // Clients one after the other, of which the rows say what becomes of them. The places are fewer, so that each row shows that its place is free again.
-ghost use Rattle.std.specs.Prelude.{◌≡◌};
+ghost use Rattle.std.specs.Prelude.{◌≡◌, ◌<◌, ◌≤◌};
 ghost use Rattle.outstanding.specs.Books.{terms_of};
 
 use super::fakes::{Fake, Few, Scene, Seen};
@@ -7,17 +7,11 @@ use super::scenes::{ANSWERED, BAD_GATEWAY, BAD_REQUEST, FORWARDED, UNAVAILABLE, 
 use super::*;
 
 // One worker serves all clients of a scene; then the board is closed.
-fn work<N: BoardName, R: Wait>(
-    rt: &R,
-    alloc: Global,
-    config: Config,
-    opened: Opened,
-    scene: Scene,
-) -> Found
+fn work<N: BoardName, R: Wait>(rt: &R, alloc: Global, opened: Opened, scene: Scene) -> Found
     requires named { opened.board ≡ N.board }
     requires terms { N.terms ≡ terms_of opened.core.setup }
 {
-    let (proxy, mut idle) = start::<N>(alloc, config, opened);
+    let (proxy, mut idle) = start::<N>(alloc, opened);
     let seen = Seen::new();
     let gate = Fake::new(scene, &seen);
     let tally = worker(rt, &proxy, &mut idle, gate, Few::new(100));
@@ -29,10 +23,11 @@ fn work<N: BoardName, R: Wait>(
 }
 
 // What a scene comes to in a log of this length.
-fn play<R: Abort + Wait>(rt: &R, alloc: Global, log: usize, scene: Scene) -> Found {
-    let config = config(rt, alloc);
-    let opened = one_server(rt, alloc, 2, log);
-    work::<Brand, _>(rt, alloc, config, opened, scene)
+fn play<R: Abort + Wait>(rt: &R, alloc: Global, log: usize, scene: Scene) -> Found
+    requires log { (0 < log) × (log ≤ 262144) }
+{
+    let opened = open_text(rt, alloc, TWO_SLOTS, log);
+    work::<Brand, _>(rt, alloc, opened, scene)
 }
 
 // A scene comes to this tally, its peers are told so many bytes of what they expect and no other, and nothing is left on the board.

@@ -67,14 +67,13 @@ fn come_behind<N: BoardName, R: Abort + Wait>(
 fn work_behind<N: BoardName, R: Abort + Wait>(
     rt: &R,
     alloc: Global,
-    config: Config,
     opened: Opened,
     scene: Scene,
 ) -> Found
     requires named { opened.board ≡ N.board }
     requires terms { N.terms ≡ terms_of opened.core.setup }
 {
-    let (proxy, mut idle) = start::<N>(alloc, config, opened);
+    let (proxy, mut idle) = start::<N>(alloc, opened);
     let seen = Seen::new();
     let tally = come_behind(rt, &proxy, &mut idle, Fake::new(scene, &seen));
     let closing = close(proxy, idle);
@@ -87,13 +86,12 @@ fn work_behind<N: BoardName, R: Abort + Wait>(
 
 // Six clients that are gone after so many looks get nothing, each is asked for so often, and nothing is left on the board.
 fn expect<R: Abort + Wait>(rt: &R, alloc: Global, patience: u32) {
-    let config = config(rt, alloc);
-    let opened = one_server(rt, alloc, 1, 4096);
+    let opened = open_text(rt, alloc, ONE_SLOT, 4096);
     let scene = Scene {
         patience,
         ..plain()
     };
-    let found = work_behind::<Brand, _>(rt, alloc, config, opened, scene);
+    let found = work_behind::<Brand, _>(rt, alloc, opened, scene);
     let nobody = Tally {
         clients: 6,
         ..Tally::zero()

@@ -1,6 +1,6 @@
 use Rattle.std.proofs.Common.{◌≡◌, map, take}
-use Rattle.service_parts.specs.Setups.{set_of}
-use Rattle.service_parts.proofs.preparing.servers_of.Given as goal
+use Rattle.config_setup.specs.Setups.{set_of}
+use Rattle.config_setup.proofs.setup.servers_of.Given as goal
 
 -- the servers so far
 abbrev pub invariant-loop-server : goal.invariant-loop-server

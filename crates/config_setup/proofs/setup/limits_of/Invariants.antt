@@ -1,5 +1,5 @@
 use Rattle.std.proofs.Common.{◌≡◌, map, take}
-use Rattle.service_parts.proofs.preparing.limits_of.Given as goal
+use Rattle.config_setup.proofs.setup.limits_of.Given as goal
 
 -- those of the servers so far
 abbrev pub invariant-loop-server : goal.invariant-loop-server

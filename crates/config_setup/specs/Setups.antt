@@ -1,5 +1,5 @@
 -- What a configuration asks of a dispatcher.
-use Rattle.std.specs.Prelude.{◌≡◌, ℕ, map, Option, Some, None, All}
+use Rattle.std.specs.Prelude.{◌≡◌, ℕ, map, Option, Some, None}
 use Rattle.std.specs.Option.{unwrap_or}
 use Rattle.dispatch_log.specs.declared.setup.ServerSet.{ServerSet}
 use Rattle.dispatch_log.specs.declared.setup.Setup.{Setup}
@@ -16,17 +16,17 @@ rise_fall (Some checks) = Some (checks.rise, checks.fall)
 abbrev pub set_of : Server → ServerSet
 set_of server = record { limit = server.maxconn; maxqueue = server.maxqueue; weight = server.weight; rise_fall = rise_fall server.check }
 
--- for so many live requests, with a window of 262,144 entries; without a time in queues requests wait without an end
-abbrev pub setup_of : Config → ℕ → Setup
-setup_of config places = record {
+-- for so many live requests, with a window of so many entries; without a time in queues requests wait without an end
+abbrev pub setup_of : Config → ℕ → ℕ → Setup
+setup_of config places log = record {
   servers = map set_of config.servers;
   places = places;
-  log = 262144;
+  log = log;
   retries = config.retries;
   redispatch = config.redispatch;
   queue_timeout = unwrap_or config.queue_timeout 0;
 }
 
--- no server has a limit, so that each that is up is free
-abbrev pub NeverQueues : Config → Type 0
-NeverQueues config = All (λ server. server.maxconn ≡ 0) config.servers
+-- a setup is what a configuration asks for, whatever its places and its window are
+abbrev pub IsAskedBy : Config → Setup → Type 0
+IsAskedBy config setup = setup ≡ setup_of config setup.places setup.log

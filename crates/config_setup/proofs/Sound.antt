@@ -10,7 +10,7 @@ use Rattle.proxy_config.specs.declared.parts.Checks.{Checks}
 use Rattle.proxy_config.specs.declared.parts.Config.{Config}
 use Rattle.proxy_config.specs.declared.parts.Server.{Server}
 use Rattle.proxy_config.specs.Sound.{IsSoundCheck, IsSoundServer, IsSoundConfig, IsSoundTime}
-use Rattle.service_parts.specs.Setups.{rise_fall, set_of, setup_of}
+use Rattle.config_setup.specs.Setups.{rise_fall, set_of, setup_of}
 
 checks_within : (checks : Option Checks) → IfSome checks IsSoundCheck → has_rise_and_fall (rise_fall checks) ≡ true
 checks_within None sound = refl
@@ -28,21 +28,22 @@ timeout_within : (timeout : Option ℕ) → IfSome timeout IsSoundTime → unwra
 timeout_within None sound = omega arith
 timeout_within (Some millis) sound = sound.within
 
-sound_setup : (config : Config) (places : ℕ) → IsSoundConfig config → 0 < places → places ≤ 4096 → IsSound (setup_of config places)
-sound_setup config places sound some most = record {
+sound_setup : (config : Config) (places log : ℕ) → IsSoundConfig config → (0 < places) × (places ≤ 4096) → (0 < log) × (log ≤ 262144)
+    → IsSound (setup_of config places log)
+sound_setup config places log sound within fits = record {
   some_server = (let l = length-map config.servers set_of in let s = sound.some in grind (arith));
   servers = (let l = length-map config.servers set_of in let s = sound.most in grind (arith));
   within = All-map (λ server. IsTrue (is_within server)) set_of config.servers
       (All-weaker IsSoundServer (λ server. IsTrue (is_within (set_of server))) server_within config.servers sound.servers);
-  some_place = some;
-  places = most;
-  some_log = omega arith;
-  log = omega arith;
+  some_place = within.0;
+  places = within.1;
+  some_log = fits.0;
+  log = fits.1;
   retries = sound.retries;
   timeout = timeout_within config.queue_timeout sound.queue_timeout;
 }
 
 -- a setup of a configuration that was accepted is within its limits
-pub sound_where_same : (config : Config) (places : ℕ) (setup : Setup) → IsSoundConfig config → (0 < places) × (places ≤ 4096) → setup ≡ setup_of config places
-    → IsSound setup
-sound_where_same config places setup sound within same = subst IsSound (sym same) (sound_setup config places sound within.0 within.1)
+pub sound_where_same : (config : Config) (places log : ℕ) (setup : Setup) → IsSoundConfig config → (0 < places) × (places ≤ 4096)
+    → (0 < log) × (log ≤ 262144) → setup ≡ setup_of config places log → IsSound setup
+sound_where_same config places log setup sound within fits same = subst IsSound (sym same) (sound_setup config places log sound within fits)

@@ -1,0 +1,76 @@
+ghost use Rattle.std.specs.Prelude.{◌≡◌, [], ◌∷◌};
+ghost use Rattle.relay_http.specs.States.{Serves};
+ghost use Rattle.relay_workers.specs.Admissions.{IsRequestAt};
+ghost use Rattle.verdict.specs.declared.Verdict.TheVariants.{Serve};
+
+use dispatch_trace::Ticketed;
+use grant_board::{BoardName, Pass, RelaySeat};
+use req_view::View;
+use std::marker::PhantomData;
+
+/// A slot of a server, as whoever connects to it is lent it: a pass that a seat of the board that N names has, the only one that it has, and the request whose
+/// pass it is.
+#[derive(Drop)]
+pub struct Slot<'a, N: BoardName> {
+    seat: &'a RelaySeat,
+    pass: &'a Pass,
+    view: &'a View,
+    at: Ticketed,
+    server: usize,
+    of: PhantomData<N>,
+    pub ghost named: { (seat.now.board ≡ N.board) × (seat.now.view.terms ≡ N.terms) },
+    pub ghost held: { seat.now.view.passes ≡ pass.now ∷ [] },
+    pub ghost its_own: { (pass.now.place ≡ at.place) × (pass.now.ticket ≡ at.ticket) },
+    pub ghost serves: { pass.now.verdict ≡ Serve server },
+    pub ghost arrived: { IsRequestAt N.terms view.now at },
+}
+
+impl<'a, N: BoardName> Slot<'a, N> {
+    /// The slot of this server that a seat's pass gives to a request.
+    pub fn new(
+        seat: &'a RelaySeat,
+        pass: &'a Pass,
+        view: &'a View,
+        at: Ticketed,
+        server: usize,
+    ) -> Slot<'a, N>
+        requires named { (seat.now.board ≡ N.board) × (seat.now.view.terms ≡ N.terms) }
+        requires held { seat.now.view.passes ≡ pass.now ∷ [] }
+        requires its_own { (pass.now.place ≡ at.place) × (pass.now.ticket ≡ at.ticket) }
+        requires serves { pass.now.verdict ≡ Serve server }
+        requires arrived { IsRequestAt N.terms view.now at }
+        ensures pass { result.pass.now ≡ pass.now }
+        ensures view { result.view.now ≡ view.now }
+    {
+        Slot {
+            seat,
+            pass,
+            view,
+            at,
+            server,
+            of: PhantomData,
+        }
+    }
+
+    /// Its server.
+    pub fn server(&self) -> usize
+        ensures { self.now.pass.now.verdict ≡ Serve result }
+    {
+        self.server
+    }
+
+    /// The ticket of its request.
+    pub fn ticket(&self) -> u64
+        ensures { result ≡ self.now.pass.now.ticket }
+    {
+        self.pass.ticket()
+    }
+
+    /// The pass, and the head of its request.
+    pub(crate) fn parts(&self) -> (&Pass, &View)
+        ensures same { (result.0.now ≡ self.now.pass.now) × (result.1.now ≡ self.now.view.now) }
+        ensures serves { Serves result.0.now.verdict }
+    {
+        (self.pass, self.view)
+    }
+}

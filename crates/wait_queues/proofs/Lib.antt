@@ -8,3 +8,5 @@ pub mod Lineup
 pub mod Orders
 pub mod Changes
 pub mod Windows
+pub mod Falling
+pub mod Sorted

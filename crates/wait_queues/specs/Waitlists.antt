@@ -1,5 +1,5 @@
 -- The requests that wait, as contracts see them.
-use Rattle.std.specs.Prelude.{◌≡◌, ◌≢◌, ℕ, ◌+◌, ◌≤◌, length, ◌++◌, ◌∷◌, [], List, Option, None, Some, MatchOption, Contains, map, slice_get, slice_set}
+use Rattle.std.specs.Prelude.{◌≡◌, ◌≢◌, ◌⊎◌, ℕ, ◌+◌, ◌≤◌, length, ◌++◌, ◌∷◌, [], List, Option, None, Some, MatchOption, Contains, map, slice_get, slice_set}
 use Rattle.std.specs.declared.cmp.Ordering.TheVariants.{Greater}
 use Rattle.due_key.specs.declared.key.Key.{Key}
 use Rattle.due_key.specs.Order.{key_cmp}
@@ -24,12 +24,14 @@ pub record Waitlist : Type 0 where
   pub order : List ℕ
   pub servers : ℕ
 
--- the same, and how many links the backend's queue has made
+-- the same, how many links the backend's queue has made, how many all queues have, and the server of whose queue some requests were moved and others not yet
 pub record WaitingQueues : Type 0 where
   pub waiters : Waiters
   pub order : List ℕ
   pub servers : ℕ
   pub links : ℕ
+  pub all_links : ℕ
+  pub falling : Option ℕ
 
 -- the requests alone
 abbrev pub list_of : WaitingQueues → Waitlist
@@ -39,6 +41,20 @@ list_of queues = record { waiters = queues.waiters; order = queues.order; server
 abbrev pub MergesOnce : (ℕ → ℕ → ℕ) → WaitingQueues → WaitingQueues → Type 0
 MergesOnce links_of_merge old new =
     (held more : ℕ) × (held + more ≤ length old.waiters) × (new.links ≡ old.links + links_of_merge held more)
+
+-- All queues together made no link, or those of one merge. So no request was taken out of its queue by itself, or put into one: how many links that makes nobody says.
+abbrev pub MergesAtMostOnce : (ℕ → ℕ → ℕ) → WaitingQueues → WaitingQueues → Type 0
+MergesAtMostOnce links_of_merge old new =
+    (new.all_links ≡ old.all_links)
+    ⊎ ((held more : ℕ) × (held + more ≤ length old.waiters) × (new.all_links ≡ old.all_links + links_of_merge held more))
+
+-- no other queue than the backend's made a link
+abbrev pub LinksBackendAlone : WaitingQueues → WaitingQueues → Type 0
+LinksBackendAlone old new = new.all_links + old.links ≡ old.all_links + new.links
+
+-- no request of another server's queue alone was moved yet
+abbrev pub FallsAlone : ℕ → WaitingQueues → Type 0
+FallsAlone server queues = (queues.falling ≡ None) ⊎ (queues.falling ≡ Some server)
 
 -- one request more waits, as the last that joined
 abbrev pub with_waiter : Waitlist → ℕ → Waiter → Waitlist

@@ -10,3 +10,4 @@ pub mod Changes
 pub mod Windows
 pub mod Falling
 pub mod Sorted
+pub mod Kept

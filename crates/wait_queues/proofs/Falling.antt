@@ -66,7 +66,7 @@ module _ (line : Line) (n : ℕ) (p : Key × ℕ) (up : IsAscending key_cmp line
     next_absent = absent-IsPermutation key_cmp p.0 _ _ front_merged (absent-append key_cmp p.0 moved (take n line)
         (each_at_member (λ q. IsAbsent key_cmp q.0 moved) line p apart (subst (λ l. Contains l p) parts (Contains-middle (take n line) p (drop (n + 1) line))))
         (absent_from_members key_cmp p.0 (take n line) (λ q among tied.
-            let below : key_cmp q.0 p.0 ≡ Less = (ascending_parts key_cmp _ _ rising).across q p among (Contains-head p (drop (n + 1) line)) in cc)))
+        let below : key_cmp q.0 p.0 ≡ Less = (ascending_parts key_cmp _ _ rising).across q p among (Contains-head p (drop (n + 1) line)) in cc)))
 
     pub next_merged : merged key_cmp moved (take (n + 1) line) ≡ inserted key_cmp p (merged key_cmp moved (take n line))
     next_merged =

@@ -1,23 +1,24 @@
 -- The queues and the fall, as each call leaves them.
-use Rattle.std.proofs.Common.{◌≡◌, ◌≢◌, ◌⊎◌, ◌≤◌, ◌<◌, ◌+◌, ℕ, zero, suc, List, [], None, Some, drop, slice_get, length, vec_capacity}
+use Rattle.std.proofs.Common.{◌≡◌, ◌≢◌, ◌⊎◌, ◌≤◌, ◌<◌, ◌+◌, ℕ, zero, suc, List, [], ◌∷◌, None, Some, drop, slice_get, length, Contains, vec_capacity}
 use Rattle.std.proofs.Common.{refl, ap, sym, ◌∙◌, subst, arith, inl, inr}
 use Rattle.std.proofs.Math.ListN.{get_or, set}
-use Rattle.std.proofs.lemmas.List.{drop_all, set-get_or}
-use Rattle.std.proofs.lemmas.Option.{same_Some}
+use Rattle.std.proofs.lemmas.List.{drop_all, length-drop, get_or-set_same, set-get_or}
 use Rattle.due_key.specs.declared.key.Key.{Key}
 use Rattle.due_key.specs.Order.{key_cmp}
 use Rattle.dispatch_log.specs.declared.queue.Queue.TheVariants.{Server}
+use Rattle.list_facts.proofs.Members.{Contains-head}
 use Rattle.list_facts.proofs.Places.{same_or_other}
 use Rattle.pend_queue.specs.Pairs.{inserted}
 use Rattle.wait_queues.specs.declared.falls.Fall.{Fall}
-use Rattle.wait_queues.specs.Falls.{falling_server, lines_in, AreKept}
+use Rattle.wait_queues.specs.declared.waiters.Waiter.{Waiter}
+use Rattle.wait_queues.specs.Falls.{falling_server, lines_in, IsFalling, AreKept}
 use Rattle.wait_queues.specs.InQueues.{AreWaiting}
 use Rattle.wait_queues.specs.Lines.{Line, Lined, line_at, with_line, with_moved, fallen, gathered}
 use Rattle.wait_queues.specs.Order.{Order}
-use Rattle.wait_queues.specs.Waitlists.{Waitlist, Waiters}
+use Rattle.wait_queues.specs.Waitlists.{Waitlist, Waiters, WaitsAt}
 use Rattle.wait_queues.proofs.Changes.{Shifts, shifts, gather_kept}
 use Rattle.wait_queues.proofs.Falling.{fallen_none, fallen_servers, fallen_elsewhere}
-use Rattle.wait_queues.proofs.Lineup.{gather_room}
+use Rattle.wait_queues.proofs.Lineup.{gather_room, line_waits}
 
 -- the fall ends, and then what was moved is merged
 pub record Gathers (lined mid next : Lined) (ws : Waiters) (order : Order) : Type 0 where
@@ -96,15 +97,32 @@ moves lined looked next fall its ws order list server pair is seen within same o
           ∙ ap (λ (l : Lined). with_moved (with_line l (Server server) (drop 1 (line_at l (Server server)))) (inserted key_cmp pair l.moved)) same;
     }
 
--- of one server alone some were moved, or of none
-pub falls_alone : (server told : ℕ) → (falling_server server told ≡ None) ⊎ (falling_server server told ≡ Some server)
-falls_alone server zero = inl refl
-falls_alone server (suc told) = inr refl
+-- where some of a server's were moved, others wait in its queue still
+pub falls_still : (lined : Lined) (fall : Fall) (ws : Waiters) (order : Order) (server : ℕ) → AreKept lined fall ws order → fall.server ≡ server
+    → (falling_server fall.server fall.told ≡ None)
+    ⊎ ((falling_server fall.server fall.told ≡ Some server) × (place : ℕ) × (w : Waiter) × WaitsAt ws place w × (w.queue ≡ Server server))
+falls_still lined fall ws order server kept of = by_told fall.told refl
+  where
+    waits : IsFalling lined fall → (line : Line) → line_at (lines_in lined fall) (Server fall.server) ≡ line
+        → (place : ℕ) × (w : Waiter) × WaitsAt ws place w × (w.queue ≡ Server server)
+    waits is [] e =
+        let rest = sym (get_or-set_same lined.own fall.server (drop fall.told (line_at lined (Server fall.server))) [] is.within) ∙ e in
+        let none : length (drop fall.told (line_at lined (Server fall.server))) ≡ 0 = ap (λ (l : Line). length l) rest in
+        let long = length-drop fall.told (line_at lined (Server fall.server)) in
+        let known = ap (λ (l : Line). length l) is.known in
+        let left = is.left in absurd (omega arith)
+    waits is (p ∷ line) e =
+        let it = line_waits (lines_in lined fall) ws (Server fall.server) p.0 p.1 kept.waiting.lined_up
+        (subst (λ n. fall.server < n) (sym (fallen_servers lined fall.server fall.told)) is.within) (subst (λ (l : Line). Contains l p) (sym e) (Contains-head p line)) in
+        (p.1, it.0, it.1, it.2 ∙ ap Server of)
 
-pub fell_alone : (server told other : ℕ) → (falling_server server told ≡ None) ⊎ (falling_server server told ≡ Some other) → (told ≡ 0) ⊎ (server ≡ other)
-fell_alone server zero other alone = inl refl
-fell_alone server (suc told) other (inl none) = cc
-fell_alone server (suc told) other (inr some) = inr (same_Some server other some)
+    by_told : (n : ℕ) → fall.told ≡ n
+        → (falling_server fall.server fall.told ≡ None)
+        ⊎ ((falling_server fall.server fall.told ≡ Some server) × (place : ℕ) × (w : Waiter) × WaitsAt ws place w × (w.queue ≡ Server server))
+    by_told zero e = inl (ap (falling_server fall.server) e)
+    by_told (suc n) e =
+        let it = waits (kept.falling (λ none. let no : zero ≡ suc n = sym none ∙ e in cc)) (line_at (lines_in lined fall) (Server fall.server)) refl in
+        inr (ap (falling_server fall.server) e ∙ ap Some of, it.0, it.1, it.2, it.3)
 
 -- no server falls at first
 pub kept_first : (lined : Lined) (fall : Fall) (ws : Waiters) (order : Order) (places : ℕ) → AreWaiting lined ws order → fall.told ≡ 0

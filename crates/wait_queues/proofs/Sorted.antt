@@ -83,8 +83,14 @@ rises (p ∷ q ∷ line) sorted few =
     by_order later Less e = let no : is_lt (key_cmp q.0 p.0) ≡ false = sorted 0 p (omega arith) (omega arith) in
         let yes = ap is_lt e in cc
     by_order later Equal e =
-        absurd (omega (arith, few p.0, sum_by-cons (hit p.0) p (q ∷ line), sum_by-cons (hit p.0) q line, hit_by p.0 p Equal (tied_itself key_cmp_total p.0),
-        hit_by p.0 q Equal e))
+        absurd (omega (
+          arith,
+          few p.0,
+          sum_by-cons (hit p.0) p (q ∷ line),
+          sum_by-cons (hit p.0) q line,
+          hit_by p.0 p Equal (tied_itself key_cmp_total p.0),
+          hit_by p.0 q Equal e,
+        ))
     by_order later Greater e =
         let below : key_cmp p.0 q.0 ≡ Less = less_from_greater key_cmp_total q.0 p.0 e in (
           (below, all_weaker (λ r. key_cmp q.0 r.0 ≡ Less) (λ r. key_cmp p.0 r.0 ≡ Less) (λ r less. key_cmp_total.trans p.0 q.0 r.0 below less) line later.0),

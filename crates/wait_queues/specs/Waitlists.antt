@@ -42,19 +42,24 @@ abbrev pub MergesOnce : (ℕ → ℕ → ℕ) → WaitingQueues → WaitingQueue
 MergesOnce links_of_merge old new =
     (held more : ℕ) × (held + more ≤ length old.waiters) × (new.links ≡ old.links + links_of_merge held more)
 
--- All queues together made no link, or those of one merge. So no request was taken out of its queue by itself, or put into one: how many links that makes nobody says.
-abbrev pub MergesAtMostOnce : (ℕ → ℕ → ℕ) → WaitingQueues → WaitingQueues → Type 0
-MergesAtMostOnce links_of_merge old new =
-    (new.all_links ≡ old.all_links)
-    ⊎ ((held more : ℕ) × (held + more ≤ length old.waiters) × (new.all_links ≡ old.all_links + links_of_merge held more))
+-- All queues together made the links of one merge, of as many as can wait at most. So no request was taken out of its queue by itself, or put into one: how many links that makes nobody says.
+abbrev pub AllMergeOnce : (ℕ → ℕ → ℕ) → WaitingQueues → WaitingQueues → Type 0
+AllMergeOnce links_of_merge old new =
+    (held more : ℕ) × (held + more ≤ length old.waiters) × (new.all_links ≡ old.all_links + links_of_merge held more)
+
+-- a request was moved: the last one of its server's queue takes the queue along, by one merge, and the ones before link nothing
+abbrev pub MovesWhole : (ℕ → ℕ → ℕ) → WaitingQueues → WaitingQueues → Type 0
+MovesWhole links_of_merge old new = MatchOption new.falling (AllMergeOnce links_of_merge old new) (λ server. new.all_links ≡ old.all_links)
 
 -- no other queue than the backend's made a link
 abbrev pub LinksBackendAlone : WaitingQueues → WaitingQueues → Type 0
 LinksBackendAlone old new = new.all_links + old.links ≡ old.all_links + new.links
 
--- no request of another server's queue alone was moved yet
+-- no request was moved whose queue isn't merged, but for one server's, where others wait still
 abbrev pub FallsAlone : ℕ → WaitingQueues → Type 0
-FallsAlone server queues = (queues.falling ≡ None) ⊎ (queues.falling ≡ Some server)
+FallsAlone server queues =
+    (queues.falling ≡ None)
+    ⊎ ((queues.falling ≡ Some server) × (place : ℕ) × (waiter : Waiter) × WaitsAt queues.waiters place waiter × (waiter.queue ≡ Server server))
 
 -- one request more waits, as the last that joined
 abbrev pub with_waiter : Waitlist → ℕ → Waiter → Waitlist

@@ -141,7 +141,8 @@ pub(crate) fn tell<Q: PendQueue<Key, usize>>(
     ensures links { queues.new.links ≡ queues.old.links }
 
     // No link, or those of one merge in all queues together.
-    ensures all_links { (queues.new.all_links ≡ queues.old.all_links) ⊎ (queues.new.all_links ≡ queues.old.all_links + Q.links_of_merge (length queues.old.moved) (length fall.old.sorted.items)) }
+    ensures before { fall.new.told ≢ 0 → queues.new.all_links ≡ queues.old.all_links }
+    ensures last { fall.new.told ≡ 0 → queues.new.all_links ≡ queues.old.all_links + Q.links_of_merge (length queues.old.moved) (length fall.old.sorted.items) }
 {
     let pair = fall.sorted[fall.told];
     fall.told += 1;

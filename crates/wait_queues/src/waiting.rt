@@ -2,7 +2,7 @@ ghost use Rattle.std.specs.Prelude.{◌≡◌, ◌<◌, [], map, None, Some, IfO
 ghost use Rattle.dispatch_log.specs.declared.queue.Queue.TheVariants.{Server};
 ghost use Rattle.slot_ledger.specs.Counts.{IsQueueOf};
 ghost use Rattle.wait_queues.specs.Order.{next_after};
-ghost use Rattle.wait_queues.specs.Waitlists.{list_of, MergesOnce, MergesAtMostOnce, LinksBackendAlone, FallsAlone, WaitsAt, HasNoKey, NoneWaitsIn, IsFirstIn, AreFirst, IsOrderOf, with_waiter, without_waiter, with_waiter_anew, moved_waiter, since_before, in_next_window};
+ghost use Rattle.wait_queues.specs.Waitlists.{list_of, MergesOnce, MovesWhole, LinksBackendAlone, FallsAlone, WaitsAt, HasNoKey, NoneWaitsIn, IsFirstIn, AreFirst, IsOrderOf, with_waiter, without_waiter, with_waiter_anew, moved_waiter, since_before, in_next_window};
 
 use crate::by_place::{empty, put, take};
 use crate::falls::{Fall, look_at, settle, tell};
@@ -53,7 +53,8 @@ impl<Q: PendQueue<Key, usize>> WaitQueues<Q> {
     /// Nobody waits, in the queues of so many servers and in the backend's, each with room for all
     /// places. `O(s n)` in the servers and places.
     pub fn new(alloc: Global, servers: usize, places: usize) -> Result<WaitQueues<Q>, AllocError>
-        ensures { IfOk result (λ made. list_of made ≡ record { waiters = replicate places None; order = []; servers = servers }) }
+        ensures nobody { IfOk result (λ made. list_of made ≡ record { waiters = replicate places None; order = []; servers = servers }) }
+        ensures falling { IfOk result (λ made. made.falling ≡ None) }
     {
         Ok(WaitQueues {
             queues: Queues::new(alloc, servers, places)?,
@@ -69,7 +70,8 @@ impl<Q: PendQueue<Key, usize>> WaitQueues<Q> {
         requires within { IsQueueOf self.old.servers waiter.queue }
         requires own_key { HasNoKey self.old.waiters waiter.key }
         requires pair { Q.pair_of node ≡ (waiter.key, place) }
-        ensures { list_of self.new ≡ with_waiter (list_of self.old) place waiter }
+        ensures waits { list_of self.new ≡ with_waiter (list_of self.old) place waiter }
+        ensures falling { self.new.falling ≡ None }
     {
         settle(&mut self.queues, &mut self.fall);
         self.queues.gather();
@@ -149,7 +151,7 @@ impl<Q: PendQueue<Key, usize>> WaitQueues<Q> {
         ensures links { self.new.links ≡ self.old.links }
 
         // No request is taken out of its queue by itself.
-        ensures whole { FallsAlone server self.old → MergesAtMostOnce Q.links_of_merge self.old self.new }
+        ensures whole { FallsAlone server self.old → MatchOption result (self.new.all_links ≡ self.old.all_links) (λ place. MovesWhole Q.links_of_merge self.old self.new) }
         ensures falling { FallsAlone server self.old → FallsAlone server self.new }
     {
         if self.queues.is_empty(server) {

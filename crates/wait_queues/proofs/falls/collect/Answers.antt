@@ -26,32 +26,32 @@ pub loop-place-preserved : goal.loop-place-preserved
 loop-place-preserved c =
     elim c.match-key_in.branch [
       | in-Some w ↦ record {
-          pairs = λ weight.
-              let before = c.loop-place.invariant.pairs weight in
-              let after = more c weight in
-              let its = ap (λ o. option_map_or (λ (k : Key). weight (k, c.loop-place.place)) o 0) w.in-Some.is in
-              let written = ap (λ v. sum_by weight v.items) w.pairs-is ∙ ap (sum_by weight) w.push_reserved.ensures.items
-              ∙ sum_by-append weight c.loop-place.pairs.items ((w.in-Some.key, c.loop-place.place) ∷ []) in
-              let last = sum_by-cons weight (w.in-Some.key, c.loop-place.place) [] in
-              let none : sum_by weight [] ≡ 0 = refl in
-              omega arith;
-          count =
-              let few = c.loop-place.invariant.count in
-              let long = ap (λ v. vec_len v) w.pairs-is ∙ w.push_reserved.ensures.len in
-              omega arith;
-          capacity = ap (λ v. vec_capacity v) w.pairs-is ∙ w.push_reserved.ensures.capacity ∙ c.loop-place.invariant.capacity;
-        }
+        pairs = λ weight.
+            let before = c.loop-place.invariant.pairs weight in
+            let after = more c weight in
+            let its = ap (λ o. option_map_or (λ (k : Key). weight (k, c.loop-place.place)) o 0) w.in-Some.is in
+            let written = ap (λ v. sum_by weight v.items) w.pairs-is ∙ ap (sum_by weight) w.push_reserved.ensures.items
+            ∙ sum_by-append weight c.loop-place.pairs.items ((w.in-Some.key, c.loop-place.place) ∷ []) in
+            let last = sum_by-cons weight (w.in-Some.key, c.loop-place.place) [] in
+            let none : sum_by weight [] ≡ 0 = refl in
+            omega arith;
+        count =
+            let few = c.loop-place.invariant.count in
+            let long = ap (λ v. vec_len v) w.pairs-is ∙ w.push_reserved.ensures.len in
+            omega arith;
+        capacity = ap (λ v. vec_capacity v) w.pairs-is ∙ w.push_reserved.ensures.capacity ∙ c.loop-place.invariant.capacity;
+      }
       | in_default w ↦ record {
-          pairs = λ weight.
-              let before = c.loop-place.invariant.pairs weight in
-              let after = more c weight in
-              let its = ap (λ o. option_map_or (λ (k : Key). weight (k, c.loop-place.place)) o 0) w.in_default.is in
-              let written = ap (λ v. sum_by weight v.items) w.pairs-is in
-              omega arith;
-          count =
-              let few = c.loop-place.invariant.count in
-              let long = ap (λ v. vec_len v) w.pairs-is in
-              omega arith;
-          capacity = ap (λ v. vec_capacity v) w.pairs-is ∙ c.loop-place.invariant.capacity;
-        }
+        pairs = λ weight.
+            let before = c.loop-place.invariant.pairs weight in
+            let after = more c weight in
+            let its = ap (λ o. option_map_or (λ (k : Key). weight (k, c.loop-place.place)) o 0) w.in_default.is in
+            let written = ap (λ v. sum_by weight v.items) w.pairs-is in
+            omega arith;
+        count =
+            let few = c.loop-place.invariant.count in
+            let long = ap (λ v. vec_len v) w.pairs-is in
+            omega arith;
+        capacity = ap (λ v. vec_capacity v) w.pairs-is ∙ c.loop-place.invariant.capacity;
+      }
     ]

@@ -7,7 +7,7 @@ use Rattle.pend_queue.specs.Pairs.{IsAbsent}
 use Rattle.slot_ledger.specs.Counts.{IsQueueOf}
 use Rattle.wait_queues.specs.Lines.{Lined, line_at, lines_of}
 use Rattle.wait_queues.specs.Waitlists.{Waitlist, Waiters, HasNoKey, list_of}
-use Rattle.wait_queues.proofs.Kept.{settle_kept, gathers, kept_anew}
+use Rattle.wait_queues.proofs.Kept.{settle_kept, gathers, kept_anew, ended_fall}
 use Rattle.wait_queues.proofs.Changes.{join_kept}
 use Rattle.wait_queues.proofs.Lineup.{gather_room, join_room, absent_line}
 use Rattle.wait_queues.proofs.Orders.{vacant_absent}
@@ -63,3 +63,6 @@ invariant_of-self g c =
     (subst (λ n. IsQueueOf n c.args.waiter.queue) (sym servers) c.requires.within) vacant fresh c.push.ensures c.put.ensures c.append.ensures in
     kept_anew _ _ c.self.inside.fall _ c.self.inside.waiters.items _ kept c.settle.ensures.ended
     (ap (λ (l : Waiters). length l) c.put.ensures ∙ length-set c.self.inside.waiters.items c.args.place (Some c.args.waiter)) c.self.invariant.listing
+
+pub returns-clause-falling : goal.returns-clause-falling
+returns-clause-falling g c = ended_fall _ c.self.inside.fall c.settle.ensures.ended

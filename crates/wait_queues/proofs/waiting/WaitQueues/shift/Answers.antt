@@ -12,7 +12,7 @@ use Rattle.wait_queues.specs.Order.{Order, with_places}
 use Rattle.wait_queues.specs.Waitlists.{Waitlist, Waiters, WaitingQueues, NoneWaitsIn, IsFirstIn, list_of}
 use Rattle.wait_queues.proofs.Changes.{shifted_view, shift_kept}
 use Rattle.wait_queues.proofs.Falling.{fallen_servers}
-use Rattle.wait_queues.proofs.Kept.{moves, fallen_empty, falls_alone, fell_alone}
+use Rattle.wait_queues.proofs.Kept.{moves, fallen_empty, falls_still}
 use Rattle.wait_queues.proofs.Lineup.{server_whole, none_in}
 use Rattle.wait_queues.proofs.Orders.{place_gone}
 use Rattle.wait_queues.proofs.waiting.WaitQueues.shift.Goals as goal
@@ -89,3 +89,7 @@ returns-clause-shifted g c =
           (by.goes ∙ ap (λ x. with_moved (with_line lined (Server c.args.server) (drop 1 (line_at lined (Server c.args.server)))) (inserted key_cmp x lined.moved)) pair)
           c.put.ensures joins (c.moved.ensures ∙ ap (λ (k : Key). record { key = k; queue = Backend; joined = c.args.joined }) (sym by.its.named)),
     )
+
+pub returns-clause-falling : goal.returns-clause-falling
+returns-clause-falling g c alone =
+    falls_still _ c.tell-key.new.fall _ _ c.args.server (invariant_of-self g c) (c.tell-key.ensures.same.0 ∙ c.look_at.ensures.server)

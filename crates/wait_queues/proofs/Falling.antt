@@ -1,16 +1,15 @@
 -- The queues while a server falls.
 use Rattle.std.proofs.Common.{◌≡◌, ◌≢◌, ◌⊎◌, inl, inr, ℕ, ◌+◌, ◌<◌, ◌≤◌, List, [], ◌∷◌, ◌++◌, Some, None, drop, take, slice_get, length, IsPermutation}
-use Rattle.std.proofs.Common.{refl, ap, sym, ◌∙◌, subst, arith, length-append, Less, Contains}
+use Rattle.std.proofs.Common.{refl, ap, sym, ◌∙◌, subst, arith, Less, Contains}
 use Rattle.std.proofs.Math.ListN.{set, get_or}
 use Rattle.std.proofs.lemmas.List.{append_assoc, drop_all, take_all, drop-drop, take-append-drop, length-take-le, take_more, drop_more, get_or-set_same, get_or-set_other, length-set, set-set, set-get_or}
-use Rattle.std.proofs.lemmas.List.Sorted.{IsPermutation-trans, IsPermutation-sym, IsPermutation-cons, IsPermutation-to_front, IsPermutation-append_right}
+use Rattle.std.proofs.lemmas.List.Sorted.{IsPermutation-trans, IsPermutation-sym, IsPermutation-cons, IsPermutation-to_front}
 use Rattle.std.proofs.lemmas.Option.{same_Some}
 use Rattle.due_key.specs.declared.key.Key.{Key}
 use Rattle.due_key.specs.Order.{key_cmp}
 use Rattle.due_key.proofs.KeyOrder.{key_cmp_total}
 use Rattle.dispatch_log.specs.declared.queue.Queue.TheVariants.{Server}
 use Rattle.list_facts.proofs.Members.{each_at_member, all_take, Contains-middle, Contains-head}
-use Rattle.list_facts.proofs.Orders.{greater_from_less}
 use Rattle.pend_queue.specs.Pairs.{IsAscending, IsAbsent, HaveNoCommonKey, inserted, merged}
 use Rattle.pend_queue.proofs.Ascending.{ascending_parts, absent_from_members, absent-append, absent-IsPermutation, same_from_permutation}
 use Rattle.pend_queue.proofs.Inserted.{IsAscending-inserted, IsPermutation-inserted}

@@ -1,5 +1,5 @@
 -- Pairs that were sorted are the line of the queue that they were taken from.
-use Rattle.std.proofs.Common.{◌≡◌, ◌≢◌, ℕ, zero, suc, ◌+◌, ◌<◌, ◌≤◌, false, cond, [], ◌∷◌, Contains, length}
+use Rattle.std.proofs.Common.{◌≡◌, ◌≢◌, ℕ, suc, ◌+◌, ◌<◌, ◌≤◌, false, cond, [], ◌∷◌, Contains, length}
 use Rattle.std.proofs.Common.{refl, ap, sym, ◌∙◌, subst, arith, Ordering, Less, Equal, Greater}
 use Rattle.std.specs.List.{sum_by}
 use Rattle.std.specs.List.Sorted.{IsSortedByKey}
@@ -11,12 +11,11 @@ use Rattle.std.proofs.lemmas.Option.{same_Some}
 use Rattle.due_key.specs.declared.key.Key.{Key}
 use Rattle.due_key.specs.Order.{key_cmp}
 use Rattle.due_key.proofs.KeyOrder.{key_cmp_total, key_cmp_exact}
-use Rattle.dispatch_log.specs.declared.queue.Queue.{Queue}
 use Rattle.dispatch_log.specs.declared.queue.Queue.TheVariants.{Backend, Server}
 use Rattle.list_facts.proofs.Members.{all_weaker}
 use Rattle.list_facts.proofs.Orders.{less_from_greater}
 use Rattle.list_facts.proofs.Sums.{sum_has, sum_found, sum_ones}
-use Rattle.pend_queue.specs.Pairs.{IsAscending, IsAbsent, HaveNoCommonKey}
+use Rattle.pend_queue.specs.Pairs.{IsAscending, IsAbsent}
 use Rattle.pend_queue.proofs.Ascending.{apart_from_members, same_from_members}
 use Rattle.pend_queue.proofs.Without.{absent_after}
 use Rattle.wait_queues.specs.declared.falls.Fall.{Fall}

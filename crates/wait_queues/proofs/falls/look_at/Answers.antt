@@ -1,4 +1,4 @@
-use Rattle.std.proofs.Common.{◌≡◌, ◌≢◌, ◌⊎◌, ℕ, ◌<◌, [], length, ap, sym, ◌∙◌, subst, inl, inr}
+use Rattle.std.proofs.Common.{◌≡◌, ◌≢◌, ◌⊎◌, ◌<◌, [], length, ap, sym, ◌∙◌, subst, inl, inr}
 use Rattle.dispatch_log.specs.declared.queue.Queue.TheVariants.{Server}
 use Rattle.wait_queues.specs.InQueues.{AreLinedUp, weight_of}
 use Rattle.wait_queues.specs.Lines.{Lined, lines_of, line_at}

@@ -1,4 +1,4 @@
-use Rattle.std.proofs.Common.{◌≡◌, ◌<◌, ◌≤◌, ◌+◌, ℕ, Option, None, length, refl, ap, sym, ◌∙◌, subst, arith}
+use Rattle.std.proofs.Common.{◌<◌, ◌≤◌, ◌+◌, length, refl, ap, sym, ◌∙◌, subst, arith}
 use Rattle.wait_queues.specs.Lines.{lines_of}
 use Rattle.wait_queues.specs.Waitlists.{Waitlist, WaitingQueues, list_of}
 use Rattle.wait_queues.proofs.Kept.{settle_kept, gathers, kept_anew, ended_fall, none_falls}

@@ -1,11 +1,11 @@
-use Rattle.std.proofs.Common.{◌≡◌, ◌<◌, [], None, Some, slice_get, length, ap, sym, ◌∙◌, subst}
+use Rattle.std.proofs.Common.{◌≡◌, ◌<◌, None, Some, slice_get, length, ap, sym, ◌∙◌, subst}
 use Rattle.std.proofs.Math.ListN.{length-set}
 use Rattle.std.proofs.lemmas.Option.{slice_get_within}
 use Rattle.due_key.specs.declared.key.Key.{Key}
 use Rattle.due_key.specs.Order.{key_cmp}
 use Rattle.pend_queue.specs.Pairs.{IsAbsent}
 use Rattle.slot_ledger.specs.Counts.{IsQueueOf}
-use Rattle.wait_queues.specs.Lines.{Lined, line_at, lines_of}
+use Rattle.wait_queues.specs.Lines.{line_at, lines_of}
 use Rattle.wait_queues.specs.Waitlists.{Waitlist, Waiters, HasNoKey, list_of}
 use Rattle.wait_queues.proofs.Kept.{settle_kept, gathers, kept_anew, ended_fall}
 use Rattle.wait_queues.proofs.Changes.{join_kept}

@@ -1,4 +1,4 @@
-use Rattle.std.proofs.Common.{◌≡◌, ◌⊎◌, ◌<◌, ◌≤◌, ◌+◌, ◌++◌, ◌∷◌, [], None, Contains, drop, length, slice_get, vec_capacity, refl, ap, sym, ◌∙◌, subst, inl, inr, arith}
+use Rattle.std.proofs.Common.{◌≡◌, ◌<◌, ◌++◌, ◌∷◌, [], Contains, drop, length, slice_get, vec_capacity, refl, ap, sym, ◌∙◌, subst, arith}
 use Rattle.std.proofs.Math.ListN.{length-set}
 use Rattle.std.proofs.lemmas.Option.{slice_get_within}
 use Rattle.due_key.specs.declared.key.Key.{Key}
@@ -7,9 +7,9 @@ use Rattle.dispatch_log.specs.declared.queue.Queue.TheVariants.{Backend, Server}
 use Rattle.pend_queue.specs.Pairs.{inserted}
 use Rattle.wait_queues.specs.declared.waiters.Waiter.{Waiter}
 use Rattle.wait_queues.specs.Falls.{lines_in}
-use Rattle.wait_queues.specs.Lines.{Line, Lined, line_at, with_line, with_moved, lines_of}
+use Rattle.wait_queues.specs.Lines.{Line, line_at, with_line, with_moved, lines_of}
 use Rattle.wait_queues.specs.Order.{Order, with_places}
-use Rattle.wait_queues.specs.Waitlists.{Waitlist, Waiters, WaitingQueues, NoneWaitsIn, IsFirstIn, list_of}
+use Rattle.wait_queues.specs.Waitlists.{Waitlist, Waiters, NoneWaitsIn, IsFirstIn, list_of}
 use Rattle.wait_queues.proofs.Changes.{shifted_view, shift_kept}
 use Rattle.wait_queues.proofs.Falling.{fallen_servers}
 use Rattle.wait_queues.proofs.Kept.{moves, fallen_empty, falls_still}

@@ -8,3 +8,6 @@ pub mod Lineup
 pub mod Orders
 pub mod Changes
 pub mod Windows
+pub mod Falling
+pub mod Sorted
+pub mod Kept

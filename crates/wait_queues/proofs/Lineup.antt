@@ -33,17 +33,17 @@ use Rattle.list_facts.proofs.Sums.{sum_has, sum_found, sum_ones}
 use Rattle.wait_queues.proofs.Weights.{weight_set, weight_has, weight_found, weight_most}
 
 -- a weight for one pair alone
-one_pair : Key → ℕ → Key × ℕ → ℕ
+pub one_pair : Key → ℕ → Key × ℕ → ℕ
 one_pair key place pair = cond {A = ℕ} (is_eq (key_cmp pair.0 key) && (pair.1 == place)) 1 0
 
-its_weight : (key : Key) (place : ℕ) → one_pair key place (key, place) ≡ 1
+pub its_weight : (key : Key) (place : ℕ) → one_pair key place (key, place) ≡ 1
 unfolding one_pair
 its_weight key place =
     ap (λ (o : Ordering). cond {A = ℕ} (is_eq o && (place == place)) 1 0) (tied_itself key_cmp_total key)
     ∙ ap (λ (b : Bool). cond {A = ℕ} b 1 0) ((Decides-eqb place place).1 refl)
 
 -- no other pair has a weight
-that_pair : (key : Key) (place : ℕ) (pair : Key × ℕ) → 0 < one_pair key place pair → (pair.0 ≡ key) × (pair.1 ≡ place)
+pub that_pair : (key : Key) (place : ℕ) (pair : Key × ℕ) → 0 < one_pair key place pair → (pair.0 ≡ key) × (pair.1 ≡ place)
 unfolding one_pair
 that_pair key place pair heavy = by_order (key_cmp pair.0 key) refl heavy
   where

@@ -1,15 +1,19 @@
 -- Queues of a list of queues.
 use Rattle.std.proofs.Common.{◌≡◌, ℕ, ◌+◌, ◌<◌, List, [], ◌∷◌, ◌++◌, Some, option_map, get_or, slice_get}
-use Rattle.std.proofs.Common.{slice_index_or, map, replicate, length, refl, ap, sym, ◌∙◌, subst, inl, inr, length-append}
+use Rattle.std.proofs.Common.{slice_index_or, map, replicate, length, refl, ap, sym, ◌∙◌, subst, inl, inr, arith, length-append}
 use Rattle.std.proofs.Math.ListN.{set}
 use Rattle.std.proofs.lemmas.List.{map-set, map-append, length-map, replicate_more}
 use Rattle.std.proofs.lemmas.Option.{slice_get-map, slice_get_read, get_or_from_slice_get}
+use Rattle.std.specs.List.{sum_by}
+use Rattle.std.proofs.lemmas.List.Sums.{sum_by-set}
+use Rattle.due_key.specs.Order.{key_cmp}
+use Rattle.pend_queue.specs.Pairs.{merged}
 use Rattle.dispatch_log.specs.declared.queue.Queue.{Queue}
 use Rattle.dispatch_log.specs.declared.queue.Queue.TheVariants.{Backend, Server}
 use Rattle.list_facts.proofs.Places.{get-set_cases}
 use Rattle.list_facts.proofs.Pushed.{get-push_cases}
 use Rattle.slot_ledger.specs.Counts.{IsQueueOf}
-use Rattle.wait_queues.specs.Lines.{Line, Lined, line_at, with_line, HaveRoom}
+use Rattle.wait_queues.specs.Lines.{Line, Lined, line_at, with_line, taken_over, HaveRoom}
 
 module _ {Q : Type 0} (pairs : Q → Line) (room : Q → ℕ) where
   -- what is in one of the servers' queues
@@ -77,6 +81,31 @@ module _ {Q : Type 0} (pairs : Q → Line) (room : Q → ℕ) where
     backends = have.backends;
     moveds = have.moveds;
   }
+
+-- one of the servers' queues was merged into what was moved
+module _ {Q : Type 0} (pairs : Q → Line) where
+  pub took_over : (items : List Q) (backend moved more : Q) (places : ℕ) (now : Lined) (server : ℕ) (x new : Q)
+      → record { own = map pairs items; backend = pairs backend; moved = pairs moved; room = places } ≡ now
+      → server < length items → x ≡ get_or items server x → pairs new ≡ [] → pairs more ≡ merged key_cmp (pairs moved) (pairs x)
+      → record { own = map pairs (set items server new); backend = pairs backend; moved = pairs more; room = places } ≡ taken_over now server
+  took_over items backend moved more places now server x new same within read emptied merges =
+      subst (λ (l : Lined). record { own = map pairs (set items server new); backend = pairs backend; moved = pairs more; room = places } ≡ taken_over l server) same
+      (ap (λ (l : List Line). record { own = l; backend = pairs backend; moved = pairs more; room = places })
+      (map-set pairs items server new ∙ ap (set (map pairs items) server) emptied)
+      ∙ ap (λ (m : Line). record { own = set (map pairs items) server []; backend = pairs backend; moved = m; room = places })
+      (merges ∙ ap (merged key_cmp (pairs moved)) (sym (pairs_at pairs (λ _. 0) items server x within read))))
+
+  -- no other queue made a link
+  pub links_taken : (links : Q → ℕ) (links_of_merge : ℕ → ℕ → ℕ) (items : List Q) (backend moved more : Q) (server : ℕ) (x new : Q)
+      → server < length items → x ≡ get_or items server x → links new ≡ links x
+      → links more ≡ links moved + links_of_merge (length (pairs moved)) (length (pairs x))
+      → sum_by links (set items server new) + links backend + links more
+      ≡ sum_by links items + links backend + links moved + links_of_merge (length (pairs moved)) (length (slice_index_or (map pairs items) server []))
+  links_taken links links_of_merge items backend moved more server x new within read kept merges =
+      let all = sum_by-set links items server new x within in
+      let its : links (get_or items server x) ≡ links x = ap links (sym read) in
+      let line = ap (λ (l : Line). links_of_merge (length (pairs moved)) (length l)) (pairs_at pairs (λ _. 0) items server x within read) in
+      omega arith
 
 -- the number of a server's queue is one of them
 pub own_within : {Q : Type 0} (pairs : Q → Line) (items : List Q) (backend moved : Line) (places : ℕ) (now : Lined) (queue : Queue) (server : ℕ)

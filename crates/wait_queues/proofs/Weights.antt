@@ -1,9 +1,10 @@
 -- What lists of pairs and of waiting requests weigh.
-use Rattle.std.proofs.Common.{◌≡◌, ℕ, ◌+◌, ◌<◌, ◌≤◌, Bool, true, false, cond, Option, None}
-use Rattle.std.proofs.Common.{Some, slice_get, length, refl, ap, subst, arith}
-use Rattle.std.proofs.Math.ListN.{set}
+use Rattle.std.proofs.Common.{◌≡◌, ℕ, zero, suc, ◌+◌, ◌<◌, ◌≤◌, Bool, true, false, cond, [], ◌∷◌, take, Option, None}
+use Rattle.std.proofs.Common.{Some, slice_get, length, refl, ap, subst, ◌∙◌, arith}
+use Rattle.std.proofs.Math.ListN.{get_or, set}
 use Rattle.due_key.specs.declared.key.Key.{Key}
 use Rattle.dispatch_log.specs.declared.queue.Queue.{Queue}
+use Rattle.dispatch_log.specs.declared.queue.Queue.TheVariants.{Backend, Server}
 use Rattle.dispatch_log.specs.Rows.{same_queue}
 use Rattle.list_facts.proofs.Positions.{item_stands, stands_item, along-set, along_le, along_found, along_length}
 use Rattle.wait_queues.specs.declared.waiters.Waiter.{Waiter}
@@ -15,6 +16,18 @@ module _ (weight : Key × ℕ → ℕ) (queue : Queue) where
   pub weight_set : (at : ℕ) (ws : Waiters) (p : ℕ) (old new : Option Waiter) → slice_get ws p ≡ Some old
       → weight_of weight queue at (set ws p new) + weight_at weight queue (at + p) old ≡ weight_of weight queue at ws + weight_at weight queue (at + p) new
   weight_set at ws p old new stood = along-set (weight_at weight queue) ws at p (at + p) old new refl (item_stands ws p old stood)
+
+  -- the weight of the first ones and one more
+  pub weight_more : (at : ℕ) (ws : Waiters) (p : ℕ) (cell : Option Waiter) → p < length ws → cell ≡ get_or ws p cell
+      → weight_of weight queue at (take (suc p) ws) ≡ weight_of weight queue at (take p ws) + weight_at weight queue (at + p) cell
+  weight_more at [] p cell within stands = absurd (omega (arith, within))
+  weight_more at (w ∷ ws) zero cell within stands =
+      let here : weight_at weight queue (at + zero) cell ≡ weight_at weight queue at w =
+      ap (weight_at weight queue (at + zero)) stands ∙ (let e : at + zero ≡ at = omega arith in ap (λ n. weight_at weight queue n w) e) in omega arith
+  weight_more at (w ∷ ws) (suc p) cell within stands =
+      let rest = weight_more (suc at) ws p cell (omega arith) stands in
+      let place : suc at + p ≡ at + suc p = omega arith in
+      let same = ap (λ n. weight_at weight queue n cell) place in omega arith
 
   -- none weighs more than all
   pub weight_has : (at : ℕ) (ws : Waiters) (p : ℕ) (cell : Option Waiter) → slice_get ws p ≡ Some cell
@@ -62,3 +75,17 @@ weight_most queue at ws = along_length (weight_at (λ pair. 1) queue) at_most_on
     at_most_one : (n : ℕ) (cell : Option Waiter) → weight_at (λ pair. 1) queue n cell ≤ 1
     at_most_one n None = omega arith
     at_most_one n (Some w) = of_test (same_queue queue w.queue)
+
+-- nor in two queues together
+pub weight_both : (server at : ℕ) (ws : Waiters) → weight_of (λ pair. 1) Backend at ws + weight_of (λ pair. 1) (Server server) at ws ≤ length ws
+weight_both server at [] = omega arith
+weight_both server at (None ∷ ws) = omega (arith, weight_both server (suc at) ws)
+weight_both server at (Some w ∷ ws) = let one = in_one w.queue in omega (arith, weight_both server (suc at) ws)
+  where
+    at_most_one : (b : Bool) → cond {A = ℕ} b 1 0 ≤ 1
+    at_most_one true = omega arith
+    at_most_one false = omega arith
+
+    in_one : (queue : Queue) → cond {A = ℕ} (same_queue Backend queue) 1 0 + cond {A = ℕ} (same_queue (Server server) queue) 1 0 ≤ 1
+    in_one Backend = omega arith
+    in_one (Server other) = let few = at_most_one (same_queue (Server server) (Server other)) in omega arith

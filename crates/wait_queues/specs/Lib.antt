@@ -3,3 +3,4 @@ pub mod Links
 pub mod Lines
 pub mod Waitlists
 pub mod InQueues
+pub mod Falls

@@ -1,5 +1,5 @@
 -- The keys of the waiting requests with their places, queue by queue.
-use Rattle.std.specs.Prelude.{◌≡◌, ℕ, List, [], Option, Some, option_map, slice_get, slice_index_or, slice_set}
+use Rattle.std.specs.Prelude.{◌≡◌, ℕ, List, [], Option, Some, option_map, drop, take, slice_get, slice_index_or, slice_set}
 use Rattle.due_key.specs.declared.key.Key.{Key}
 use Rattle.due_key.specs.Order.{key_cmp}
 use Rattle.dispatch_log.specs.declared.queue.Queue.{Queue}
@@ -21,13 +21,14 @@ pub record Lined : Type 0 where
   pub moved : Line
   pub room : ℕ
 
--- the same, and how many links the backend's queue has made
+-- the same, how many links the backend's queue has made, and how many all of them have
 pub record Queued : Type 0 where
   pub own : List Line
   pub backend : Line
   pub moved : Line
   pub room : ℕ
   pub links : ℕ
+  pub all_links : ℕ
 
 -- the queues alone
 abbrev pub lines_of : Queued → Lined
@@ -49,6 +50,16 @@ with_moved lined line = record { own = lined.own; backend = lined.backend; moved
 -- the same once what was moved is merged
 abbrev pub gathered : Lined → Lined
 gathered lined = record { own = lined.own; backend = merged key_cmp lined.backend lined.moved; moved = []; room = lined.room }
+
+-- the same once a server's queue is merged whole into what was moved
+abbrev pub taken_over : Lined → ℕ → Lined
+taken_over lined server = with_moved (with_line lined (Server server) []) (merged key_cmp lined.moved (line_at lined (Server server)))
+
+-- the same where the first so many of a server's queue count as moved
+abbrev pub fallen : Lined → ℕ → ℕ → Lined
+fallen lined server count =
+    let line = line_at lined (Server server) in
+    with_moved (with_line lined (Server server) (drop count line)) (merged key_cmp lined.moved (take count line))
 
 -- each queue has this room
 pub record HaveRoom (room : ℕ) (own : List ℕ) (backend moved : ℕ) : Type 0 where

@@ -1,5 +1,5 @@
 -- The requests that wait, as contracts see them.
-use Rattle.std.specs.Prelude.{◌≡◌, ◌≢◌, ℕ, ◌+◌, ◌≤◌, length, ◌++◌, ◌∷◌, [], List, Option, None, Some, MatchOption, Contains, map, slice_get, slice_set}
+use Rattle.std.specs.Prelude.{◌≡◌, ◌≢◌, ◌⊎◌, ℕ, ◌+◌, ◌≤◌, length, ◌++◌, ◌∷◌, [], List, Option, None, Some, MatchOption, Contains, map, slice_get, slice_set}
 use Rattle.std.specs.declared.cmp.Ordering.TheVariants.{Greater}
 use Rattle.due_key.specs.declared.key.Key.{Key}
 use Rattle.due_key.specs.Order.{key_cmp}
@@ -24,12 +24,14 @@ pub record Waitlist : Type 0 where
   pub order : List ℕ
   pub servers : ℕ
 
--- the same, and how many links the backend's queue has made
+-- the same, how many links the backend's queue has made, how many all queues have, and the server of whose queue some requests were moved and others not yet
 pub record WaitingQueues : Type 0 where
   pub waiters : Waiters
   pub order : List ℕ
   pub servers : ℕ
   pub links : ℕ
+  pub all_links : ℕ
+  pub falling : Option ℕ
 
 -- the requests alone
 abbrev pub list_of : WaitingQueues → Waitlist
@@ -39,6 +41,25 @@ list_of queues = record { waiters = queues.waiters; order = queues.order; server
 abbrev pub MergesOnce : (ℕ → ℕ → ℕ) → WaitingQueues → WaitingQueues → Type 0
 MergesOnce links_of_merge old new =
     (held more : ℕ) × (held + more ≤ length old.waiters) × (new.links ≡ old.links + links_of_merge held more)
+
+-- All queues together made the links of one merge, of as many as can wait at most. So no request was taken out of its queue by itself, or put into one: how many links that makes nobody says.
+abbrev pub AllMergeOnce : (ℕ → ℕ → ℕ) → WaitingQueues → WaitingQueues → Type 0
+AllMergeOnce links_of_merge old new =
+    (held more : ℕ) × (held + more ≤ length old.waiters) × (new.all_links ≡ old.all_links + links_of_merge held more)
+
+-- a request was moved: the last one of its server's queue takes the queue along, by one merge, and the ones before link nothing
+abbrev pub MovesWhole : (ℕ → ℕ → ℕ) → WaitingQueues → WaitingQueues → Type 0
+MovesWhole links_of_merge old new = MatchOption new.falling (AllMergeOnce links_of_merge old new) (λ server. new.all_links ≡ old.all_links)
+
+-- no other queue than the backend's made a link
+abbrev pub LinksBackendAlone : WaitingQueues → WaitingQueues → Type 0
+LinksBackendAlone old new = new.all_links + old.links ≡ old.all_links + new.links
+
+-- no request was moved whose queue isn't merged, but for one server's, where others wait still
+abbrev pub FallsAlone : ℕ → WaitingQueues → Type 0
+FallsAlone server queues =
+    (queues.falling ≡ None)
+    ⊎ ((queues.falling ≡ Some server) × (place : ℕ) × (waiter : Waiter) × WaitsAt queues.waiters place waiter × (waiter.queue ≡ Server server))
 
 -- one request more waits, as the last that joined
 abbrev pub with_waiter : Waitlist → ℕ → Waiter → Waitlist

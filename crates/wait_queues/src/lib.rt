@@ -3,6 +3,7 @@
 #![tactic(auto)]
 
 mod by_place;
+mod falls;
 mod order;
 mod queues;
 mod waiters;

@@ -1,4 +1,4 @@
-ghost use Rattle.std.specs.Prelude.{◌≡◌, ◌≢◌, ◌+◌, ◌<◌, ◌≤◌, [], IfOk, length, replicate, drop, slice_get, option_map};
+ghost use Rattle.std.specs.Prelude.{◌≡◌, ◌≢◌, ◌+◌, ◌<◌, ◌≤◌, ◌↔◌, [], IfOk, IsTrue, length, replicate, drop, slice_get, option_map};
 ghost use Rattle.due_key.specs.Order.{key_cmp};
 ghost use Rattle.dispatch_log.specs.declared.queue.Queue.TheVariants.{Backend, Server};
 ghost use Rattle.slot_ledger.specs.Counts.{IsQueueOf};
@@ -15,24 +15,26 @@ use std::marker::Model;
 pub(crate) struct Queues<Q: PendQueue<Key, usize>> {
     own: Vec<Q>,
     backend: Q,
-    // Requests that were moved into the backend's queue and aren't merged into it yet.
+    // Requests that were moved into the backend's queue and aren't merged into it yet: the queues of
+    // servers that fell, each merged as a whole.
     moved: Q,
     places: usize,
 }
 
 impl<Q: PendQueue<Key, usize>> Model for Queues<Q> {
-    ghost use Rattle.std.specs.Prelude.{map};
+    ghost use Rattle.std.specs.Prelude.{◌+◌, map};
+    ghost use Rattle.std.specs.List.{sum_by};
     ghost use Rattle.wait_queues.specs.Lines.{Queued, HaveRoom};
 
     ghost Value = { Queued };
 
-    ghost view = { λ queues. record { own = map Q.pairs queues.own.items; backend = Q.pairs queues.backend; moved = Q.pairs queues.moved; room = queues.places; links = Q.links queues.backend } };
+    ghost view = { λ queues. record { own = map Q.pairs queues.own.items; backend = Q.pairs queues.backend; moved = Q.pairs queues.moved; room = queues.places; links = Q.links queues.backend; all_links = sum_by Q.links queues.own.items + Q.links queues.backend + Q.links queues.moved } };
 
     ghost invariant = { λ queues. HaveRoom queues.places (map Q.room queues.own.items) (Q.room queues.backend) (Q.room queues.moved) };
 }
 
 impl<Q: PendQueue<Key, usize>> Queues<Q> {
-    ghost use Rattle.wait_queues.specs.Lines.{lines_of, line_at, first_key, with_line, with_moved, gathered};
+    ghost use Rattle.wait_queues.specs.Lines.{lines_of, line_at, first_key, with_line, with_moved, gathered, taken_over};
     ghost use Rattle.pend_queue.specs.Pairs.{IsAbsent, HaveNoCommonKey, inserted, pair_at, without};
 
     /// Empty queues of so many servers and of the backend.
@@ -111,6 +113,28 @@ impl<Q: PendQueue<Key, usize>> Queues<Q> {
         self.moved.push(node);
     }
 
+    /// Whether nobody is in a server's queue.
+    pub(crate) fn is_empty(&self, server: usize) -> bool
+        requires { server < length self.now.own }
+        ensures { IsTrue result ↔ (line_at (lines_of self.now) (Server server) ≡ []) }
+    {
+        self.own[server].is_empty()
+    }
+
+    /// Merges the queue of a server that fell into those that were moved.
+    pub(crate) fn take_over(&mut self, server: usize)
+        requires within { server < length self.old.own }
+        requires room { length self.old.moved + length (line_at (lines_of self.old) (Server server)) ≤ self.old.room }
+        requires apart { HaveNoCommonKey key_cmp self.old.moved (line_at (lines_of self.old) (Server server)) }
+        ensures merged { lines_of self.new ≡ taken_over (lines_of self.old) server }
+        ensures links { self.new.links ≡ self.old.links }
+
+        // One merge and nothing else, in all queues together.
+        ensures all_links { self.new.all_links ≡ self.old.all_links + Q.links_of_merge (length self.old.moved) (length (line_at (lines_of self.old) (Server server))) }
+    {
+        self.moved.merge(&mut self.own[server]);
+    }
+
     /// Merges those that were moved into the backend's queue.
     pub(crate) fn gather(&mut self)
         requires room { length self.old.backend + length self.old.moved ≤ self.old.room }
@@ -119,6 +143,7 @@ impl<Q: PendQueue<Key, usize>> Queues<Q> {
 
         // One merge and nothing else: no other call of a queue says how many links it makes.
         ensures links { self.new.links ≡ self.old.links + Q.links_of_merge (length self.old.backend) (length self.old.moved) }
+        ensures all_links { self.new.all_links ≡ self.old.all_links + Q.links_of_merge (length self.old.backend) (length self.old.moved) }
     {
         self.backend.merge(&mut self.moved);
     }

@@ -2,9 +2,10 @@ ghost use Rattle.std.specs.Prelude.{◌≡◌, ◌<◌, [], map, None, Some, IfO
 ghost use Rattle.dispatch_log.specs.declared.queue.Queue.TheVariants.{Server};
 ghost use Rattle.slot_ledger.specs.Counts.{IsQueueOf};
 ghost use Rattle.wait_queues.specs.Order.{next_after};
-ghost use Rattle.wait_queues.specs.Waitlists.{list_of, MergesOnce, WaitsAt, HasNoKey, NoneWaitsIn, IsFirstIn, AreFirst, IsOrderOf, with_waiter, without_waiter, with_waiter_anew, moved_waiter, since_before, in_next_window};
+ghost use Rattle.wait_queues.specs.Waitlists.{list_of, MergesOnce, MovesWhole, LinksBackendAlone, FallsAlone, WaitsAt, HasNoKey, NoneWaitsIn, IsFirstIn, AreFirst, IsOrderOf, with_waiter, without_waiter, with_waiter_anew, moved_waiter, since_before, in_next_window};
 
 use crate::by_place::{empty, put, take};
+use crate::falls::{Fall, look_at, settle, tell};
 use crate::order::JoinOrder;
 use crate::queues::Queues;
 use crate::waiters::Waiter;
@@ -19,6 +20,7 @@ use std::marker::Model;
 #[derive(Drop)]
 pub struct WaitQueues<Q: PendQueue<Key, usize>> {
     queues: Queues<Q>,
+    fall: Fall,
     // By place.
     waiters: Vec<Option<Waiter>>,
     order: JoinOrder,
@@ -36,13 +38,13 @@ impl<Q: PendQueue<Key, usize>> Model for WaitQueues<Q> {
     ghost use Rattle.std.specs.Prelude.{length};
     ghost use Rattle.wait_queues.specs.Lines.{lines_of};
     ghost use Rattle.wait_queues.specs.Waitlists.{WaitingQueues};
-    ghost use Rattle.wait_queues.specs.InQueues.{AreWaiting};
+    ghost use Rattle.wait_queues.specs.Falls.{falling_server, AreKept};
 
     ghost Value = { WaitingQueues };
 
-    ghost view = { λ it. record { waiters = it.waiters.items; order = it.order.places; servers = length it.queues.own; links = it.queues.links } };
+    ghost view = { λ it. record { waiters = it.waiters.items; order = it.order.places; servers = length it.queues.own; links = it.queues.links; all_links = it.queues.all_links; falling = falling_server it.fall.server it.fall.told } };
 
-    ghost invariant = { λ it. AreWaiting (lines_of it.queues) it.waiters.items it.order };
+    ghost invariant = { λ it. AreKept (lines_of it.queues) it.fall it.waiters.items it.order };
 }
 
 impl<Q: PendQueue<Key, usize>> WaitQueues<Q> {
@@ -51,10 +53,12 @@ impl<Q: PendQueue<Key, usize>> WaitQueues<Q> {
     /// Nobody waits, in the queues of so many servers and in the backend's, each with room for all
     /// places. `O(s n)` in the servers and places.
     pub fn new(alloc: Global, servers: usize, places: usize) -> Result<WaitQueues<Q>, AllocError>
-        ensures { IfOk result (λ made. list_of made ≡ record { waiters = replicate places None; order = []; servers = servers }) }
+        ensures nobody { IfOk result (λ made. list_of made ≡ record { waiters = replicate places None; order = []; servers = servers }) }
+        ensures falling { IfOk result (λ made. made.falling ≡ None) }
     {
         Ok(WaitQueues {
             queues: Queues::new(alloc, servers, places)?,
+            fall: Fall::none(alloc, places)?,
             waiters: empty(alloc, places)?,
             order: JoinOrder::with_room(alloc, places)?,
         })
@@ -66,8 +70,10 @@ impl<Q: PendQueue<Key, usize>> WaitQueues<Q> {
         requires within { IsQueueOf self.old.servers waiter.queue }
         requires own_key { HasNoKey self.old.waiters waiter.key }
         requires pair { Q.pair_of node ≡ (waiter.key, place) }
-        ensures { list_of self.new ≡ with_waiter (list_of self.old) place waiter }
+        ensures waits { list_of self.new ≡ with_waiter (list_of self.old) place waiter }
+        ensures falling { self.new.falling ≡ None }
     {
+        settle(&mut self.queues, &mut self.fall);
         self.queues.gather();
         self.queues.push(waiter.queue, node);
         put(&mut self.waiters, place, Some(waiter));
@@ -80,7 +86,10 @@ impl<Q: PendQueue<Key, usize>> WaitQueues<Q> {
         ensures heads { AreFirst server result (list_of self.new) }
         ensures same { list_of self.new ≡ list_of self.old }
         ensures links { MergesOnce Q.links_of_merge self.old self.new }
+        ensures alone { self.old.falling ≡ None → LinksBackendAlone self.old self.new }
+        ensures falling { self.new.falling ≡ None }
     {
+        settle(&mut self.queues, &mut self.fall);
         self.queues.gather();
         self.queues.heads(server)
     }
@@ -92,7 +101,9 @@ impl<Q: PendQueue<Key, usize>> WaitQueues<Q> {
         ensures first { MatchOption result (NoneWaitsIn queue self.old.waiters) (λ it. IsFirstIn queue self.old.waiters it.place it.waiter) }
         ensures pair { MatchOption result Unit (λ it. Q.pair_of it.node ≡ (it.waiter.key, it.place)) }
         ensures left { MatchOption result (list_of self.new ≡ list_of self.old) (λ it. list_of self.new ≡ without_waiter (list_of self.old) it.place) }
+        ensures falling { self.new.falling ≡ None }
     {
+        settle(&mut self.queues, &mut self.fall);
         self.queues.gather();
         let Some(node) = self.queues.pop(queue) else {
             return None;
@@ -114,7 +125,9 @@ impl<Q: PendQueue<Key, usize>> WaitQueues<Q> {
         requires { (waiter : Waiter) × WaitsAt self.old.waiters place waiter }
         ensures pair { (waiter : Waiter) × WaitsAt self.old.waiters place waiter × (Q.pair_of result ≡ (waiter.key, place)) }
         ensures left { list_of self.new ≡ without_waiter (list_of self.old) place }
+        ensures falling { self.new.falling ≡ None }
     {
+        settle(&mut self.queues, &mut self.fall);
         self.queues.gather();
         let Some(waiter) = take(&mut self.waiters, place) else {
             unreachable!()
@@ -127,21 +140,25 @@ impl<Q: PendQueue<Key, usize>> WaitQueues<Q> {
     }
 
     /// Moves the first request of a server's queue into the backend's, by the entry at a position
-    /// of the log, and answers its place. The nodes of all that are moved one after the other are
-    /// merged into the backend's queue together, at the next call that looks at it.
+    /// of the log, and answers its place. While all of a queue are moved one after the other the
+    /// first costs `O(p + n log n)` in the places and those in the queue, and each other one `O(1)`;
+    /// the queue is merged as a whole, and the backend's with it at the next call that looks at it.
     pub fn shift(&mut self, server: usize, joined: usize) -> Option<usize>
         requires { server < self.old.servers }
         ensures shifted { MatchOption result (NoneWaitsIn (Server server) self.old.waiters × (list_of self.new ≡ list_of self.old)) (λ place. (waiter : Waiter) × IsFirstIn (Server server) self.old.waiters place waiter × (list_of self.new ≡ with_waiter_anew (list_of self.old) place (moved_waiter waiter joined))) }
 
         // Nothing is put into the backend's queue yet.
         ensures links { self.new.links ≡ self.old.links }
+
+        // No request is taken out of its queue by itself.
+        ensures whole { FallsAlone server self.old → MatchOption result (self.new.all_links ≡ self.old.all_links) (λ place. MovesWhole Q.links_of_merge self.old self.new) }
+        ensures falling { FallsAlone server self.old → FallsAlone server self.new }
     {
-        let Some(node) = self.queues.pop(Queue::Server(server)) else {
+        if self.queues.is_empty(server) {
             return None;
-        };
-        let (key, place) = Q::pair(&node);
-        let (key, place) = (*key, *place);
-        self.queues.set_aside(node);
+        }
+        look_at(&mut self.queues, &mut self.fall, server, &self.waiters);
+        let (key, place) = tell(&mut self.queues, &mut self.fall);
         put(&mut self.waiters, place, Some(moved(key, joined)));
         self.order.remove(place);
         self.order.append(place);
@@ -152,6 +169,7 @@ impl<Q: PendQueue<Key, usize>> WaitQueues<Q> {
     pub fn begin_window(&mut self)
         ensures window { list_of self.new ≡ in_next_window (list_of self.old) }
         ensures links { self.new.links ≡ self.old.links }
+        ensures queues { (self.new.all_links ≡ self.old.all_links) × (self.new.falling ≡ self.old.falling) }
     {
         forget_joinings(&mut self.waiters);
     }

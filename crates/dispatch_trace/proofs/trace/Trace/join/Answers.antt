@@ -75,6 +75,6 @@ note-requires-clause-follows g c =
 pub invariant_of-self : goal.invariant_of-self
 invariant_of-self g c =
     let at = (goal.at.invariant_of-self g c).After-row in
-    closed _ _ _ _ _ _ _ _ c.wait-node.ensures.waiting c.note.ensures c.join.ensures
+    closed _ _ _ _ _ _ _ _ c.wait-node.ensures.waiting c.note.ensures c.join.ensures.waits
     (join_kept _ _ c.args.it c.args.queue (calls g at) c.row.result c.row.ensures (c.len.result + 1) c.args.cursor
     (ap (λ n. n + 1) c.len.ensures) (moved g at))

@@ -1,10 +1,16 @@
-use Rattle.std.proofs.Common.{length, ap, ◌∙◌}
-use Rattle.wait_queues.specs.Waitlists.{Waiters, in_next_window, list_of}
+use Rattle.std.proofs.Common.{length, ap, sym, subst, ◌∙◌, ◌≤◌, vec_capacity}
+use Rattle.std.proofs.lemmas.List.{length-map}
+use Rattle.wait_queues.specs.Waitlists.{Waiters, since_before, in_next_window, list_of}
 use Rattle.wait_queues.proofs.Windows.{waiting_before}
 use Rattle.wait_queues.proofs.waiting.WaitQueues.begin_window.Goals as goal
 
 pub invariant_of-self : goal.invariant_of-self
-invariant_of-self g c = waiting_before _ _ _ _ c.self.invariant c.forget_joinings.ensures
+invariant_of-self g c = record {
+  waiting = waiting_before _ _ _ _ c.self.invariant.waiting c.forget_joinings.ensures;
+  falling = c.self.invariant.falling;
+  listing = subst (λ n. n ≤ vec_capacity c.self.inside.fall.sorted)
+      (sym (ap (λ (l : Waiters). length l) c.forget_joinings.ensures ∙ length-map c.self.inside.waiters.items since_before)) c.self.invariant.listing;
+}
 
 pub returns-clause-window : goal.returns-clause-window
 returns-clause-window g c =

@@ -1,30 +1,54 @@
-use Rattle.std.proofs.Common.{◌≡◌, ◌<◌, ◌≤◌, ◌+◌, [], length, ap, sym, ◌∙◌, subst}
-use Rattle.wait_queues.specs.Lines.{Lined, lines_of}
+use Rattle.std.proofs.Common.{◌<◌, ◌≤◌, ◌+◌, length, refl, ap, sym, ◌∙◌, subst, arith}
+use Rattle.wait_queues.specs.Lines.{lines_of}
 use Rattle.wait_queues.specs.Waitlists.{Waitlist, WaitingQueues, list_of}
-use Rattle.wait_queues.proofs.Changes.{gather_kept, heads_first}
+use Rattle.wait_queues.proofs.Kept.{settle_kept, gathers, kept_anew, ended_fall, none_falls}
+use Rattle.wait_queues.proofs.Changes.{heads_first}
 use Rattle.wait_queues.proofs.Lineup.{gather_room}
 use Rattle.wait_queues.proofs.waiting.WaitQueues.heads.Goals as goal
 
 pub gather-requires-clause-room : goal.gather-requires-clause-room
-gather-requires-clause-room g c = gather_room _ _ c.self.invariant.lined_up
+gather-requires-clause-room g c = gather_room _ _ (settle_kept _ _ _ _ _ c.self.invariant c.settle.ensures.moved).lined_up
+
+pub gather-requires-clause-apart : goal.gather-requires-clause-apart
+gather-requires-clause-apart g c = (settle_kept _ _ _ _ _ c.self.invariant c.settle.ensures.moved).lined_up.apart
 
 pub invariant_of-self : goal.invariant_of-self
-invariant_of-self g c = gather_kept _ _ _ _ c.self.invariant c.gather.ensures.merged
+invariant_of-self g c =
+    let it = gathers (lines_of c.self.inside.queues) (lines_of c.settle.new.queues) (lines_of c.gather.new.self) c.self.inside.fall _ _ c.self.invariant
+    c.settle.ensures.moved c.gather.ensures.merged in
+    kept_anew _ _ c.self.inside.fall _ c.self.inside.waiters.items _ it.waiting c.settle.ensures.ended refl c.self.invariant.listing
 
 pub returns-clause-heads : goal.returns-clause-heads
 returns-clause-heads g c =
-    let none : c.gather.new.self.moved ≡ [] = ap (λ (l : Lined). l.moved) c.gather.ensures.merged in
-    let within = subst (λ (l : Lined). c.args.server < length l.own) (sym c.gather.ensures.merged)
-    (subst (λ (w : Waitlist). c.args.server < w.servers) (sym (ap list_of c.self.view_is)) c.requires) in
-    heads_first (lines_of c.gather.new.self) c.self.inside.order _ c.args.server c.heads.result
-    (gather_kept _ _ _ _ c.self.invariant c.gather.ensures.merged) none within c.heads.ensures.own c.heads.ensures.backend
+    let it = gathers (lines_of c.self.inside.queues) (lines_of c.settle.new.queues) (lines_of c.gather.new.self) c.self.inside.fall _ _ c.self.invariant
+    c.settle.ensures.moved c.gather.ensures.merged in
+    let within = subst (λ n. c.args.server < n) (sym it.servers) (subst (λ (w : Waitlist). c.args.server < w.servers) (sym (ap list_of c.self.view_is)) c.requires) in
+    heads_first (lines_of c.gather.new.self) c.self.inside.order _ c.args.server c.heads.result it.waiting it.none within c.heads.ensures.own c.heads.ensures.backend
+
+pub returns-clause-same : goal.returns-clause-same
+returns-clause-same g c =
+    let it = gathers (lines_of c.self.inside.queues) (lines_of c.settle.new.queues) (lines_of c.gather.new.self) c.self.inside.fall _ _ c.self.invariant
+    c.settle.ensures.moved c.gather.ensures.merged in
+    ap (λ n. record { waiters = c.self.inside.waiters.items; order = c.self.inside.order.places; servers = n }) it.servers ∙ ap list_of c.self.view_is
 
 pub returns-clause-links : goal.returns-clause-links
-returns-clause-links g c = (
-  length c.self.inside.queues.backend,
-  length c.self.inside.queues.moved,
-  subst (λ n. length c.self.inside.queues.backend + length c.self.inside.queues.moved ≤ n)
-      (c.self.invariant.lined_up.room ∙ ap (λ (w : WaitingQueues). length w.waiters) c.self.view_is) (gather_room _ _ c.self.invariant.lined_up),
-  c.gather.ensures.links
-      ∙ ap (λ (w : WaitingQueues). w.links + g.Q.PendQueue.links_of_merge (length c.self.inside.queues.backend) (length c.self.inside.queues.moved)) c.self.view_is,
-)
+returns-clause-links g c =
+    let up = (settle_kept _ _ _ _ _ c.self.invariant c.settle.ensures.moved).lined_up in (
+      length c.settle.new.queues.backend,
+      length c.settle.new.queues.moved,
+      subst (λ n. length c.settle.new.queues.backend + length c.settle.new.queues.moved ≤ n)
+          (up.room ∙ ap (λ (w : WaitingQueues). length w.waiters) c.self.view_is) (gather_room _ _ up),
+      c.gather.ensures.links
+          ∙ ap (λ n. n + g.Q.PendQueue.links_of_merge (length c.settle.new.queues.backend) (length c.settle.new.queues.moved))
+          (c.settle.ensures.links ∙ ap (λ (w : WaitingQueues). w.links) c.self.view_is),
+    )
+
+pub returns-clause-alone : goal.returns-clause-alone
+returns-clause-alone g c none =
+    let told = none_falls c.self.inside.fall.server c.self.inside.fall.told (ap (λ (w : WaitingQueues). w.falling) c.self.view_is ∙ none) in
+    let all = ap (λ (w : WaitingQueues). w.all_links) c.self.view_is in
+    let backend = ap (λ (w : WaitingQueues). w.links) c.self.view_is in
+    omega (arith, all, backend, c.settle.ensures.all_links told, c.settle.ensures.links, c.gather.ensures.links, c.gather.ensures.all_links)
+
+pub returns-clause-falling : goal.returns-clause-falling
+returns-clause-falling g c = ended_fall _ c.self.inside.fall c.settle.ensures.ended

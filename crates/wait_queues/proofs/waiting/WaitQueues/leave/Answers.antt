@@ -1,14 +1,19 @@
-use Rattle.std.proofs.Common.{◌≡◌, [], ap, sym, ◌∙◌, subst}
+use Rattle.std.proofs.Common.{◌≡◌, [], None, length, ap, sym, ◌∙◌, subst}
+use Rattle.std.proofs.Math.ListN.{length-set}
 use Rattle.std.proofs.lemmas.Option.{same_Some, slice_get_within}
 use Rattle.wait_queues.specs.declared.waiters.Waiter.{Waiter}
 use Rattle.wait_queues.specs.Lines.{Lined, lines_of}
-use Rattle.wait_queues.specs.Waitlists.{Waitlist, WaitsAt, list_of}
-use Rattle.wait_queues.proofs.Changes.{gather_kept, leave_kept, leaves}
+use Rattle.wait_queues.specs.Waitlists.{Waitlist, Waiters, WaitsAt, list_of}
+use Rattle.wait_queues.proofs.Kept.{settle_kept, gathers, kept_anew, ended_fall}
+use Rattle.wait_queues.proofs.Changes.{leave_kept, leaves}
 use Rattle.wait_queues.proofs.Lineup.{gather_room}
 use Rattle.wait_queues.proofs.waiting.WaitQueues.leave.Goals as goal
 
 pub gather-requires-clause-room : goal.gather-requires-clause-room
-gather-requires-clause-room g c = gather_room _ _ c.self.invariant.lined_up
+gather-requires-clause-room g c = gather_room _ _ (settle_kept _ _ _ _ _ c.self.invariant c.settle.ensures.moved).lined_up
+
+pub gather-requires-clause-apart : goal.gather-requires-clause-apart
+gather-requires-clause-apart g c = (settle_kept _ _ _ _ _ c.self.invariant c.settle.ensures.moved).lined_up.apart
 
 pub take-requires : goal.take-requires
 take-requires g c =
@@ -18,23 +23,28 @@ pub unreachable-requires-in_default-remove : goal.unreachable-requires-in_defaul
 unreachable-requires-in_default-remove g c =
     let none : c.gather.new.self.moved ≡ [] = ap (λ (l : Lined). l.moved) c.gather.ensures.merged in
     let it = leaves (lines_of c.gather.new.self) _ c.args.place c.in-Some.waiter
-    (gather_kept _ _ _ _ c.self.invariant c.gather.ensures.merged).lined_up none c.in-Some.ensures.taken in
+    (gathers (lines_of c.self.inside.queues) (lines_of c.settle.new.queues) (lines_of c.gather.new.self) c.self.inside.fall _ _ c.self.invariant c.settle.ensures.moved c.gather.ensures.merged).waiting.lined_up none c.in-Some.ensures.taken in
     let missed = ap (Rattle.std.specs.Option.option_map g.Q.PendQueue.pair_of) (sym c.in_default-remove.is) ∙ c.remove.ensures.its ∙ it.there in
     cc
 
 pub invariant_of-self : goal.invariant_of-self
 invariant_of-self g c =
-    let up = gather_kept _ _ _ _ c.self.invariant c.gather.ensures.merged in
-    let none : c.gather.new.self.moved ≡ [] = ap (λ (l : Lined). l.moved) c.gather.ensures.merged in
-    let it = leaves (lines_of c.gather.new.self) _ c.args.place c.in-Some.waiter up.lined_up none c.in-Some.ensures.taken in
-    leave_kept (lines_of c.gather.new.self) _ c.self.inside.waiters.items _ c.self.inside.order _ c.args.place c.in-Some.waiter _ up none c.in-Some.ensures.taken it.parts
-    it.rises c.in-Some-remove.ensures.rest c.in-Some.ensures.emptied c.remove-2.ensures
+    let it = gathers (lines_of c.self.inside.queues) (lines_of c.settle.new.queues) (lines_of c.gather.new.self) c.self.inside.fall _ _ c.self.invariant
+    c.settle.ensures.moved c.gather.ensures.merged in
+    let goes = leaves (lines_of c.gather.new.self) _ c.args.place c.in-Some.waiter it.waiting.lined_up it.none c.in-Some.ensures.taken in
+    let kept = leave_kept (lines_of c.gather.new.self) _ c.self.inside.waiters.items _ c.self.inside.order _ c.args.place c.in-Some.waiter _ it.waiting it.none
+    c.in-Some.ensures.taken goes.parts goes.rises c.in-Some-remove.ensures.rest c.in-Some.ensures.emptied c.remove-2.ensures in
+    kept_anew _ _ c.self.inside.fall _ c.self.inside.waiters.items _ kept c.settle.ensures.ended
+    (ap (λ (l : Waiters). length l) c.in-Some.ensures.emptied ∙ length-set c.self.inside.waiters.items c.args.place None) c.self.invariant.listing
+
+pub returns-clause-falling : goal.returns-clause-falling
+returns-clause-falling g c = ended_fall _ c.self.inside.fall c.settle.ensures.ended
 
 pub returns-clause-pair : goal.returns-clause-pair
 returns-clause-pair g c =
     let none : c.gather.new.self.moved ≡ [] = ap (λ (l : Lined). l.moved) c.gather.ensures.merged in
     let it = leaves (lines_of c.gather.new.self) _ c.args.place c.in-Some.waiter
-    (gather_kept _ _ _ _ c.self.invariant c.gather.ensures.merged).lined_up none c.in-Some.ensures.taken in (
+    (gathers (lines_of c.self.inside.queues) (lines_of c.settle.new.queues) (lines_of c.gather.new.self) c.self.inside.fall _ _ c.self.invariant c.settle.ensures.moved c.gather.ensures.merged).waiting.lined_up none c.in-Some.ensures.taken in (
       c.in-Some.waiter,
       subst (λ (l : Waitlist). WaitsAt l.waiters c.args.place c.in-Some.waiter) (ap list_of c.self.view_is) c.in-Some.ensures.taken,
       same_Some _ _

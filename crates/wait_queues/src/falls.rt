@@ -1,0 +1,154 @@
+//! Servers that fall: the requests of a queue are moved one after the other by rising key, and the
+//! queue itself is merged as a whole.
+ghost use Rattle.std.specs.Prelude.{◌≡◌, ◌≢◌, ◌⊎◌, ◌+◌, ◌<◌, ◌≤◌, ℕ, [], Some, IfOk, length, drop, slice_get, vec_capacity};
+ghost use Rattle.std.specs.List.{sum_by};
+ghost use Rattle.std.specs.List.Sorted.{IsSortedByKey};
+ghost use Rattle.std.specs.Option.{option_map_or};
+ghost use Rattle.due_key.specs.declared.key.Key.{Key};
+ghost use Rattle.due_key.specs.Order.{key_cmp};
+ghost use Rattle.dispatch_log.specs.declared.queue.Queue.TheVariants.{Server};
+ghost use Rattle.pend_queue.specs.Pairs.{inserted};
+ghost use Rattle.wait_queues.specs.Falls.{lines_in, IsFalling, MayFall};
+ghost use Rattle.wait_queues.specs.InQueues.{AreLinedUp, weight_at, weight_of};
+ghost use Rattle.wait_queues.specs.Lines.{lines_of, line_at, with_line, with_moved};
+
+use crate::queues::Queues;
+use crate::waiters::Waiter;
+use dispatch_log::Queue;
+use due_key::Key;
+use pend_queue::PendQueue;
+use std::alloc::{AllocError, Global};
+
+/// The server that fell last, and what is known of its queue while its requests are moved.
+#[derive(Drop)]
+pub(crate) struct Fall {
+    pub(crate) server: usize,
+    // The pairs of its queue, by rising key.
+    pub(crate) sorted: Vec<(Key, usize)>,
+    // How many of these were moved; 0 unless others weren't yet.
+    pub(crate) told: usize,
+}
+
+impl Fall {
+    /// No server falls. Takes the memory for the pairs of all places.
+    pub(crate) fn none(alloc: Global, places: usize) -> Result<Fall, AllocError>
+        ensures told { IfOk result (λ fall. fall.told ≡ 0) }
+        ensures room { IfOk result (λ fall. places ≤ vec_capacity fall.sorted) }
+    {
+        Ok(Fall {
+            server: 0,
+            sorted: Vec::with_capacity(alloc, places)?,
+            told: 0,
+        })
+    }
+
+    // Begins with a server of whose queue none was moved. `O(p + n log n)` in the places and those
+    // in its queue.
+    fn begin(&mut self, server: usize, waiters: &[Option<Waiter>])
+        requires { length waiters.now ≤ vec_capacity self.old.sorted }
+        ensures server { self.new.server ≡ server }
+        ensures told { self.new.told ≡ 0 }
+        ensures pairs { (weight : Key × ℕ → ℕ) → sum_by weight self.new.sorted.items ≡ weight_of weight (Server server) 0 waiters.now }
+        ensures sorted { IsSortedByKey (λ pair. pair.0) key_cmp self.new.sorted.items }
+        ensures capacity { vec_capacity self.new.sorted ≡ vec_capacity self.old.sorted }
+    {
+        self.server = server;
+        self.told = 0;
+        collect(&mut self.sorted, server, waiters);
+        self.sorted.sort_unstable_by_key(|pair| pair.0);
+    }
+}
+
+// The pairs of all that wait in a server's queue.
+fn collect(pairs: &mut Vec<(Key, usize)>, server: usize, waiters: &[Option<Waiter>])
+    requires { length waiters.now ≤ vec_capacity pairs.old }
+    ensures pairs { (weight : Key × ℕ → ℕ) → sum_by weight pairs.new.items ≡ weight_of weight (Server server) 0 waiters.now }
+    ensures capacity { vec_capacity pairs.new ≡ vec_capacity pairs.old }
+{
+    pairs.clear();
+    for place in 0..waiters.len() {
+        if let Some(key) = key_in(waiters[place], server) {
+            pairs.push_reserved((key, place));
+        }
+    }
+}
+
+// The key of who waits in a server's queue.
+fn key_in(cell: Option<Waiter>, server: usize) -> Option<Key>
+    ensures { (weight : Key × ℕ → ℕ) (place : ℕ) → weight_at weight (Server server) place cell ≡ option_map_or (λ key. weight (key, place)) result 0 }
+{
+    let waiter = cell?;
+    match waiter.queue {
+        Queue::Server(own) if own == server => Some(waiter.key),
+        _ => None,
+    }
+}
+
+/// Ends a fall of which some weren't moved yet: those that were leave the queue one by one. While the
+/// requests of a queue are moved in a row this never happens.
+pub(crate) fn settle<Q: PendQueue<Key, usize>>(queues: &mut Queues<Q>, fall: &mut Fall)
+    requires { MayFall (lines_of queues.old) fall.old }
+    ensures moved { lines_of queues.new ≡ lines_in (lines_of queues.old) fall.old }
+    ensures links { queues.new.links ≡ queues.old.links }
+    ensures all_links { fall.old.told ≡ 0 → queues.new.all_links ≡ queues.old.all_links }
+    ensures ended { fall.new ≡ record fall.old { told = 0 } }
+{
+    for at in 0..fall.told {
+        if let Some(node) = queues.pop(Queue::Server(fall.server)) {
+            queues.set_aside(node);
+        }
+    }
+    fall.told = 0;
+}
+
+/// Looks at the queue of a server, in which somebody is, to move its requests. `O(1)` where some of
+/// them were moved, and else `O(p + n log n)` in the places and those in the queue.
+pub(crate) fn look_at<Q: PendQueue<Key, usize>>(
+    queues: &mut Queues<Q>,
+    fall: &mut Fall,
+    server: usize,
+    waiters: &[Option<Waiter>],
+)
+    requires within { server < length queues.old.own }
+    requires somebody { line_at (lines_of queues.old) (Server server) ≢ [] }
+    requires falling { MayFall (lines_of queues.old) fall.old }
+    requires lined_up { AreLinedUp (lines_in (lines_of queues.old) fall.old) waiters.now }
+    requires listing { length waiters.now ≤ vec_capacity fall.old.sorted }
+    ensures lines { lines_in (lines_of queues.new) fall.new ≡ lines_in (lines_of queues.old) fall.old }
+    ensures server { fall.new.server ≡ server }
+    ensures falling { IsFalling (lines_of queues.new) fall.new }
+    ensures listing { vec_capacity fall.new.sorted ≡ vec_capacity fall.old.sorted }
+    ensures links { queues.new.links ≡ queues.old.links }
+    ensures all_links { (fall.old.told ≡ 0) ⊎ (fall.old.server ≡ server) → queues.new.all_links ≡ queues.old.all_links }
+{
+    if fall.told == 0 || fall.server != server {
+        settle(queues, fall);
+        fall.begin(server, waiters);
+    }
+}
+
+/// Moves the next request of the server that falls, and answers its pair. The last one takes the
+/// queue along, as a whole.
+pub(crate) fn tell<Q: PendQueue<Key, usize>>(
+    queues: &mut Queues<Q>,
+    fall: &mut Fall,
+) -> (Key, usize)
+    requires { IsFalling (lines_of queues.old) fall.old }
+    ensures first { slice_get (line_at (lines_in (lines_of queues.old) fall.old) (Server fall.old.server)) 0 ≡ Some result }
+    ensures moved { let lined = lines_in (lines_of queues.old) fall.old in lines_in (lines_of queues.new) fall.new ≡ with_moved (with_line lined (Server fall.old.server) (drop 1 (line_at lined (Server fall.old.server)))) (inserted key_cmp result lined.moved) }
+    ensures falling { MayFall (lines_of queues.new) fall.new }
+    ensures same { (fall.new.server ≡ fall.old.server) × (fall.new.sorted ≡ fall.old.sorted) }
+    ensures links { queues.new.links ≡ queues.old.links }
+
+    // No link, or those of one merge in all queues together.
+    ensures before { fall.new.told ≢ 0 → queues.new.all_links ≡ queues.old.all_links }
+    ensures last { fall.new.told ≡ 0 → queues.new.all_links ≡ queues.old.all_links + Q.links_of_merge (length queues.old.moved) (length fall.old.sorted.items) }
+{
+    let pair = fall.sorted[fall.told];
+    fall.told += 1;
+    if fall.told == fall.sorted.len() {
+        queues.take_over(fall.server);
+        fall.told = 0;
+    }
+    pair
+}

@@ -370,7 +370,7 @@ impl<N: BoardName + Ledger> Seated<N> {
             out,
             name: _,
         } = self;
-        let (pass, ending) = match exchange {
+        let pass = match exchange {
             Exchange::Dialing(dialing) => dialing.abandon(),
             Exchange::Passing(passing) => passing.abandon(),
             Exchange::Asking(_)
@@ -383,7 +383,7 @@ impl<N: BoardName + Ledger> Seated<N> {
                 Some(_) => unreachable!(),
             },
         };
-        Some(with_seat(seat, out, pass, ending))
+        Some(with_seat(seat, out, pass, Ending::Done))
     }
 }
 

@@ -1,8 +1,10 @@
-ghost use Rattle.std.specs.Prelude.{◌≡◌, [], None, replicate};
-ghost use Rattle.wait_queues.specs.Waitlists.{list_of};
+ghost use Rattle.std.specs.Prelude.{◌≡◌, ◌<◌, [], None, Some, replicate, slice_get, slice_set};
+ghost use Rattle.wait_queues.specs.declared.waiters.Waiter.{Waiter};
+ghost use Rattle.wait_queues.specs.Waitlists.{HasNoKey, list_of};
 
 use crate::assertions::{holds, same};
 use crate::lists::node_of;
+use binom_queue::BinomQueue;
 use dispatch_log::Queue;
 use due_key::{Class, Due, Key, Moment, Offset};
 use pend_queue::{ListQueue, PendQueue};
@@ -11,6 +13,8 @@ use std::process::Abort;
 use wait_queues::{JoinOrder, WaitQueues, Waiter};
 
 type OfLists = WaitQueues<ListQueue<Key, usize>>;
+
+type OfTrees = WaitQueues<BinomQueue<Key, usize>>;
 
 // The order read from its front, checked against the places wanted; none after the last.
 fn stands(order: &JoinOrder, wanted: &[Option<usize>]) -> bool {
@@ -129,7 +133,9 @@ fn a_place_may_come_back(rt: HostRuntime) {
     play(&rt, rt.alloc(), 1, &steps);
 }
 
-fn key(ticket: u64) -> Key {
+fn key(ticket: u64) -> Key
+    ensures { result.ticket ≡ ticket }
+{
     Key {
         class: Class::clamp(0),
         due: Due::of(Moment::zero(), Offset::clamp(0)),
@@ -224,7 +230,105 @@ fn join_and_move<Q: PendQueue<Key, usize>>(
 fn take_from_backend<Q: PendQueue<Key, usize>>(
     rt: &impl Abort,
     waiting: &mut WaitQueues<Q>,
-) -> (usize, Waiter) {
+) -> (usize, Waiter)
+    ensures { waiting.new.servers ≡ waiting.old.servers }
+{
     let taken = waiting.take(Queue::Backend).expect(rt, "a request");
     (taken.place, taken.waiter)
+}
+
+#[test]
+fn forty_of_two_servers_move(rt: HostRuntime) {
+    let mut lists: OfLists = WaitQueues::new(rt.alloc(), 2, 40).expect(&rt, "memory");
+    move_forty(&rt, rt.alloc(), &mut lists, false);
+    let mut trees: OfTrees = WaitQueues::new(rt.alloc(), 2, 40).expect(&rt, "memory");
+    move_forty(&rt, rt.alloc(), &mut trees, false);
+}
+
+// Nobody looks so while a server falls, but the calls allow it.
+#[test]
+fn a_fall_may_be_looked_at(rt: HostRuntime) {
+    let mut lists: OfLists = WaitQueues::new(rt.alloc(), 2, 40).expect(&rt, "memory");
+    move_forty(&rt, rt.alloc(), &mut lists, true);
+    let mut trees: OfTrees = WaitQueues::new(rt.alloc(), 2, 40).expect(&rt, "memory");
+    move_forty(&rt, rt.alloc(), &mut trees, true);
+}
+
+// Both servers fall, one after the other.
+fn move_forty<Q: PendQueue<Key, usize>>(
+    rt: &impl Abort,
+    alloc: Global,
+    waiting: &mut WaitQueues<Q>,
+    looks: bool,
+)
+    requires { list_of waiting.old ≡ record { waiters = replicate 40 None; order = []; servers = 2 } }
+{
+    join_forty(rt, alloc, waiting);
+    fall(rt, waiting, 0, looks);
+    fall(rt, waiting, 1, looks);
+    take_forty(rt, waiting);
+}
+
+// The later ones have the lower tickets.
+fn join_forty<Q: PendQueue<Key, usize>>(rt: &impl Abort, alloc: Global, waiting: &mut WaitQueues<Q>)
+    requires { list_of waiting.old ≡ record { waiters = replicate 40 None; order = []; servers = 2 } }
+    ensures { waiting.new.servers ≡ 2 }
+{
+    for place in 0..40 {
+        join_one(rt, alloc, waiting, place, &key(40 - place as u64));
+    }
+}
+
+fn join_one<Q: PendQueue<Key, usize>>(
+    rt: &impl Abort,
+    alloc: Global,
+    waiting: &mut WaitQueues<Q>,
+    place: usize,
+    key: &Key,
+)
+    requires servers { waiting.old.servers ≡ 2 }
+    requires vacant { slice_get waiting.old.waiters place ≡ Some None }
+    requires own_key { HasNoKey waiting.old.waiters key.now }
+    ensures servers { waiting.new.servers ≡ 2 }
+    ensures waits { (waiter : Waiter) × (waiter.key ≡ key.now) × (waiting.new.waiters ≡ slice_set waiting.old.waiters place (Some waiter)) }
+{
+    let node = node_of::<Q>(rt, alloc, *key, place);
+    waiting.join(place, waiter(*key, Queue::Server(place % 2)), node);
+}
+
+// Moves the twenty of a server, the lowest ticket first, and looks after every third one.
+fn fall<Q: PendQueue<Key, usize>>(
+    rt: &impl Abort,
+    waiting: &mut WaitQueues<Q>,
+    server: usize,
+    looks: bool,
+)
+    requires servers { waiting.old.servers ≡ 2 }
+    requires within { server < 2 }
+    ensures { waiting.new.servers ≡ 2 }
+{
+    for moved in 0..20 {
+        if looks && moved % 3 == 2 {
+            let heads = waiting.heads(server);
+            same(
+                rt,
+                ticket_of(heads.own),
+                Some(2 * moved as u64 + 2 - server as u64),
+            );
+        }
+        same(rt, waiting.shift(server, 90), Some(38 + server - 2 * moved));
+    }
+    same(rt, waiting.shift(server, 90), None);
+}
+
+fn ticket_of(key: Option<Key>) -> Option<u64> {
+    key.map(|key| key.ticket)
+}
+
+fn take_forty<Q: PendQueue<Key, usize>>(rt: &impl Abort, waiting: &mut WaitQueues<Q>)
+    requires { waiting.old.servers ≡ 2 }
+{
+    for taken in 0..40 {
+        same(rt, take_from_backend(rt, waiting).0, 39 - taken);
+    }
 }

@@ -51,7 +51,8 @@ impl<Q: PendQueue<Key, usize>> WaitQueues<Q> {
     ghost use Rattle.wait_queues.specs.declared.waiters.Waiter.{Waiter};
 
     /// Nobody waits, in the queues of so many servers and in the backend's, each with room for all
-    /// places. `O(s n)` in the servers and places.
+    /// places. `O(s n)` in the servers and places. Beside the queues a place takes 32 bytes for the
+    /// pair that it may have in a queue whose server falls.
     pub fn new(alloc: Global, servers: usize, places: usize) -> Result<WaitQueues<Q>, AllocError>
         ensures nobody { IfOk result (λ made. list_of made ≡ record { waiters = replicate places None; order = []; servers = servers }) }
         ensures falling { IfOk result (λ made. made.falling ≡ None) }

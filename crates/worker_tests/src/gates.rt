@@ -1,12 +1,14 @@
-ghost use Rattle.std.specs.Prelude.{◌≡◌};
+ghost use Rattle.std.specs.Prelude.{◌≡◌, [], ◌∷◌};
 ghost use Rattle.outstanding.specs.Books.{terms_of};
 ghost use Rattle.proxy_config.specs.Sound.{IsSoundConfig};
+ghost use Rattle.relay_workers.specs.Admissions.{IsRequestAt};
 
 use crate::workers::{Opened, open, start};
-use grant_board::{BoardName, Taking};
+use dispatch_trace::Ticketed;
+use grant_board::{BoardName, Pass, RelaySeat, Taking};
 use proxy_config::{Config, read};
 use relay_workers::{Gate, Slot, arrive};
-use req_view::{Viewed, view};
+use req_view::{View, Viewed, view};
 use script::Names;
 use server_names::Addresses;
 use socket_gate::{Clients, Front, SocketGate, has_left};
@@ -74,6 +76,25 @@ fn checked<G: Gate>(clock: &impl Clock, gate: &mut G) -> Option<bool> {
     None
 }
 
+// A connection to the server of a pass, where it gives a slot.
+fn connect_by<N: BoardName, G: Gate>(
+    gate: &mut G,
+    relay: &RelaySeat,
+    pass: &Pass,
+    head: &View,
+    at: Ticketed,
+) -> Option<G::Server>
+    requires named { (relay.now.board ≡ N.board) × (relay.now.view.terms ≡ N.terms) }
+    requires held { relay.now.view.passes ≡ pass.now ∷ [] }
+    requires its_own { (pass.now.place ≡ at.place) × (pass.now.ticket ≡ at.ticket) }
+    requires arrived { IsRequestAt N.terms head.now at }
+{
+    match pass.verdict() {
+        Verdict::Serve(server) => gate.connect(&Slot::<N>::new(relay, pass, head, at, server)),
+        Verdict::Told(_) => None,
+    }
+}
+
 // A request arrives and has its slot, and the gate connects to the slot's server.
 fn connects<
     N: BoardName,
@@ -82,6 +103,7 @@ fn connects<
 >(rt: &R, alloc: Global, gate: &mut G, far: &TcpListener, opened: Opened)
     requires named { opened.board ≡ N.board }
     requires terms { N.terms ≡ terms_of opened.core.setup }
+    requires sound { IsSoundConfig opened.config }
 {
     let Viewed::Whole(head, _) = view(alloc, b"GET / HTTP/1.1\r\nHost: h\r\n\r\n") else {
         panic!(rt; "no head");
@@ -89,18 +111,16 @@ fn connects<
     let (proxy, idle) = start::<N>(alloc, opened);
     let at = arrive(rt, &proxy, gate, &head).expect(rt, "a place");
     let mut relay = idle.seat();
-    let pass = match relay.try_take(proxy.desk.board(), at.place, at.ticket) {
-        Taking::Taken(pass) => pass,
-        Taking::NotYet => panic!(rt; "not offered"),
-    };
-    let mut server = match pass.verdict() {
-        Verdict::Serve(server) => {
-            let slot = Slot::<N>::new(&relay, &pass, &head, at, server);
-            gate.connect(&slot).expect(rt, "a connection")
+    let taken = relay.try_take(proxy.desk.board(), at.place, at.ticket);
+    let server = match taken {
+        Taking::Taken(pass) => {
+            let server = connect_by::<N, G>(gate, &relay, &pass, &head, at);
+            relay.post(proxy.desk.board(), pass, Ending::Done);
+            server
         }
-        Verdict::Told(_) => panic!(rt; "told"),
+        Taking::NotYet => None,
     };
-    relay.post(proxy.desk.board(), pass, Ending::Done);
+    let mut server = server.expect(rt, "a connection");
     server.write_all(b"x").expect(rt, "a byte written");
     let (mut accepted, _) = far.accept().expect(rt, "a connection");
     let mut byte = [0u8; 1];
@@ -121,7 +141,9 @@ fn asks<'a, R: Abort + Net<Listener = TcpListener, Stream = TcpStream> + Clock +
     front: &'a Front<'a>,
     far: TcpListener,
     opened: Opened,
-) {
+)
+    requires sound { IsSoundConfig opened.config }
+{
     let mut gate = SocketGate::new(front.alloc, rt, front).expect(rt, "a gate");
     let mut accepted = gate.next().expect(rt, "a client");
     assert!(rt; gate.next().is_none());

@@ -50,7 +50,6 @@ pub(crate) struct Opened {
     seat: KeeperSeat,
     relay: RelaySeat,
     running: Running,
-    ghost sound: { ∥ IsSoundConfig config ∥₁ },
     ghost asked: { IsAskedBy config core.setup },
     ghost first: { core ≡ first_window core.setup [] },
     ghost named: { (seat.board ≡ board) × (relay.board ≡ board) },
@@ -70,6 +69,7 @@ const TWO_SLOTS: &[u8] =
 pub(crate) fn open(rt: &impl Abort, alloc: Global, config: Config, log: usize) -> Opened
     requires sound { IsSoundConfig config }
     requires log { (0 < log) × (log ≤ 262144) }
+    ensures sound { IsSoundConfig result.config }
 {
     let setup = setup_of(alloc, &config, 4, log).expect(rt, "memory");
     let limits = limits_of(alloc, &setup).expect(rt, "memory");
@@ -89,6 +89,7 @@ pub(crate) fn open(rt: &impl Abort, alloc: Global, config: Config, log: usize) -
 // The same of a text.
 fn open_text(rt: &impl Abort, alloc: Global, text: &[u8], log: usize) -> Opened
     requires log { (0 < log) × (log ≤ 262144) }
+    ensures sound { IsSoundConfig result.config }
 {
     let config = read(alloc, text).expect(rt, "a configuration");
     open(rt, alloc, config, log)
@@ -98,6 +99,7 @@ fn open_text(rt: &impl Abort, alloc: Global, text: &[u8], log: usize) -> Opened
 pub(crate) fn start<N: BoardName>(alloc: Global, opened: Opened) -> (Proxy<N>, Idle<N>)
     requires named { opened.board ≡ N.board }
     requires terms { N.terms ≡ terms_of opened.core.setup }
+    requires sound { IsSoundConfig opened.config }
     ensures { result.1.seat.view ≡ new_relay N.terms true }
 {
     let Opened {

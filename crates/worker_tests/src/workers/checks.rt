@@ -1,6 +1,7 @@
 // Checks of servers.
 ghost use Rattle.std.specs.Prelude.{◌≡◌};
 ghost use Rattle.outstanding.specs.Books.{terms_of};
+ghost use Rattle.proxy_config.specs.Sound.{IsSoundConfig};
 
 use super::fakes::{Fake, Few, Scene, Seen};
 use super::scenes::plain;
@@ -30,6 +31,7 @@ fn check_thrice<N: BoardName, R: Abort + Wait>(
 fn down_and_up<N: BoardName, R: Abort + Wait>(rt: &R, alloc: Global, opened: Opened) -> [Checked; 3]
     requires named { opened.board ≡ N.board }
     requires terms { N.terms ≡ terms_of opened.core.setup }
+    requires sound { IsSoundConfig opened.config }
 {
     let (proxy, idle) = start::<N>(alloc, opened);
     let found = [

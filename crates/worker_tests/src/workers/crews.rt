@@ -1,6 +1,7 @@
 // Workers side by side.
 ghost use Rattle.std.specs.Prelude.{◌≡◌};
 ghost use Rattle.outstanding.specs.Books.{terms_of};
+ghost use Rattle.proxy_config.specs.Sound.{IsSoundConfig};
 
 use super::fakes::{Fake, Few, Scene, Seen};
 use super::scenes::{ANSWERED, FORWARDED, plain};
@@ -16,6 +17,7 @@ fn serve_two<N: BoardName + Send + Sync, R: Abort + Threads + Wait + Sync>(
 ) -> Found
     requires named { opened.board ≡ N.board }
     requires terms { N.terms ≡ terms_of opened.core.setup }
+    requires sound { IsSoundConfig opened.config }
 {
     let (proxy, idle) = start::<N>(alloc, opened);
     let seen = Seen::new();

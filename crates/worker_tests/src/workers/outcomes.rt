@@ -1,6 +1,7 @@
 // Clients one after the other, of which the rows say what becomes of them. The places are fewer, so that each row shows that its place is free again.
 ghost use Rattle.std.specs.Prelude.{◌≡◌, ◌<◌, ◌≤◌};
 ghost use Rattle.outstanding.specs.Books.{terms_of};
+ghost use Rattle.proxy_config.specs.Sound.{IsSoundConfig};
 
 use super::fakes::{Fake, Few, Scene, Seen};
 use super::scenes::{ANSWERED, BAD_GATEWAY, BAD_REQUEST, FORWARDED, UNAVAILABLE, plain};
@@ -10,6 +11,7 @@ use super::*;
 fn work<N: BoardName, R: Wait>(rt: &R, alloc: Global, opened: Opened, scene: Scene) -> Found
     requires named { opened.board ≡ N.board }
     requires terms { N.terms ≡ terms_of opened.core.setup }
+    requires sound { IsSoundConfig opened.config }
 {
     let (proxy, mut idle) = start::<N>(alloc, opened);
     let seen = Seen::new();

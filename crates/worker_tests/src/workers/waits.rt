@@ -1,6 +1,7 @@
 // Clients that wait.
 ghost use Rattle.std.specs.Prelude.{◌≡◌, ◌<◌, []};
 ghost use Rattle.outstanding.specs.Books.{terms_of};
+ghost use Rattle.proxy_config.specs.Sound.{IsSoundConfig};
 ghost use Rattle.grant_desk.specs.Seats.{IsSameSeat};
 
 use super::fakes::{Fake, Few, Scene, Seen};
@@ -72,6 +73,7 @@ fn work_behind<N: BoardName, R: Abort + Wait>(
 ) -> Found
     requires named { opened.board ≡ N.board }
     requires terms { N.terms ≡ terms_of opened.core.setup }
+    requires sound { IsSoundConfig opened.config }
 {
     let (proxy, mut idle) = start::<N>(alloc, opened);
     let seen = Seen::new();

@@ -281,12 +281,12 @@ impl Desk {
     fn end(&mut self, rt: &impl Abort, exchange: Exchange) {
         match exchange {
             Exchange::Dialing(dialing) => {
-                let (pass, ending) = dialing.abandon();
-                self.take(rt, Outcome::Posts(pass, ending));
+                let pass = dialing.abandon();
+                self.take(rt, Outcome::Posts(pass, Ending::Done));
             }
             Exchange::Passing(passing) => {
-                let (pass, ending) = passing.abandon();
-                self.take(rt, Outcome::Posts(pass, ending));
+                let pass = passing.abandon();
+                self.take(rt, Outcome::Posts(pass, Ending::Done));
             }
             Exchange::Asking(_)
             | Exchange::Waiting(_)

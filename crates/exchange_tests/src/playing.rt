@@ -406,13 +406,13 @@ impl Table {
             Exchange::Asking(_) => Stage::Asking,
             Exchange::Waiting(_) => Stage::Waiting,
             Exchange::Dialing(dialing) => {
-                let (pass, ending) = dialing.abandon();
-                self.post(rt, pass, ending);
+                let pass = dialing.abandon();
+                self.post(rt, pass, Ending::Done);
                 Stage::Dialing
             }
             Exchange::Passing(passing) => {
-                let (pass, ending) = passing.abandon();
-                self.post(rt, pass, ending);
+                let pass = passing.abandon();
+                self.post(rt, pass, Ending::Done);
                 Stage::Passing
             }
             Exchange::Settling(_) => Stage::Settling,

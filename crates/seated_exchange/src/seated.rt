@@ -338,7 +338,7 @@ impl<N: BoardName + Ledger> Seated<N> {
             out,
             name: _,
         } = self;
-        let (pass, ending) = match exchange {
+        let pass = match exchange {
             Exchange::Dialing(dialing) => dialing.abandon(),
             Exchange::Passing(passing) => passing.abandon(),
             Exchange::Asking(_)
@@ -351,7 +351,7 @@ impl<N: BoardName + Ledger> Seated<N> {
                 Some(_) => unreachable!(),
             },
         };
-        Some(with_seat(seat, out, pass, ending))
+        Some(with_seat(seat, out, pass, Ending::Done))
     }
 }
 

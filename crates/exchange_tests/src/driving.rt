@@ -4,8 +4,8 @@ ghost use Rattle.std.specs.Prelude.{◌<◌, ◌≤◌, ◌≡◌, length};
 use crate::till::Till;
 use exchange_driver::{Driven, Duplex, Line, Moved, Settings, drive};
 use exchange_machine::Terms;
-use mixed_exchange::{Event, Exchange, Outcome, Rules, Step};
 use http_texts::{Additions, Persistence};
+use mixed_exchange::{Event, Exchange, Outcome, Rules, Step};
 use std::alloc::{AllocError, Global};
 use std::cell::Cell;
 use std::io;
@@ -281,12 +281,12 @@ impl Desk {
     fn end(&mut self, rt: &impl Abort, exchange: Exchange) {
         match exchange {
             Exchange::Dialing(dialing) => {
-                let (pass, ending) = dialing.abandon();
-                self.take(rt, Outcome::Posts(pass, ending));
+                let pass = dialing.abandon();
+                self.take(rt, Outcome::Posts(pass, Ending::Done));
             }
             Exchange::Passing(passing) => {
-                let (pass, ending) = passing.abandon();
-                self.take(rt, Outcome::Posts(pass, ending));
+                let pass = passing.abandon();
+                self.take(rt, Outcome::Posts(pass, Ending::Done));
             }
             Exchange::Asking(_)
             | Exchange::Waiting(_)

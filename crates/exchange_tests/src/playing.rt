@@ -4,8 +4,8 @@ ghost use Rattle.std.specs.Prelude.{◌<◌};
 use crate::till::Till;
 use exchange_machine::Terms;
 use grant_board::Pass;
-use mixed_exchange::{Clock, Event, Exchange, Outcome, Rules, Step};
 use http_texts::{Additions, Persistence};
+use mixed_exchange::{Clock, Event, Exchange, Outcome, Rules, Step};
 use std::alloc::Global;
 use std::net::{IpAddr, Ipv4Addr};
 use std::process::Abort;
@@ -406,13 +406,13 @@ impl Table {
             Exchange::Asking(_) => Stage::Asking,
             Exchange::Waiting(_) => Stage::Waiting,
             Exchange::Dialing(dialing) => {
-                let (pass, ending) = dialing.abandon();
-                self.post(rt, pass, ending);
+                let pass = dialing.abandon();
+                self.post(rt, pass, Ending::Done);
                 Stage::Dialing
             }
             Exchange::Passing(passing) => {
-                let (pass, ending) = passing.abandon();
-                self.post(rt, pass, ending);
+                let pass = passing.abandon();
+                self.post(rt, pass, Ending::Done);
                 Stage::Passing
             }
             Exchange::Settling(_) => Stage::Settling,

@@ -41,9 +41,11 @@ pub fn put_request<P: Page, K: Sink>(
 ) -> Result<(), Fault>
     requires { (K.stream sink.old).calls + (P.pipe page.old).turns < 2 ^ 64 }
     ensures ok { (client : Option IpAddr) → added.entry.client.now ≡ texts.client_text client
-        → OnOk result (Puts (P.pipe page.old) (P.pipe page.new) (K.stream sink.old) (K.stream sink.new) (texts.request_text (record { asks = added.entry.asks; client = client }) view.now framing)) }
+        → OnOk result (Puts (P.pipe page.old) (P.pipe page.new) (K.stream sink.old) (K.stream sink.new)
+        (texts.request_text (record { asks = added.entry.asks; client = client }) view.now framing)) }
     ensures err { (client : Option IpAddr) → added.entry.client.now ≡ texts.client_text client
-        → IfErr result (Halts (P.pipe page.old) (P.pipe page.new) (K.stream sink.old) (K.stream sink.new) (texts.request_text (record { asks = added.entry.asks; client = client }) view.now framing)) }
+        → IfErr result (Halts (P.pipe page.old) (P.pipe page.new) (K.stream sink.old) (K.stream sink.new)
+        (texts.request_text (record { asks = added.entry.asks; client = client }) view.now framing)) }
 {
     put_request_line(page, sink, view)?;
     put_fields(page, sink, view.section(), Way::ToServer)?;

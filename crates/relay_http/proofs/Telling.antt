@@ -64,11 +64,11 @@ pub told_count : (front input head rest : List ℕ) (used : ℕ) → used ≤ le
     → length front + used ≡ length head + length rest
 told_count front input head rest used within is =
     omega (
-    arith,
-    length-append front (take used input),
-    length-take-le used input within,
-    length-append head rest,
-    ap (length {A = ℕ}) is
+      arith,
+      length-append front (take used input),
+      length-take-le used input within,
+      length-append head rest,
+      ap (length {A = ℕ}) is,
     )
 
 pub is_some : (r s : Request) (framing : Framing) → s ≡ r → request_framing r ≡ Some framing → IsSome (request_framing s)

@@ -25,7 +25,7 @@ impl Exchange {
     /// Reads the request's head (RFC 9112, sections 2 to 5). What comes behind it in the same reads is held. `O(n)` a read.
     ///
     /// Faults: `Head` once no head can come of the bytes, `Framing` where the head frames its body badly, `Read` where a read fails
-    /// or the input ends before the head does, `Turns`, and `NoMemory` where a whole head finds none.
+    /// or the input ends before the head does, `Turns`, and `NoMemory` where what comes of a head finds none.
     pub fn read_request<R: Read>(&mut self, alloc: Global, reader: &mut R) -> Result<View, Fault>
         requires { IsAt Stage.New self.old }
         ensures ok { IfOk result (λ view. (h : RequestHead) × IsRequest h × (view ≡ request_of h) × IsSome (framings.request_framing view)

@@ -31,7 +31,7 @@ pub(crate) fn send_text<K: Sink>(pipe: &mut Pipe, sink: &mut K, text: &[u8]) -> 
     Ok(())
 }
 
-/// Puts such a head and writes it, since the server may take its time for the next.
+/// Puts a head that comes before an answer and writes it, since the server may take its time for the next.
 pub(crate) fn pass_interim<K: Sink>(
     pipe: &mut Pipe,
     sink: &mut K,

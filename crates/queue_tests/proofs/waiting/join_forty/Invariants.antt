@@ -1,4 +1,4 @@
-use Rattle.std.proofs.Common.{◌≡◌, ◌+◌, ◌<◌, ◌≤◌, ℕ, None, Some, slice_get, length}
+use Rattle.std.proofs.Common.{◌≡◌, ◌+◌, ◌<◌, ◌≤◌, ℕ, None, Some, slice_get}
 use Rattle.wait_queues.specs.declared.waiters.Waiter.{Waiter}
 use Rattle.wait_queues.specs.Waitlists.{WaitsAt}
 use Rattle.queue_tests.proofs.waiting.join_forty.Given as goal

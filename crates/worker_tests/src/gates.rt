@@ -5,7 +5,7 @@ ghost use Rattle.relay_workers.specs.Admissions.{IsRequestAt};
 
 use crate::workers::{Opened, open, start};
 use dispatch_trace::Ticketed;
-use grant_board::{BoardName, Pass, RelaySeat, Taking};
+use grant_board::{Board, BoardName, Pass, RelaySeat, Taking};
 use proxy_config::{Config, read};
 use relay_workers::{Gate, Slot, arrive};
 use req_view::{View, Viewed, view};
@@ -95,6 +95,14 @@ fn connect_by<N: BoardName, G: Gate>(
     }
 }
 
+// The exchange of a pass is over.
+fn give_back(board: &Board, relay: &mut RelaySeat, pass: Pass)
+    requires named { relay.old.board ≡ board.now }
+    requires held { relay.old.view.passes ≡ pass ∷ [] }
+{
+    relay.post(board, pass, Ending::Done);
+}
+
 // A request arrives and has its slot, and the gate connects to the slot's server.
 fn connects<
     N: BoardName,
@@ -115,7 +123,7 @@ fn connects<
     let server = match taken {
         Taking::Taken(pass) => {
             let server = connect_by::<N, G>(gate, &relay, &pass, &head, at);
-            relay.post(proxy.desk.board(), pass, Ending::Done);
+            give_back(proxy.desk.board(), &mut relay, pass);
             server
         }
         Taking::NotYet => None,

@@ -8,6 +8,8 @@ use Rattle.http_texts.specs.Texts.{framed_for}
 use Rattle.http_texts.specs.declared.fault.Fault.{Fault}
 use Rattle.http_texts.specs.declared.persistence.Persistence.TheVariants.{Close}
 use Rattle.req_view.specs.Heads.{HasNoHead}
+use Rattle.body_coder.specs.Readings.{read, start_of}
+use Rattle.body_coder.specs.Stops.{is_bad}
 use Rattle.exchange_machine.specs.Answerings.{TellsAnswer}
 use Rattle.exchange_machine.specs.Headline.{AreTries, IsFair, ClientText, ToClient, ToServer}
 use Rattle.exchange_machine.specs.Histories.{History, passes_of, reached_by}
@@ -125,6 +127,12 @@ abbrev pub IsMore : Turn → Type 0
 IsMore (Turns.More a) = Unit {0}
 IsMore (Turns.Whole w) = ⊥
 IsMore (Turns.Refused held why) = ⊥
+
+-- what came behind a head that is taken is a front of a body, or a body and more
+abbrev pub IsChecked : Turn → Type 0
+IsChecked (Turns.More a) = Unit {0}
+IsChecked (Turns.Whole w) = is_bad (read (start_of w.asked.framing true) w.asked.held.items).coding ≡ false
+IsChecked (Turns.Refused held why) = Unit {0}
 
 -- what became of a look for a head alone in these bytes: all are held, and more may come, or they lack a head for this reason
 abbrev pub HeadSays : Turn → List ℕ → Type 0

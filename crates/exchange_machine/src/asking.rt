@@ -4,7 +4,7 @@ ghost use Rattle.exchange_machine.specs.Reasons.{Shows};
 ghost use Rattle.exchange_machine.specs.Stages as stages;
 ghost use Rattle.exchange_machine.specs.Wants.{is_none};
 ghost use Rattle.http_texts.specs.Heads.{LacksRequest};
-ghost use Rattle.req_view.specs.Heads.{HasNoHead};
+ghost use Rattle.req_view.specs.Heads.{HasNoHead, Waits};
 
 use crate::held::{HEAD_BYTES, forget, has_feed};
 use crate::signs::Sign;
@@ -56,6 +56,8 @@ impl Asking {
     pub fn client_bytes(self, alloc: Global, input: &[u8]) -> (usize, Turn)
         ensures within { result.0 ≤ length input.now }
         ensures turn { (h : History) → stages.IsAsking self h → stages.IsTurn result.1 (client_came h (take result.0 input.now)) }
+        ensures more { stages.IsMore result.1 → result.0 ≡ length input.now }
+        ensures checked { stages.IsChecked result.1 }
     {
         let (used, turn) = self.head_bytes(alloc, input);
         (used, looked_behind(turn))
@@ -87,7 +89,8 @@ impl Asking {
 
     /// The client sends no more: what is wrong with what came. `O(n)`.
     pub fn fault(&self, alloc: Global) -> Fault
-        ensures { (h : History) → stages.IsAsking self.now h → LacksRequest result h.client_in }
+        ensures lacks { (h : History) → stages.IsAsking self.now h → LacksRequest result h.client_in }
+        ensures waits { result ≡ Fault.Read → (h : History) → stages.IsAsking self.now h → Waits h.client_in }
     {
         match view(alloc, self.held.as_slice()) {
             Viewed::Refused(why) => fault_of(why),
@@ -131,13 +134,16 @@ fn look(alloc: Global, held: Vec<u8>) -> Turn
 
 // What stands in the bytes that came, and behind its head.
 pub(crate) fn look_on(alloc: Global, held: Vec<u8>) -> Turn
-    ensures { (h : History) → stages.IsFresh h → h.client_in ≡ held.items → stages.IsTurn result h }
+    ensures turn { (h : History) → stages.IsFresh h → h.client_in ≡ held.items → stages.IsTurn result h }
+    ensures checked { stages.IsChecked result }
 {
     looked_behind(look(alloc, held))
 }
 
 fn looked_behind(turn: Turn) -> Turn
-    ensures { (h : History) → stages.IsFresh h → stages.IsTurn turn h → stages.IsTurn result h }
+    ensures turn { (h : History) → stages.IsFresh h → stages.IsTurn turn h → stages.IsTurn result h }
+    ensures more { stages.IsMore result → stages.IsMore turn }
+    ensures checked { stages.IsChecked result }
 {
     match turn {
         Turn::Whole(waiting) => look_behind(waiting),
@@ -147,7 +153,9 @@ fn looked_behind(turn: Turn) -> Turn
 
 // A head was read: is what came behind it a body, or may it become one?
 fn look_behind(waiting: Waiting) -> Turn
-    ensures { (h : History) → stages.IsFresh h → stages.IsWaiting waiting h → stages.IsTurn result h }
+    ensures turn { (h : History) → stages.IsFresh h → stages.IsWaiting waiting h → stages.IsTurn result h }
+    ensures more { stages.IsMore result → ⊥ }
+    ensures checked { stages.IsChecked result }
 {
     let coding = Coding::new(waiting.asked.framing, true);
     if coding.breaks(waiting.asked.held.as_slice()) {

@@ -43,7 +43,8 @@ impl Settling {
 
     /// All was told: the next request is looked for in what came behind the last one.
     pub fn next(self, alloc: Global) -> Turn
-        ensures { stages.IsTurn result (begun self.behind.items) }
+        ensures turn { stages.IsTurn result (begun self.behind.items) }
+        ensures checked { stages.IsChecked result }
     {
         let Settling { behind, .. } = self;
         look_on(alloc, behind)

@@ -5,8 +5,8 @@ use Rattle.body_coder.specs.declared.coding.Coding.{Coding}
 use Rattle.exchange_machine.proofs.SideLemmas.{look_broken}
 use Rattle.exchange_machine.proofs.asking.look_behind.Goals as goal
 
-pub returns-then-breaks : goal.returns-then-breaks
-returns-then-breaks c h fresh is =
+pub returns-then-breaks-clause-turn : goal.returns-then-breaks-clause-turn
+returns-then-breaks-clause-turn c h fresh is =
     let f = c.args.waiting.asked.framing in
     let behind = c.args.waiting.asked.held.items in
     let broken : is_bad (read (start_of f true) behind).coding ≡ true =

@@ -63,7 +63,7 @@ returns-then-count-eq0-clause-err g c = λ w.
     let none = subst (λ (l : List ℕ). HasNoHead l) (sym told.1) told.2 in
     let same = told.1 ∙ sym (ap (λ (p : Pipe). p.inbox) told.0) ∙ sym (c.in_ok-count.ensures.none c.if-count-eq0.true) in
     fails_ended c.fault.result (moves_trans so_far (c.in_ok-count.ensures.ok w)) (c.in_ok-count.ensures.end c.if-count-eq0.true)
-    (subst (λ (l : List ℕ). LacksRequest c.fault.result l) same (c.fault.ensures (begun more.held.items) (asking_of more none)))
+    (subst (λ (l : List ℕ). LacksRequest c.fault.result l) same (c.fault.ensures.lacks (begun more.held.items) (asking_of more none)))
 
 pub reading-preserved : goal.reading-preserved
 reading-preserved g c =

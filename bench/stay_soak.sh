@@ -3,7 +3,7 @@
 # that keep their connections: mixed methods, classes and due dates, a tenth with bodies both ways, a quarter of the clients with up to four requests at once,
 # two servers that close all their connections every two seconds, and one request in fifty whose client leaves, at any stage. Then `dueproxy ctl` stops it.
 # Prints what both ends counted, and the proxy's memory, threads and files after a tenth, when all was sent and when all is answered. Fails where these aren't
-# flat (memory grows by half at most; it is judged from 500,000 requests on, since a window of the log fills first), the counts don't agree, an answer isn't its
+# flat (memory grows by a quarter at most; it is judged from 500,000 requests on, since a window of the log fills first), the counts don't agree, an answer isn't its
 # request's, comes twice or not at all but where bench/stay_soak.c allows it, a server has more requests than slots, or the stop isn't in order. It needs a C
 # compiler.
 . "$(dirname "$0")/common.sh"
@@ -66,7 +66,7 @@ awk -v requests="$requests" '
         if (threads[1] != threads[2]) { print "threads aren'\''t flat"; exit 1 }
         if (files[2] > files[1] + 200) { print "files aren'\''t flat"; exit 1 }
         if (files[3] > 200) { print "files stay open"; exit 1 }
-        if (requests >= 500000 && memory[2] > 1.5 * memory[1]) { print "memory isn'\''t flat"; exit 1 }
+        if (requests >= 500000 && memory[2] > 1.25 * memory[1]) { print "memory isn'\''t flat"; exit 1 }
     }' "$folder/tenth" "$folder/sent" "$folder/answered" || failed=1
 timeout 20 "$program" ctl "$folder/control" stop >"$folder/stop" || { echo "ctl stop: status $?"; kill "$proxy" 2>/dev/null || :; failed=1; }
 status=0

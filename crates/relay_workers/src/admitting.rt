@@ -117,7 +117,7 @@ pub fn arrive_as<R: Wait, N: BoardName, G: Gate>(
     arrived
 }
 
-/// A request that waited elsewhere arrives: its due date stays, or is the earliest that an arrival may have now. Refused as `arrive`.
+/// A request that waited elsewhere arrives: its due date stays, or is the nearest that an arrival may have now. Refused as `arrive`.
 pub fn arrive_late<R: Wait, N: BoardName, G: Gate>(
     rt: &R,
     proxy: &Proxy<N>,
